@@ -1,6 +1,8 @@
 # shellcheck shell=bash
-# Sourced by peinfo and prove at the top, which set `root` to the folder that they stand in, and `me` to their name. Says
-# where the built programs are kept, and which of them was built from the sources as they are.
+# Sourced by peinfo, prove and pe at the top, which set `root` to the folder that they stand in, and `me` to their name. Says
+# where the built programs are kept, and which of them was built from the sources as they are. What is built is the program
+# peinfo; or, where `top_crate` names another crate, what stands on that: its sources are those of the crates and `more_places`,
+# and it is kept below `kept`, in the folder that `own_folder` names.
 #
 # A program is kept as proved-SIGN or built-SIGN, SIGN being a checksum of the sources that it was built from, taken of
 # the copy that was built. So it can't be started for other sources, whenever they change, and is right again once they
@@ -25,7 +27,7 @@ at_exit() {
 }
 trap at_exit EXIT
 
-kept=${PEINFO_BUILD:-$root/peinfo-build}
+kept=${PEINFO_BUILD:-$root/peinfo-build}${own_folder:+/$own_folder}
 case $kept in
   /*) ;;
   *) kept=$PWD/$kept ;;

@@ -2,11 +2,11 @@
 # Sourced by tools/program.sh, which sets `root`, `kept` and `me`, where the sources are to be read, and by what builds and
 # keeps a program of them.
 
-# Sets `crates` to those of the repository that the program stands on, itself among them, in the order of crates.txt,
-# and `lines` to their lines.
+# Sets `crates` to those of the repository that the program, or `top_crate`, stands on, itself among them, in the order of
+# crates.txt, and `lines` to their lines.
 find_crates() {
-  local -A below=() seen=([peinfo]=1)
-  local -a todo=(peinfo) order=() words
+  local -A below=() seen=(["${top_crate:-peinfo}"]=1)
+  local -a todo=("${top_crate:-peinfo}") order=() words
   local name list word at=0
   while IFS=: read -r name list; do
     case $name in '' | '#'*) continue ;; esac
@@ -34,10 +34,10 @@ find_crates() {
   done
 }
 
-# Sets `places` to where the crates' sources are or could be, from the top of the repository.
+# Sets `places` to where the sources are or could be, from the top of the repository.
 find_places() {
   local crate
-  places=()
+  places=(${more_places[@]+"${more_places[@]}"})
   for crate in "${crates[@]}"; do
     places+=("crates/$crate/src" "crates/$crate/specs" "crates/$crate/proofs")
   done
@@ -49,7 +49,7 @@ sign_of() {
   local -a there=()
   find_places
   for place in "${places[@]}"; do
-    if [ -d "$1/$place" ]; then
+    if [ -e "$1/$place" ]; then
       there+=("$place")
     fi
   done

@@ -117,6 +117,25 @@ archive_of_calls() {
   "$linked_kit/toolchain/bin/llvm-ar" rcs "$file" "$room/calls.o"
 }
 
+# Builds the library for C without a proof, of the sources at the top of the repository, in which the shell has to stand:
+#
+#     build_archive ROOM FILE
+#
+# It compiles the tests of pe_c, and runs none of them. tools/tests_crate.sh has to be sourced too. What the kit says is
+# printed. The status is 1 where it compiled nothing.
+build_archive() {
+  local room=$1 file=$2
+  copy_crates "$room/copy"
+  cp crates.txt "$room/copy"
+  add_tests_of "$room/copy" pe_c
+  link_kit "$room"
+  keep_code "$room"
+  # The kit compiles a line or two first, to see whether it can. Of the crate's code nothing is made here.
+  sed -i 's/^exec /[ "$(wc -c <"$room\/kept.bc")" -lt 100000 ] || exit 1\n&/' "$room/kit/toolchain/bin/clang"
+  (cd "$room/copy/crates/pe_c" && TMPDIR=$room "$unproved_rt" try --test 2>&1 </dev/null) || :
+  [ -e "$room/kept.bc" ] && archive_of_calls "$room" "$file"
+}
+
 # Makes `rt try --test` by ROOM/kit, which link_kit has made, run several tests at a time:
 #
 #     keep_tests ROOM

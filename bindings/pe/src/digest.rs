@@ -1,21 +1,21 @@
 //! The Authenticode digest of an image: SHA-256 over what the library says that a signature covers.
 
 use crate::escape::escaped;
-use crate::facts::{hex_of, Refusal};
+use crate::facts::hashes::authenticode_of;
+use crate::facts::Refusal;
 use crate::files::Report;
 use crate::Status;
 use pe_c::{Error, Image};
 use serde::Serialize;
-use sha2::{Digest as _, Sha256};
 use std::path::Path;
 
 #[derive(Debug, Serialize)]
 pub struct Digest {
     file: String,
-    pub sha256_hex: String,
+    sha256_hex: String,
     /// What the header says, and what it has to say.
     checksum: u32,
-    pub right_checksum: u32,
+    right_checksum: u32,
 }
 
 /// What is said of a file that is refused, or whose headers have no room for a signature.
@@ -25,14 +25,10 @@ struct Refused<'a> {
     error: Refusal,
 }
 
-pub fn digest_of(path: &Path, image: &Image<'_>) -> Result<Digest, Error> {
-    let covered = image.digest_ranges()?;
-    let mut hash = Sha256::new();
-    covered.slices().for_each(|slice| hash.update(slice));
-    hash.update(vec![0; covered.zeros()]);
+fn digest_of(path: &Path, image: &Image<'_>) -> Result<Digest, Error> {
     Ok(Digest {
         file: path.to_string_lossy().into_owned(),
-        sha256_hex: hex_of(&hash.finalize()),
+        sha256_hex: authenticode_of(image)?,
         checksum: image.info().checksum,
         right_checksum: image.checksum()?.value,
     })

@@ -8,11 +8,15 @@ pub mod debug;
 pub mod delay_imports;
 pub mod entropy;
 pub mod exports;
-pub mod extracted;
 pub mod functions;
+pub mod hardening;
+pub mod hashes;
 pub mod headers;
 pub mod imports;
+pub mod languages;
 pub mod load_config;
+pub mod ordinals;
+pub mod overlay;
 pub mod regions;
 pub mod relocations;
 pub mod resources;
@@ -21,20 +25,27 @@ pub mod sections;
 pub mod tls;
 pub mod version;
 
+use crate::names::{name_of, MACHINES};
+use chrono::{TimeZone, Utc};
 use clap::ValueEnum;
 use pe_c::{Error, Image};
+use serde::ser::SerializeMap;
 use serde::{Serialize, Serializer};
 use std::fmt;
-use std::ops::Not;
+use std::os::unix::ffi::OsStrExt;
 use std::path::Path;
 
 /// The version of the JSON that `docs/JSON.md` describes. It grows when a field changes its meaning or goes away.
-pub const JSON_VERSION: u32 = 1;
+pub const JSON_VERSION: u32 = 2;
 
 /// A part of an image that can be asked for.
 #[derive(Clone, Copy, Debug, PartialEq, Eq, ValueEnum)]
 pub enum Topic {
     Headers,
+    /// What the headers ask of Windows to make attacks harder
+    Hardening,
+    /// SHA-256, imphash, Rich hash, and the Authenticode digest
+    Hashes,
     Sections,
     Imports,
     Exports,
@@ -64,17 +75,59 @@ pub enum Topic {
 }
 
 impl Topic {
-    /// What a summary speaks of: everything, each with fewer words.
-    pub const SUMMARY: &'static [Topic] = &[Topic::All];
+    /// How the part is named on the command line.
+    pub fn name(self) -> String {
+        self.to_possible_value().map(|it| it.get_name().to_string()).unwrap_or_default()
+    }
 }
 
-/// The parts that are wanted: all where none is named.
-pub fn wanted(topics: &[Topic]) -> Vec<Topic> {
-    if topics.is_empty() {
-        vec![Topic::All]
-    } else {
-        topics.to_vec()
+/// What is wanted of an image.
+#[derive(Clone, Debug)]
+pub struct Wanted {
+    topics: Vec<Topic>,
+    /// Whether the parts that are hashed are so beside the file: sections, resources, and what a signature covers.
+    has_hashes_of_parts: bool,
+}
+
+impl Wanted {
+    /// The parts that are named: all where none is, and hashes only where they are not left out.
+    pub fn parts(topics: &[Topic], has_hashes: bool) -> Wanted {
+        let is_all = topics.is_empty() || topics.contains(&Topic::All);
+        let named = Topic::value_variants().iter().copied();
+        let topics = named.filter(|it| (is_all || topics.contains(it)) && (has_hashes || *it != Topic::Hashes));
+        Wanted { topics: topics.collect(), has_hashes_of_parts: has_hashes }
     }
+
+    /// What a summary speaks of: everything, each with fewer words.
+    pub fn summary(has_hashes: bool) -> Wanted {
+        Wanted { has_hashes_of_parts: false, ..Wanted::parts(&[], has_hashes) }
+    }
+}
+
+/// What a file is that is no image, by its first bytes.
+fn kind_of(bytes: &[u8]) -> Option<&'static str> {
+    match bytes {
+        [] => Some("an empty file"),
+        [b'V', b'Z', low, high, ..] if is_machine(*low, *high) => Some("a TE image"),
+        _ if bytes.starts_with(b"\x7fELF") => Some("an ELF file"),
+        _ if bytes.starts_with(b"!<arch>\n") => Some("an archive of objects"),
+        _ if bytes.starts_with(b"!<thin>\n") => Some("a thin archive of objects"),
+        [0, 0, 0xFF, 0xFF, ..] => Some("an object of a short import or of large format"),
+        [low, high, ..] if is_machine(*low, *high) => Some("a COFF object, as it seems"),
+        _ if bytes.starts_with(b"MZ") => None,
+        _ if bytes.iter().take(512).all(|it| matches!(it, b'\t' | b'\n' | b'\r' | 0x20..=0x7E)) => Some("a text"),
+        _ => None,
+    }
+}
+
+/// Whether two bytes are the number of a machine.
+fn is_machine(low: u8, high: u8) -> bool {
+    name_of(u16::from_le_bytes([low, high]).into(), MACHINES).is_some()
+}
+
+/// The bytes of a path that is not UTF-8.
+fn hex_of_path(path: &Path) -> Option<String> {
+    path.to_str().is_none().then(|| hex_of(path.as_os_str().as_bytes()))
 }
 
 /// Why something is refused: the library's number, name and text.
@@ -97,12 +150,73 @@ impl fmt::Display for Refusal {
     }
 }
 
-/// A part of an image: absent, there, or refused. In JSON `null`, its value, or an object with the one field `error`.
+/// A part of an image: absent, there, or refused. In JSON these are the fields of `Field`, beside the others of the object that
+/// has the part.
 #[derive(Clone, Debug)]
 pub enum Part<T> {
     Absent,
     Present(T),
     Refused(Refusal),
+}
+
+/// The names that a part has in JSON: its value, or null; and why it is refused or ends early, or null.
+pub trait Field {
+    const NAME: &'static str;
+    const ERROR: &'static str;
+    /// Of a list, whether there are more entries than stand in it.
+    const IS_LIMITED: Option<&'static str> = None;
+
+    /// Why a list ends early.
+    fn error(&self) -> Option<&Refusal> {
+        None
+    }
+
+    fn is_limited(&self) -> bool {
+        false
+    }
+}
+
+/// A type that is one value of one name.
+macro_rules! field {
+    ($type:ty, $name:literal) => {
+        impl crate::facts::Field for $type {
+            const NAME: &'static str = $name;
+            const ERROR: &'static str = concat!($name, "_error");
+        }
+    };
+}
+pub(crate) use field;
+
+/// An entry of lists that have one name.
+pub trait Entry {
+    const NAME: &'static str;
+    const ERROR: &'static str;
+    const IS_LIMITED: &'static str;
+}
+
+macro_rules! entry {
+    ($type:ty, $name:literal) => {
+        impl crate::facts::Entry for $type {
+            const NAME: &'static str = $name;
+            const ERROR: &'static str = concat!($name, "_error");
+            const IS_LIMITED: &'static str = concat!($name, "_is_limited");
+        }
+    };
+}
+pub(crate) use entry;
+
+impl<T: Entry> Field for List<T> {
+    const NAME: &'static str = T::NAME;
+    const ERROR: &'static str = T::ERROR;
+    const IS_LIMITED: Option<&'static str> = Some(T::IS_LIMITED);
+
+    fn error(&self) -> Option<&Refusal> {
+        self.error.as_ref()
+    }
+
+    fn is_limited(&self) -> bool {
+        self.is_limited
+    }
 }
 
 impl<T> Part<T> {
@@ -122,6 +236,15 @@ impl<T> Part<T> {
 }
 
 impl<T> Part<List<T>> {
+    /// How many entries there are, with a plus sign where there are more.
+    pub fn count(&self) -> String {
+        self.present().map_or("0".to_string(), |it| count_of(it.entries.len(), it.is_limited))
+    }
+
+    pub fn entries(&self) -> &[T] {
+        self.present().map_or(&[], |it| &it.entries)
+    }
+
     /// Why the list is refused, or the entry at which it ends.
     pub fn list_refusal(&self) -> Option<&Refusal> {
         self.refusal().or(self.present().and_then(|it| it.error.as_ref()))
@@ -138,18 +261,15 @@ impl<T> From<Result<Option<T>, Error>> for Part<T> {
     }
 }
 
-#[derive(Serialize)]
-struct Refused<'a> {
-    error: &'a Refusal,
-}
-
-impl<T: Serialize> Serialize for Part<T> {
+impl<T: Field + Serialize> Serialize for Part<T> {
     fn serialize<S: Serializer>(&self, serializer: S) -> Result<S::Ok, S::Error> {
-        match self {
-            Part::Absent => serializer.serialize_none(),
-            Part::Present(value) => value.serialize(serializer),
-            Part::Refused(error) => Refused { error }.serialize(serializer),
+        let (value, mut map) = (self.present(), serializer.serialize_map(None)?);
+        map.serialize_entry(T::NAME, &value)?;
+        map.serialize_entry(T::ERROR, &self.refusal().or(value.and_then(Field::error)))?;
+        if let Some(name) = T::IS_LIMITED {
+            map.serialize_entry(name, &value.is_some_and(Field::is_limited))?;
         }
+        map.end()
     }
 }
 
@@ -179,15 +299,21 @@ impl Budget {
     }
 }
 
-/// A list that ends early where an entry is refused: in JSON the entries, and the error of the first that is none.
-#[derive(Clone, Debug, Serialize)]
+/// A list that ends early where an entry is refused: in JSON an array of the entries, and beside it the error of the first that
+/// is none.
+#[derive(Clone, Debug)]
 pub struct List<T> {
     pub entries: Vec<T>,
-    #[serde(skip_serializing_if = "Option::is_none")]
     pub error: Option<Refusal>,
     /// Whether there are more, and what they share is too long to be shown as often.
-    #[serde(skip_serializing_if = "Not::not")]
     pub is_limited: bool,
+}
+
+/// The entries alone. What is beside them is written by the part that the list is.
+impl<T: Serialize> Serialize for List<T> {
+    fn serialize<S: Serializer>(&self, serializer: S) -> Result<S::Ok, S::Error> {
+        self.entries.serialize(serializer)
+    }
 }
 
 impl<T> List<T> {
@@ -196,13 +322,9 @@ impl<T> List<T> {
         List::limited(items, |item| Some(of(item)))
     }
 
-    pub fn count(&self) -> String {
-        count_of(self.entries.len(), self.is_limited)
-    }
-
     /// Whether there is more of the list, or of a list that an entry has.
-    pub fn is_limited_in<U>(&self, list_of: impl Fn(&T) -> &List<U>) -> bool {
-        self.is_limited || self.entries.iter().any(|it| list_of(it).is_limited)
+    pub fn is_limited_in<U>(&self, list_of: impl Fn(&T) -> &Part<List<U>>) -> bool {
+        self.is_limited || self.entries.iter().any(|it| list_of(it).present().is_some_and(|it| it.is_limited))
     }
 
     /// The items up to the first error, or up to the first that `of` does not show.
@@ -222,6 +344,11 @@ impl<T> List<T> {
     }
 }
 
+/// A count and what is counted, in the plural but for one.
+pub fn counted(count: usize, what: &str) -> String {
+    format!("{count} {what}{}", if count == 1 { "" } else { "s" })
+}
+
 /// How many entries there are, with a plus sign where there are more.
 pub fn count_of(count: usize, is_limited: bool) -> String {
     count.to_string() + if is_limited { "+" } else { "" }
@@ -234,6 +361,13 @@ pub struct Name<'a>(pub &'a [u8]);
 impl fmt::Display for Name<'_> {
     fn fmt(&self, f: &mut fmt::Formatter<'_>) -> fmt::Result {
         f.pad(&crate::escape::Escaped(self.0).to_string())
+    }
+}
+
+impl Name<'_> {
+    /// In lower case, as the names of DLLs are compared. Null where it is not UTF-8.
+    pub fn lower(&self) -> Option<String> {
+        std::str::from_utf8(self.0).ok().map(str::to_lowercase)
     }
 }
 
@@ -278,26 +412,77 @@ impl fmt::Display for Named {
     }
 }
 
-/// Flags, and the names of those that have one.
-#[derive(Clone, Debug, Serialize)]
+/// Flags: in JSON the number, and an object with a boolean for each that has a name.
+#[derive(Clone, Copy, Debug)]
 pub struct Flags {
     pub number: u32,
-    pub names: Vec<&'static str>,
+    names: &'static [(u32, &'static str)],
 }
 
 impl Flags {
     pub fn of(number: u32, names: &'static [(u32, &'static str)]) -> Flags {
-        Flags { number, names: crate::names::flags_of(number, names) }
+        Flags { number, names }
+    }
+
+    /// The names of those that are set.
+    pub fn set(&self) -> Vec<&'static str> {
+        crate::names::flags_of(self.number, self.names)
     }
 }
 
 impl fmt::Display for Flags {
     fn fmt(&self, f: &mut fmt::Formatter<'_>) -> fmt::Result {
         write!(f, "{:#x}", self.number)?;
-        if !self.names.is_empty() {
-            write!(f, ": {}", self.names.join(", "))?;
+        if !self.set().is_empty() {
+            write!(f, ": {}", self.set().join(", "))?;
         }
         Ok(())
+    }
+}
+
+struct Booleans<'a>(&'a Flags);
+
+impl Serialize for Booleans<'_> {
+    fn serialize<S: Serializer>(&self, serializer: S) -> Result<S::Ok, S::Error> {
+        serializer.collect_map(self.0.names.iter().map(|(flag, name)| (name, self.0.number & flag != 0)))
+    }
+}
+
+impl Serialize for Flags {
+    fn serialize<S: Serializer>(&self, serializer: S) -> Result<S::Ok, S::Error> {
+        let mut map = serializer.serialize_map(Some(2))?;
+        map.serialize_entry("number", &self.number)?;
+        map.serialize_entry("flags", &Booleans(self))?;
+        map.end()
+    }
+}
+
+/// A time stamp: in JSON the fields `time_date_stamp`, seconds since 1970, and `time`, the same as RFC 3339 has it, or null where
+/// it is 0 or none.
+#[derive(Clone, Copy, Debug)]
+pub struct Stamp {
+    pub seconds: u32,
+    /// Whether it is a hash, as those of a reproducible build are.
+    pub is_hash: bool,
+}
+
+impl Stamp {
+    pub fn of(seconds: u32) -> Stamp {
+        Stamp { seconds, is_hash: false }
+    }
+
+    pub fn time(self) -> Option<String> {
+        let time = Utc.timestamp_opt(self.seconds.into(), 0).single().filter(|_| self.seconds != 0 && !self.is_hash);
+        time.map(|it| it.format("%Y-%m-%dT%H:%M:%SZ").to_string())
+    }
+}
+
+impl Serialize for Stamp {
+    fn serialize<S: Serializer>(&self, serializer: S) -> Result<S::Ok, S::Error> {
+        let mut map = serializer.serialize_map(Some(2))?;
+        map.serialize_entry("time_date_stamp", &self.seconds)?;
+        map.serialize_entry("time", &self.time())?;
+        map.end()
     }
 }
 
@@ -306,41 +491,48 @@ impl fmt::Display for Flags {
 pub struct Facts<'a> {
     pub json_version: u32,
     pub file: String,
+    /// The bytes of a path that is not UTF-8, by which it can be opened.
+    pub file_hex: Option<String>,
     pub file_size: usize,
     /// Why there is no image, and nothing else.
-    #[serde(skip_serializing_if = "Option::is_none")]
     pub error: Option<Refusal>,
+    /// What the file is, where it is no image, if that can be seen.
+    pub file_kind: Option<&'static str>,
     #[serde(skip_serializing_if = "Option::is_none")]
     pub headers: Option<headers::Headers>,
     #[serde(skip_serializing_if = "Option::is_none")]
+    pub hardening: Option<hardening::Hardening>,
+    #[serde(skip_serializing_if = "Option::is_none")]
+    pub hashes: Option<hashes::Hashes>,
+    #[serde(skip_serializing_if = "Option::is_none")]
     pub sections: Option<Vec<sections::Section<'a>>>,
-    #[serde(skip_serializing_if = "Option::is_none")]
+    #[serde(flatten)]
     pub imports: Option<Part<List<imports::Library<'a>>>>,
-    #[serde(skip_serializing_if = "Option::is_none")]
+    #[serde(flatten)]
     pub exports: Option<Part<exports::Exports<'a>>>,
     #[serde(skip_serializing_if = "Option::is_none")]
     pub debug: Option<debug::Debug<'a>>,
-    #[serde(skip_serializing_if = "Option::is_none")]
-    pub certificates: Option<List<certificates::Certificate>>,
-    #[serde(skip_serializing_if = "Option::is_none")]
+    #[serde(flatten)]
+    pub certificates: Option<Part<List<certificates::Certificate>>>,
+    #[serde(flatten)]
     pub functions: Option<Part<functions::Functions>>,
     #[serde(skip_serializing_if = "Option::is_none")]
     pub version: Option<version::Version>,
-    #[serde(skip_serializing_if = "Option::is_none")]
+    #[serde(flatten)]
     pub tls: Option<Part<tls::Tls>>,
-    #[serde(skip_serializing_if = "Option::is_none")]
+    #[serde(flatten)]
     pub relocations: Option<Part<List<relocations::Page>>>,
-    #[serde(skip_serializing_if = "Option::is_none")]
+    #[serde(flatten)]
     pub delay_imports: Option<Part<List<delay_imports::Library<'a>>>>,
-    #[serde(skip_serializing_if = "Option::is_none")]
+    #[serde(flatten)]
     pub bound_imports: Option<Part<List<bound_imports::Bound<'a>>>>,
-    #[serde(skip_serializing_if = "Option::is_none")]
+    #[serde(flatten)]
     pub load_config: Option<Part<load_config::LoadConfig>>,
-    #[serde(skip_serializing_if = "Option::is_none")]
+    #[serde(flatten)]
     pub clr: Option<Part<clr::Clr<'a>>>,
-    #[serde(skip_serializing_if = "Option::is_none")]
+    #[serde(flatten)]
     pub rich: Option<Part<rich::Rich>>,
-    #[serde(skip_serializing_if = "Option::is_none")]
+    #[serde(flatten)]
     pub resources: Option<Part<resources::Resources<'a>>>,
 }
 
@@ -349,8 +541,12 @@ impl<'a> Facts<'a> {
         Facts {
             json_version: JSON_VERSION,
             file: path.to_string_lossy().into_owned(),
+            file_hex: hex_of_path(path),
             file_size,
             error: None,
+            file_kind: None,
+            hardening: None,
+            hashes: None,
             headers: None,
             sections: None,
             imports: None,
@@ -371,17 +567,21 @@ impl<'a> Facts<'a> {
     }
 
     /// Of a file that is no image.
-    pub fn refused(path: &Path, file_size: usize, error: Error) -> Facts<'a> {
-        Facts { error: Some(error.into()), ..Facts::empty(path, file_size) }
+    pub fn refused(path: &Path, bytes: &[u8], error: Error) -> Facts<'a> {
+        Facts { error: Some(error.into()), file_kind: kind_of(bytes), ..Facts::empty(path, bytes.len()) }
     }
 
     /// Of an image the parts that are wanted.
-    pub fn of(path: &Path, image: &'a Image<'_>, topics: &[Topic]) -> Facts<'a> {
-        let is_wanted = |topic| topics.contains(&topic) || topics.contains(&Topic::All);
+    pub fn of(path: &Path, image: &'a Image<'_>, wanted: &Wanted) -> Facts<'a> {
+        let is_wanted = |topic| wanted.topics.contains(&topic);
+        let of_parts = wanted.has_hashes_of_parts;
+        let has_checksum = of_parts || is_wanted(Topic::Hashes);
         let name = path.file_name().map(|name| name.to_string_lossy()).unwrap_or_default();
         Facts {
-            headers: is_wanted(Topic::Headers).then(|| headers::of(image, &name)),
-            sections: is_wanted(Topic::Sections).then(|| sections::of(image)),
+            headers: is_wanted(Topic::Headers).then(|| headers::of(image, &name, has_checksum)),
+            hardening: is_wanted(Topic::Hardening).then(|| hardening::of(image)),
+            hashes: is_wanted(Topic::Hashes).then(|| hashes::of(image, of_parts)),
+            sections: is_wanted(Topic::Sections).then(|| sections::of(image, of_parts)),
             imports: is_wanted(Topic::Imports).then(|| imports::of(image)),
             exports: is_wanted(Topic::Exports).then(|| exports::of(image)),
             debug: is_wanted(Topic::Debug).then(|| debug::of(image)),
@@ -395,8 +595,33 @@ impl<'a> Facts<'a> {
             load_config: is_wanted(Topic::LoadConfig).then(|| load_config::of(image)),
             clr: is_wanted(Topic::Clr).then(|| clr::of(image)),
             rich: is_wanted(Topic::Rich).then(|| rich::of(image)),
-            resources: is_wanted(Topic::Resources).then(|| resources::of(image)),
+            resources: is_wanted(Topic::Resources).then(|| resources::of(image, of_parts)),
             ..Facts::empty(path, image.bytes().len())
+        }
+    }
+
+    /// Whether the image lacks a part that was read.
+    pub fn is_absent(&self, topic: Topic) -> bool {
+        fn is_none<T>(part: &Option<Part<T>>) -> bool {
+            matches!(part, Some(Part::Absent))
+        }
+        match topic {
+            Topic::Sections => self.sections.as_ref().is_some_and(Vec::is_empty),
+            Topic::Imports => is_none(&self.imports),
+            Topic::Exports => is_none(&self.exports),
+            Topic::Debug => self.debug.as_ref().is_some_and(|it| matches!(it.entries, Part::Absent)),
+            Topic::Certificates => is_none(&self.certificates),
+            Topic::Functions => is_none(&self.functions),
+            Topic::Version => self.version.as_ref().is_some_and(version::Version::is_absent),
+            Topic::Tls => is_none(&self.tls),
+            Topic::Relocations => is_none(&self.relocations),
+            Topic::DelayImports => is_none(&self.delay_imports),
+            Topic::BoundImports => is_none(&self.bound_imports),
+            Topic::LoadConfig => is_none(&self.load_config),
+            Topic::Clr => is_none(&self.clr),
+            Topic::Rich => is_none(&self.rich),
+            Topic::Resources => is_none(&self.resources),
+            Topic::Headers | Topic::Hardening | Topic::Hashes | Topic::All => false,
         }
     }
 
@@ -407,11 +632,11 @@ impl<'a> Facts<'a> {
         if let Some(part) = &self.imports {
             found.extend(part.list_refusal().map(|it| ("imports", it)));
             let libraries = part.present().into_iter().flat_map(|it| &it.entries);
-            found.extend(libraries.filter_map(|it| it.imports.error.as_ref()).map(|it| ("imports", it)));
+            found.extend(libraries.filter_map(|it| it.functions.list_refusal()).map(|it| ("imports", it)));
         }
         found.extend(self.exports.iter().filter_map(Part::refusal).map(|it| ("exports", it)));
         found.extend(self.debug.iter().flat_map(|it| it.refusals()).map(|it| ("debug data", it)));
-        found.extend(self.certificates.iter().filter_map(|it| it.error.as_ref()).map(|it| ("certificates", it)));
+        found.extend(self.certificates.iter().filter_map(|it| it.list_refusal()).map(|it| ("certificates", it)));
         found.extend(self.functions.iter().filter_map(Part::refusal).map(|it| ("functions", it)));
         found.extend(self.version.iter().flat_map(|it| it.refusals()));
         if let Some(part) = &self.tls {
@@ -435,17 +660,17 @@ impl<'a> Facts<'a> {
         if let Some(part) = &self.delay_imports {
             found.extend(part.list_refusal().map(|it| ("delay imports", it)));
             let libraries = part.present().into_iter().flat_map(|it| &it.entries);
-            found.extend(libraries.filter_map(|it| it.imports.error.as_ref()).map(|it| ("delay imports", it)));
+            found.extend(libraries.filter_map(|it| it.functions.list_refusal()).map(|it| ("delay imports", it)));
         }
         if let Some(part) = &self.bound_imports {
             found.extend(part.list_refusal().map(|it| ("bound imports", it)));
             let bound = part.present().into_iter().flat_map(|it| &it.entries);
-            found.extend(bound.filter_map(|it| it.forwarders.error.as_ref()).map(|it| ("bound imports", it)));
+            found.extend(bound.filter_map(|it| it.forwarders.list_refusal()).map(|it| ("bound imports", it)));
         }
         found.extend(self.load_config.iter().filter_map(Part::refusal).map(|it| ("load configuration", it)));
         if let Some(part) = &self.clr {
             let metadata = part.present().map(|it| &it.metadata);
-            let streams = metadata.and_then(|it| it.present()).and_then(|it| it.streams.error.as_ref());
+            let streams = metadata.and_then(|it| it.present()).and_then(|it| it.streams.list_refusal());
             let refusal = part.refusal().or(metadata.and_then(|it| it.refusal())).or(streams);
             found.extend(refusal.map(|it| ("CLR header", it)));
         }

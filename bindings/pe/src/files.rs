@@ -2,7 +2,9 @@
 //! side, a few at a time, and what is said of them comes out in their order; so a million files take no more memory than a
 //! few.
 
+use crate::arguments::{Arguments, Files};
 use crate::Status;
+use clap::CommandFactory;
 use indicatif::{ProgressBar, ProgressStyle};
 use pe_c::{Error, Image, Mode};
 use rayon::prelude::*;
@@ -19,6 +21,8 @@ const START: u64 = 4096;
 /// What is said of a file.
 pub struct Report {
     pub text: Vec<u8>,
+    /// Lines for standard error.
+    pub complaints: String,
     pub status: Status,
     /// Whether the file has the signatures of an image.
     pub is_image: bool,
@@ -26,7 +30,7 @@ pub struct Report {
 
 impl Report {
     pub fn of(text: impl Into<Vec<u8>>, status: Status) -> Report {
-        Report { text: text.into(), status, is_image: true }
+        Report { text: text.into(), complaints: String::new(), status, is_image: true }
     }
 }
 
@@ -57,10 +61,22 @@ struct Found {
 }
 
 /// The files below a folder, each folder's in the order of their names. Links to folders are not followed, and links
-/// that lead nowhere, pipes and the like are left out. A folder that cannot be read is an item by itself, so that
+/// that lead nowhere or in a circle, pipes and the like are left out. A folder that cannot be read is an item by itself, so that
 /// reading it tells why.
 struct Below {
     waiting: Vec<PathBuf>,
+    is_verbose: bool,
+}
+
+/// Whether a link leads nowhere, or in a circle.
+fn is_lost(error: &io::Error) -> bool {
+    error.kind() == io::ErrorKind::NotFound || error.raw_os_error() == Some(libc::ELOOP)
+}
+
+fn say_skipped(path: &Path, why: &str, is_verbose: bool) {
+    if is_verbose {
+        eprintln!("pe: {}: skipped, {why}", crate::escape::escaped(&path.to_string_lossy()));
+    }
 }
 
 impl Iterator for Below {
@@ -70,8 +86,14 @@ impl Iterator for Below {
         while let Some(path) = self.waiting.pop() {
             if !fs::symlink_metadata(&path).is_ok_and(|it| it.is_dir()) {
                 match fs::metadata(&path) {
-                    Ok(it) if !it.is_file() => continue,
-                    Err(error) if error.kind() == io::ErrorKind::NotFound => continue,
+                    Ok(it) if !it.is_file() => {
+                        say_skipped(&path, "it is no regular file", self.is_verbose);
+                        continue;
+                    }
+                    Err(error) if is_lost(&error) => {
+                        say_skipped(&path, "the link leads to no file", self.is_verbose);
+                        continue;
+                    }
                     _ => return Some(path),
                 }
             }
@@ -88,10 +110,11 @@ fn paths_in(folder: &Path) -> io::Result<Vec<PathBuf>> {
     fs::read_dir(folder)?.map(|entry| entry.map(|entry| entry.path())).collect()
 }
 
-fn found(paths: &[PathBuf], is_recursive: bool) -> impl Iterator<Item = Found> + '_ {
-    paths.iter().flat_map(move |path| {
-        let is_below = is_recursive && path.is_dir();
-        let files = if is_below { Below { waiting: vec![path.clone()] } } else { Below { waiting: Vec::new() } };
+fn found(named: &Files) -> impl Iterator<Item = Found> + '_ {
+    named.files.iter().flat_map(move |path| {
+        let is_below = named.recursive && path.is_dir();
+        let waiting = if is_below { vec![path.clone()] } else { Vec::new() };
+        let files = Below { waiting, is_verbose: named.verbose };
         let own = (!is_below).then(|| path.clone());
         own.into_iter().chain(files).map(move |path| Found { path, is_below })
     })
@@ -127,10 +150,19 @@ fn ask_for_large_pages(bytes: &mut Vec<u8>) {
     unsafe { libc::madvise(room.as_mut_ptr().cast(), room.len() / PAGE * PAGE, libc::MADV_HUGEPAGE) };
 }
 
-/// As `fs::read`, into large pages.
-fn whole(path: &Path) -> io::Result<Vec<u8>> {
-    let mut file = File::open(path)?;
+/// As `fs::read`, into large pages. `-` is standard input. A pipe or a device by another name is refused, since it may never
+/// end, or do something when it is read.
+pub fn whole(path: &Path) -> io::Result<Vec<u8>> {
     let mut bytes = Vec::new();
+    if path == Path::new("-") {
+        io::stdin().lock().read_to_end(&mut bytes)?;
+        return Ok(bytes);
+    }
+    let is_regular = fs::metadata(path)?;
+    if !is_regular.is_file() && !is_regular.is_dir() {
+        return Err(io::Error::new(io::ErrorKind::InvalidInput, "it is no regular file; - reads standard input"));
+    }
+    let mut file = File::open(path)?;
     bytes.try_reserve_exact(usize::try_from(file.metadata()?.len()).unwrap_or_default())?;
     ask_for_large_pages(&mut bytes);
     file.read_to_end(&mut bytes)?;
@@ -151,15 +183,10 @@ fn content(found: &Found) -> io::Result<Option<Vec<u8>>> {
 }
 
 /// Writes what `report` says of each file, in their order. Returns the worst status.
-pub fn each(
-    paths: &[PathBuf],
-    is_recursive: bool,
-    out: &mut dyn Write,
-    report: impl Fn(&Path, &[u8]) -> Report + Sync,
-) -> io::Result<Status> {
-    let mut worst = Status::Done;
-    let mut files = found(paths, is_recursive).peekable();
-    let bar = progress(is_recursive);
+pub fn each(named: &Files, out: &mut dyn Write, report: impl Fn(&Path, &[u8]) -> Report + Sync) -> io::Result<Status> {
+    let (mut worst, mut skipped) = (Status::Done, 0);
+    let mut files = found(named).peekable();
+    let bar = progress(named.recursive);
     while files.peek().is_some() {
         let some: Vec<Found> = files.by_ref().take(AT_ONCE).collect();
         let of = |found: &Found| Ok(content(found)?.map(|bytes| report(&found.path, &bytes)));
@@ -167,21 +194,72 @@ pub fn each(
         let reports: Vec<io::Result<Option<Report>>> =
             if let [one] = some.as_slice() { vec![of(one)] } else { some.par_iter().map(of).collect() };
         for (found, report) in some.iter().zip(reports) {
-            worst = worst.max(write(found, report, out)?);
+            match write(found, report, out)? {
+                Some(status) => worst = worst.max(status),
+                None => {
+                    skipped += 1;
+                    say_skipped(&found.path, "it is no image", named.verbose);
+                }
+            }
         }
         bar.inc(some.len() as u64);
     }
     bar.finish_and_clear();
+    if skipped > 0 {
+        eprintln!("pe: {} skipped, no images", crate::facts::counted(skipped, "file"));
+    }
     Ok(worst)
 }
 
-fn write(found: &Found, report: io::Result<Option<Report>>, out: &mut dyn Write) -> io::Result<Status> {
+/// Writes what is said of a file. `None` where it is skipped.
+fn write(found: &Found, report: io::Result<Option<Report>>, out: &mut dyn Write) -> io::Result<Option<Status>> {
     match report {
-        Ok(Some(report)) if report.is_image || !found.is_below => out.write_all(&report.text).map(|()| report.status),
-        Ok(_) => Ok(Status::Done),
+        Ok(Some(report)) if report.is_image || !found.is_below => {
+            eprint!("{}", report.complaints);
+            out.write_all(&report.text).map(|()| Some(report.status))
+        }
+        Ok(_) => Ok(None),
         Err(error) => {
-            eprintln!("pe: {}: {error}", crate::escape::escaped(&found.path.to_string_lossy()));
-            Ok(Status::FileError)
+            let name = found.path.to_string_lossy();
+            eprintln!("pe: {}: {error}{}", crate::escape::escaped(&name), hint(&name, &error));
+            Ok(Some(Status::FileError))
+        }
+    }
+}
+
+/// Which command was meant by the name of a file that is not there.
+fn hint(name: &str, error: &io::Error) -> String {
+    if error.kind() != io::ErrorKind::NotFound {
+        return String::new();
+    }
+    let commands = Arguments::command();
+    let meant = commands.get_subcommands().map(|it| it.get_name()).find(|it| is_like(name, it));
+    meant.map_or(String::new(), |it| format!("; is the command `{it}` meant?"))
+}
+
+/// Whether a word is the start of a command, or has one letter more, less or other.
+fn is_like(word: &str, command: &str) -> bool {
+    let (word, command) = (word.as_bytes(), command.as_bytes());
+    let same = word.iter().zip(command).take_while(|(a, b)| a == b).count();
+    let rest = |it: &[u8], from: usize| it.get(from..).unwrap_or_default().to_vec();
+    word.len() > 1
+        && (command.starts_with(word)
+            || rest(word, same + 1) == rest(command, same + 1)
+            || rest(word, same + 1) == rest(command, same)
+            || rest(word, same) == rest(command, same + 1))
+}
+
+#[cfg(test)]
+mod tests {
+    use super::*;
+
+    #[test]
+    fn commands_are_known_by_a_letter_more_or_less() {
+        for word in ["sho", "sh", "shw", "shoow", "shov", "show"] {
+            assert!(is_like(word, "show"), "{word}");
+        }
+        for word in ["s", "a.exe", "hsow", "unwind", ""] {
+            assert!(!is_like(word, "show"), "{word}");
         }
     }
 }

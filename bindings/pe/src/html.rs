@@ -4,17 +4,18 @@
 
 mod map;
 mod markup;
+mod overview;
 
 use crate::escape::escaped;
 use crate::facts::debug::Debug;
 use crate::facts::regions::{self, Region};
-use crate::facts::{count_of, Facts, Part, Topic};
+use crate::facts::{count_of, Facts, Part, Wanted};
 use crate::files::{self, Report};
 use crate::summary::kind_of;
 use crate::tables::{self, Row, Table};
-use crate::{digest, Reading, Status};
+use crate::{Reading, Status};
 use markup::Html;
-use pe_c::{Image, Layout};
+use pe_c::Image;
 use sha2::{Digest as _, Sha256};
 use std::path::Path;
 
@@ -32,8 +33,8 @@ const WARNINGS: usize = 100;
 pub fn write_to(path: &Path, bytes: &[u8], reading: &Reading, to: &Path) -> Report {
     let image = Image::parse_as(bytes, reading.mode(), reading.layout());
     let facts = match &image {
-        Ok(image) => Facts::of(path, image, &[Topic::All]),
-        Err(error) => Facts::refused(path, bytes.len(), *error),
+        Ok(image) => Facts::of(path, image, &Wanted::parts(&[], reading.has_hashes())),
+        Err(error) => Facts::refused(path, bytes, *error),
     };
     let page = page_of(&facts, image.as_ref().ok());
     let status = if facts.is_refused() { Status::Refused } else { Status::Done };
@@ -45,23 +46,30 @@ fn page_of(facts: &Facts, image: Option<&Image<'_>>) -> String {
     let name = Path::new(&facts.file).file_name().map(|it| it.to_string_lossy()).unwrap_or_default();
     head(&name, &mut html);
     html.markup("<header><h1>").text(&name).markup("</h1><p>");
-    match &facts.headers {
-        Some(headers) => html.text(kind_of(headers)),
-        None => html.text("refused: no image"),
+    match (&facts.headers, facts.file_kind) {
+        (Some(headers), _) => html.text(kind_of(headers)),
+        (None, Some(kind)) => html.text(format_args!("refused: no image, but {kind}")),
+        (None, None) => html.text("refused: no image"),
     };
     html.markup(" · ").text(grouped(facts.file_size as u64)).markup(" bytes</p><p class=path>");
     html.text(escaped(&facts.file)).markup("</p></header>");
+    overview::of(facts, &mut html);
     warnings(facts, &mut html);
     if let Some(image) = image {
         filter(&mut html);
-        html.markup("<main>");
+        let mut main = Html::new();
         let regions = regions::of(image, facts);
-        map::of(&regions, image, &mut html);
-        parts(facts, &regions, image, &mut html);
-        html.markup("</main>");
+        map::of(&regions, image, &mut main);
+        parts(facts, &regions, &mut main);
+        contents(&main, &mut html);
+        html.markup("<main>").append(main).markup("</main>");
     }
-    html.markup("<footer>Each number comes from a call of a proved library; signatures are not verified. ");
-    html.markup("<code>pe ").text(env!("CARGO_PKG_VERSION")).markup("</code></footer><script>");
+    html.markup("<footer>What is said of the image comes from calls of the library for C (");
+    html.text(crate::arguments::ARCHIVE)
+        .markup("). Hashes, entropy and what an overlay is are the program&#39;s own. ");
+    html.markup("Signatures are not verified. <code>pe ")
+        .text(env!("CARGO_PKG_VERSION"))
+        .markup("</code></footer><script>");
     html.markup(SCRIPT).markup("</script></body></html>\n");
     html.into_text()
 }
@@ -125,12 +133,14 @@ fn filter(html: &mut Html) {
 }
 
 /// All tables of the page.
-fn parts(facts: &Facts, regions: &[Region], image: &Image<'_>, html: &mut Html) {
+fn parts(facts: &Facts, regions: &[Region], html: &mut Html) {
     table("regions", "Regions of the file", &map::table(regions), html);
     if let Some(headers) = &facts.headers {
-        let rows = tables::headers(headers).into_iter().chain(digest_of(facts, image)).collect();
-        list("headers", "Headers", rows, html);
+        list("headers", "Headers", tables::headers(headers), html);
         table("directories", "Directories", &tables::directories(headers), html);
+    }
+    if let Some(hashes) = &facts.hashes {
+        list("hashes", "Hashes", tables::hashes(hashes), html);
     }
     if let Some(sections) = &facts.sections {
         table("sections", "Sections", &tables::sections(sections), html);
@@ -145,7 +155,7 @@ fn parts(facts: &Facts, regions: &[Region], image: &Image<'_>, html: &mut Html) 
     if let Some(debug) = &facts.debug {
         debug_data(debug, html);
     }
-    if let Some(certificates) = &facts.certificates {
+    if let Some(certificates) = facts.certificates.as_ref().and_then(Part::present) {
         table("certificates", "Certificates, not verified", &tables::certificates(certificates), html);
     }
     if let Some(version) = &facts.version {
@@ -199,24 +209,20 @@ fn debug_data(debug: &Debug, html: &mut Html) {
     }
 }
 
-/// The checksum that the file should have, and its Authenticode digest; of a module as it was in memory there are none.
-fn digest_of(facts: &Facts, image: &Image<'_>) -> Vec<Row> {
-    if image.layout() == Layout::Mapped {
-        return Vec::new();
+/// Links to all parts that are on the page.
+fn contents(main: &Html, html: &mut Html) {
+    html.markup("<nav aria-label=Contents><ul class=contents><li><a href=\"#map\">Map of the file</a></li>");
+    for (id, title) in main.parts() {
+        html.markup("<li><a href=\"#").markup(id).markup("\">").markup(title).markup("</a></li>");
     }
-    match digest::digest_of(Path::new(&facts.file), image) {
-        Ok(digest) => vec![
-            ("right checksum", format!("{:#010x}", digest.right_checksum)),
-            ("Authenticode", format!("SHA-256 {}", digest.sha256_hex)),
-        ],
-        Err(_) => Vec::new(),
-    }
+    html.markup("</ul></nav>");
 }
 
 fn list(id: &'static str, title: &'static str, rows: Vec<Row>, html: &mut Html) {
     if rows.is_empty() {
         return;
     }
+    html.has_part(id, title);
     html.markup("<section class=list aria-labelledby=").markup(id).markup("><h2 id=").markup(id).markup(">");
     html.markup(title).markup("</h2><dl>");
     for (label, value) in rows {
@@ -229,6 +235,7 @@ fn table(id: &'static str, title: &'static str, table: &Table, html: &mut Html) 
     if table.rows.is_empty() && !table.is_limited {
         return;
     }
+    html.has_part(id, title);
     let is_open = if table.rows.len() <= OPEN_ROWS { " open" } else { "" };
     html.markup("<details id=").markup(id).markup(is_open).markup("><summary><h2>").markup(title);
     html.markup("</h2> <span class=count>").text(count_of(table.rows.len(), table.is_limited));

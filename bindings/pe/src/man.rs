@@ -46,10 +46,12 @@ fn argument(arg: &Arg) -> String {
     format!(".TP\n{}\n{}\n", spelling(arg), (help + &one_of).trim())
 }
 
-/// The arguments of the program, or those of a command: its options are the program's.
-fn arguments_of(command: &Command, has_options: bool) -> String {
+/// The arguments of the program, or those of a command that the program does not have.
+fn arguments_of(command: &Command, options_of_program: &[String]) -> String {
     let own = command.get_arguments().filter(|it| !["help", "version"].contains(&it.get_id().as_str()));
-    own.filter(|it| has_options || it.get_long().is_none()).map(argument).collect()
+    own.filter(|it| it.get_long().map_or(true, |long| !options_of_program.iter().any(|it| it == long)))
+        .map(argument)
+        .collect()
 }
 
 /// The usage line of a command.
@@ -68,13 +70,14 @@ pub fn page() -> String {
     let usage = usage_of(&mut command);
     text += &usage.lines().map(|line| format!("{}\n.br\n", line.trim())).collect::<String>();
     text += &format!(
-        ".SH DESCRIPTION\n{about}.\nEach value comes from a call of a proved library; signatures are not verified.\n"
+        ".SH DESCRIPTION\n{about}.\nWhat is said of an image comes from calls of the library for C, which was proved if `pe \\-\\-version` says so; hashes, entropy and what a file or an overlay is are the program\'s own. Signatures are not verified.\n"
     );
-    text += &format!(".SH OPTIONS\n{}.SH COMMANDS\n", arguments_of(&command, true));
+    text += &format!(".SH OPTIONS\n{}.SH COMMANDS\n", arguments_of(&command, &[]));
+    let options: Vec<String> = command.get_arguments().filter_map(|it| it.get_long().map(str::to_string)).collect();
     for below in command.get_subcommands_mut().filter(|it| it.get_name() != "help") {
         let usage = usage_of(below);
         let about = below.get_about().map(sentence).unwrap_or_default();
-        text += &format!(".SS \"{usage}\"\n{about}\n{}", arguments_of(below, false));
+        text += &format!(".SS \"{usage}\"\n{about}\n{}", arguments_of(below, &options));
     }
     text + &format!(".SH EXAMPLES\n.nf\n{}\n.fi\n.SH \"EXIT STATUS\"\n{}\n", plain(EXAMPLES), plain(STATUSES))
 }

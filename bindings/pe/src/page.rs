@@ -4,17 +4,23 @@ use crate::tables::Table;
 use std::fmt::{self, Display, Write};
 use std::io::{self, IsTerminal};
 
-/// Whether text has colours.
+/// Whether text has colours, and how wide its lines may be.
 #[derive(Clone, Copy, Debug)]
 pub struct Style {
     has_colours: bool,
+    width: usize,
 }
 
 impl Style {
-    /// Colours on a terminal, unless the variable `NO_COLOR` has a value (<https://no-color.org>).
+    /// Colours on a terminal, unless the variable `NO_COLOR` has a value (<https://no-color.org>) or `TERM` is `dumb`. Lines are
+    /// as wide as the variable `COLUMNS` says, or as the terminal; elsewhere they end where they end.
     pub fn of_stdout() -> Style {
-        let is_refused = std::env::var_os("NO_COLOR").is_some_and(|it| !it.is_empty());
-        Style { has_colours: io::stdout().is_terminal() && !is_refused }
+        let is_refused = std::env::var_os("NO_COLOR").is_some_and(|it| !it.is_empty())
+            || std::env::var_os("TERM").is_some_and(|it| it == "dumb");
+        let is_terminal = io::stdout().is_terminal();
+        let named = std::env::var("COLUMNS").ok().and_then(|it| it.parse().ok()).filter(|it| *it > 0);
+        let width = named.or_else(|| if is_terminal { columns_of_terminal() } else { None });
+        Style { has_colours: is_terminal && !is_refused, width: width.unwrap_or(usize::MAX) }
     }
 
     fn between(self, code: &str, text: &str) -> String {
@@ -24,6 +30,14 @@ impl Style {
             text.to_string()
         }
     }
+}
+
+/// The columns of the terminal that is standard output.
+fn columns_of_terminal() -> Option<usize> {
+    let mut size = libc::winsize { ws_row: 0, ws_col: 0, ws_xpixel: 0, ws_ypixel: 0 };
+    // SAFETY: the request writes a record of this type, which is lent for the call.
+    let status = unsafe { libc::ioctl(libc::STDOUT_FILENO, libc::TIOCGWINSZ, &mut size) };
+    (status == 0 && size.ws_col > 0).then_some(usize::from(size.ws_col))
 }
 
 /// The width of the first column of a summary.
@@ -57,16 +71,32 @@ impl Page {
         self.text.push('\n');
     }
 
-    /// A line of a summary: what it is about, and what it says.
+    /// How many characters a line of a summary has beside its label.
+    pub fn room(&self) -> usize {
+        self.style.width.saturating_sub(LABEL + 2)
+    }
+
+    /// A line of a summary: what it is about, and what it says. A longer text goes on in lines below it.
     pub fn row(&mut self, label: &str, value: impl Display) {
         let label = self.style.between("36", &format!("{label:LABEL$}"));
-        self.line(format_args!("  {label}{value}"));
+        let value = value.to_string();
+        for (index, line) in wrapped(&value, self.room()).iter().enumerate() {
+            if index == 0 {
+                self.line(format_args!("  {label}{line}"));
+            } else {
+                self.line(format_args!("  {:LABEL$}{line}", ""));
+            }
+        }
     }
 
     /// A line that warns.
     pub fn warning(&mut self, text: impl Display) {
-        let text = self.style.between("33", &format!("{:LABEL$}{text}", "warning"));
-        self.line(format_args!("  {text}"));
+        let text = text.to_string();
+        for (index, line) in wrapped(&text, self.room()).iter().enumerate() {
+            let label = if index == 0 { "warning" } else { "" };
+            let line = self.style.between("33", &format!("{label:LABEL$}{line}"));
+            self.line(format_args!("  {line}"));
+        }
     }
 
     /// A line, without spaces at its end.
@@ -98,5 +128,37 @@ impl Page {
             let line = lay(&mut row.iter().map(String::as_str));
             self.line(format_args!("{line}"));
         }
+    }
+}
+
+/// Lines of a text, of at most so many characters each, unless a word is longer. They end at spaces.
+fn wrapped(text: &str, width: usize) -> Vec<String> {
+    let mut lines = vec![String::new()];
+    let mut length = 0;
+    for word in text.split_inclusive(' ') {
+        let own = word.trim_end().chars().count();
+        if length > 0 && length + own > width {
+            lines.push(String::new());
+            length = 0;
+        }
+        if let Some(line) = lines.last_mut() {
+            line.push_str(word);
+        }
+        length += word.chars().count();
+    }
+    lines
+}
+
+#[cfg(test)]
+mod tests {
+    use super::*;
+
+    #[test]
+    fn lines_end_at_spaces() {
+        assert_eq!(wrapped("one two three", 7), ["one two ", "three"]);
+        assert_eq!(wrapped("one two three", 13), ["one two three"]);
+        assert_eq!(wrapped("abcdefgh i", 4), ["abcdefgh ", "i"]);
+        assert_eq!(wrapped("", 4), [""]);
+        assert_eq!(wrapped("é é", 1), ["é ", "é"]);
     }
 }

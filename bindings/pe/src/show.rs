@@ -7,6 +7,8 @@ use crate::facts::clr::Clr;
 use crate::facts::debug::Debug;
 use crate::facts::exports::Exports;
 use crate::facts::functions::Functions;
+use crate::facts::hardening::Hardening;
+use crate::facts::hashes::Hashes;
 use crate::facts::headers::Headers;
 use crate::facts::imports::Library;
 use crate::facts::load_config::LoadConfig;
@@ -15,13 +17,10 @@ use crate::facts::rich::Rich;
 use crate::facts::sections::Section;
 use crate::facts::tls::Tls;
 use crate::facts::version::Version;
-use crate::facts::{delay_imports, relocations, Facts, List, Part};
+use crate::facts::{delay_imports, relocations, Facts, List, Part, Topic};
 use crate::page::{Page, Style};
 use crate::tables::{self, Row};
 use chrono::{TimeZone, Utc};
-
-/// How a command shows what is said of a file.
-pub type Writer = fn(&Facts, Style) -> String;
 
 /// A time stamp as a date and a time of UTC.
 pub fn time_of(seconds: u32) -> String {
@@ -29,11 +28,19 @@ pub fn time_of(seconds: u32) -> String {
     time.map(|it| it.format("%Y-%m-%d %H:%M:%S UTC").to_string()).unwrap_or_default()
 }
 
-pub fn text(facts: &Facts, style: Style) -> String {
+/// The parts, and which of those that were named are absent.
+pub fn text(facts: &Facts, style: Style, named: &[Topic]) -> String {
     let mut page = Page::new(style);
-    page.heading(&escaped(&facts.file));
+    let kind = facts.file_kind.map_or(String::new(), |kind| format!(": {kind}"));
+    page.heading(&(escaped(&facts.file) + &kind));
     if let Some(headers) = &facts.headers {
         headers_of(headers, &mut page);
+    }
+    if let Some(hardening) = &facts.hardening {
+        hardening_of(hardening, &mut page);
+    }
+    if let Some(hashes) = &facts.hashes {
+        hashes_of(hashes, &mut page);
     }
     if let Some(sections) = &facts.sections {
         sections_of(sections, &mut page);
@@ -43,9 +50,7 @@ pub fn text(facts: &Facts, style: Style) -> String {
     if let Some(debug) = &facts.debug {
         debug_of(debug, &mut page);
     }
-    if let Some(certificates) = &facts.certificates {
-        certificates_of(certificates, &mut page);
-    }
+    part(facts.certificates.as_ref(), certificates_of, &mut page);
     part(facts.functions.as_ref(), functions_of, &mut page);
     if let Some(version) = &facts.version {
         version_of(version, &mut page);
@@ -58,6 +63,9 @@ pub fn text(facts: &Facts, style: Style) -> String {
     part(facts.clr.as_ref(), clr_of, &mut page);
     part(facts.rich.as_ref(), rich_of, &mut page);
     part(facts.resources.as_ref(), resources_of, &mut page);
+    for topic in named.iter().filter(|it| facts.is_absent(**it)) {
+        page.row(&topic.name(), "none");
+    }
     for (part, refusal) in facts.refusals() {
         page.warning(format_args!("{part}: {refusal}"));
     }
@@ -90,6 +98,18 @@ fn headers_of(headers: &Headers, page: &mut Page) {
     page.table(&tables::directories(headers));
 }
 
+fn hardening_of(hardening: &Hardening, page: &mut Page) {
+    page.heading("Hardening, as the image asks for it; no signature is verified");
+    for (label, value) in tables::hardening(hardening) {
+        page.line(format_args!("  {label:22}{value}"));
+    }
+}
+
+fn hashes_of(hashes: &Hashes, page: &mut Page) {
+    page.heading("Hashes");
+    rows(tables::hashes(hashes), page);
+}
+
 fn sections_of(sections: &[Section], page: &mut Page) {
     page.heading("Sections");
     page.table(&tables::sections(sections));
@@ -98,10 +118,10 @@ fn sections_of(sections: &[Section], page: &mut Page) {
 fn imports_of(libraries: &List<Library>, page: &mut Page) {
     for library in &libraries.entries {
         page.heading(&format!("Imports from {}", library.name));
-        for import in &library.imports.entries {
+        for import in library.functions.entries() {
             page.line(format_args!("  {}", tables::import(import.name.as_ref(), import.ordinal)));
         }
-        more(library.imports.is_limited, page);
+        more(library.functions.present().is_some_and(|it| it.is_limited), page);
     }
     more(libraries.is_limited, page);
 }
@@ -125,9 +145,6 @@ fn debug_of(debug: &Debug, page: &mut Page) {
 }
 
 fn certificates_of(certificates: &List<Certificate>, page: &mut Page) {
-    if certificates.entries.is_empty() {
-        return;
-    }
     page.heading("Certificates, not verified");
     page.table(&tables::certificates(certificates));
 }
@@ -138,13 +155,13 @@ fn functions_of(functions: &Functions, page: &mut Page) {
 }
 
 fn version_of(version: &Version, page: &mut Page) {
-    if let (None, None) = (version.fixed.present(), version.strings.present()) {
+    if tables::versions(version).is_empty() && version.table_count() == 0 {
         return;
     }
     page.heading("Version");
     rows(tables::versions(version), page);
-    for row in tables::version_strings(version).rows {
-        page.line(format_args!("  {:18}{}", row[0], row[1]));
+    if version.table_count() > 0 {
+        page.table(&tables::version_strings(version));
     }
 }
 
@@ -161,10 +178,10 @@ fn relocations_of(pages: &List<relocations::Page>, page: &mut Page) {
 fn delay_imports_of(libraries: &List<delay_imports::Library>, page: &mut Page) {
     for library in &libraries.entries {
         page.heading(&format!("Delay imports from {}", library.name));
-        for import in &library.imports.entries {
+        for import in library.functions.entries() {
             page.line(format_args!("  {}", tables::import(import.name.as_ref(), import.ordinal)));
         }
-        more(library.imports.is_limited, page);
+        more(library.functions.present().is_some_and(|it| it.is_limited), page);
     }
     more(libraries.is_limited, page);
 }
@@ -199,12 +216,25 @@ fn resources_of(resources: &Resources, page: &mut Page) {
     more(resources.is_limited, page);
 }
 
-/// Where a symbol server has the PDB of an image, and the image: a line each. What is refused goes to standard error.
-pub fn keys(facts: &Facts, _: Style) -> String {
-    let pdb = facts.debug.as_ref().and_then(|it| it.pdb.present()).and_then(|it| it.symbol_server_path.as_deref());
-    let image = facts.headers.as_ref().and_then(|it| it.symbol_server_path.as_deref());
-    for (part, refusal) in facts.refusals() {
-        eprintln!("pe: {}: {part}: {refusal}", escaped(&facts.file));
-    }
-    pdb.into_iter().chain(image).map(|path| escaped(path) + "\n").collect()
+/// What is refused, as lines for standard error.
+pub fn complaints(facts: &Facts) -> String {
+    let file = escaped(&facts.file);
+    facts.refusals().iter().map(|(part, refusal)| format!("pe: {file}: {part}: {refusal}\n")).collect()
+}
+
+/// Where a symbol server has the PDB of an image, and the image.
+pub fn keys(facts: &Facts, style: Style) -> String {
+    let (Some(headers), Some(debug)) = (&facts.headers, &facts.debug) else { return String::new() };
+    let mut page = Page::new(style);
+    page.heading(&escaped(&facts.file));
+    let pdb = match &debug.pdb {
+        Part::Present(pdb) => {
+            pdb.symbol_server_path.as_deref().map_or("none, its name is that of no file".into(), escaped)
+        }
+        Part::Refused(_) => "refused".to_string(),
+        Part::Absent => "none, the image names no PDB of version 7.0".to_string(),
+    };
+    page.row("PDB", pdb);
+    page.row("image", headers.symbol_server_path.as_deref().map_or("none".into(), escaped));
+    page.into_text()
 }

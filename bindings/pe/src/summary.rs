@@ -1,14 +1,17 @@
 //! An image in a screen of text.
 
 use crate::escape::escaped;
+use crate::facts::hardening::word;
 use crate::facts::headers::Headers;
 use crate::facts::sections::Section;
-use crate::facts::{count_of, Facts, Part};
+use crate::facts::{count_of, counted, Facts, Part};
 use crate::page::{Page, Style};
 use crate::show::time_of;
 
 /// How many DLLs a summary names.
 const LIBRARIES: usize = 12;
+/// How many characters of a section's name are laid out.
+const NAME: usize = 24;
 /// The steps of a bar of entropy, for 8 bits a byte.
 const STEPS: f64 = 8.0;
 
@@ -18,6 +21,7 @@ pub fn text(facts: &Facts, style: Style) -> String {
     if let Some(headers) = &facts.headers {
         headers_of(headers, &mut page);
     }
+    hardening_of(facts, &mut page);
     sections_of(facts.sections.as_deref().unwrap_or_default(), &mut page);
     tables_of(facts, &mut page);
     version_of(facts, &mut page);
@@ -30,7 +34,10 @@ pub fn text(facts: &Facts, style: Style) -> String {
 
 fn heading_of(facts: &Facts) -> String {
     let file = escaped(&facts.file);
-    let Some(headers) = &facts.headers else { return format!("{file}: refused") };
+    let Some(headers) = &facts.headers else {
+        let kind = facts.file_kind.map_or(String::new(), |kind| format!(", {kind}"));
+        return format!("{file}: refused{kind}");
+    };
     format!("{file}: {}", kind_of(headers))
 }
 
@@ -44,15 +51,47 @@ pub fn kind_of(headers: &Headers) -> String {
 fn headers_of(headers: &Headers, page: &mut Page) {
     page.row("built", built(headers));
     page.row("entry point", format_args!("{:#x}, image base {:#x}", headers.entry_rva, headers.image_base_va));
-    page.row("in memory", format_args!("{} bytes", headers.size_of_image));
-    if let Some(overlay) = headers.overlay_beside_certificates() {
-        page.row("overlay", overlay);
+    page.row("in memory", counted(headers.size_of_image as usize, "byte"));
+    if let Some(content) = headers.overlay.as_ref().and_then(|it| it.content.as_ref()) {
+        let kind = content.kind.unwrap_or("of no known kind");
+        let (size, offset) = (counted(content.size, "byte"), content.file_offset);
+        page.row("overlay", format_args!("{size} at file offset {offset:#x}, {kind}"));
+    }
+    if let Some(text) = checksum_of(headers) {
+        page.row("checksum", text);
+    }
+}
+
+/// The checksum, and the right one where it is wrong. `None` without one.
+pub fn checksum_of(headers: &Headers) -> Option<String> {
+    match (headers.checksum_state?, headers.right_checksum) {
+        ("wrong", Some(right)) => Some(format!("{:#010x}, wrong: {right:#010x} is right", headers.checksum)),
+        ("right", _) => Some(format!("{:#010x}, right", headers.checksum)),
+        _ => None,
+    }
+}
+
+/// What an image is hardened by, and what it lacks, without what does not apply.
+fn hardening_of(facts: &Facts, page: &mut Page) {
+    let Some(hardening) = &facts.hardening else { return };
+    let named = |wanted: bool| {
+        let rows = hardening.rows().into_iter().filter(|(_, value)| *value == Some(wanted));
+        let names: Vec<&str> = rows.map(|it| it.0).collect();
+        (!names.is_empty()).then(|| format!("{}: {}", word(Some(wanted)), names.join(", ")))
+    };
+    let words: Vec<String> = [true, false].into_iter().filter_map(named).collect();
+    page.row("hardening", words.join("; "));
+    if let Some(hashes) = &facts.hashes {
+        page.row("SHA-256", &hashes.sha256_hex);
+    }
+    if let Some(imphash) = facts.hashes.as_ref().and_then(|it| it.imphash.as_ref()) {
+        page.row("imphash", imphash);
     }
 }
 
 /// When the image was built. The time stamp of a reproducible build is none.
 pub fn built(headers: &Headers) -> String {
-    match (headers.is_reproducible, headers.time_date_stamp) {
+    match (headers.is_reproducible, headers.stamp.seconds) {
         (true, 0) => "reproducibly".to_string(),
         (true, stamp) => format!("reproducibly, time stamp {stamp:#010x} is a hash"),
         (false, 0) => "without a time stamp".to_string(),
@@ -66,11 +105,18 @@ fn bar_of(entropy: f64) -> String {
 }
 
 fn sections_of(sections: &[Section], page: &mut Page) {
+    let width = sections.iter().map(|it| it.shown_name().to_string().chars().count()).max().unwrap_or(0).clamp(8, NAME);
     for (index, section) in sections.iter().enumerate() {
-        let entropy = section.entropy.map_or(String::new(), |it| format!(" {} {it:.2} bits a byte", bar_of(it)));
         let label = if index == 0 { "sections" } else { "" };
         let (Section { permissions, rva, virtual_size, .. }, name) = (section, section.shown_name());
-        page.row(label, format_args!("{name:9}{permissions} {virtual_size:>9} bytes at {rva:<#10x}{entropy}"));
+        let start = format!("{name:width$} {permissions} {virtual_size:>9} bytes at {rva:<#10x}");
+        let entropy = |bar: &str| section.entropy.map_or(String::new(), |it| format!(" {bar}{it:.2} bits a byte"));
+        let line = start.clone() + &entropy(&section.entropy.map_or(String::new(), |it| bar_of(it) + " "));
+        if line.chars().count() <= page.room() {
+            page.row(label, line);
+        } else {
+            page.row(label, start.trim_end().to_string() + &entropy(""));
+        }
     }
 }
 
@@ -86,7 +132,7 @@ fn listed(counts: impl ExactSizeIterator<Item = (String, String)>, is_limited: b
 
 fn tables_of(facts: &Facts, page: &mut Page) {
     if let Some(imports) = facts.imports.as_ref().and_then(Part::present) {
-        let counts = imports.entries.iter().map(|it| (it.name.to_string(), it.imports.count()));
+        let counts = imports.entries.iter().map(|it| (it.name.to_string(), it.functions.count()));
         page.row("imports", listed(counts, imports.is_limited));
     }
     if let Some(exports) = facts.exports.as_ref().and_then(Part::present) {
@@ -100,14 +146,17 @@ fn tables_of(facts: &Facts, page: &mut Page) {
     }
     if let Some(tls) = facts.tls.as_ref().and_then(Part::present) {
         let callbacks = tls.callbacks.present().map_or(0, |it| it.entries.len());
-        page.row("TLS", format_args!("{} bytes, {callbacks} callbacks", tls.end_va.saturating_sub(tls.start_va)));
+        page.row(
+            "TLS",
+            format_args!("{} bytes, {}", tls.end_va.saturating_sub(tls.start_va), counted(callbacks, "callback")),
+        );
     }
     if let Some(pages) = facts.relocations.as_ref().and_then(Part::present) {
         let count: usize = pages.entries.iter().map(|it| it.count()).sum();
-        page.row("relocations", format_args!("{count} in {} pages", pages.entries.len()));
+        page.row("relocations", format_args!("{count} in {}", counted(pages.entries.len(), "page")));
     }
     more_of(facts, page);
-    for certificate in facts.certificates.iter().flat_map(|it| &it.entries) {
+    for certificate in facts.certificates.iter().filter_map(Part::present).flat_map(|it| &it.entries) {
         page.row("certificate", format_args!("{}, {} bytes, not verified", certificate.r#type, certificate.size));
     }
 }
@@ -115,7 +164,7 @@ fn tables_of(facts: &Facts, page: &mut Page) {
 /// The parts that few images have.
 fn more_of(facts: &Facts, page: &mut Page) {
     if let Some(delayed) = facts.delay_imports.as_ref().and_then(Part::present) {
-        let counts = delayed.entries.iter().map(|it| (it.name.to_string(), it.imports.count()));
+        let counts = delayed.entries.iter().map(|it| (it.name.to_string(), it.functions.count()));
         page.row("delay imports", listed(counts, delayed.is_limited));
     }
     if let Some(bound) = facts.bound_imports.as_ref().and_then(Part::present) {
@@ -132,17 +181,20 @@ fn more_of(facts: &Facts, page: &mut Page) {
     }
     if let Some(rich) = facts.rich.as_ref().and_then(Part::present) {
         let key = if rich.key == rich.checksum { "" } else { ", whose key is not its checksum" };
-        page.row("Rich header", format_args!("{} tools{key}", rich.tools.entries.len()));
+        page.row(
+            "Rich header",
+            format_args!("{}{key}", counted(rich.tools.present().map_or(0, |it| it.entries.len()), "tool")),
+        );
     }
     if let Some(resources) = facts.resources.as_ref().and_then(Part::present) {
         let count = count_of(resources.entries.len(), resources.is_limited);
-        page.row("resources", format_args!("{count}, of {} types", resources.type_count()));
+        page.row("resources", format_args!("{count}, of {}", counted(resources.type_count(), "type")));
     }
 }
 
 fn version_of(facts: &Facts, page: &mut Page) {
     let Some(version) = &facts.version else { return };
-    if let Some(strings) = version.strings.present() {
+    if let Some(strings) = &version.strings {
         for (label, name) in
             [("product", "ProductName"), ("description", "FileDescription"), ("company", "CompanyName")]
         {
@@ -154,8 +206,13 @@ fn version_of(facts: &Facts, page: &mut Page) {
     if let Some(fixed) = version.fixed.present() {
         page.row("version", format_args!("{}, of the product {}", fixed.file_version, fixed.product_version));
     }
+    if version.table_count() > 1 {
+        page.row("languages", format_args!("{} of version information", version.table_count()));
+    }
     if let Some(manifest) = version.manifest.present() {
-        page.row("manifest", format_args!("{} bytes", manifest.size));
+        let level =
+            manifest.requested_level.as_deref().map_or(String::new(), |it| format!(", asks for {}", escaped(it)));
+        page.row("manifest", counted(manifest.size, "byte") + &level);
     }
 }
 

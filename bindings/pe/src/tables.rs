@@ -6,6 +6,8 @@ use crate::facts::clr::{Clr, Metadata};
 use crate::facts::debug::{Debug, Entry, Pogo};
 use crate::facts::exports::Exports;
 use crate::facts::functions::Functions;
+use crate::facts::hardening::{word, Hardening};
+use crate::facts::hashes::Hashes;
 use crate::facts::headers::Headers;
 use crate::facts::imports::{self, Library};
 use crate::facts::load_config::LoadConfig;
@@ -15,9 +17,9 @@ use crate::facts::rich::Rich;
 use crate::facts::sections::Section;
 use crate::facts::tls::Tls;
 use crate::facts::version::Version;
-use crate::facts::{delay_imports, List, Name, Part};
+use crate::facts::{counted, delay_imports, List, Name, Part};
 use crate::show::time_of;
-use crate::summary::built;
+use crate::summary::{built, checksum_of};
 
 /// A column: its head, and whether its cells are numbers.
 #[derive(Clone, Copy, Debug)]
@@ -66,12 +68,27 @@ pub fn headers(headers: &Headers) -> Vec<Row> {
         ("image base", format!("{:#x}", headers.image_base_va)),
         ("sizes", format!("image {}, headers {}", headers.size_of_image, headers.size_of_headers)),
         ("alignment", format!("sections {}, file {}", headers.section_alignment, headers.file_alignment)),
-        ("checksum", format!("{:#010x}", headers.checksum)),
-        ("flags", headers.characteristics.join(", ")),
-        ("DLL flags", headers.dll_characteristics.join(", ")),
+        ("checksum", checksum_of(headers).unwrap_or(format!("{:#010x}", headers.checksum))),
+        ("flags", headers.characteristics.set().join(", ")),
+        ("DLL flags", headers.dll_characteristics.set().join(", ")),
     ];
     rows.extend(headers.overlay.iter().map(|it| ("overlay", it.to_string())));
+    rows.retain(|(_, value)| !value.is_empty());
     rows
+}
+
+pub fn hardening(hardening: &Hardening) -> Vec<Row> {
+    hardening.rows().into_iter().map(|(name, value)| (name, word(value).to_string())).collect()
+}
+
+pub fn hashes(hashes: &Hashes) -> Vec<Row> {
+    let rows = [
+        ("SHA-256", Some(&hashes.sha256_hex)),
+        ("imphash", hashes.imphash.as_ref()),
+        ("Rich hash", hashes.rich_hash.as_ref()),
+        ("Authenticode", hashes.authenticode_sha256_hex.as_ref()),
+    ];
+    rows.into_iter().filter_map(|(label, value)| Some((label, value?.clone()))).collect()
 }
 
 pub fn directories(headers: &Headers) -> Table {
@@ -93,16 +110,18 @@ pub fn sections(sections: &[Section]) -> Table {
             format!("{:#x}", it.file_offset),
             it.file_size.to_string(),
             it.entropy.map_or(String::new(), |entropy| format!("{entropy:.2}")),
+            it.sha256_hex.clone().unwrap_or_default(),
         ]
     });
     let columns = &[
         text("name"),
-        text("may"),
+        text("permissions"),
         number("RVA"),
-        number("bytes"),
+        number("virtual size"),
         number("file offset"),
-        number("bytes there"),
-        number("bits a byte"),
+        number("raw size"),
+        number("entropy"),
+        text("SHA-256"),
     ];
     Table::new(columns, rows)
 }
@@ -122,7 +141,7 @@ fn hint(hint: Option<u32>) -> String {
 
 pub fn imports(libraries: &List<Library>) -> Table {
     let rows = libraries.entries.iter().flat_map(|library| {
-        library.imports.entries.iter().map(move |it| {
+        library.functions.entries().iter().map(move |it| {
             let name = import(it.name.as_ref(), it.ordinal);
             vec![library.name.to_string(), name, hint(it.hint), format!("{:#x}", it.slot_rva)]
         })
@@ -162,7 +181,7 @@ pub fn debug_records(debug: &Debug) -> Vec<Row> {
         rows.push(("symbol key", pdb.key.clone()));
     }
     if let Some(pdb) = debug.pdb20.present() {
-        rows.push(("PDB 2.0", format!("{}, {:08X}{:x}", pdb.name, pdb.time_date_stamp, pdb.age)));
+        rows.push(("PDB 2.0", format!("{}, {:08X}{:x}", pdb.name, pdb.stamp.seconds, pdb.age)));
     }
     if let Some(repro) = debug.repro.present() {
         rows.push(("Repro", repro.hash_hex.clone().unwrap_or("the time stamps are a hash".to_string())));
@@ -171,7 +190,7 @@ pub fn debug_records(debug: &Debug) -> Vec<Row> {
 }
 
 pub fn pogo_parts(pogo: &Pogo) -> Table {
-    let rows = pogo.parts.entries.iter();
+    let rows = pogo.parts.entries().iter();
     let rows = rows.map(|it| vec![it.name.to_string(), format!("{:#x}", it.rva), it.size.to_string()]);
     Table::new(&[text("part"), number("RVA"), number("bytes")], rows)
 }
@@ -192,12 +211,11 @@ pub fn functions(functions: &Functions) -> Table {
 
 /// The TLS directory, and its callbacks.
 pub fn tls(tls: &Tls) -> Vec<Row> {
-    let callbacks = tls.callbacks.present().map_or(&[][..], |it| &it.entries);
     let mut rows = vec![
         ("data", format!("{:#x} to {:#x}, and {} zeros", tls.start_va, tls.end_va, tls.zero_fill)),
         ("index", format!("{:#x}", tls.index_va)),
     ];
-    rows.extend(callbacks.iter().map(|va| ("callback", format!("{va:#x}"))));
+    rows.extend(tls.callbacks.entries().iter().map(|it| ("callback", format!("{:#x}", it.0))));
     rows
 }
 
@@ -215,7 +233,7 @@ pub fn relocations(pages: &List<Page>) -> Table {
 
 pub fn delay_imports(libraries: &List<delay_imports::Library>) -> Table {
     let rows = libraries.entries.iter().flat_map(|library| {
-        let imports = library.imports.entries.iter();
+        let imports = library.functions.entries().iter();
         imports.map(|it| vec![library.name.to_string(), import(it.name.as_ref(), it.ordinal), hint(it.hint)])
     });
     Table::new(&[text("DLL"), text("name or ordinal"), number("hint")], rows)
@@ -225,10 +243,9 @@ pub fn delay_imports(libraries: &List<delay_imports::Library>) -> Table {
 /// The DLLs that the image is bound to, each with those that it forwards to.
 pub fn bound_imports(bound: &List<Bound>) -> Table {
     let rows = bound.entries.iter().flat_map(|it| {
-        let of_dll = vec![it.name.to_string(), time_of(it.time_date_stamp), String::new()];
-        let forwarders = it.forwarders.entries.iter();
-        let forwarders =
-            forwarders.map(|to| vec![to.name.to_string(), time_of(to.time_date_stamp), it.name.to_string()]);
+        let of_dll = vec![it.name.to_string(), time_of(it.stamp.seconds), String::new()];
+        let forwarders = it.forwarders.entries().iter();
+        let forwarders = forwarders.map(|to| vec![to.name.to_string(), time_of(to.stamp.seconds), it.name.to_string()]);
         [of_dll].into_iter().chain(forwarders)
     });
     Table::new(&[text("DLL"), text("time stamp"), text("forwarded to by")], rows)
@@ -242,7 +259,7 @@ pub fn load_config(config: &LoadConfig) -> Vec<Row> {
     let stamp = config.time_date_stamp.filter(|stamp| *stamp != 0);
     let load_flags = config.dependent_load_flags.filter(|flags| *flags != 0);
     let rows = [
-        ("size", Some(format!("{} bytes", config.size))),
+        ("size", Some(counted(config.size as usize, "byte"))),
         ("made", stamp.map(time_of)),
         ("cookie", address(config.security_cookie_va)),
         ("handlers", table(config.se_handler_table_va, config.se_handler_count)),
@@ -273,7 +290,7 @@ pub fn clr_directories(clr: &Clr) -> Table {
 }
 
 pub fn clr_streams(clr: &Clr) -> Table {
-    let streams = clr.metadata.present().into_iter().flat_map(|it| &it.streams.entries);
+    let streams = clr.metadata.present().into_iter().flat_map(|it| it.streams.entries());
     let rows = streams.map(|it| {
         let missing = if it.is_there { "" } else { "past the metadata" };
         vec![it.name.to_string(), format!("{:#x}", it.offset), it.size.to_string(), missing.to_string()]
@@ -291,7 +308,7 @@ pub fn rich(rich: &Rich) -> Vec<Row> {
 }
 
 pub fn rich_tools(rich: &Rich) -> Table {
-    let rows = rich.tools.entries.iter();
+    let rows = rich.tools.entries().iter();
     let rows = rows.map(|it| vec![it.product.to_string(), it.build.to_string(), it.count.to_string()]);
     Table::new(&[number("tool"), number("build"), number("objects")], rows)
 }
@@ -322,12 +339,23 @@ pub fn resources(resources: &Resources) -> Table {
 
 /// The two versions of the fixed file information.
 pub fn versions(version: &Version) -> Vec<Row> {
-    let Some(fixed) = version.fixed.present() else { return Vec::new() };
-    vec![("file", fixed.file_version.clone()), ("product", fixed.product_version.clone())]
+    let fixed = version.fixed.present();
+    let rows = [
+        ("file", fixed.map(|it| it.file_version.clone())),
+        ("product", fixed.map(|it| it.product_version.clone())),
+        ("rights", version.manifest.present().and_then(|it| it.requested_level.clone())),
+    ];
+    rows.into_iter().filter_map(|(label, value)| Some((label, crate::escape::escaped(&value?)))).collect()
 }
 
 pub fn version_strings(version: &Version) -> Table {
-    let strings = version.strings.present().into_iter().flatten();
-    let rows = strings.map(|(name, text)| vec![name.clone(), crate::escape::escaped(text)]);
-    Table::new(&[text("name"), text("text")], rows)
+    let tables = version.languages.entries().iter();
+    let rows = tables.flat_map(|table| {
+        let strings = table.strings.iter();
+        strings.map(|(name, text)| {
+            vec![label(&table.language), crate::escape::escaped(name), crate::escape::escaped(text)]
+        })
+    });
+    let is_limited = version.languages.present().is_some_and(|it| it.is_limited);
+    Table::new(&[text("language"), text("name"), text("text")], rows).limited(is_limited)
 }

@@ -1,37 +1,53 @@
-//! How a function of an x64 image is unwound: its entry, its unwind records up to the root of their chain, and what each
-//! code says of the prolog, in the words of
-//! [Microsoft's page](https://learn.microsoft.com/cpp/build/exception-handling-x64).
+//! How functions are unwound: of x64 the entry, the unwind records up to the root of their chain, and what each code says of the
+//! prolog, in the words of [Microsoft's page](https://learn.microsoft.com/cpp/build/exception-handling-x64). `arm64` has the other
+//! machine.
 
-use crate::facts::{List, Part, Refusal};
+mod arm64;
+
+use crate::facts::{Budget, List, Refusal, ENTRY, JSON_VERSION};
 use crate::files::Report;
 use crate::Status;
 use pe_c::{Code, Error, Function, Functions, Handler, Image, Offset, Operation, Register, UnwindRecord};
 use serde::Serialize;
-use std::ops::Not;
 
 /// How many records of a chain are shown. Linkers chain two or three; in a hostile file as many as it has room for.
 const RECORDS: usize = 256;
 
+/// What is said of the functions that were asked for.
 #[derive(Debug, Serialize)]
-struct Unwinding {
-    rva: u32,
-    /// Null where no function covers the RVA, as of a leaf function.
-    function: Option<FunctionEntry>,
-    /// From the function's own up to the root of their chain.
-    records: Vec<Record>,
-    /// Whether the chain goes on after `RECORDS` records.
-    #[serde(skip_serializing_if = "Not::not")]
-    is_limited: bool,
-    /// Of the record that would come next.
-    #[serde(skip_serializing_if = "Option::is_none")]
+struct Answer {
+    json_version: u32,
+    /// `x64`, `ARM64`, or null without functions of these.
+    machine: Option<&'static str>,
+    /// The RVA that was asked for, or null for all functions.
+    rva: Option<u32>,
+    /// Empty where no function covers the RVA, as of a leaf function.
+    functions: Vec<Unwound>,
+    /// Whether there are more functions, whose records are shared and too many to be shown as often.
+    functions_is_limited: bool,
+    /// Why the functions are refused.
     error: Option<Refusal>,
 }
 
+/// A function of one machine.
 #[derive(Debug, Serialize)]
-struct FunctionEntry {
+#[serde(untagged)]
+enum Unwound {
+    X64(Unwinding),
+    Arm64(arm64::Unwinding),
+}
+
+#[derive(Debug, Serialize)]
+struct Unwinding {
     start_rva: u32,
     end_rva: u32,
     unwind_rva: u32,
+    /// From the function's own up to the root of their chain.
+    records: Vec<Record>,
+    /// Whether the chain goes on after `RECORDS` records.
+    records_is_limited: bool,
+    /// Of the record that would come next.
+    records_error: Option<Refusal>,
 }
 
 #[derive(Debug, Serialize)]
@@ -44,14 +60,13 @@ struct Record {
     handler_kind: Option<&'static str>,
     handler_rva: Option<u32>,
     codes: Vec<CodeText>,
-    #[serde(skip_serializing_if = "Option::is_none")]
-    error: Option<Refusal>,
+    codes_error: Option<Refusal>,
 }
 
 #[derive(Debug, Serialize)]
 struct CodeText {
-    /// Bytes from the start of the prolog to the end of the instruction.
-    code_offset: u8,
+    /// Of x64 bytes from the start of the prolog to the end of the instruction; of ARM64 bytes from the start of the codes.
+    code_offset: u32,
     operation: &'static str,
     /// What the instruction did.
     text: String,
@@ -97,7 +112,7 @@ fn record_of(record: &UnwindRecord<'_>) -> Record {
         match code {
             Ok(code) => {
                 let (operation, text) = words_of(&code, record.frame());
-                codes.push(CodeText { code_offset: code.code_offset, operation, text });
+                codes.push(CodeText { code_offset: code.code_offset.into(), operation, text });
             }
             Err(found) => error = Some(found.into()),
         }
@@ -115,66 +130,138 @@ fn record_of(record: &UnwindRecord<'_>) -> Record {
         handler_kind,
         handler_rva,
         codes,
-        error,
+        codes_error: error,
     }
 }
 
-fn unwinding_of(functions: &Functions<'_, '_>, rva: u32) -> Result<Unwinding, Error> {
-    let function = functions.find(rva)?;
-    let plan = function.into_iter().flat_map(|it| functions.plan(it));
+/// A function, if its records are few enough for what is left.
+fn unwinding_of(functions: &Functions<'_, '_>, function: Function, budget: &mut Budget) -> Option<Unwinding> {
     let mut left = RECORDS;
-    let List { entries: records, error, is_limited } = List::limited(plan, |record| {
+    let List { entries: records, error, is_limited } = List::limited(functions.plan(function), |record| {
         left = left.checked_sub(1)?;
         Some(record_of(&record))
     });
-    let entry = |it: Function| FunctionEntry { start_rva: it.begin, end_rva: it.end, unwind_rva: it.unwind };
-    Ok(Unwinding { rva, function: function.map(entry), records, is_limited, error })
-}
-
-fn text_of(unwinding: &Unwinding) -> String {
-    let Some(function) = &unwinding.function else {
-        return format!(
-            "no function with unwind data covers {:#x}: if code is there, it is a leaf function\n",
-            unwinding.rva
-        );
-    };
-    let mut text = format!("function {:#x} to {:#x}\n", function.start_rva, function.end_rva);
-    for (index, record) in unwinding.records.iter().enumerate() {
-        let which = if index == 0 { "record" } else { "chained to a record" };
-        text += &format!("  {which} of version {}, a prolog of {} bytes\n", record.version, record.size_of_prolog);
-        for code in &record.codes {
-            text += &format!("    after {:3} bytes  {:20}{}\n", code.code_offset, code.operation, code.text);
-        }
-        if let (Some(kind), Some(rva)) = (record.handler_kind, record.handler_rva) {
-            text += &format!("    {kind} handler at {rva:#x}\n");
-        }
-        text += &record.error.as_ref().map_or(String::new(), |error| format!("    {error}\n"));
-    }
-    if unwinding.is_limited {
-        text += &format!("  and more records: the first {RECORDS} are shown\n");
-    }
-    text + &unwinding.error.as_ref().map_or(String::new(), |error| format!("  {error}\n"))
+    let codes: usize = records.iter().map(|it| it.codes.len() + 1).sum();
+    budget.takes(ENTRY * (codes + 1)).then_some(Unwinding {
+        start_rva: function.begin,
+        end_rva: function.end,
+        unwind_rva: function.unwind,
+        records,
+        records_is_limited: is_limited,
+        records_error: error,
+    })
 }
 
 impl Unwinding {
+    fn text(&self) -> String {
+        let mut text = format!("function {:#x} to {:#x}\n", self.start_rva, self.end_rva);
+        for (index, record) in self.records.iter().enumerate() {
+            let which = if index == 0 { "record" } else { "chained to a record" };
+            text += &format!("  {which} of version {}, a prolog of {} bytes\n", record.version, record.size_of_prolog);
+            for code in &record.codes {
+                text += &format!("    after {:3} bytes  {:20}{}\n", code.code_offset, code.operation, code.text);
+            }
+            if let (Some(kind), Some(rva)) = (record.handler_kind, record.handler_rva) {
+                text += &format!("    {kind} handler at {rva:#x}\n");
+            }
+            text += &record.codes_error.as_ref().map_or(String::new(), |error| format!("    {error}\n"));
+        }
+        if self.records_is_limited {
+            text += &format!("  and more records: the first {RECORDS} are shown\n");
+        }
+        text + &self.records_error.as_ref().map_or(String::new(), |error| format!("  {error}\n"))
+    }
+
     fn is_refused(&self) -> bool {
-        self.error.is_some() || self.records.iter().any(|record| record.error.is_some())
+        self.records_error.is_some() || self.records.iter().any(|record| record.codes_error.is_some())
     }
 }
 
-/// The text or the JSON of how the function at an RVA is unwound. As text a refusal goes to standard error.
-pub fn report(image: Result<Image<'_>, Error>, rva: u32, is_json: bool) -> Report {
-    let found = image.and_then(|image| image.functions()?.map(|functions| unwinding_of(&functions, rva)).transpose());
-    let found: Part<Unwinding> = found.into();
-    let is_refused = found.refusal().is_some() || found.present().is_some_and(Unwinding::is_refused);
-    let text = match &found {
-        _ if is_json => crate::json(&found),
-        Part::Present(unwinding) => text_of(unwinding),
-        Part::Absent => "the image has no functions of x64\n".to_string(),
-        Part::Refused(refusal) => {
+impl Unwound {
+    fn text(&self) -> String {
+        match self {
+            Unwound::X64(it) => it.text(),
+            Unwound::Arm64(it) => it.text(),
+        }
+    }
+
+    fn is_refused(&self) -> bool {
+        match self {
+            Unwound::X64(it) => it.is_refused(),
+            Unwound::Arm64(it) => it.is_refused(),
+        }
+    }
+}
+
+impl Answer {
+    fn of(rva: Option<u32>, machine: Option<&'static str>) -> Answer {
+        let json_version = JSON_VERSION;
+        Answer { json_version, machine, rva, functions: Vec::new(), functions_is_limited: false, error: None }
+    }
+
+    /// Takes functions as long as they are few enough.
+    fn take(&mut self, found: impl Iterator<Item = Option<Unwound>>) {
+        for function in found {
+            match function {
+                Some(function) => self.functions.push(function),
+                None => {
+                    self.functions_is_limited = true;
+                    break;
+                }
+            }
+        }
+    }
+
+    fn text(&self) -> String {
+        if self.machine.is_none() {
+            return "the image has no functions of x64 or ARM64\n".to_string();
+        }
+        if let (Some(rva), []) = (self.rva, self.functions.as_slice()) {
+            return format!("no function with unwind data covers {rva:#x}: if code is there, it is a leaf function\n");
+        }
+        let more = if self.functions_is_limited { "and more functions\n" } else { "" };
+        self.functions.iter().map(Unwound::text).collect::<String>() + more
+    }
+
+    fn is_refused(&self) -> bool {
+        self.error.is_some() || self.functions.iter().any(Unwound::is_refused)
+    }
+}
+
+/// The functions of an image that cover an RVA, or all of them.
+fn answer_of(image: &Image<'_>, rva: Option<u32>) -> Result<Answer, Error> {
+    let mut budget = Budget::of(image);
+    if let Some(functions) = image.functions()? {
+        let mut answer = Answer::of(rva, Some("x64"));
+        let mut unwound = |it| unwinding_of(&functions, it, &mut budget).map(Unwound::X64);
+        match rva {
+            Some(rva) => answer.take(functions.find(rva)?.into_iter().map(&mut unwound)),
+            None => answer.take(functions.iter().map(&mut unwound)),
+        }
+        return Ok(answer);
+    }
+    let Some(functions) = image.arm64_functions()? else { return Ok(Answer::of(rva, None)) };
+    let mut answer = Answer::of(rva, Some("ARM64"));
+    let mut unwound = |it| arm64::unwinding_of(&functions, it, &mut budget).map(Unwound::Arm64);
+    match rva {
+        Some(rva) => answer.take(functions.find(rva)?.into_iter().map(&mut unwound)),
+        None => answer.take(functions.iter().map(&mut unwound)),
+    }
+    Ok(answer)
+}
+
+/// The text or the JSON of how functions are unwound. As text a refusal goes to standard error.
+pub fn report(image: Result<Image<'_>, Error>, rva: Option<u32>, is_json: bool) -> Report {
+    let found = image.and_then(|image| answer_of(&image, rva));
+    let answer = found.unwrap_or_else(|error| Answer { error: Some(error.into()), ..Answer::of(rva, None) });
+    let status = if answer.is_refused() { Status::Refused } else { Status::Done };
+    let text = match &answer.error {
+        _ if is_json => crate::json(&answer),
+        Some(refusal) => {
             eprintln!("pe: {refusal}");
             String::new()
         }
+        None => answer.text(),
     };
-    Report::of(text, if is_refused { Status::Refused } else { Status::Done })
+    Report::of(text, status)
 }

@@ -76,6 +76,15 @@ impl<'a> ResourceLeaf<'a> {
         self.resource_type == ResourceName::Id(RT_VERSION)
     }
 
+    /// Where the content of a leaf of type `RT_VERSION` is, in these bytes.
+    pub(crate) fn version_content(&self) -> Result<Option<(&'a [u8], sys::Range)>, Error> {
+        if !self.is_version() {
+            return Ok(None);
+        }
+        Error::of(self.content_result)?;
+        Ok(Some((self.bytes, self.content)))
+    }
+
     /// The fixed file information of a leaf of type `RT_VERSION`. `None` of another type, and where it has none.
     ///
     /// # Errors

@@ -2,6 +2,7 @@
 //! [Microsoft's page](https://learn.microsoft.com/windows/win32/menurc/vs-versioninfo).
 
 use crate::image::{bytes_of, returned, Error, Image};
+use crate::resources::ResourceLeaf;
 use crate::sys;
 use crate::version::Text;
 use core::iter::FusedIterator;
@@ -108,6 +109,18 @@ impl<'a> Iterator for VersionBlocks<'a> {
 }
 
 impl FusedIterator for VersionBlocks<'_> {}
+
+impl<'a> ResourceLeaf<'a> {
+    /// The blocks of the version information that a leaf of type `RT_VERSION` is, of which the first is all of it. `None` of
+    /// another type.
+    ///
+    /// # Errors
+    ///
+    /// Those of [`ResourceLeaf::content`].
+    pub fn version_blocks(&self) -> Result<Option<VersionBlocks<'a>>, Error> {
+        Ok(self.version_content()?.map(|(bytes, walk)| VersionBlocks { bytes, walk }))
+    }
+}
 
 impl<'a> Image<'a> {
     /// The blocks of version information, of which the first is all of it: `None` without version information.

@@ -1,34 +1,45 @@
 //! The bound imports: DLLs whose addresses stand in the image already, for as long as they have the same time stamps.
 
-use super::{Budget, List, Name, Part, ENTRY};
+use super::{entry, Budget, List, Name, Part, Stamp, ENTRY};
 use pe_c::{BoundForwarder, BoundImport, Image};
 use serde::Serialize;
 
 #[derive(Clone, Debug, Serialize)]
 pub struct Bound<'a> {
     pub name: Name<'a>,
-    pub time_date_stamp: u32,
+    pub name_lower: Option<String>,
+    #[serde(flatten)]
+    pub stamp: Stamp,
     /// The DLLs that it forwards to.
-    pub forwarders: List<Forwarder<'a>>,
+    #[serde(flatten)]
+    pub forwarders: Part<List<Forwarder<'a>>>,
 }
+
+entry!(Bound<'_>, "bound_imports");
 
 #[derive(Clone, Debug, Serialize)]
 pub struct Forwarder<'a> {
     pub name: Name<'a>,
-    pub time_date_stamp: u32,
+    pub name_lower: Option<String>,
+    #[serde(flatten)]
+    pub stamp: Stamp,
 }
+
+entry!(Forwarder<'_>, "forwarders");
 
 fn forwarder_of<'a>(found: BoundForwarder<'a>, of_dll: &[u8], budget: &mut Budget) -> Option<Forwarder<'a>> {
     // A table has the name of the DLL that forwards in each row.
     let cost = ENTRY + of_dll.len() + found.name.len();
-    budget.takes(cost).then_some(Forwarder { name: Name(found.name), time_date_stamp: found.time_date_stamp })
+    let name = Name(found.name);
+    budget.takes(cost).then(|| Forwarder { name, name_lower: name.lower(), stamp: Stamp::of(found.time_date_stamp) })
 }
 
 fn bound_of<'a>(found: BoundImport<'a>, budget: &mut Budget) -> Option<Bound<'a>> {
     budget.takes(ENTRY + found.name.len()).then(|| Bound {
         name: Name(found.name),
-        time_date_stamp: found.time_date_stamp,
-        forwarders: List::limited(found.forwarders(), |it| forwarder_of(it, found.name, budget)),
+        name_lower: Name(found.name).lower(),
+        stamp: Stamp::of(found.time_date_stamp),
+        forwarders: Part::Present(List::limited(found.forwarders(), |it| forwarder_of(it, found.name, budget))),
     })
 }
 

@@ -1,6 +1,6 @@
 //! The attribute certificates. Signatures are shown and not verified.
 
-use super::{List, Named};
+use super::{entry, List, Named, Part};
 use crate::names::CERTIFICATE_TYPES;
 use pe_c::Image;
 use serde::Serialize;
@@ -13,10 +13,18 @@ pub struct Certificate {
     pub r#type: Named,
 }
 
-pub fn of(image: &Image<'_>) -> List<Certificate> {
-    List::of(image.certificates(), |certificate| Certificate {
+entry!(Certificate, "certificates");
+
+pub fn of(image: &Image<'_>) -> Part<List<Certificate>> {
+    let certificates = List::of(image.certificates(), |certificate| Certificate {
         size: certificate.length,
         revision: certificate.revision,
         r#type: Named::of(certificate.kind.into(), CERTIFICATE_TYPES),
-    })
+    });
+    let is_none = certificates.entries.is_empty() && certificates.error.is_none();
+    if is_none {
+        Part::Absent
+    } else {
+        Part::Present(certificates)
+    }
 }

@@ -1,6 +1,6 @@
 //! The CLR header of an image for the .NET runtime, and the streams of its metadata.
 
-use super::{Flags, List, Name, Part};
+use super::{entry, field, Flags, List, Name, Part};
 use crate::names::CLR_FLAGS;
 use pe_c::{Image, Metadata as FoundMetadata, MetadataStream};
 use serde::Serialize;
@@ -17,8 +17,11 @@ pub struct Clr<'a> {
     pub entry_point_token: u32,
     /// Those that are not absent.
     pub directories: Vec<Directory>,
+    #[serde(flatten)]
     pub metadata: Part<Metadata<'a>>,
 }
+
+field!(Clr<'_>, "clr");
 
 /// A directory of the header.
 #[derive(Clone, Debug, Serialize)]
@@ -34,8 +37,11 @@ pub struct Metadata<'a> {
     pub version: Name<'a>,
     /// Of the format of the metadata, such as `1.1`.
     pub format_version: String,
-    pub streams: List<Stream<'a>>,
+    #[serde(flatten)]
+    pub streams: Part<List<Stream<'a>>>,
 }
+
+field!(Metadata<'_>, "metadata");
 
 #[derive(Clone, Debug, Serialize)]
 pub struct Stream<'a> {
@@ -47,6 +53,8 @@ pub struct Stream<'a> {
     pub is_there: bool,
 }
 
+entry!(Stream<'_>, "streams");
+
 fn stream_of(stream: MetadataStream<'_>) -> Stream<'_> {
     let MetadataStream { name, content, offset, size } = stream;
     Stream { name: Name(name), offset, size, is_there: content.is_some() }
@@ -56,7 +64,7 @@ fn metadata_of(found: FoundMetadata<'_>) -> Metadata<'_> {
     Metadata {
         version: Name(found.version()),
         format_version: format!("{}.{}", found.major_version, found.minor_version),
-        streams: List::of(found.streams(), stream_of),
+        streams: Part::Present(List::of(found.streams(), stream_of)),
     }
 }
 

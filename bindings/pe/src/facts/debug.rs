@@ -1,23 +1,43 @@
 //! Debug data: the entries of the directory, and the records of six types.
 
-use super::{hex_of, List, Name, Named, Part, Refusal};
-use crate::names::DEBUG_TYPES;
+use super::{entry, field, hex_of, Flags, List, Name, Named, Part, Refusal, Stamp};
+use crate::names::{DEBUG_TYPES, EXTENDED_DLL_CHARACTERISTICS};
 use pe_c::{Image, Repro};
 use serde::Serialize;
 
 #[derive(Clone, Debug, Serialize)]
 pub struct Debug<'a> {
+    #[serde(flatten)]
     pub entries: Part<List<Entry>>,
     /// The PDB of the CodeView record, if that is one of PDB 7.0.
+    #[serde(flatten)]
     pub pdb: Part<Pdb<'a>>,
     /// The PDB of a CodeView record of PDB 2.0.
+    #[serde(flatten)]
     pub pdb20: Part<Pdb20<'a>>,
+    #[serde(flatten)]
     pub repro: Part<ReproRecord>,
+    #[serde(flatten)]
     pub pogo: Part<Pogo<'a>>,
+    #[serde(flatten)]
     pub vc_features: Part<VcFeatures>,
-    /// `IMAGE_DLLCHARACTERISTICS_EX_` flags.
-    pub extended_dll_characteristics: Part<u32>,
+    #[serde(flatten)]
+    pub extended: Part<Extended>,
 }
+
+/// `IMAGE_DLLCHARACTERISTICS_EX_` flags.
+#[derive(Clone, Debug, Serialize)]
+#[serde(transparent)]
+pub struct Extended(pub Flags);
+
+entry!(Entry, "entries");
+entry!(PogoPart<'_>, "parts");
+field!(Pdb<'_>, "pdb");
+field!(Pdb20<'_>, "pdb20");
+field!(ReproRecord, "repro");
+field!(Pogo<'_>, "pogo");
+field!(VcFeatures, "vc_features");
+field!(Extended, "extended_dll_characteristics");
 
 #[derive(Clone, Debug, Serialize)]
 pub struct Entry {
@@ -25,7 +45,8 @@ pub struct Entry {
     pub size: u32,
     pub rva: u32,
     pub file_offset: u32,
-    pub time_date_stamp: u32,
+    #[serde(flatten)]
+    pub stamp: Stamp,
 }
 
 #[derive(Clone, Debug, Serialize)]
@@ -42,7 +63,8 @@ pub struct Pdb<'a> {
 #[derive(Clone, Debug, Serialize)]
 pub struct Pdb20<'a> {
     pub name: Name<'a>,
-    pub time_date_stamp: u32,
+    #[serde(flatten)]
+    pub stamp: Stamp,
     pub age: u32,
 }
 
@@ -56,7 +78,8 @@ pub struct ReproRecord {
 pub struct Pogo<'a> {
     /// `LTCG` or `PGU`.
     pub signature: &'static str,
-    pub parts: List<PogoPart<'a>>,
+    #[serde(flatten)]
+    pub parts: Part<List<PogoPart<'a>>>,
 }
 
 #[derive(Clone, Debug, Serialize)]
@@ -94,17 +117,27 @@ pub fn of<'a>(image: &'a Image<'_>) -> Debug<'a> {
         pdb20: image
             .pdb20()
             .map(|it| {
-                it.map(|record| Pdb20 { name: Name(record.name()), time_date_stamp: record.signature, age: record.age })
+                it.map(|record| Pdb20 {
+                    name: Name(record.name()),
+                    stamp: Stamp::of(record.signature),
+                    age: record.age,
+                })
             })
             .into(),
         repro: image.repro().map(|it| it.map(repro_of)).into(),
         pogo: image.pogo().map(|it| it.map(pogo_of)).into(),
         vc_features: image.vc_features().map(|it| it.map(features_of)).into(),
-        extended_dll_characteristics: image.debug_characteristics().into(),
+        extended: image.debug_characteristics().map(|it| it.map(extended_of)).into(),
     }
 }
 
+fn extended_of(flags: u32) -> Extended {
+    Extended(Flags::of(flags, EXTENDED_DLL_CHARACTERISTICS))
+}
+
 fn entries_of(image: &Image<'_>) -> Part<List<Entry>> {
+    // The stamps of a reproducible build are a hash.
+    let is_hash = matches!(image.repro(), Ok(Some(_)));
     let entries = image.debug_entries().map(|found| {
         found.map(|entries| {
             List::of(entries, |entry| Entry {
@@ -112,7 +145,7 @@ fn entries_of(image: &Image<'_>) -> Part<List<Entry>> {
                 size: entry.size_of_data,
                 rva: entry.address_of_raw_data,
                 file_offset: entry.pointer_to_raw_data,
-                time_date_stamp: entry.time_date_stamp,
+                stamp: Stamp { seconds: entry.time_date_stamp, is_hash },
             })
         })
     });
@@ -142,11 +175,11 @@ fn repro_of(record: Repro<'_>) -> ReproRecord {
 fn pogo_of(record: pe_c::Pogo<'_>) -> Pogo<'_> {
     Pogo {
         signature: if record.signature == LTCG { "LTCG" } else { "PGU" },
-        parts: List::of(record.entries(), |entry| PogoPart {
+        parts: Part::Present(List::of(record.entries(), |entry| PogoPart {
             name: Name(entry.name()),
             rva: entry.rva,
             size: entry.size,
-        }),
+        })),
     }
 }
 

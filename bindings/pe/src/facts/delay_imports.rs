@@ -1,25 +1,29 @@
 //! The delay imports: DLLs that are loaded when one of their functions is called first.
 
 use super::imports::hint_or_ordinal;
-use super::{Budget, List, Name, Part, ENTRY};
+use super::{entry, Budget, List, Name, Part, Stamp, ENTRY};
 use pe_c::{DelayImport, DelayedFunction, Image};
 use serde::Serialize;
 
 #[derive(Clone, Debug, Serialize)]
 pub struct Library<'a> {
     pub name: Name<'a>,
+    pub name_lower: Option<String>,
     /// Of the DLL that the image is bound to, or 0.
-    pub time_date_stamp: u32,
-    pub imports: List<Import<'a>>,
+    #[serde(flatten)]
+    pub stamp: Stamp,
+    #[serde(flatten)]
+    pub functions: Part<List<Import<'a>>>,
 }
+
+entry!(Library<'_>, "delay_imports");
+entry!(Import<'_>, "functions");
 
 /// An import by name, with its hint, or by ordinal.
 #[derive(Clone, Debug, Serialize)]
 pub struct Import<'a> {
     pub name: Option<Name<'a>>,
-    #[serde(skip_serializing_if = "Option::is_none")]
     pub hint: Option<u32>,
-    #[serde(skip_serializing_if = "Option::is_none")]
     pub ordinal: Option<u32>,
 }
 
@@ -36,13 +40,14 @@ fn import_of<'a>(function: DelayedFunction<'a>, library: &[u8], budget: &mut Bud
 fn library_of<'a>(found: DelayImport<'a, 'a>, budget: &mut Budget) -> Option<Library<'a>> {
     budget.takes(ENTRY + found.name.len()).then(|| Library {
         name: Name(found.name),
-        time_date_stamp: found.descriptor().time_date_stamp,
-        imports: List::limited(found.functions(), |function| import_of(function, found.name, budget)),
+        name_lower: Name(found.name).lower(),
+        stamp: Stamp::of(found.descriptor().time_date_stamp),
+        functions: Part::Present(List::limited(found.functions(), |it| import_of(it, found.name, budget))),
     })
 }
 
 pub fn is_limited(libraries: &List<Library>) -> bool {
-    libraries.is_limited_in(|library| &library.imports)
+    libraries.is_limited_in(|library| &library.functions)
 }
 
 pub fn of<'a>(image: &'a Image<'_>) -> Part<List<Library<'a>>> {

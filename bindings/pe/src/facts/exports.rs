@@ -1,22 +1,23 @@
 //! The exports: all entries of the address table, each with its ordinal and its names.
 
-use super::{Budget, Name, Part, ENTRY};
+use super::{field, Budget, Name, Part, ENTRY};
 use pe_c::{Error, Image};
 use serde::Serialize;
 use std::iter;
-use std::ops::Not;
 
 #[derive(Clone, Debug, Serialize)]
 pub struct Exports<'a> {
     /// What the DLL calls itself.
     pub name: Option<Name<'a>>,
+    pub name_lower: Option<String>,
     pub ordinal_base: u32,
     /// In the order of their ordinals; ordinals that are not used are left out.
     pub entries: Vec<Export<'a>>,
     /// Whether there are more names or entries, and what they share is too long to be shown as often.
-    #[serde(skip_serializing_if = "Not::not")]
     pub is_limited: bool,
 }
+
+field!(Exports<'_>, "exports");
 
 #[derive(Clone, Debug, Serialize)]
 pub struct Export<'a> {
@@ -24,7 +25,6 @@ pub struct Export<'a> {
     pub rva: u32,
     pub names: Vec<Name<'a>>,
     /// `DLL.NAME` where another DLL has it.
-    #[serde(skip_serializing_if = "Option::is_none")]
     pub forwarder: Option<Name<'a>>,
 }
 
@@ -61,7 +61,8 @@ fn exports_of<'a>(image: &'a Image<'_>) -> Result<Option<Exports<'a>>, Error> {
         });
     }
     let name = table.name().map(Name);
-    Ok(Some(Exports { name, ordinal_base: table.ordinal_base(), entries, is_limited }))
+    let name_lower = name.and_then(|it| it.lower());
+    Ok(Some(Exports { name, name_lower, ordinal_base: table.ordinal_base(), entries, is_limited }))
 }
 
 /// The names of exports in the order of their indexes, each with its index, and whether there are more.

@@ -1,13 +1,16 @@
 //! The function table: x64's or ARM64's entries.
 
-use super::Part;
+use super::{field, Part};
 use pe_c::{Error, Image};
 use serde::Serialize;
 
 #[derive(Clone, Debug, Serialize)]
+#[serde(transparent)]
 pub struct Functions {
     pub entries: Vec<Function>,
 }
+
+field!(Functions, "functions");
 
 #[derive(Clone, Debug, Serialize)]
 pub struct Function {

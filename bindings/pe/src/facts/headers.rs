@@ -1,10 +1,10 @@
 //! The headers: the COFF header, the optional header, and the 16 data directories.
 
-use super::Named;
-use crate::names::{flags_of, CHARACTERISTICS, DIRECTORIES, DLL_CHARACTERISTICS, MACHINES, SUBSYSTEMS};
-use pe_c::Image;
+use super::overlay::{self, Overlay};
+use super::{Flags, Named, Stamp};
+use crate::names::{CHARACTERISTICS, DIRECTORIES, DLL_CHARACTERISTICS, MACHINES, SUBSYSTEMS};
+use pe_c::{Image, Layout};
 use serde::Serialize;
-use std::fmt;
 
 /// `IMAGE_FILE_DLL`
 const IS_DLL: u16 = 0x2000;
@@ -19,7 +19,8 @@ pub struct Headers {
     pub machine: Named,
     pub subsystem: Named,
     /// Seconds since 1970, or a hash where `is_reproducible`.
-    pub time_date_stamp: u32,
+    #[serde(flatten)]
+    pub stamp: Stamp,
     pub is_reproducible: bool,
     pub entry_rva: u32,
     pub image_base_va: u64,
@@ -28,8 +29,12 @@ pub struct Headers {
     pub section_alignment: u32,
     pub file_alignment: u32,
     pub checksum: u32,
-    pub characteristics: Vec<&'static str>,
-    pub dll_characteristics: Vec<&'static str>,
+    /// Null of a module in memory, and where hashes are left out.
+    pub right_checksum: Option<u32>,
+    /// `right`, `wrong`, or `none` where it is 0.
+    pub checksum_state: Option<&'static str>,
+    pub characteristics: Flags,
+    pub dll_characteristics: Flags,
     pub directories: Vec<Directory>,
     /// `None` where nothing follows the headers and the raw data of the sections.
     pub overlay: Option<Overlay>,
@@ -42,29 +47,17 @@ pub struct Headers {
 pub struct Directory {
     pub index: usize,
     pub name: &'static str,
-    #[serde(skip_serializing_if = "Option::is_none")]
+    /// Null of the certificate table.
     pub rva: Option<u32>,
     /// Of the certificate table in place of an RVA.
-    #[serde(skip_serializing_if = "Option::is_none")]
     pub file_offset: Option<u32>,
     pub size: u32,
 }
 
-/// The bytes of the file after the headers and the raw data of all sections, which no loader reads.
-#[derive(Clone, Debug, Serialize)]
-pub struct Overlay {
-    pub file_offset: usize,
-    pub size: usize,
-}
-
-impl fmt::Display for Overlay {
-    fn fmt(&self, f: &mut fmt::Formatter<'_>) -> fmt::Result {
-        write!(f, "{} bytes at file offset {:#x}", self.size, self.file_offset)
-    }
-}
-
-pub fn of(image: &Image<'_>, file_name: &str) -> Headers {
+pub fn of(image: &Image<'_>, file_name: &str, has_hashes: bool) -> Headers {
     let info = image.info();
+    let is_reproducible = matches!(image.repro(), Ok(Some(_)));
+    let (right_checksum, checksum_state) = if has_hashes { checksum_of(image) } else { (None, None) };
     Headers {
         format: match info.width {
             64 => Some("PE32+"),
@@ -74,8 +67,8 @@ pub fn of(image: &Image<'_>, file_name: &str) -> Headers {
         is_dll: info.characteristics & IS_DLL != 0,
         machine: Named::of(info.machine.into(), MACHINES),
         subsystem: Named::of(info.subsystem.into(), SUBSYSTEMS),
-        time_date_stamp: info.time_date_stamp,
-        is_reproducible: matches!(image.repro(), Ok(Some(_))),
+        stamp: Stamp { seconds: info.time_date_stamp, is_hash: is_reproducible },
+        is_reproducible,
         entry_rva: info.entry,
         image_base_va: info.base,
         size_of_image: info.size_of_image,
@@ -83,28 +76,29 @@ pub fn of(image: &Image<'_>, file_name: &str) -> Headers {
         section_alignment: info.section_alignment,
         file_alignment: info.file_alignment,
         checksum: info.checksum,
-        characteristics: flags_of(info.characteristics.into(), CHARACTERISTICS),
-        dll_characteristics: flags_of(info.dll_characteristics.into(), DLL_CHARACTERISTICS),
+        right_checksum,
+        checksum_state,
+        characteristics: Flags::of(info.characteristics.into(), CHARACTERISTICS),
+        dll_characteristics: Flags::of(info.dll_characteristics.into(), DLL_CHARACTERISTICS),
         directories: directories_of(image),
-        overlay: overlay_of(image),
+        overlay: overlay::of(image),
         symbol_server_path: info.symbol_path(file_name).map(|path| path.to_string()),
     }
 }
 
-impl Headers {
-    /// The overlay, unless it is the certificate table and nothing else, as of most signed images.
-    pub fn overlay_beside_certificates(&self) -> Option<&Overlay> {
-        let is_table = |overlay: &Overlay, table: &Directory| {
-            table.file_offset.map(|it| it as usize) == Some(overlay.file_offset) && table.size as usize == overlay.size
-        };
-        self.overlay.as_ref().filter(|overlay| !self.directories.iter().any(|it| is_table(overlay, it)))
+/// The checksum that the image should have, and whether its own is that. A driver needs the right one, other images mostly
+/// have 0.
+fn checksum_of(image: &Image<'_>) -> (Option<u32>, Option<&'static str>) {
+    if image.layout() == Layout::Mapped {
+        return (None, None);
     }
-}
-
-/// The overlay, which ends with the file.
-fn overlay_of(image: &Image<'_>) -> Option<Overlay> {
-    let size = image.overlay().len();
-    (size > 0).then(|| Overlay { file_offset: image.bytes().len() - size, size })
+    let right = image.checksum().ok().map(|it| it.value);
+    let state = right.map(|right| match image.info().checksum {
+        0 => "none",
+        it if it == right => "right",
+        _ => "wrong",
+    });
+    (right, state)
 }
 
 fn directories_of(image: &Image<'_>) -> Vec<Directory> {

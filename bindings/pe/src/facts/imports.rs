@@ -1,22 +1,25 @@
 //! The imports: DLLs, and what is taken of each by name or by ordinal.
 
-use super::{Budget, List, Name, Part, ENTRY};
+use super::{entry, Budget, List, Name, Part, ENTRY};
 use pe_c::Image;
 use serde::Serialize;
 
 #[derive(Clone, Debug, Serialize)]
 pub struct Library<'a> {
     pub name: Name<'a>,
-    pub imports: List<Import<'a>>,
+    pub name_lower: Option<String>,
+    #[serde(flatten)]
+    pub functions: Part<List<Import<'a>>>,
 }
+
+entry!(Library<'_>, "imports");
+entry!(Import<'_>, "functions");
 
 /// An import by name, with its hint, or by ordinal.
 #[derive(Clone, Debug, Serialize)]
 pub struct Import<'a> {
     pub name: Option<Name<'a>>,
-    #[serde(skip_serializing_if = "Option::is_none")]
     pub hint: Option<u32>,
-    #[serde(skip_serializing_if = "Option::is_none")]
     pub ordinal: Option<u32>,
     /// RVA of the slot to which the loader writes the virtual address.
     pub slot_rva: u64,
@@ -42,7 +45,7 @@ fn import_of<'a>(import: pe_c::Import<'a>, library: &[u8], budget: &mut Budget) 
 }
 
 pub fn is_limited(libraries: &List<Library>) -> bool {
-    libraries.is_limited_in(|library| &library.imports)
+    libraries.is_limited_in(|library| &library.functions)
 }
 
 pub fn of<'a>(image: &'a Image<'_>) -> Part<List<Library<'a>>> {
@@ -50,7 +53,8 @@ pub fn of<'a>(image: &'a Image<'_>) -> Part<List<Library<'a>>> {
     let library_of = |library: pe_c::Library<'a, 'a>| {
         budget.takes(ENTRY + library.name.len()).then(|| Library {
             name: Name(library.name),
-            imports: List::limited(library.imports(), |import| import_of(import, library.name, &mut budget)),
+            name_lower: Name(library.name).lower(),
+            functions: Part::Present(List::limited(library.imports(), |it| import_of(it, library.name, &mut budget))),
         })
     };
     image.libraries().map(|found| found.map(|libraries| List::limited(libraries, library_of))).into()

@@ -1,6 +1,6 @@
 //! The load configuration: what guards an image against attacks, as far as its structure goes.
 
-use super::{Flags, Part};
+use super::{field, Flags, Part, Stamp};
 use crate::names::GUARD_FLAGS;
 use pe_c::Image;
 use serde::Serialize;
@@ -11,6 +11,8 @@ pub struct LoadConfig {
     /// Of the structure in bytes, as it says itself.
     pub size: u32,
     pub time_date_stamp: Option<u32>,
+    /// The same, as RFC 3339 has it.
+    pub time: Option<String>,
     pub major_version: Option<u16>,
     pub minor_version: Option<u16>,
     /// Flags of `LoadLibraryEx` for the DLLs that the image imports.
@@ -28,11 +30,14 @@ pub struct LoadConfig {
     pub guard_flags: Option<Flags>,
 }
 
+field!(LoadConfig, "load_config");
+
 pub fn of(image: &Image<'_>) -> Part<LoadConfig> {
     let found = image.load_config().map(|found| {
         found.map(|config| LoadConfig {
             size: config.size,
             time_date_stamp: config.time_date_stamp,
+            time: config.time_date_stamp.and_then(|it| Stamp::of(it).time()),
             major_version: config.major_version,
             minor_version: config.minor_version,
             dependent_load_flags: config.dependent_load_flags,

@@ -54,7 +54,7 @@ impl Kind {
             Kind::ReadOnly => "section, read-only",
             Kind::Certificates => "certificates",
             Kind::Gap => "gap",
-            Kind::Trailing => "trailing data",
+            Kind::Trailing => "overlay",
             Kind::Directory => "directory",
             Kind::DebugRecord => "debug record",
         }

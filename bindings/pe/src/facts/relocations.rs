@@ -1,6 +1,6 @@
 //! Base relocations: how many of each type every page has.
 
-use super::{List, Named, Part, Refusal};
+use super::{entry, List, Named, Part, Refusal};
 use crate::names::RELOCATION_TYPES;
 use pe_c::{Image, RelocationBlock};
 use serde::Serialize;
@@ -12,9 +12,10 @@ pub struct Page {
     pub page_rva: u32,
     pub types: Vec<Count>,
     /// Why there are no more.
-    #[serde(skip_serializing_if = "Option::is_none")]
     pub error: Option<Refusal>,
 }
+
+entry!(Page, "relocations");
 
 /// How many relocations have a type.
 #[derive(Clone, Debug, Serialize)]

@@ -1,20 +1,20 @@
 //! The resources: all leaves of the resource tree, each with its type, its name and its language.
 
-use super::version::{fixed_of, strings_of, Fixed};
-use super::{Budget, Part, Refusal};
+use super::hashes::sha256_of;
+use super::version::{fixed_of, Fixed};
+use super::{languages, Budget, Field, Part, Refusal};
 use crate::names::{name_of, RESOURCE_TYPES};
 use pe_c::{Image, ResourceLeaf, ResourceLeaves, ResourceName};
 use serde::{Serialize, Serializer};
-use std::collections::{BTreeMap, BTreeSet};
+use std::collections::BTreeSet;
 
 /// How many leaves are shown. Directories of a tree may be shared, so a small file can have more leaves than anyone reads.
-const LEAVES: usize = 65_536;
+pub const LEAVES: usize = 65_536;
 
-#[derive(Clone, Debug, Serialize)]
+#[derive(Clone, Debug)]
 pub struct Resources<'a> {
     pub entries: Vec<Leaf<'a>>,
     /// Why there are no more.
-    #[serde(skip_serializing_if = "Option::is_none")]
     pub error: Option<Refusal>,
     /// Whether there are more than 65,536, or so many that share long names or version information, and the first stand here.
     pub is_limited: bool,
@@ -29,10 +29,12 @@ pub struct Leaf<'a> {
     pub rva: u32,
     pub size: u32,
     pub code_page: u32,
-    /// Of version information what it says, null of other types.
+    /// Of the content. Null where it is empty or not in the file, where hashes are left out, and once the resources before have as many
+    /// bytes as the file.
+    pub sha256_hex: Option<String>,
+    /// Of version information its numbers, null of other types.
     pub version: Option<Version<'a>>,
     /// Why its content is not in the file.
-    #[serde(skip_serializing_if = "Option::is_none")]
     pub error: Option<Refusal>,
 }
 
@@ -51,27 +53,37 @@ impl Version<'_> {
     pub fn fixed(&self) -> Part<Fixed> {
         self.0.version().map(|found| found.map(fixed_of)).into()
     }
-
-    fn strings(&self) -> Part<BTreeMap<String, String>> {
-        strings_of(|name| self.0.version_text(name)).into()
-    }
-}
-
-/// The same as it stands in JSON.
-#[derive(Serialize)]
-struct Shown {
-    fixed: Part<Fixed>,
-    strings: Part<BTreeMap<String, String>>,
 }
 
 impl Serialize for Version<'_> {
     fn serialize<S: Serializer>(&self, serializer: S) -> Result<S::Ok, S::Error> {
-        Shown { fixed: self.fixed(), strings: self.strings() }.serialize(serializer)
+        self.fixed().serialize(serializer)
+    }
+}
+
+impl Field for Resources<'_> {
+    const NAME: &'static str = "resources";
+    const ERROR: &'static str = "resources_error";
+    const IS_LIMITED: Option<&'static str> = Some("resources_is_limited");
+
+    fn error(&self) -> Option<&Refusal> {
+        self.error.as_ref()
+    }
+
+    fn is_limited(&self) -> bool {
+        self.is_limited
+    }
+}
+
+/// The entries alone. What is beside them is written by the part that they are.
+impl Serialize for Resources<'_> {
+    fn serialize<S: Serializer>(&self, serializer: S) -> Result<S::Ok, S::Error> {
+        self.entries.serialize(serializer)
     }
 }
 
 /// `RT_VERSION`
-const VERSION: ResourceName<'_> = ResourceName::Id(16);
+pub const VERSION: ResourceName<'_> = ResourceName::Id(16);
 
 impl Resources<'_> {
     /// How many types there are.
@@ -80,11 +92,16 @@ impl Resources<'_> {
     }
 }
 
-fn label_of(name: ResourceName<'_>) -> Label {
+pub fn label_of(name: ResourceName<'_>) -> Label {
     match name {
         ResourceName::Id(id) => Label { id: Some(id), name: None },
         ResourceName::Name(text) => Label { id: None, name: Some(text.to_string_lossy()) },
     }
+}
+
+/// A language by its identifier, with its name.
+pub fn language_of(id: u16) -> Label {
+    Label { id: Some(id), name: languages::name_of(id).map(str::to_string) }
 }
 
 fn type_of(name: ResourceName<'_>) -> Label {
@@ -93,14 +110,25 @@ fn type_of(name: ResourceName<'_>) -> Label {
     Label { name: label.name.or(known.map(str::to_string)), ..label }
 }
 
-fn leaf_of(leaf: ResourceLeaf<'_>) -> Leaf<'_> {
+/// The hash of the content, if so many bytes are left.
+fn hash_of(leaf: &ResourceLeaf<'_>, left: &mut usize) -> Option<String> {
+    let content = leaf.content().ok().filter(|it| !it.is_empty())?;
+    *left = left.checked_sub(content.len())?;
+    Some(sha256_of(content))
+}
+
+fn leaf_of<'a>(leaf: ResourceLeaf<'a>, left: &mut usize) -> Leaf<'a> {
     Leaf {
         r#type: type_of(leaf.resource_type),
         name: label_of(leaf.name),
-        language: label_of(leaf.language),
+        language: match leaf.language {
+            ResourceName::Id(id) => language_of(id),
+            name => label_of(name),
+        },
         rva: leaf.rva,
         size: leaf.size,
         code_page: leaf.code_page,
+        sha256_hex: hash_of(&leaf, left),
         version: (leaf.resource_type == VERSION).then_some(Version(leaf)),
         error: leaf.content().err().map(Refusal::from),
     }
@@ -116,12 +144,13 @@ fn cost_of(leaf: &ResourceLeaf<'_>) -> usize {
     length(leaf.resource_type) + length(leaf.name) + length(leaf.language) + content
 }
 
-fn resources_of<'a>(leaves: ResourceLeaves<'_, 'a>, mut budget: Budget) -> Resources<'a> {
+/// `left` is how many bytes may be hashed.
+fn resources_of<'a>(leaves: ResourceLeaves<'_, 'a>, mut budget: Budget, mut left: usize) -> Resources<'a> {
     let mut resources = Resources { entries: Vec::new(), error: None, is_limited: false };
     for leaf in leaves {
         match leaf {
             Ok(leaf) if resources.entries.len() < LEAVES && budget.takes(cost_of(&leaf)) => {
-                resources.entries.push(leaf_of(leaf));
+                resources.entries.push(leaf_of(leaf, &mut left));
             }
             Ok(_) => {
                 resources.is_limited = true;
@@ -133,6 +162,8 @@ fn resources_of<'a>(leaves: ResourceLeaves<'_, 'a>, mut budget: Budget) -> Resou
     resources
 }
 
-pub fn of<'a>(image: &'a Image<'_>) -> Part<Resources<'a>> {
-    image.resource_leaves().map(|found| found.map(|leaves| resources_of(leaves, Budget::of(image)))).into()
+pub fn of<'a>(image: &'a Image<'_>, has_hashes: bool) -> Part<Resources<'a>> {
+    let left = if has_hashes { image.bytes().len() } else { 0 };
+    let found = image.resource_leaves();
+    found.map(|found| found.map(|leaves| resources_of(leaves, Budget::of(image), left))).into()
 }

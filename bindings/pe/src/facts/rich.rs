@@ -1,6 +1,6 @@
 //! The Rich header, which Microsoft's linker writes: which tools made the objects of an image.
 
-use super::{List, Part};
+use super::{entry, field, List, Part};
 use pe_c::Image;
 use serde::Serialize;
 
@@ -9,8 +9,12 @@ pub struct Rich {
     pub key: u32,
     /// The linker takes it as the key: another key shows that the header, or what stands before it, was changed.
     pub checksum: u32,
-    pub tools: List<Tool>,
+    #[serde(flatten)]
+    pub tools: Part<List<Tool>>,
 }
+
+field!(Rich, "rich");
+entry!(Tool, "tools");
 
 /// A tool, by its number and its build, and how many objects it made.
 #[derive(Clone, Debug, Serialize)]
@@ -25,7 +29,11 @@ pub fn of(image: &Image<'_>) -> Part<Rich> {
         found.map(|header| Rich {
             key: header.key,
             checksum: header.checksum,
-            tools: List::of(header.entries(), |it| Tool { product: it.product, build: it.build, count: it.count }),
+            tools: Part::Present(List::of(header.entries(), |it| Tool {
+                product: it.product,
+                build: it.build,
+                count: it.count,
+            })),
         })
     });
     found.into()

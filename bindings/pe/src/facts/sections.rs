@@ -1,6 +1,7 @@
 //! The sections: where each is in the file and in memory, what its memory permits, and how its bytes look.
 
 use super::entropy::ByteCounts;
+use super::hashes::sha256_of;
 use super::Name;
 use crate::names::permissions;
 use pe_c::{Image, Layout};
@@ -23,6 +24,9 @@ pub struct Section<'a> {
     /// Bits a byte of what the file has of the section: 0 where all bytes are equal, near 8 where they are compressed or
     /// encrypted. Null without bytes.
     pub entropy: Option<f64>,
+    /// Of the same bytes. Null without bytes, where hashes are left out, and once the sections before have as many bytes as
+    /// the file: in a hostile one each of many sections may be the whole file.
+    pub sha256_hex: Option<String>,
 }
 
 /// How many sections are looked up in the string table: as many as Windows loads. Many could lead to one long string.
@@ -35,10 +39,26 @@ impl<'a> Section<'a> {
     }
 }
 
-pub fn of<'a>(image: &'a Image<'_>) -> Vec<Section<'a>> {
+pub fn of<'a>(image: &'a Image<'_>, has_hashes: bool) -> Vec<Section<'a>> {
     let mut counts = ByteCounts::of(image.bytes());
+    let mut left = if has_hashes { image.bytes().len() } else { 0 };
     let sections = image.sections().iter().enumerate();
-    sections.map(|(index, section)| section_of(image, section, index < LONG_NAMES, &mut counts)).collect()
+    sections
+        .map(|(index, section)| {
+            let found = section_of(image, section, index < LONG_NAMES, &mut counts);
+            Section { sha256_hex: hash_of(image, section, &mut left), ..found }
+        })
+        .collect()
+}
+
+/// The hash of a section, if it has bytes and so many are left.
+fn hash_of(image: &Image<'_>, section: &pe_c::Section, left: &mut usize) -> Option<String> {
+    let range = range_of(image.layout(), section);
+    let length = image.bytes().len();
+    let there = |offset: u64| usize::try_from(offset).map_or(length, |it| it.min(length));
+    let bytes = image.bytes().get(there(range.start)..there(range.end)).filter(|it| !it.is_empty())?;
+    *left = left.checked_sub(bytes.len())?;
+    Some(sha256_of(bytes))
 }
 
 fn section_of<'a>(
@@ -59,6 +79,7 @@ fn section_of<'a>(
         permissions: permissions(section.characteristics),
         flags: section.characteristics,
         entropy: counts.entropy_of(range_of(image.layout(), section)),
+        sha256_hex: None,
     }
 }
 

@@ -1,6 +1,6 @@
 //! Thread-local storage: the data that each thread gets a copy of, and the callbacks, which run before the entry point.
 
-use super::{List, Part};
+use super::{entry, field, List, Part};
 use pe_c::Image;
 use serde::Serialize;
 
@@ -15,11 +15,20 @@ pub struct Tls {
     pub zero_fill: u32,
     pub characteristics: u32,
     /// Virtual addresses; absent without a table of them.
-    pub callbacks: Part<List<u64>>,
+    #[serde(flatten)]
+    pub callbacks: Part<List<Callback>>,
 }
 
-fn callbacks_of(image: &Image<'_>) -> Part<List<u64>> {
-    image.tls_callbacks().map(|found| found.map(|callbacks| List::of(callbacks, |va| va))).into()
+/// The virtual address of a callback.
+#[derive(Clone, Copy, Debug, Serialize)]
+#[serde(transparent)]
+pub struct Callback(pub u64);
+
+field!(Tls, "tls");
+entry!(Callback, "callbacks");
+
+fn callbacks_of(image: &Image<'_>) -> Part<List<Callback>> {
+    image.tls_callbacks().map(|found| found.map(|callbacks| List::of(callbacks, Callback))).into()
 }
 
 pub fn of(image: &Image<'_>) -> Part<Tls> {

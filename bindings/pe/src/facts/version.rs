@@ -1,15 +1,24 @@
 //! Version information and the manifest, both of which are resources.
 
-use super::{Part, Refusal};
-use pe_c::{Error, FixedVersion, Image, Text, VersionName};
+use super::resources::{label_of, language_of, Label, VERSION};
+use super::{entry, field, Budget, List, Part, Refusal};
+use pe_c::{Error, FixedVersion, Image, ResourceLeaf, VersionBlock, VersionBlocks};
 use serde::Serialize;
 use std::collections::BTreeMap;
 
 #[derive(Clone, Debug, Serialize)]
 pub struct Version {
+    /// Of the first resource of version information.
+    #[serde(flatten)]
     pub fixed: Part<Fixed>,
-    /// The strings by their names, such as `ProductName`; of several languages the first.
-    pub strings: Part<BTreeMap<String, String>>,
+    /// The language of `strings`: neutral or English (US) where there is one of these, else the first.
+    pub language: Option<Label>,
+    /// The strings in that language by their names, such as `ProductName`.
+    pub strings: Option<BTreeMap<String, String>>,
+    /// All tables of strings, of each resource of version information.
+    #[serde(flatten)]
+    pub languages: Part<List<StringTable>>,
+    #[serde(flatten)]
     pub manifest: Part<Manifest>,
 }
 
@@ -20,16 +29,46 @@ pub struct Fixed {
     pub product_version: String,
 }
 
+/// The strings of one language.
+#[derive(Clone, Debug, Serialize)]
+pub struct StringTable {
+    /// That of the table, or of the resource where its key names none.
+    pub language: Label,
+    pub code_page: Option<u16>,
+    pub strings: BTreeMap<String, String>,
+}
+
 #[derive(Clone, Debug, Serialize)]
 pub struct Manifest {
     pub size: usize,
+    /// The rights that the program asks for, such as `asInvoker`, or null.
+    pub requested_level: Option<String>,
 }
+
+field!(Fixed, "fixed");
+field!(Manifest, "manifest");
+entry!(StringTable, "languages");
+
+/// Languages that are shown before others: neutral, and English (US).
+const FIRST: [u16; 2] = [0, 0x409];
+/// How many tables of strings are read.
+const TABLES: usize = 4096;
 
 impl Version {
     /// The refusals, each with the part that it is of. Numbers and strings are of one resource: the first counts.
     pub fn refusals(&self) -> Vec<(&'static str, &Refusal)> {
-        let version = self.fixed.refusal().or(self.strings.refusal()).map(|it| ("version information", it));
+        let version = self.fixed.refusal().or(self.languages.list_refusal()).map(|it| ("version information", it));
         version.into_iter().chain(self.manifest.refusal().map(|it| ("manifest", it))).collect()
+    }
+
+    /// Whether there is neither version information nor a manifest.
+    pub fn is_absent(&self) -> bool {
+        matches!((&self.fixed, &self.languages, &self.manifest), (Part::Absent, Part::Absent, Part::Absent))
+    }
+
+    /// How many tables of strings there are.
+    pub fn table_count(&self) -> usize {
+        self.languages.present().map_or(0, |it| it.entries.len())
     }
 }
 
@@ -41,23 +80,127 @@ pub fn fixed_of(version: FixedVersion) -> Fixed {
     Fixed { file_version: dotted(version.file_version()), product_version: dotted(version.product_version()) }
 }
 
-/// The strings by their names, or none. `text_of` finds one.
-pub fn strings_of<'a>(
-    text_of: impl Fn(VersionName) -> Result<Option<Text<'a>>, Error>,
-) -> Result<Option<BTreeMap<String, String>>, Error> {
+/// The strings of a table. Of two with one name the first counts.
+fn strings_of(table: &VersionBlock<'_>) -> Result<BTreeMap<String, String>, Error> {
     let mut strings = BTreeMap::new();
-    for name in VersionName::ALL {
-        if let Some(text) = text_of(name)? {
-            strings.insert(format!("{name:?}"), text.to_string_lossy());
+    for string in table.children() {
+        let string = string?;
+        strings.entry(string.key.to_string_lossy()).or_insert_with(|| string.text().to_string_lossy());
+    }
+    Ok(strings)
+}
+
+fn table_of(table: &VersionBlock<'_>, language: Label) -> Result<StringTable, Error> {
+    let own = table.language.filter(|it| it.language != 0 || language.id == Some(0));
+    Ok(StringTable {
+        language: own.map_or(language, |it| language_of(it.language)),
+        code_page: table.language.map(|it| it.code_page),
+        strings: strings_of(table)?,
+    })
+}
+
+/// Adds the tables in the blocks of a resource, of which the first is all of it.
+fn put_tables(blocks: VersionBlocks<'_>, language: &Label, to: &mut Vec<StringTable>) -> Result<(), Error> {
+    for root in blocks.take(1) {
+        for information in root?.children() {
+            let information = information?;
+            if information.key.to_string_lossy() != "StringFileInfo" {
+                continue;
+            }
+            for table in information.children().take(TABLES) {
+                to.push(table_of(&table?, language.clone())?);
+            }
         }
     }
-    Ok((!strings.is_empty()).then_some(strings))
+    Ok(())
+}
+
+/// The tables of the resources of version information. What is refused ends the list.
+fn tables_of<'a>(
+    leaves: impl Iterator<Item = Result<ResourceLeaf<'a>, Error>>,
+    mut budget: Budget,
+) -> List<StringTable> {
+    let mut list = List { entries: Vec::new(), error: None, is_limited: false };
+    // An error of the tree is one of the resources.
+    for leaf in leaves.flatten().filter(|it| it.resource_type == VERSION) {
+        if !budget.takes(leaf.size as usize) || list.entries.len() >= TABLES {
+            list.is_limited = true;
+            break;
+        }
+        let language = label_of(leaf.language);
+        let language = language.id.map_or(language, language_of);
+        let put =
+            leaf.version_blocks().and_then(|it| it.map_or(Ok(()), |it| put_tables(it, &language, &mut list.entries)));
+        if let Err(error) = put {
+            list.error = Some(error.into());
+            break;
+        }
+    }
+    list
+}
+
+/// All tables of strings, or absent where there are none.
+pub fn languages_of(image: &Image<'_>) -> Part<List<StringTable>> {
+    // What is wrong with the tree is said of the resources.
+    let leaves = image.resource_leaves().ok().flatten().into_iter().flatten().take(super::resources::LEAVES);
+    let list = tables_of(leaves, Budget::of(image));
+    if list.entries.is_empty() && list.error.is_none() {
+        Part::Absent
+    } else {
+        Part::Present(list)
+    }
+}
+
+/// The table that is shown first.
+fn first_of(tables: &Part<List<StringTable>>) -> Option<&StringTable> {
+    let tables = &tables.present()?.entries;
+    let is_first = |it: &&StringTable| it.language.id.is_some_and(|id| FIRST.contains(&id));
+    tables.iter().find(is_first).or(tables.first())
+}
+
+/// What follows `name=` in an XML text, in quotes.
+fn attribute<'t>(text: &'t str, name: &str) -> Option<&'t str> {
+    let rest = text.split_once(name)?.1.trim_start().strip_prefix('=')?.trim_start();
+    let quote = rest.chars().next().filter(|it| ['"', '\''].contains(it))?;
+    rest[1..].split_once(quote).map(|it| it.0)
+}
+
+/// The level of `requestedExecutionLevel`. An element of an XML text ends at the first `>` outside of quotes; values of these
+/// attributes have none.
+fn manifest_of(bytes: &[u8]) -> Manifest {
+    let text = String::from_utf8_lossy(bytes);
+    let element = text.split_once("requestedExecutionLevel").and_then(|(_, rest)| rest.split('>').next());
+    Manifest { size: bytes.len(), requested_level: element.and_then(|it| attribute(it, "level")).map(str::to_string) }
 }
 
 pub fn of(image: &Image<'_>) -> Version {
+    let languages = languages_of(image);
+    let first = first_of(&languages);
     Version {
         fixed: image.version().map(|it| it.map(fixed_of)).into(),
-        strings: strings_of(|name| image.version_text(name)).into(),
-        manifest: image.manifest().map(|it| it.map(|bytes| Manifest { size: bytes.len() })).into(),
+        language: first.map(|it| it.language.clone()),
+        strings: first.map(|it| it.strings.clone()),
+        languages,
+        manifest: image.manifest().map(|it| it.map(manifest_of)).into(),
+    }
+}
+
+#[cfg(test)]
+mod tests {
+    use super::*;
+
+    #[test]
+    fn the_level_of_a_manifest_is_found() {
+        let level = |text: &str| manifest_of(text.as_bytes()).requested_level;
+        assert_eq!(
+            level("<a:requestedExecutionLevel uiAccess='false' level = \"asInvoker\"/>"),
+            Some("asInvoker".into())
+        );
+        assert_eq!(
+            level("<requestedExecutionLevel level='highestAvailable' uiAccess=\"true\">"),
+            Some("highestAvailable".into())
+        );
+        assert_eq!(level("<requestedExecutionLevel> level='x'"), None);
+        assert_eq!(level("level='x'"), None);
     }
 }

@@ -6,6 +6,8 @@ use std::fmt::{self, Display, Write};
 
 pub struct Html {
     text: String,
+    /// The parts that are on the page, each with its id and its title.
+    parts: Vec<(&'static str, &'static str)>,
 }
 
 /// Escapes what HTML takes for markup, in elements and in quoted attributes, and what `escape` does.
@@ -29,11 +31,26 @@ impl Write for Escaping<'_> {
 
 impl Html {
     pub fn new() -> Html {
-        Html { text: String::new() }
+        Html { text: String::new(), parts: Vec::new() }
     }
 
     pub fn into_text(self) -> String {
         self.text
+    }
+
+    /// Notes that a part is on the page.
+    pub fn has_part(&mut self, id: &'static str, title: &'static str) {
+        self.parts.push((id, title));
+    }
+
+    pub fn parts(&self) -> &[(&'static str, &'static str)] {
+        &self.parts
+    }
+
+    /// Writes what was written elsewhere.
+    pub fn append(&mut self, other: Html) -> &mut Html {
+        self.text.push_str(&other.text);
+        self
     }
 
     /// Writes markup.

@@ -1,7 +1,17 @@
 "use strict";
 // Shows the rows that have each word of the field, and how many; a table without such a row is hidden. A link to the page
 // may carry the words: ?q=WORDS.
+// A label of the map is shown where it has room.
 (() => {
+  const labels = [...document.querySelectorAll(".lanes a text")];
+  const fit = () => {
+    for (const label of labels) {
+      const room = label.parentNode.querySelector("rect").getBoundingClientRect().width - 8;
+      label.style.visibility = label.getComputedTextLength() > room ? "hidden" : "visible";
+    }
+  };
+  fit();
+  addEventListener("resize", fit);
   const field = document.getElementById("filter"), found = document.getElementById("found");
   if (!field) return;
   const tables = [...document.querySelectorAll("details")].map(details => {
@@ -28,6 +38,9 @@
       table.count.textContent = words.length ? `${shown} of ${table.all}` : table.all;
       table.details.hidden = words.length > 0 && shown === 0;
       table.details.open = words.length > 0 || table.isOpen;
+    }
+    for (const part of document.querySelectorAll("main .list, main .map")) {
+      part.hidden = words.length > 0 && !words.every(word => part.textContent.toLowerCase().includes(word));
     }
     found.textContent = words.length ? (sum === 1 ? "1 row" : `${sum} rows`) : "";
   };

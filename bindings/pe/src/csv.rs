@@ -1,0 +1,56 @@
+//! The table of a part as CSV: a line of heads, and one for each row (<https://www.rfc-editor.org/rfc/rfc4180>). Texts of an image
+//! are escaped as on a terminal.
+
+use crate::facts::{Facts, Part, Topic};
+use crate::tables::{self, Row, Table};
+
+fn of_rows(rows: Vec<Row>) -> Table {
+    let columns = [tables::text("name"), tables::text("value")];
+    Table::new(&columns, rows.into_iter().map(|(name, value)| vec![name.to_string(), value]))
+}
+
+fn of_part<T>(part: &Option<Part<T>>, of: impl Fn(&T) -> Table) -> Option<Table> {
+    part.as_ref().and_then(Part::present).map(of)
+}
+
+/// The table of a part, or none where the image lacks it.
+fn table_of(facts: &Facts, topic: Topic) -> Option<Table> {
+    match topic {
+        Topic::Headers => facts.headers.as_ref().map(|it| of_rows(tables::headers(it))),
+        Topic::Hardening => facts.hardening.as_ref().map(|it| of_rows(tables::hardening(it))),
+        Topic::Hashes => facts.hashes.as_ref().map(|it| of_rows(tables::hashes(it))),
+        Topic::Sections => facts.sections.as_ref().map(|it| tables::sections(it)),
+        Topic::Imports => of_part(&facts.imports, tables::imports),
+        Topic::Exports => of_part(&facts.exports, tables::exports),
+        Topic::Debug => facts.debug.as_ref().and_then(|it| it.entries.present()).map(tables::debug),
+        Topic::Certificates => of_part(&facts.certificates, tables::certificates),
+        Topic::Functions => of_part(&facts.functions, tables::functions),
+        Topic::Version => facts.version.as_ref().map(tables::version_strings),
+        Topic::Tls => of_part(&facts.tls, |it| of_rows(tables::tls(it))),
+        Topic::Relocations => of_part(&facts.relocations, tables::relocations),
+        Topic::DelayImports => of_part(&facts.delay_imports, tables::delay_imports),
+        Topic::BoundImports => of_part(&facts.bound_imports, tables::bound_imports),
+        Topic::LoadConfig => of_part(&facts.load_config, |it| of_rows(tables::load_config(it))),
+        Topic::Clr => of_part(&facts.clr, |it| of_rows(tables::clr(it))),
+        Topic::Rich => of_part(&facts.rich, tables::rich_tools),
+        Topic::Resources => of_part(&facts.resources, tables::resources),
+        Topic::All => None,
+    }
+}
+
+/// Writing to memory does not fail.
+fn written(table: &Table) -> Option<Vec<u8>> {
+    let mut writer = csv::Writer::from_writer(Vec::new());
+    writer.write_record(table.columns.iter().map(|it| it.head)).ok()?;
+    for row in &table.rows {
+        writer.write_record(row).ok()?;
+    }
+    writer.into_inner().ok()
+}
+
+/// The part as CSV. Empty where the image lacks it.
+pub fn text(facts: &Facts, topic: Topic) -> String {
+    let bytes = table_of(facts, topic).and_then(|it| written(&it)).unwrap_or_default();
+    // All texts are UTF-8.
+    String::from_utf8(bytes).unwrap_or_default()
+}

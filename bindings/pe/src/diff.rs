@@ -1,0 +1,190 @@
+//! What differs between two images: what came, went and changed. Both are taken as rows of a name and a value for each part, and
+//! rows of one name are compared.
+
+use crate::escape::escaped;
+use crate::facts::resources::Label;
+use crate::facts::{Facts, Name, Part};
+use crate::tables;
+use serde::Serialize;
+use std::collections::BTreeMap;
+
+#[derive(Debug, Serialize)]
+pub struct Difference {
+    part: &'static str,
+    /// `added`, `removed` or `changed`.
+    change: &'static str,
+    name: String,
+    before: Option<String>,
+    after: Option<String>,
+}
+
+#[derive(Debug, Serialize)]
+pub struct Differences {
+    pub json_version: u32,
+    pub before: String,
+    pub after: String,
+    pub differences: Vec<Difference>,
+}
+
+/// The rows of a part, by their names. Of several with one name each has its number, from 0 on.
+#[derive(Default)]
+struct Rows {
+    rows: BTreeMap<(String, usize), String>,
+    /// How many rows have a name.
+    counts: BTreeMap<String, usize>,
+}
+
+impl Rows {
+    fn put(&mut self, name: String, value: String) {
+        let count = self.counts.entry(name.clone()).or_default();
+        self.rows.insert((name, *count), value);
+        *count += 1;
+    }
+
+    fn of(rows: Vec<tables::Row>) -> Rows {
+        let mut found = Rows::default();
+        rows.into_iter().for_each(|(name, value)| found.put(name.to_string(), value));
+        found
+    }
+}
+
+fn label_of(label: &Label) -> String {
+    label.name.as_deref().map(escaped).or(label.id.map(|id| format!("#{id}"))).unwrap_or_default()
+}
+
+fn sections_of(facts: &Facts) -> Rows {
+    let mut rows = Rows::default();
+    for it in facts.sections.iter().flatten() {
+        let hash = it.sha256_hex.as_deref().map_or(String::new(), |it| format!(", SHA-256 {}", &it[..16]));
+        let value =
+            format!("{}, {} bytes in memory, {} in the file{hash}", it.permissions, it.virtual_size, it.file_size);
+        rows.put(it.shown_name().to_string(), value);
+    }
+    rows
+}
+
+fn imports_of(facts: &Facts) -> Rows {
+    let mut rows = Rows::default();
+    for dll in facts.imports.iter().flat_map(|it| it.entries()) {
+        let name = dll.name_lower.clone().unwrap_or_default();
+        for it in dll.functions.entries() {
+            rows.put(format!("{} {}", escaped(&name), tables::import(it.name.as_ref(), it.ordinal)), String::new());
+        }
+    }
+    rows
+}
+
+fn delay_imports_of(facts: &Facts) -> Rows {
+    let mut rows = Rows::default();
+    for dll in facts.delay_imports.iter().flat_map(|it| it.entries()) {
+        let name = dll.name_lower.clone().unwrap_or_default();
+        for it in dll.functions.entries() {
+            rows.put(format!("{} {}", escaped(&name), tables::import(it.name.as_ref(), it.ordinal)), String::new());
+        }
+    }
+    rows
+}
+
+fn exports_of(facts: &Facts) -> Rows {
+    let mut rows = Rows::default();
+    for it in facts.exports.iter().filter_map(Part::present).flat_map(|it| &it.entries) {
+        let value = it.forwarder.as_ref().map_or(String::new(), |to| format!("to {to}"));
+        let names: Vec<String> = it.names.iter().map(Name::to_string).collect();
+        match names.as_slice() {
+            [] => rows.put(format!("#{}", it.ordinal), value),
+            names => names.iter().for_each(|name| rows.put(name.clone(), value.clone())),
+        }
+    }
+    rows
+}
+
+fn resources_of(facts: &Facts) -> Rows {
+    let mut rows = Rows::default();
+    for it in facts.resources.iter().filter_map(Part::present).flat_map(|it| &it.entries) {
+        let name = [&it.r#type, &it.name, &it.language].map(label_of).join(" ");
+        let hash = it.sha256_hex.as_deref().map_or(String::new(), |it| format!(", SHA-256 {}", &it[..16]));
+        rows.put(name, format!("{} bytes{hash}", it.size));
+    }
+    rows
+}
+
+fn version_of(facts: &Facts) -> Rows {
+    let Some(version) = &facts.version else { return Rows::default() };
+    let mut rows = Rows::of(tables::versions(version));
+    for row in tables::version_strings(version).rows {
+        rows.put(format!("{} {}", row[0], row[1]), row[2].clone());
+    }
+    rows
+}
+
+fn headers_of(facts: &Facts) -> Rows {
+    let mut rows = facts.headers.as_ref().map(tables::headers).unwrap_or_default();
+    rows.extend(facts.hardening.as_ref().map(tables::hardening).unwrap_or_default());
+    Rows::of(rows)
+}
+
+/// How the rows of a part are found.
+type Finder = fn(&Facts) -> Rows;
+
+/// The parts that are compared, each with its rows.
+const PARTS: [(&str, Finder); 7] = [
+    ("headers", headers_of),
+    ("sections", sections_of),
+    ("imports", imports_of),
+    ("delay_imports", delay_imports_of),
+    ("exports", exports_of),
+    ("version", version_of),
+    ("resources", resources_of),
+];
+
+fn compare(part: &'static str, before: &Rows, after: &Rows, to: &mut Vec<Difference>) {
+    let mut put = |change, (name, number): &(String, usize), before: Option<&String>, after: Option<&String>| {
+        let name = if *number == 0 { name.clone() } else { format!("{name} ({})", number + 1) };
+        to.push(Difference { part, change, name, before: before.cloned(), after: after.cloned() });
+    };
+    for (name, value) in &before.rows {
+        match after.rows.get(name) {
+            None => put("removed", name, Some(value), None),
+            Some(other) if other != value => put("changed", name, Some(value), Some(other)),
+            Some(_) => (),
+        }
+    }
+    for (name, value) in after.rows.iter().filter(|(name, _)| !before.rows.contains_key(*name)) {
+        put("added", name, None, Some(value));
+    }
+}
+
+pub fn of(before: &Facts, after: &Facts) -> Differences {
+    let mut differences = Vec::new();
+    for (part, rows_of) in PARTS {
+        compare(part, &rows_of(before), &rows_of(after), &mut differences);
+    }
+    Differences {
+        json_version: before.json_version,
+        before: before.file.clone(),
+        after: after.file.clone(),
+        differences,
+    }
+}
+
+impl Differences {
+    /// A line for each: `-` what went, `+` what came, `~` what changed.
+    pub fn text(&self) -> String {
+        let (mut text, mut part) = (String::new(), "");
+        for it in &self.differences {
+            if it.part != part {
+                part = it.part;
+                text += &format!("{part}\n");
+            }
+            let value =
+                |value: &Option<String>| value.as_deref().filter(|it| !it.is_empty()).map(|it| format!(": {it}"));
+            let line = match (&it.before, &it.after) {
+                (Some(before), Some(after)) => format!("~ {}: {before} -> {after}", it.name),
+                (Some(_), None) => format!("- {}{}", it.name, value(&it.before).unwrap_or_default()),
+                _ => format!("+ {}{}", it.name, value(&it.after).unwrap_or_default()),
+            };
+            text += &format!("  {line}\n");
+        }
+        text
+    }
+}

@@ -1,0 +1,85 @@
+//! What is asked first, on top of the page: what the image is, its version, whether it is signed, its checksum, and how it is
+//! hardened.
+
+use super::markup::Html;
+use crate::escape::escaped;
+use crate::facts::hardening::word;
+use crate::facts::{Facts, Part};
+use crate::summary::{built, checksum_of};
+
+/// A label, what it says, and the class of that.
+type Row = (&'static str, String, &'static str);
+
+fn version_of(facts: &Facts) -> Vec<Row> {
+    let Some(version) = &facts.version else { return Vec::new() };
+    let text = |name: &str| {
+        version.strings.as_ref().and_then(|it| it.get(name)).filter(|it| !it.is_empty()).map(|it| escaped(it))
+    };
+    let number = version.fixed.present().map(|it| it.file_version.clone());
+    let rows = [
+        ("product", text("ProductName")),
+        ("description", text("FileDescription")),
+        ("company", text("CompanyName")),
+        ("version", text("FileVersion").or(number)),
+        ("rights", version.manifest.present().and_then(|it| it.requested_level.as_deref()).map(escaped)),
+    ];
+    rows.into_iter().filter_map(|(label, value)| Some((label, value?, ""))).collect()
+}
+
+fn signed_of(facts: &Facts) -> Option<Row> {
+    let is_signed = facts.hardening.as_ref()?.signed;
+    let count = facts.certificates.as_ref().and_then(Part::present).map_or(0, |it| it.entries.len());
+    Some(match (is_signed, count) {
+        (true, 1) => ("signed", "yes, not verified".to_string(), ""),
+        (true, _) => ("signed", format!("yes, {count} certificates, not verified"), ""),
+        (false, _) => ("signed", "no".to_string(), ""),
+    })
+}
+
+fn rows_of(facts: &Facts) -> Vec<Row> {
+    let mut rows = version_of(facts);
+    rows.extend(signed_of(facts));
+    let Some(headers) = &facts.headers else { return rows };
+    rows.push(("built", built(headers), ""));
+    let class = if headers.checksum_state == Some("wrong") { "wrong" } else { "" };
+    rows.extend(checksum_of(headers).map(|it| ("checksum", it, class)));
+    let content = headers.overlay.as_ref().and_then(|it| it.content.as_ref());
+    rows.extend(content.map(|it| {
+        let kind = it.kind.unwrap_or("of no known kind");
+        ("overlay", format!("{} bytes at file offset {:#x}, {kind}", it.size, it.file_offset), "")
+    }));
+    rows.extend(facts.hashes.as_ref().map(|it| ("SHA-256", it.sha256_hex.clone(), "")));
+    rows
+}
+
+/// Each name, and whether the image asks for it.
+fn hardening_of(facts: &Facts, html: &mut Html) {
+    let Some(hardening) = &facts.hardening else { return };
+    html.markup(
+        "<h2 id=hardening>Hardening, as the image asks for it; no signature is verified</h2><ul class=hardening>",
+    );
+    for (name, value) in hardening.rows() {
+        html.markup(match value {
+            Some(true) => "<li class=yes>",
+            Some(false) => "<li class=no>",
+            None => "<li class=none>",
+        });
+        html.text(name).markup(" <b>").text(word(value)).markup("</b></li>");
+    }
+    html.markup("</ul>");
+}
+
+pub fn of(facts: &Facts, html: &mut Html) {
+    let rows = rows_of(facts);
+    if rows.is_empty() {
+        return;
+    }
+    html.markup("<section class=list aria-label=Overview><dl>");
+    for (label, value, class) in rows {
+        html.markup("<dt>").text(label).markup(if class == "wrong" { "</dt><dd class=wrong>" } else { "</dt><dd>" });
+        html.text(value).markup("</dd>");
+    }
+    html.markup("</dl>");
+    hardening_of(facts, html);
+    html.markup("</section>");
+}

@@ -1,0 +1,483 @@
+//! The commands that ask about images, or make new files of them, as they are run, over images that are made by hand.
+
+#[path = "../../rust/tests/made/mod.rs"]
+mod made;
+
+mod running;
+
+use running::{json_of, run, Folder};
+use serde_json::{json, Value};
+use std::fs;
+use std::io::Write;
+use std::process::{Command, Stdio};
+
+/// What a program of sums says of some bytes.
+fn sum_of(program: &str, bytes: &[u8]) -> String {
+    let mut ran = Command::new(program).stdin(Stdio::piped()).stdout(Stdio::piped()).spawn().unwrap();
+    ran.stdin.take().unwrap().write_all(bytes).unwrap();
+    let said = String::from_utf8(ran.wait_with_output().unwrap().stdout).unwrap();
+    said.split(' ').next().unwrap().to_string()
+}
+
+#[test]
+fn hashes_are_those_of_other_programs() {
+    let imports = json_of("imphash", &made::with_imports());
+    assert_eq!(imports["hashes"]["imphash"], sum_of("md5sum", b"kernel32.sleep,kernel32.ord17,a.f"));
+    assert_eq!(imports["hashes"]["sha256_hex"], sum_of("sha256sum", &made::with_imports()));
+    assert_eq!(imports["hashes"]["rich_hash"], Value::Null);
+    let section = &made::with_imports()[0x400..];
+    assert_eq!(imports["sections"][0]["sha256_hex"], sum_of("sha256sum", section));
+    let bytes = made::with_rich_header();
+    let end = bytes.windows(4).position(|it| it == b"Rich").unwrap();
+    let key = &bytes[end + 4..end + 8];
+    let clear: Vec<u8> = bytes[0x80..end].iter().zip(key.iter().cycle()).map(|(byte, key)| byte ^ key).collect();
+    let rich = json_of("richhash", &bytes);
+    assert_eq!(
+        (&rich["hashes"]["rich_hash"], &rich["hashes"]["imphash"]),
+        (&json!(sum_of("md5sum", &clear)), &json!(null))
+    );
+    let folder = Folder::new("no-hashes");
+    let (out, _, _) = run(&["--json", "--no-hashes", &folder.file("a.exe", &made::with_imports())]);
+    let all: Value = serde_json::from_str(&out).unwrap();
+    assert_eq!((all.get("hashes"), &all["sections"][0]["sha256_hex"]), (None, &json!(null)));
+    assert_eq!(all["headers"]["right_checksum"], Value::Null);
+}
+
+/// The image of the README with other DLL characteristics: the field is at 0x9E.
+fn with_flags(flags: u16) -> Vec<u8> {
+    let mut bytes = made::with_certificates();
+    bytes[0x9E..0xA0].copy_from_slice(&flags.to_le_bytes());
+    bytes
+}
+
+#[test]
+fn hardening_is_what_the_headers_say() {
+    let hardening = |bytes: &[u8]| json_of("hardening", bytes)["hardening"].clone();
+    let none = hardening(&made::with_exports());
+    assert_eq!(
+        (&none["aslr"], &none["dep"], &none["cfg"], &none["signed"]),
+        (&json!(false), &json!(false), &json!(false), &json!(false))
+    );
+    assert_eq!(
+        (&none["cet"], &none["safe_seh"], &none["no_writable_code"]),
+        (&json!(false), &json!(null), &json!(true))
+    );
+    let all = hardening(&with_flags(0x1E0));
+    for name in ["aslr", "high_entropy_aslr", "dep", "force_integrity", "signed"] {
+        assert_eq!(all[name], true, "{name}");
+    }
+    // Addresses of 64 bits are nothing where the image is not moved.
+    assert_eq!(hardening(&with_flags(0x20))["high_entropy_aslr"], false);
+    // The flag of control flow alone is not enough: no load configuration says that the code checks.
+    assert_eq!(hardening(&with_flags(0x4000))["cfg"], false);
+    assert_eq!(hardening(&made::with_debug())["cet"], true);
+    let x86 = hardening(&made::x86_dll());
+    assert_eq!(
+        (&x86["safe_seh"], &x86["high_entropy_aslr"], &x86["aslr"]),
+        (&json!(false), &json!(null), &json!(true))
+    );
+    let mut bytes = made::with_exports();
+    // The section's flags are at 0x16C.
+    bytes[0x16C..0x170].copy_from_slice(&0xE000_0000u32.to_le_bytes());
+    assert_eq!(hardening(&bytes)["no_writable_code"], false);
+    let folder = Folder::new("hardening-text");
+    let (out, _, _) = run(&[&folder.file("a.exe", &with_flags(0x140))]);
+    let line = "yes: ASLR, DEP, signed, no writable code; no: high-entropy ASLR, CFG, CET, force integrity";
+    assert!(out.contains(&format!("\n  hardening     {line}\n")), "{out}");
+}
+
+#[test]
+fn checksums_are_right_wrong_or_none() {
+    let folder = Folder::new("checksum");
+    let state = |bytes: &[u8]| json_of("checksum-state", bytes)["headers"]["checksum_state"].clone();
+    assert_eq!((state(&made::x86_dll()), state(&made::with_exports())), (json!("right"), json!("none")));
+    let mut bytes = made::x86_dll();
+    bytes[0x400] ^= 1;
+    let file = folder.file("a.dll", &bytes);
+    assert_eq!(state(&bytes), "wrong");
+    let (out, _, status) = run(&["checksum", &file]);
+    assert_eq!((out.contains("a.dll: 0x0000111d, wrong: 0x0000"), status), (true, 0), "{out}");
+    let fixed = folder.0.join("fixed.dll");
+    let fixed = fixed.to_str().unwrap();
+    assert_eq!(run(&["checksum", "--fix", fixed, &file]).2, 0);
+    let new = fs::read(fixed).unwrap();
+    assert_eq!(state(&new), "right");
+    assert_eq!(
+        (new.len(), new.iter().zip(&bytes).filter(|(one, other)| one != other).count() <= 4),
+        (bytes.len(), true)
+    );
+    assert_eq!(run(&["checksum", "--fix", fixed, &file]).2, 3, "the file exists");
+    assert_eq!(fs::read(fixed).unwrap(), new);
+}
+
+#[test]
+fn certificates_are_attached_and_detached() {
+    let folder = Folder::new("attach");
+    let file = folder.file("a.exe", &made::with_certificates());
+    let path = |name: &str| folder.0.join(name).to_str().unwrap().to_string();
+    let (bare, signed) = (path("bare.exe"), path("signed.exe"));
+    assert_eq!(run(&["detach", &file, &bare]).2, 0);
+    let bytes = fs::read(&bare).unwrap();
+    assert_eq!(bytes.len(), 0x600);
+    let said = json_of("detached", &bytes);
+    assert_eq!((&said["certificates"], &said["hardening"]["signed"]), (&json!(null), &json!(false)));
+    assert_eq!(said["headers"]["checksum_state"], "right");
+    // Signed data get a header of eight bytes.
+    let data = folder.file("signature", &[0x30, 1, 2, 3, 4]);
+    assert_eq!(run(&["attach", &bare, &data, &signed]).2, 0);
+    let said = json_of("attached", &fs::read(&signed).unwrap());
+    let pkcs7 = json!({"number": 2, "name": "PKCS #7 signed data"});
+    assert_eq!(said["certificates"], json!([{"size": 13, "revision": 0x200, "type": pkcs7}]));
+    assert_eq!(run(&["extract", &signed, "certificate", "-"]).0.as_bytes(), [0x30, 1, 2, 3, 4]);
+    assert_eq!(run(&["extract", &signed, "certificate", "--number", "2", "-"]).2, 1);
+    // What a signature covers stays.
+    assert_eq!(run(&["digest", &signed]).0[..64], run(&["digest", &bare]).0[..64]);
+    assert_eq!(run(&["attach", &bare, &data, &signed]).2, 3, "the file exists");
+    assert_eq!(run(&["attach", &bare, &path("none"), &path("other.exe")]).2, 3);
+    assert_eq!(run(&["detach", "--mapped", &bare, &path("other.exe")]).2, 2);
+    assert!(!folder.0.join("other.exe").exists());
+}
+
+/// A tree of resources: each a type, a name, and content, in the language 0x407.
+fn with_leaves(leaves: &[(u32, u32, &[u8])]) -> Vec<u8> {
+    let mut made = made::Made::new(made::X64);
+    let contents: Vec<(u32, u32)> = leaves.iter().map(|it| (made.put(it.2), it.2.len() as u32)).collect();
+    let (root, count) = (made.next().next_multiple_of(4), leaves.len() as u32);
+    // The root, then for each leaf a directory of its name, one of its language, and its data entry.
+    let first = 16 + 8 * count;
+    let mut words = vec![0, 0, 0, count << 16];
+    words.extend((0..count).flat_map(|it| [leaves[it as usize].0, 1 << 31 | (first + 64 * it)]));
+    for (index, (_, name, _)) in (0u32..).zip(leaves) {
+        let at = first + 64 * index;
+        words.extend([0, 0, 0, 1 << 16, *name, 1 << 31 | (at + 24)]);
+        words.extend([0, 0, 0, 1 << 16, 0x407, at + 48]);
+        let (rva, size) = contents[index as usize];
+        words.extend([rva, size, 0, 0]);
+    }
+    made.put_words(&words);
+    made.directory(made::RESOURCES, root, 4 * words.len() as u32);
+    made.image()
+}
+
+#[test]
+fn resources_icons_and_cursors_are_extracted() {
+    let folder = Folder::new("extract-more");
+    // A group of one image of 32 by 16 pixels, two colours, one plane, one bit a pixel, five bytes, the icon with number 7.
+    let group = [0, 0, 1, 0, 1, 0, 32, 16, 2, 0, 1, 0, 1, 0, 5, 0, 0, 0, 7, 0];
+    // A cursor of 8 by 4 pixels, whose height in the group is that of both masks, and its hot spot at 3 and 2.
+    let cursors = [0, 0, 2, 0, 1, 0, 8, 0, 8, 0, 1, 0, 1, 0, 6, 0, 0, 0, 9, 0];
+    let leaves: [(u32, u32, &[u8]); 5] =
+        [(1, 9, &[3, 0, 2, 0, 10, 11]), (3, 7, b"icon."), (10, 5, b"raw"), (12, 1, &cursors), (14, 1, &group)];
+    let file = folder.file("a.exe", &with_leaves(&leaves));
+    let said: Value = serde_json::from_str(&run(&["--json", &file]).0).unwrap();
+    assert_eq!(said["resources"].as_array().unwrap().len(), 5, "{said}");
+    assert_eq!(said["resources"][0]["language"], json!({"id": 0x407, "name": "German"}));
+    assert_eq!(said["resources"][2]["sha256_hex"], sum_of("sha256sum", b"raw"));
+    let extracted = |words: &[&str]| {
+        let to = folder.0.join("extracted");
+        let _ = fs::remove_file(&to);
+        let ran = run(&[&["extract", &file], words, &[to.to_str().unwrap()]].concat());
+        (fs::read(&to).unwrap_or_default(), ran.2)
+    };
+    let icon = [&[0, 0, 1, 0, 1, 0, 32, 16, 2, 0, 1, 0, 1, 0, 5, 0, 0, 0, 22, 0, 0, 0], b"icon.".as_slice()].concat();
+    assert_eq!(extracted(&["icon"]), (icon.clone(), 0));
+    assert_eq!(extracted(&["icon", "--name", "1", "--language", "0x407"]), (icon, 0));
+    let cursor = [0, 0, 2, 0, 1, 0, 8, 4, 0, 0, 3, 0, 2, 0, 2, 0, 0, 0, 22, 0, 0, 0, 10, 11];
+    assert_eq!(extracted(&["cursor"]), (cursor.to_vec(), 0));
+    assert_eq!(extracted(&["resource", "--type", "10"]), (b"raw".to_vec(), 0));
+    assert_eq!(extracted(&["resource", "--type", "10", "--name", "6"]), (Vec::new(), 1));
+    assert_eq!(extracted(&["icon", "--language", "1033"]), (Vec::new(), 1));
+    assert_eq!(extracted(&["manifest"]), (Vec::new(), 1));
+}
+
+#[test]
+fn a_group_without_its_images_is_no_icon() {
+    let folder = Folder::new("extract-lost");
+    let group = [0, 0, 1, 0, 1, 0, 32, 16, 2, 0, 1, 0, 1, 0, 5, 0, 0, 0, 7, 0];
+    let file = folder.file("a.exe", &with_leaves(&[(3, 8, b"icon."), (14, 1, &group)]));
+    let (out, error, status) = run(&["extract", &file, "icon", "-"]);
+    assert_eq!((out.as_str(), error.as_str(), status), ("", "pe: the image has no such part\n", 1));
+}
+
+#[test]
+fn names_are_found_by_who_imports_or_exports_them() {
+    let folder = Folder::new("find");
+    let imports = folder.file("a.exe", &made::with_imports());
+    let exports = folder.file("b.dll", &made::with_exports());
+    folder.file("c.txt", b"Sleep");
+    assert_eq!(
+        run(&["find", "sLEEp", &imports, &exports]),
+        (format!("{imports}: imports KERNEL32.dll Sleep\n"), String::new(), 0)
+    );
+    assert_eq!(run(&["find", "second", &imports, &exports]).0, format!("{exports}: exports second\n"));
+    let (out, error, _) = run(&["find", "kernel32", "-r", folder.0.to_str().unwrap()]);
+    assert_eq!(out, format!("{imports}: imports KERNEL32.dll Sleep\n{imports}: imports KERNEL32.dll #17\n"));
+    assert_eq!(error, "pe: 1 file skipped, no images\n");
+    let (out, _, _) = run(&["find", "--json", "first", &exports]);
+    let found: Value = serde_json::from_str(&out).unwrap();
+    assert_eq!(found["matches"], json!([{"part": "exports", "dll": null, "name": "first", "ordinal": 6}]));
+    assert_eq!(run(&["find", "nobody", &imports]), (String::new(), String::new(), 0));
+}
+
+#[test]
+fn differences_are_what_came_went_and_changed() {
+    let folder = Folder::new("diff");
+    let mut bytes = made::with_exports();
+    let one = folder.file("a.dll", &bytes);
+    let same = folder.file("b.dll", &bytes);
+    assert_eq!(run(&["diff", &one, &same]), (String::new(), String::new(), 0));
+    let at = bytes.windows(7).position(|it| it == b"second\0").unwrap();
+    bytes[at..at + 6].copy_from_slice(b"newest");
+    bytes[0x68..0x6A].copy_from_slice(&[1, 0]);
+    let other = folder.file("c.dll", &bytes);
+    let (out, _, status) = run(&["diff", &one, &other]);
+    assert_eq!(status, 1);
+    assert!(out.contains("headers\n  ~ entry point: 0x1234 -> 0x1\n"), "{out}");
+    assert!(out.contains("sections\n  ~ .rdata: ---, "), "{out}");
+    assert!(out.ends_with("exports\n  - second\n  + newest\n"), "{out}");
+    let (out, _, status) = run(&["diff", "--json", &one, &other]);
+    let found: Value = serde_json::from_str(&out).unwrap();
+    let last = json!({"part": "exports", "change": "added", "name": "newest", "before": null, "after": ""});
+    assert_eq!((found["differences"].as_array().unwrap().last().unwrap(), status), (&last, 1));
+    let (_, error, status) = run(&["diff", &one, &folder.file("d.dll", b"MZ")]);
+    assert_eq!((error.contains("d.dll: image: truncated (SHORT)"), status), (true, 1));
+    assert_eq!(run(&["diff", &one, folder.0.join("none").to_str().unwrap()]).2, 3);
+}
+
+#[test]
+fn arm64_functions_are_unwound() {
+    let folder = Folder::new("unwind-arm64");
+    let file = folder.file("a.exe", &made::with_arm64_functions());
+    let (out, _, status) = run(&["unwind", &file, "5000"]);
+    assert_eq!(status, 0);
+    assert!(out.starts_with("function 0x5000 to 0x5010\n  packed unwind data 0x"), "{out}");
+    assert!(out.contains(": 96 bytes of stack, RegI "), "{out}");
+    let (out, _, status) = run(&["unwind", &file, "5010"]);
+    assert_eq!(status, 0);
+    assert!(
+        out.contains(
+            "  prolog, from its end to its start\n    save_fplr_x   move sp down by 16, save x29 and lr there\n"
+        ),
+        "{out}"
+    );
+    let (out, _, _) = run(&["unwind", "--json", "--all", &file]);
+    let all: Value = serde_json::from_str(&out).unwrap();
+    assert_eq!((&all["machine"], all["functions"].as_array().unwrap().len()), (&json!("ARM64"), 2));
+}
+
+#[test]
+fn all_functions_are_unwound() {
+    let folder = Folder::new("unwind-all");
+    let file = folder.file("a.exe", made::SMALL);
+    let (out, _, status) = run(&["unwind", &file, "--all"]);
+    assert_eq!((out.matches("function 0x").count(), status), (2, 0), "{out}");
+    assert_eq!(run(&["unwind", &file]).2, 2);
+    assert_eq!(run(&["unwind", &file, "1000", "--all"]).2, 2);
+}
+
+#[test]
+fn a_table_is_csv() {
+    let folder = Folder::new("csv");
+    let file = folder.file("a.exe", &made::with_imports());
+    let (out, _, status) = run(&["show", "--csv", &file, "Imports"]);
+    let wanted =
+        "DLL,name or ordinal,hint,slot RVA\nKERNEL32.dll,Sleep,42,0x8000\nKERNEL32.dll,#17,,0x8008\na.dll,f,0,0x103c\n";
+    assert_eq!((out.as_str(), status), (wanted, 0));
+    assert_eq!(run(&["show", "--csv", &file, "tls"]).0, "");
+    assert_eq!(run(&["show", "--csv", &file]).2, 2);
+    assert_eq!(run(&["show", "--csv", "--json", &file, "imports"]).2, 2);
+}
+
+/// A block of version information: its length, that of its value, whether that is a text, the key, the value, and other blocks, each
+/// at a multiple of four bytes.
+fn block(key: &str, value: &[u8], is_text: bool, children: &[Vec<u8>]) -> Vec<u8> {
+    let pad = |bytes: &mut Vec<u8>| bytes.resize(bytes.len().next_multiple_of(4), 0);
+    let units = if is_text { value.len() / 2 } else { value.len() } as u16;
+    let mut bytes = [0, units, u16::from(is_text)].iter().flat_map(|it| it.to_le_bytes()).collect::<Vec<u8>>();
+    bytes.extend(utf16(key));
+    pad(&mut bytes);
+    bytes.extend(value);
+    for child in children {
+        pad(&mut bytes);
+        bytes.extend(child);
+    }
+    let length = bytes.len() as u16;
+    bytes[..2].copy_from_slice(&length.to_le_bytes());
+    bytes
+}
+
+/// With the zero that ends it.
+fn utf16(text: &str) -> Vec<u8> {
+    text.encode_utf16().chain([0]).flat_map(u16::to_le_bytes).collect()
+}
+
+/// Version information with a table of strings for each language.
+fn version_of(tables: &[(&str, &[(&str, &str)])]) -> Vec<u8> {
+    let table = |(key, strings): &(&str, &[(&str, &str)])| {
+        let strings: Vec<Vec<u8>> = strings.iter().map(|(name, text)| block(name, &utf16(text), true, &[])).collect();
+        block(key, b"", true, &strings)
+    };
+    let tables: Vec<Vec<u8>> = tables.iter().map(table).collect();
+    let fixed = [0xFEEF_04BDu32.to_le_bytes().as_slice(), &[0; 48]].concat();
+    block("VS_VERSION_INFO", &fixed, false, &[block("StringFileInfo", b"", true, &tables)])
+}
+
+#[test]
+fn version_strings_are_those_of_every_name_and_language() {
+    let content = version_of(&[
+        ("040104b0", &[("ProductName", "arabic")]),
+        ("040904b0", &[("CompiledScript", "AutoIt"), ("ProductName", "english")]),
+    ]);
+    let bytes = with_leaves(&[(16, 1, &content)]);
+    let version = &json_of("languages", &bytes)["version"];
+    assert_eq!(version["language"], json!({"id": 0x409, "name": "English (US)"}));
+    assert_eq!(version["strings"], json!({"CompiledScript": "AutoIt", "ProductName": "english"}));
+    assert_eq!(version["languages"][0]["language"]["name"], "Arabic (Saudi Arabia)");
+    assert_eq!(version["languages"][0]["strings"], json!({"ProductName": "arabic"}));
+    assert_eq!(version["languages"][1]["code_page"], 1200);
+    let folder = Folder::new("languages-text");
+    let file = folder.file("a.exe", &bytes);
+    let (out, _, _) = run(&[&file]);
+    assert!(
+        out.contains("\n  product       english\n") && out.contains("\n  languages     2 of version information\n"),
+        "{out}"
+    );
+    let (out, _, _) = run(&["show", &file, "version"]);
+    assert!(out.contains("  English (US)           CompiledScript  AutoIt\n"), "{out}");
+    // Without such a language the first is shown, and a key that names none is in that of the resource.
+    let version = &json_of("first", &with_leaves(&[(16, 1, &version_of(&[("none", &[("A", "b")])]))]))["version"];
+    assert_eq!((&version["language"]["id"], &version["strings"]), (&json!(0x407), &json!({"A": "b"})));
+}
+
+#[test]
+fn files_that_are_no_images_are_named() {
+    let folder = Folder::new("kinds");
+    let archive = b"!<arch>\n".as_slice();
+    for (kind, bytes) in [
+        ("an ELF file", b"\x7fELF\x02\x01".as_slice()),
+        ("an empty file", b""),
+        ("a text", b"some words\n"),
+        ("an archive of objects", archive),
+        ("a TE image", b"VZ\x64\x86"),
+        ("a COFF object, as it seems", b"\x64\x86\x02\0\0\0\0\0"),
+    ] {
+        let file = folder.file("a.bin", bytes);
+        let (out, _, status) = run(&[&file]);
+        assert!(out.starts_with(&format!("{file}: refused, {kind}\n")), "{out}");
+        let (line, _, _) = run(&["--json", &file]);
+        let said: Value = serde_json::from_str(&line).unwrap();
+        assert_eq!((&said["file_kind"], status), (&json!(kind), 1));
+    }
+}
+
+#[test]
+fn words_that_are_wrong_are_said_to_be() {
+    let folder = Folder::new("words");
+    let file = folder.file("a.exe", made::SMALL);
+    let (_, error, status) = run(&["sho", &file]);
+    assert!(error.starts_with("pe: sho: ") && error.contains("; is the command `show` meant?"), "{error}");
+    assert_eq!(status, 3);
+    for words in [["extract", "--json", &file, "manifest", "-"].as_slice(), &["report", "--json", &file, "-"]] {
+        let (out, error, status) = run(words);
+        assert_eq!((out.as_str(), error.contains("--json"), status), ("", true, 2), "{words:?}");
+    }
+    let (out, _, status) = run(&["show", &file, "HEADERS", "Tls", "delay-IMPORTS"]);
+    assert!(out.contains("\n  tls           none\n") && out.ends_with("\n  delay-imports none\n"), "{out}");
+    assert_eq!(status, 0);
+}
+
+#[test]
+fn what_may_never_end_is_not_read() {
+    let folder = Folder::new("pipes");
+    let pipe = folder.0.join("pipe");
+    assert!(Command::new("mkfifo").arg(&pipe).status().unwrap().success());
+    let (_, error, status) = run(&[pipe.to_str().unwrap()]);
+    assert_eq!((error.ends_with("it is no regular file; - reads standard input\n"), status), (true, 3), "{error}");
+    assert_eq!(run(&["/dev/null"]).2, 3);
+    // Below a folder these are left out, as links that lead to nothing or in a circle.
+    std::os::unix::fs::symlink("ring", folder.0.join("ring")).unwrap();
+    std::os::unix::fs::symlink("nowhere", folder.0.join("lost")).unwrap();
+    folder.file("a.exe", made::SMALL);
+    let (out, error, status) = run(&["-r", "-v", folder.0.to_str().unwrap()]);
+    assert_eq!((out.matches("PE32+ program").count(), status), (1, 0), "{error}");
+    for name in ["pipe: skipped, it is no regular file", "ring: skipped, the link", "lost: skipped, the link"] {
+        assert!(error.contains(name), "{error}");
+    }
+    let mut ran = Command::new(env!("CARGO_BIN_EXE_pe"));
+    let mut ran = ran.arg("-").stdin(Stdio::piped()).stdout(Stdio::piped()).spawn().unwrap();
+    ran.stdin.take().unwrap().write_all(made::SMALL).unwrap();
+    let said = String::from_utf8(ran.wait_with_output().unwrap().stdout).unwrap();
+    assert!(said.starts_with("-: PE32+ program for x64"), "{said}");
+}
+
+#[test]
+fn a_path_that_is_no_text_can_be_opened_again() {
+    use std::os::unix::ffi::OsStrExt;
+    let folder = Folder::new("path");
+    let path = folder.0.join(std::ffi::OsStr::from_bytes(b"\xff.exe"));
+    fs::write(&path, made::SMALL).unwrap();
+    let ran = Command::new(env!("CARGO_BIN_EXE_pe")).arg("--json").arg(&path).output().unwrap();
+    let said: Value = serde_json::from_slice(&ran.stdout).unwrap();
+    let hex: String = path.as_os_str().as_bytes().iter().map(|it| format!("{it:02x}")).collect();
+    assert_eq!(said["file_hex"], hex);
+}
+
+#[test]
+fn lines_fit_the_columns() {
+    let folder = Folder::new("columns");
+    let file = folder.file("a.dll", &made::x86_dll());
+    let path = std::path::Path::new(&file);
+    for columns in ["60", "80", "120"] {
+        let ran = Command::new(env!("CARGO_BIN_EXE_pe"))
+            .current_dir(path.parent().unwrap())
+            .arg("a.dll")
+            .env("COLUMNS", columns)
+            .output()
+            .unwrap();
+        let said = String::from_utf8(ran.stdout).unwrap();
+        let widest = said.lines().filter(|it| !it.contains("SHA-256")).map(|it| it.chars().count()).max().unwrap();
+        assert!(widest <= columns.parse().unwrap(), "{columns}: {widest}\n{said}");
+    }
+}
+
+#[test]
+fn a_long_name_of_a_section_stands_by_itself() {
+    let folder = Folder::new("section-name");
+    let (out, _, _) = run(&[&folder.file("a.exe", &made::with_long_section_name())]);
+    assert!(out.contains("\n  sections      .debug_info "), "{out}");
+}
+
+#[test]
+fn counts_are_words_of_one_and_of_more() {
+    let folder = Folder::new("counts");
+    let (out, _, _) = run(&[&folder.file("a.exe", &made::with_resources())]);
+    assert!(out.contains("\n  resources     2, of 2 types\n"), "{out}");
+    let (out, _, _) = run(&[&folder.file("a.exe", &with_leaves(&[(10, 5, b"raw")]))]);
+    assert!(out.contains("\n  resources     1, of 1 type\n"), "{out}");
+}
+
+#[test]
+fn overlays_are_what_they_are() {
+    let overlay = |bytes: &[u8]| json_of("overlay", bytes)["headers"]["overlay"].clone();
+    let with = |more: &[u8]| [made::with_exports(), more.to_vec()].concat();
+    assert_eq!(overlay(&made::with_exports()), Value::Null);
+    let nsis = overlay(&with(b"\0\0\0\0\xEF\xBE\xAD\xDENullsoftInst...."));
+    assert_eq!((&nsis["content"]["kind"], &nsis["size"]), (&json!("an NSIS installer"), &json!(24)));
+    assert_eq!(overlay(&with(b"7z\xBC\xAF\x27\x1C"))["content"]["kind"], "a 7z archive");
+    assert_eq!(overlay(&with(b"no known magic"))["content"]["kind"], Value::Null);
+    // The certificates of an image are no content, and neither are its symbols.
+    let signed = overlay(&made::with_certificates());
+    assert_eq!((&signed["certificates_size"], &signed["content"]), (&json!(24), &json!(null)));
+    let symbols = overlay(&made::with_long_section_name());
+    assert_eq!((&symbols["symbols_size"], &symbols["content"]), (&json!(46), &json!(null)));
+    let more = overlay(&[made::with_certificates(), b"PK\x03\x04".to_vec()].concat());
+    assert_eq!(more["content"], json!({"file_offset": 0x618, "size": 4, "kind": "a ZIP archive"}));
+}
+
+#[test]
+fn the_version_says_whether_the_library_was_proved() {
+    let (out, _, status) = run(&["--version"]);
+    let lines: Vec<&str> = out.lines().collect();
+    assert_eq!((lines.len(), lines[0], status), (2, concat!("pe ", env!("CARGO_PKG_VERSION")), 0));
+    assert!(lines[1].starts_with("library for C: "), "{out}");
+}
