@@ -268,7 +268,7 @@ fn names_of_two_gigabytes(rt: HostRuntime) -> Result<(), Fail> {
         })?;
     }
     let shown = refused(rt.alloc(), &leaves)?;
-    let size = 16 + 16_384 * (8 + 24 + 24 + 16 + 131_072);
+    let size = 16 + 16_384usize * (8 + 24 + 24 + 16 + 131_072);
     let text = format!(in rt.alloc(); "TablesTooLarge({size})")?;
     assert_eq!(rt; shown.as_str(), text.as_str());
     Ok(())
