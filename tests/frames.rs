@@ -529,7 +529,10 @@ fn knows_the_forms_of_epilogs(rt: HostRuntime) -> Result<(), Fail> {
         (&[0x48, 0x83, 0xC4, 0, 0xFF, 0xE0], true),
         (&[0x48, 0x83, 0xC4, 0, 0x41, 0xFF, 0xE3], true),
         (&[0x48, 0x83, 0xC4, 0, 0xFF, 0x20], true),
-        (&[0x48, 0x83, 0xC4, 0, 0xFF, 0x24, 0xC5, 0x40, 0, 0, 0], true),
+        (
+            &[0x48, 0x83, 0xC4, 0, 0xFF, 0x24, 0xC5, 0x40, 0, 0, 0],
+            true,
+        ),
         (&[0x48, 0x83, 0xC4, 0, 0xFF, 0x60, 0x08], false),
         (&[0x48, 0x83, 0xC4, 0, 0x47, 0xFF, 0xE7], false),
         // call [rax]; rex.W call rax; rex.W jmp far [rax]
@@ -562,8 +565,17 @@ fn knows_the_forms_of_epilogs(rt: HostRuntime) -> Result<(), Fail> {
         bytes: &bytes,
     };
     let code = [0x5E, 0xFF, 0xE0];
-    let found = step_in(&ONE_PUSH, 0x40, &code, changed(&[(RSP, ENTRY), (RBX, 3)]), &stack)?;
-    assert_eq!(rt; (found.general[RSI], found.general[RBX], found.rip), (0x77, 3, RETURN_ADDRESS));
+    let found = step_in(
+        &ONE_PUSH,
+        0x40,
+        &code,
+        changed(&[(RSP, ENTRY), (RBX, 3)]),
+        &stack,
+    )?;
+    assert_eq!(rt;
+        (found.general[RSI], found.general[RBX], found.rip),
+        (0x77, 3, RETURN_ADDRESS)
+    );
     Ok(())
 }
 

@@ -103,9 +103,7 @@ fn step_at(
     };
     registers.general[RSP] = rsp;
     let plan = [UnwindInfo::parse(&bytes, record)?];
-    Ok(step_in_image(
-        &functions, &plan, start, rva, code, registers, &stack,
-    ))
+    Ok(step_in_image(&functions, &plan, start, rva, code, registers, &stack))
 }
 
 const IN_HOT: (u32, usize) = (0x20, 0xC0);
@@ -121,7 +119,12 @@ fn the_frame_is_that_of_the_target(rt: HostRuntime) -> Result<(), Fail> {
         (IN_HOT, 0x30, &[0xEB, 0x12], INSIDE),
         (IN_COLD, 0x45, &[0xEB, 0xE1], INSIDE),
         // add rsp,32; pop rbx; jmp 0x50: the first byte of another function, after the last of the part
-        (IN_HOT, 0x30, &[0x48, 0x83, 0xC4, 0x20, 0x5B, 0xEB, 0x19], INSIDE),
+        (
+            IN_HOT,
+            0x30,
+            &[0x48, 0x83, 0xC4, 0x20, 0x5B, 0xEB, 0x19],
+            INSIDE,
+        ),
         // add rsp,32; jmp 0x51, after the push of that function
         (IN_HOT, 0x30, &[0x48, 0x83, 0xC4, 0x20, 0xEB, 0x1B], INSIDE),
         // jmp 0x40 in the part itself, its start
@@ -130,7 +133,10 @@ fn the_frame_is_that_of_the_target(rt: HostRuntime) -> Result<(), Fail> {
     for (function, rva, code, rsp) in rows {
         let (caller, is_interrupted) = step_at(rt.alloc(), function, rva, code, rsp)??;
         assert_eq!(rt; caller.rip, RETURN_ADDRESS);
-        assert_eq!(rt; (caller.general[RBX], caller.general[RSP]), (SAVED, INSIDE + 48));
+        assert_eq!(rt;
+            (caller.general[RBX], caller.general[RSP]),
+            (SAVED, INSIDE + 48)
+        );
         assert!(rt; !is_interrupted);
     }
     Ok(())
@@ -177,7 +183,10 @@ fn refusals_before_the_jump_and_at_its_target(rt: HostRuntime) -> Result<(), Fai
     for (code, rsp, expected) in rows {
         let found = step_at(alloc, IN_HOT, 0x30, code, rsp)?;
         let error = found.err();
-        assert_eq!(rt; shown(alloc, &error)?.as_str(), format!(in alloc; "Some({expected})")?.as_str());
+        assert_eq!(rt;
+            shown(alloc, &error)?.as_str(),
+            format!(in alloc; "Some({expected})")?.as_str()
+        );
     }
     Ok(())
 }

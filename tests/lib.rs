@@ -52,9 +52,9 @@ mod refused_memory;
 #[cfg(test)]
 mod refusing;
 #[cfg(test)]
-mod requested_memory;
-#[cfg(test)]
 mod relocations;
+#[cfg(test)]
+mod requested_memory;
 #[cfg(test)]
 mod resource_leaves;
 #[cfg(test)]
