@@ -1,5 +1,5 @@
 -- The frames that a step of a walk finds, and where it comes to the bottom.
-use Rattle.std.proofs.Common.{◌≡◌, ◌⊎◌, inl, inr, ℕ, ◌==◌, Bool, true, false, cond, List, Option, Some, None, Result, Ok, Err, refl, ap, sym, ◌∙◌, subst}
+use Rattle.std.proofs.Common.{◌≡◌, ◌-◌, ◌⊎◌, inl, inr, ℕ, ◌==◌, Bool, true, false, cond, List, Option, Some, None, Result, Ok, Err, refl, ap, sym, ◌∙◌, subst}
 use Rattle.std.proofs.lemmas.Bool.{eqb-true}
 use Rattle.std.specs.Option.{is_none, option_map, option_map_or, option_or}
 use Rattle.pe_core.proofs.Equality.{both}
@@ -7,9 +7,10 @@ use Rattle.pe_core.specs.Refusals.{Refusal}
 use Rattle.pe_unwind.specs.ExceptionTable.{ExceptionView}
 use Rattle.pe_unwind.specs.UnwindRecord.{UnwindInfoView}
 use Rattle.pe_unwind.specs.declared.function_table.RuntimeFunction.{RuntimeFunction}
+use Rattle.pe_frame.specs.Jumps.{StepsInImage}
 use Rattle.pe_frame.specs.Modules.{is_after_call, module_at}
 use Rattle.pe_frame.specs.Undoing.{popped}
-use Rattle.pe_frame.specs.Walks.{Calls, CallsBy, CallsByPlan, CallsFound, CallsIn, after_leaf, frame_after, frame_of, has_called, is_bottom, leaf_caller, leaf_frame, lookup_address, outside_caller, returned_to, scanned, without_records}
+use Rattle.pe_frame.specs.Walks.{Calls, CallsBy, CallsByPlan, CallsFound, CallsIn, after_leaf, code_of_frame, frame_after, frame_of, has_called, is_bottom, leaf_caller, leaf_frame, lookup_address, outside_caller, returned_to, scanned, without_records}
 use Rattle.pe_frame.specs.declared.error.FrameError.{FrameError}
 use Rattle.pe_frame.specs.declared.modules.Module.{Module}
 use Rattle.pe_frame.specs.declared.registers.Registers.{Registers}
@@ -129,69 +130,56 @@ led_on memory modules s t h called = not_guessed s t (next memory modules s t h)
 
 -- ---- the bottom
 
-abbrev IsAtBottom : (ℕ → Option ℕ) → List Module → StackFrame → Type 0
-IsAtBottom memory modules s =
-    (u : Registers) × (u.rip ≡ 0)
-    × ((without_records memory modules u ≡ None) ⊎ (without_records memory modules s.registers ≡ None))
-
 none_of : {X : Type 0} (o : Option X) → is_none o ≡ true → o ≡ None
 none_of None is = refl
 none_of (Some x) is = absurd (cc is)
 
-bottom_if : (memory : ℕ → Option ℕ) (modules : List Module) (s : StackFrame) (u : Registers) (b : Bool) → is_bottom memory modules u ≡ b → Err ends.Bottom ≡ cond b (Err ends.Bottom) (Ok (frame_of modules Records u)) → IsAtBottom memory modules s
-bottom_if memory modules s u true at is =
+zero_if : (memory : ℕ → Option ℕ) (modules : List Module) (u : Registers) (b : Bool) → is_bottom memory modules u ≡ b → Err ends.Bottom ≡ cond b (Err ends.Bottom) (Ok (frame_of modules Records u)) → (u.rip ≡ 0) × (without_records memory modules u ≡ None)
+zero_if memory modules u true at is =
     let parts = both (u.rip == 0) (is_none (without_records memory modules u)) at in
-    (u, eqb-true u.rip 0 parts.0, inl (none_of (without_records memory modules u) parts.1))
-bottom_if memory modules s u false at is = absurd (cc is)
+    (eqb-true u.rip 0 parts.0, none_of (without_records memory modules u) parts.1)
+zero_if memory modules u false at is = absurd (cc is)
 
-bottom_after : (memory : ℕ → Option ℕ) (modules : List Module) (s : StackFrame) (left : Result (Registers × Bool) FrameError) → Err ends.Bottom ≡ frame_after memory modules left → IsAtBottom memory modules s
-bottom_after memory modules s (Ok (u, true)) is = absurd (cc is)
-bottom_after memory modules s (Ok (u, false)) is = bottom_if memory modules s u (is_bottom memory modules u) refl is
-bottom_after memory modules s (Err e) is = absurd (cc is)
+abbrev LeavesFor0 : (ℕ → Option ℕ) → List Module → (Result (Registers × Bool) FrameError → Type 0) → Type 0
+LeavesFor0 memory modules Steps =
+    (u : Registers) × Steps (Ok (u, false)) × (u.rip ≡ 0) × (without_records memory modules u ≡ None)
+
+left_for_0 : (memory : ℕ → Option ℕ) (modules : List Module) (Steps : Result (Registers × Bool) FrameError → Type 0) (left : Result (Registers × Bool) FrameError) → Steps left → Err ends.Bottom ≡ frame_after memory modules left → LeavesFor0 memory modules Steps
+left_for_0 memory modules Steps (Ok (u, true)) steps is = absurd (cc is)
+left_for_0 memory modules Steps (Ok (u, false)) steps is =
+    let zero = zero_if memory modules u (is_bottom memory modules u) refl is in
+    (u, steps, zero.0, zero.1)
+left_for_0 memory modules Steps (Err e) steps is = absurd (cc is)
+
+pub records_at_bottom : (memory : ℕ → Option ℕ) (modules : List Module) (m : Module) (e : ExceptionView) (f : RuntimeFunction) (s : StackFrame) (plan : List UnwindInfoView) → CallsByPlan memory modules m e f s (Ok (Some plan)) (Err ends.Bottom) → LeavesFor0 memory modules (StepsInImage e m.sections.now m.opts memory plan f.begin_address ((s.registers).rip - m.base) (code_of_frame m e f.end_address s) s.registers)
+records_at_bottom memory modules m e f s plan h =
+    left_for_0 memory modules (StepsInImage e m.sections.now m.opts memory plan f.begin_address ((s.registers).rip - m.base) (code_of_frame m e f.end_address s) s.registers) h.0 h.1 h.2
 
 returns_to_0 : (modules : List Module) (u : Registers) (b : Bool) → (u.rip == 0) ≡ b → Err ends.Bottom ≡ cond b (Err ends.Bottom) (Ok (frame_of modules Leaf u)) → u.rip ≡ 0
 returns_to_0 modules u true at is = eqb-true u.rip 0 at
 returns_to_0 modules u false at is = absurd (cc is)
 
-bottom_popped : (memory : ℕ → Option ℕ) (modules : List Module) (s : StackFrame) (p : Result Registers FrameError) → without_records memory modules s.registers ≡ None → Err ends.Bottom ≡ after_leaf modules p → IsAtBottom memory modules s
-bottom_popped memory modules s (Ok u) none is = (u, returns_to_0 modules u (u.rip == 0) refl is, inr none)
-bottom_popped memory modules s (Err e) none is = absurd (cc is)
+popped_to_0 : (modules : List Module) (p : Result Registers FrameError) → Err ends.Bottom ≡ after_leaf modules p → (u : Registers) × (p ≡ Ok u) × (u.rip ≡ 0)
+popped_to_0 modules (Ok u) is = (u, refl, returns_to_0 modules u (u.rip == 0) refl is)
+popped_to_0 modules (Err e) is = absurd (cc is)
 
-bottom_of : (memory : ℕ → Option ℕ) (modules : List Module) (s : StackFrame) (o : Option StackFrame) (rest : Result StackFrame WalkEnd) → without_records memory modules s.registers ≡ o → (without_records memory modules s.registers ≡ None → Err ends.Bottom ≡ rest → IsAtBottom memory modules s) → Err ends.Bottom ≡ option_map_or Ok o rest → IsAtBottom memory modules s
-bottom_of memory modules s None rest found more is = more found is
-bottom_of memory modules s (Some f) rest found more is = absurd (cc is)
+uncalled : (b : Bool) (end : WalkEnd) (rest : Result StackFrame WalkEnd) → (ends.Bottom ≡ end → ⊥) → Err ends.Bottom ≡ cond b (Err end) rest → (b ≡ false) × (Err ends.Bottom ≡ rest)
+uncalled true end rest other is = let same : ends.Bottom ≡ end = cc is in absurd (other same)
+uncalled false end rest other is = (refl, is)
 
-unless_bottom : (b : Bool) (end : WalkEnd) (rest : Result StackFrame WalkEnd) → (ends.Bottom ≡ end → ⊥) → Err ends.Bottom ≡ cond b (Err end) rest → Err ends.Bottom ≡ rest
-unless_bottom true end rest other is = let same : ends.Bottom ≡ end = cc is in absurd (other same)
-unless_bottom false end rest other is = is
+no_frame : (o : Option StackFrame) (rest : Result StackFrame WalkEnd) → Err ends.Bottom ≡ option_map_or Ok o rest → (o ≡ None) × (Err ends.Bottom ≡ rest)
+no_frame None rest is = (refl, is)
+no_frame (Some f) rest is = absurd (cc is)
 
-bottom_leaf : (memory : ℕ → Option ℕ) (modules : List Module) (s : StackFrame) → Err ends.Bottom ≡ leaf_caller memory modules s → IsAtBottom memory modules s
-bottom_leaf memory modules s is =
-    bottom_of memory modules s (without_records memory modules s.registers) (after_leaf modules (popped memory s.registers)) refl
-    (bottom_popped memory modules s (popped memory s.registers))
-    (unless_bottom s.has_called ends.NoFunction _ (λ e. cc e) is)
+pub leaf_at_bottom : (memory : ℕ → Option ℕ) (modules : List Module) (s : StackFrame) → leaf_caller memory modules s ≡ Err ends.Bottom → (s.has_called ≡ false) × (without_records memory modules s.registers ≡ None) × (u : Registers) × (popped memory s.registers ≡ Ok u) × (u.rip ≡ 0)
+leaf_at_bottom memory modules s is =
+    let waits = uncalled s.has_called ends.NoFunction _ (λ e. cc e) (sym is) in
+    let lost = no_frame (without_records memory modules s.registers) (after_leaf modules (popped memory s.registers)) waits.1 in
+    let zero = popped_to_0 modules (popped memory s.registers) lost.1 in
+    (waits.0, lost.0, zero.0, zero.1, zero.2)
 
-bottom_outside : (memory : ℕ → Option ℕ) (modules : List Module) (s : StackFrame) → Err ends.Bottom ≡ outside_caller memory modules s → IsAtBottom memory modules s
-bottom_outside memory modules s is =
-    bottom_of memory modules s (without_records memory modules s.registers) (Err ends.NoModule) refl (λ none e. absurd (cc e))
-    (unless_bottom s.has_called ends.NoModule _ (λ e. cc e) is)
-
-bottom_by_plan : (memory : ℕ → Option ℕ) (modules : List Module) (m : Module) (e : ExceptionView) (f : RuntimeFunction) (s : StackFrame) (plan : Result (Option (List UnwindInfoView)) Refusal) → CallsByPlan memory modules m e f s plan (Err ends.Bottom) → IsAtBottom memory modules s
-bottom_by_plan memory modules m e f s (Err r) h = absurd h
-bottom_by_plan memory modules m e f s (Ok None) h = absurd (cc h)
-bottom_by_plan memory modules m e f s (Ok (Some plan)) h = bottom_after memory modules s h.0 h.2
-
-bottom_found : (memory : ℕ → Option ℕ) (modules : List Module) (m : Module) (e : ExceptionView) (s : StackFrame) (found : Option RuntimeFunction) → CallsFound memory modules m e s found (Err ends.Bottom) → IsAtBottom memory modules s
-bottom_found memory modules m e s None h = bottom_leaf memory modules s h
-bottom_found memory modules m e s (Some f) h = bottom_by_plan memory modules m e f s h.0 h.2
-
-bottom_by : (memory : ℕ → Option ℕ) (modules : List Module) (m : Module) (s : StackFrame) (o : Option ExceptionView) → CallsBy memory modules m s o (Err ends.Bottom) → IsAtBottom memory modules s
-bottom_by memory modules m s None h = bottom_leaf memory modules s h
-bottom_by memory modules m s (Some e) h = bottom_found memory modules m e s h.0 h.2
-
-bottom_in : (memory : ℕ → Option ℕ) (modules : List Module) (s : StackFrame) (o : Option Module) → CallsIn memory modules s o (Err ends.Bottom) → IsAtBottom memory modules s
-bottom_in memory modules s None h = bottom_outside memory modules s h
-bottom_in memory modules s (Some m) h = bottom_by memory modules m s (option_map (λ e. e.now) m.exceptions) h
-
-pub at_bottom : (memory : ℕ → Option ℕ) (modules : List Module) (s : StackFrame) → Calls memory modules s (Err ends.Bottom) → IsAtBottom memory modules s
-at_bottom memory modules s h = bottom_in memory modules s (module_at modules (lookup_address s)) h
+pub outside_at_bottom : (memory : ℕ → Option ℕ) (modules : List Module) (s : StackFrame) → outside_caller memory modules s ≡ Err ends.Bottom → ⊥
+outside_at_bottom memory modules s is =
+    let waits = uncalled s.has_called ends.NoModule _ (λ e. cc e) (sym is) in
+    let lost = no_frame (without_records memory modules s.registers) (Err ends.NoModule) waits.1 in
+    cc lost.1

@@ -1,6 +1,6 @@
 //! Laws of whole walks.
 
-ghost use Rattle.std.specs.Prelude.{Bool, ◌≡◌, ◌≤◌, ◌<◌, ◌+◌, ◌-◌, ◌*◌, ◌⊎◌, ℕ, true, List, [], length, Option, Some, None, Ok, Err};
+ghost use Rattle.std.specs.Prelude.{Bool, ◌≡◌, ◌≢◌, ◌≤◌, ◌<◌, ◌+◌, ◌-◌, ◌*◌, ◌⊎◌, ℕ, true, false, List, [], length, Option, Some, None, Ok, Err};
 ghost use Rattle.std.specs.Iterator.{YieldsThen};
 ghost use Rattle.pe_unwind.specs.ExceptionTable.{ExceptionView};
 ghost use Rattle.pe_unwind.specs.UnwindRecord.{UnwindInfoView};
@@ -8,7 +8,8 @@ ghost use Rattle.pe_unwind.specs.declared.function_table.RuntimeFunction.{Runtim
 ghost use Rattle.pe_frame.specs.Epilogs.{epilog_at};
 ghost use Rattle.pe_frame.specs.Jumps.{StepsInImage};
 ghost use Rattle.pe_frame.specs.Steps.{Steps};
-ghost use Rattle.pe_frame.specs.Walks.{AreSortedModules, Calls, CallsByPlan, IsFirstReturn, IsWalk, WalkState, code_of_frame, end_kind, first_return, has_called, most_words, return_at, walk_of, without_records};
+ghost use Rattle.pe_frame.specs.Undoing.{popped};
+ghost use Rattle.pe_frame.specs.Walks.{AreSortedModules, Calls, CallsByPlan, IsFirstReturn, IsWalk, WalkState, code_of_frame, end_kind, first_return, has_called, leaf_caller, most_words, outside_caller, return_at, walk_of, without_records};
 ghost use Rattle.pe_frame.specs.declared.modules.Module.{Module};
 ghost use Rattle.pe_frame.specs.declared.registers.Registers.{Registers};
 ghost use Rattle.pe_frame.specs.declared.walk.StackFrame.{StackFrame};
@@ -84,10 +85,21 @@ pub fn frames_say_whether_they_called()
         (t.way ≡ Records) ⊎ (t.way ≡ Interrupt) }
 {}
 
-/// At the bottom the caller's instruction pointer is 0, and no frame is found, either from its registers or from those of the
-/// frame before it.
+/// At the bottom a caller's instruction pointer is 0. Where records led there, no frame is found from that caller's registers
+/// (`records`). Without records the frame has not called, no frame is found from its own registers, and the word at its stack
+/// pointer is 0 (`leaf`). A frame in no module is never the bottom (`outside`).
 pub fn bottoms_are_returns_to_0()
-    ensures { (memory : ℕ → Option ℕ) (modules : List Module) (s : StackFrame) →
-        Calls memory modules s (Err Bottom) → (u : Registers) × (u.rip ≡ 0)
-        × ((without_records memory modules u ≡ None) ⊎ (without_records memory modules s.registers ≡ None)) }
+    ensures records { (memory : ℕ → Option ℕ) (modules : List Module) (m : Module) (e : ExceptionView)
+        (f : RuntimeFunction) (s : StackFrame) (plan : List UnwindInfoView) →
+        CallsByPlan memory modules m e f s (Ok (Some plan)) (Err Bottom) →
+        (u : Registers)
+        × StepsInImage e m.sections.now m.opts memory plan f.begin_address
+        ((s.registers).rip - m.base) (code_of_frame m e f.end_address s) s.registers
+        (Ok (u, false)) × (u.rip ≡ 0) × (without_records memory modules u ≡ None) }
+    ensures leaf { (memory : ℕ → Option ℕ) (modules : List Module) (s : StackFrame) →
+        leaf_caller memory modules s ≡ Err Bottom →
+        (s.has_called ≡ false) × (without_records memory modules s.registers ≡ None)
+        × (u : Registers) × (popped memory s.registers ≡ Ok u) × (u.rip ≡ 0) }
+    ensures outside { (memory : ℕ → Option ℕ) (modules : List Module) (s : StackFrame) →
+        outside_caller memory modules s ≢ Err Bottom }
 {}

@@ -1,5 +1,11 @@
-use Rattle.pe_frame.proofs.Found.{at_bottom}
+use Rattle.pe_frame.proofs.Found.{leaf_at_bottom, outside_at_bottom, records_at_bottom}
 use Rattle.pe_frame.proofs.laws.walks.bottoms_are_returns_to_0.Goals as goal
 
-pub returns : goal.returns
-returns c = at_bottom
+pub returns-clause-records : goal.returns-clause-records
+returns-clause-records c = records_at_bottom
+
+pub returns-clause-leaf : goal.returns-clause-leaf
+returns-clause-leaf c = leaf_at_bottom
+
+pub returns-clause-outside : goal.returns-clause-outside
+returns-clause-outside c = outside_at_bottom
