@@ -6,7 +6,7 @@ use Rattle.std.proofs.lemmas.List.{places, same_lists, drop_all}
 use Rattle.pe_core.specs.Bytes.{holds, le, range}
 use Rattle.pe_core.specs.Refusals.{Refusal, Short, ◌>>=◌}
 use Rattle.pe_core.specs.declared.section_table.SectionTable.{SectionTable}
-use Rattle.pe_directories.specs.DelayImports.{imported_by, lookup_table, offset_in_entry}
+use Rattle.pe_directories.specs.DelayImports.{hint_offset, imported_by, lookup_table, offset_in_entry}
 use Rattle.pe_directories.specs.DirectoryRefusals.{DirectoryRefusal, Image}
 use Rattle.pe_directories.specs.ImageParts.{ImageView, offset_of_va, size_of_va}
 use Rattle.pe_directories.specs.Tls.{callback_table}
@@ -220,7 +220,7 @@ functions_from image i read attributes (Ok p) w table items same some e g f =
 
 -- what a number imports depends on no more of the entry than its attributes
 same_entry : (i : ImageView) (e : DelayImport) (n : ℕ) → function_of i (entry_with e.attributes) n ≡ function_of i e n
-unfolding function_of imported_by offset_in_entry
+unfolding function_of imported_by hint_offset
 same_entry i e n = refl
 
 pub functions_of_library : (b : List ℕ) (image : images.Image) (sections : List SectionTable) (e : DelayImport) (w : DelayedFunctions) (table : List ℕ) (items : List (Result ℕ DirectoryRefusal)) → 0 < length b →
