@@ -12,7 +12,7 @@ ghost use Rattle.pe_core.specs.declared.options.ParseMode.TheVariants.{Strict};
 ghost use Rattle.pe_records.specs.Certificates.{CertificateView, IsListing};
 ghost use Rattle.pe_sign.specs.Attaching.{attached_of, before_table, is_signed, table_start, with_both_fields};
 ghost use Rattle.pe_sign.specs.Checksum.{checksum_of};
-ghost use Rattle.pe_sign.specs.Digest.{covered_bytes, left_out_of, ranges_view};
+ghost use Rattle.pe_sign.specs.Digest.{covered_bytes, digest_of, left_out_of, ranges_view};
 ghost use Rattle.pe_sign.specs.WrittenHeaders.{directories_end};
 ghost use Rattle.pe_sign.specs.declared.attachment.Placement.{Placement};
 ghost use Rattle.pe_sign.specs.declared.digest.LeftOut.{LeftOut};
@@ -83,8 +83,8 @@ pub fn attach_and_detach(
     detach_again(call, out)
 }
 
-/// What the digests of an image and of what was attached to it cover: the same bytes, so a signature of the image is valid
-/// for the file with it.
+/// What the digests of an image (`before`) and of what was attached to it (`after`) cover: the same bytes (`same`), so a
+/// signature of the image is valid for the file with it.
 pub fn digests_of_both<'a>(
     call: Attachment<'a>,
 ) -> Result<(AuthenticodeRanges<'a>, AuthenticodeRanges<'a>), SignError>
@@ -93,7 +93,11 @@ pub fn digests_of_both<'a>(
         call.certificate.now ≡ Ok call.file.now }
     requires ends { directories_end (header_view call.header.now)
         ≤ sections_offset (header_view call.header.now) }
-    ensures { IfOk result (λ r. covered_bytes (ranges_view r.1) ≡ covered_bytes (ranges_view r.0)) }
+    ensures same { IfOk result (λ r. covered_bytes (ranges_view r.1) ≡ covered_bytes (ranges_view r.0)) }
+    ensures before { IfOk result (λ r. digest_of call.entry.bytes.now (header_view call.entry.header.now)
+        ≡ Ok (ranges_view r.0)) }
+    ensures after { (h : HeaderView) → header_at call.entry.file.now Strict ≡ Ok h →
+        IfOk result (λ r. digest_of call.entry.file.now h ≡ Ok (ranges_view r.1)) }
 {
     let read = Header::parse_with_opts(call.file, &ParseOptions::default())?;
     let old = authenticode_ranges(call.bytes, call.header)?;

@@ -80,9 +80,6 @@ directory_to key size s p xs =
 
 -- ---- the three levels
 
-abbrev pub TypeRun : Type 0
-TypeRun = Leaf × List Leaf
-
 abbrev pub key_eq : Key → Key → Bool
 key_eq (Id m) (Id n) = m == n
 key_eq (Id m) (Name v) = false
