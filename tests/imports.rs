@@ -225,13 +225,13 @@ pub(crate) fn sharing(
     steps: (u32, u32),
 ) -> std::result::Result<Vec<u8>, AllocError> {
     let end = count * 20 + 20;
-    let mut bytes = Vec::new(alloc);
-    for i in 0..count {
-        let name = end + places.0 + i * steps.0;
-        let list = end + places.1 + i * steps.1;
-        for number in [list, 0, 0, name, 0x10] {
-            bytes.extend_from_slice(&u32::to_le_bytes(number))?;
-        }
+    let mut bytes = vec![in alloc; 0; end as usize - 20]?;
+    for (i, record) in bytes.chunks_exact_mut(20).enumerate() {
+        let name = end + places.0 + i as u32 * steps.0;
+        let list = end + places.1 + i as u32 * steps.1;
+        record[..4].copy_from_slice(&u32::to_le_bytes(list));
+        record[12..16].copy_from_slice(&u32::to_le_bytes(name));
+        record[16] = 0x10;
     }
     bytes.extend_from_slice(&[0; 20])?;
     bytes.extend_from_slice(after)?;

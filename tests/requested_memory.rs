@@ -183,29 +183,26 @@ fn sections(rt: HostRuntime) -> Result<(), Fail> {
     Ok(())
 }
 
-/// Texts of five bytes, and then of two hundred: of these each offset is sorted, and the start, the end and the text are kept,
+/// Texts of five bytes, and then of eighty: of these each offset is sorted, and the start, the end and the text are kept,
 /// unless one run was enough.
 #[test]
 fn texts(rt: HostRuntime) -> Result<(), Fail> {
     let alloc = rt.alloc();
     for count in COUNTS {
         let count = count as usize;
-        for length in [5, 200] {
-            if length * count > 0x100_0000 {
-                continue;
-            }
-            let mut bytes = Vec::new(alloc);
-            let mut offsets = Vec::new(alloc);
-            for _ in 0..count {
-                offsets.push(bytes.len())?;
-                bytes.extend_from_slice(&vec![in alloc; b'a'; length]?)?;
-                bytes.push(0)?;
+        for length in [5, 80] {
+            let mut text = vec![in alloc; b'a'; length]?;
+            text.push(0)?;
+            let bytes = text.repeat(alloc, count)?;
+            let mut offsets = Vec::with_capacity(alloc, count)?;
+            for i in 0..count {
+                offsets.push(i * text.len())?;
             }
             let asked = granting(alloc);
             assert_eq!(rt; texts_at(&asked, &bytes, &offsets)?.len(), count);
             Room::NONE.texts(count).check(&rt, &asked, "texts", count);
             // By turns the last and the others, so that reading them one by one is given up.
-            let mut turns = Vec::new(alloc);
+            let mut turns = Vec::with_capacity(alloc, 2 * count)?;
             for offset in &offsets {
                 turns.push(*offset)?;
                 turns.push(bytes.len() - length - 1)?;
@@ -213,7 +210,7 @@ fn texts(rt: HostRuntime) -> Result<(), Fail> {
             let asked = granting(alloc);
             assert_eq!(rt; texts_at(&asked, &bytes, &turns)?.len(), 2 * count);
             let room = Room::NONE.texts(2 * count);
-            let later = if length == 200 { 2 * count } else { 0 };
+            let later = if length == 80 { 2 * count } else { 0 };
             let most = room
                 .growing(later, OFFSET)
                 .growing(count, LIST + FOUND)
@@ -291,13 +288,10 @@ fn exports(rt: HostRuntime) -> Result<(), Fail> {
 
 /// An import directory at offset 0, of records that each have a name and a list of one import of their own.
 fn importing(alloc: Global, count: u32) -> Result<Vec<u8>, AllocError> {
-    let mut after = Vec::new(alloc);
-    for _ in 0..count {
-        after.extend_from_slice(b"a.dll\0\0\0")?;
-    }
-    for _ in 0..count {
-        push_numbers(&mut after, &[0, 0x8000_0000, 0, 0])?;
-    }
+    let mut after = b"a.dll\0\0\0".repeat(alloc, count as usize)?;
+    let mut list = [0; 16];
+    list[7] = 0x80;
+    after.extend_from_slice(&list.repeat(alloc, count as usize)?)?;
     sharing(alloc, count, &after, (0, 8 * count), (8, 16))
 }
 
@@ -313,23 +307,23 @@ fn data_of<'a, A: Allocator + Copy + Drop>(
 fn imports(rt: HostRuntime) -> Result<(), Fail> {
     let alloc = rt.alloc();
     let index = SectionIndex::new(alloc, &[], 0, &flat())?;
-    for count in [1, 3, 1000] {
+    for count in COUNTS {
         let bytes = importing(alloc, count)?;
         let count = count as usize;
-        let directory = Room::NONE.records(count, count);
         let asked = granting(alloc);
         let data = data_of(&asked, &bytes)?;
-        directory.check(&rt, &asked, "import records", count);
+        let room = Room::NONE.records(count, count);
+        room.check(&rt, &asked, "import records", count);
+        let asked = granting(alloc);
         let imports = Import::parse_with_opts(&asked, &bytes, &data, &[], 0, &flat(), true)?;
         assert_eq!(rt; imports.len(), count);
-        let room = directory.imports(count);
+        let room = Room::NONE.imports(count);
         room.check(&rt, &asked, "imports", count);
         let most = count / 2;
         let asked = granting(alloc);
-        let data = data_of(&asked, &bytes)?;
         let imports = Import::parse_at_most(&asked, &bytes, &data, &index.map(), true, most)?;
         assert_eq!(rt; imports.len(), most);
-        let room = directory.imports(most);
+        let room = Room::NONE.imports(most);
         room.check(&rt, &asked, "the first imports", most);
     }
     Ok(())
@@ -339,22 +333,20 @@ fn imports(rt: HostRuntime) -> Result<(), Fail> {
 fn libraries(rt: HostRuntime) -> Result<(), Fail> {
     let alloc = rt.alloc();
     let index = SectionIndex::new(alloc, &[], 0, &flat())?;
-    for count in [1, 3, 1000] {
+    for count in COUNTS {
         let bytes = importing(alloc, count)?;
         let count = count as usize;
+        let unseen = granting(alloc);
+        let data = data_of(&unseen, &bytes)?;
         let asked = granting(alloc);
-        let data = data_of(&asked, &bytes)?;
-        let before = asked.bytes_asked();
         assert_eq!(rt; data.libraries(&asked)?.len(), 1);
-        let listed = asked.bytes_asked();
-        assert_eq!(rt; listed - before, count * TEXT);
+        let room = Room::NONE.list(count, TEXT);
+        room.check(&rt, &asked, "libraries", count);
+        let asked = granting(alloc);
         let names = data.libraries_with_map(&asked, &bytes, &index.map())?;
         assert_eq!(rt; names.len(), 1);
         let room = Room::NONE.libraries(count, count);
-        assert_eq!(rt;
-            (asked.bytes_asked() - listed, room.least),
-            (room.most, room.most)
-        );
+        room.check(&rt, &asked, "libraries by a map", count);
     }
     Ok(())
 }
@@ -517,13 +509,13 @@ fn with_many(alloc: Global, count: u32) -> Result<Vec<u8>, AllocError> {
 #[test]
 fn whole_images(rt: HostRuntime) -> Result<(), Fail> {
     let alloc = rt.alloc();
-    let many = 1000;
     for (bytes, count) in [
         (with_exports(alloc)?, 0),
         (with_imports(alloc)?, 0),
         (with_resources(alloc)?, 0),
         (with_every_directory(alloc)?, 0),
-        (with_many(alloc, many)?, many as usize),
+        (with_many(alloc, 1000)?, 1000),
+        (with_many(alloc, 201_000)?, 201_000),
     ] {
         let asked = granting(alloc);
         let pe = PE::parse(&asked, &bytes)?;
