@@ -1,5 +1,6 @@
 //! ARM64 unwind records: their words, scopes, codes and handler, and the functions that they belong to.
 
+use crate::sections::section;
 use pe_core::{DataDirectory, Error, ParseOptions, Reason, SectionTable};
 use pe_unwind::{
     Arm64EpilogScope, Arm64EpilogScopeIterator, Arm64ExceptionHandler, Arm64RuntimeFunction,
@@ -335,18 +336,7 @@ fn reads_codes_of_each_function(rt: HostRuntime) -> Result<(), Fail> {
         0, 0x10, 0, 0, 0x10, 0x10, 0, 0, 0x20, 0x10, 0, 0, 0x21, 0, 0x62, 0x01, 0x04, 0, 0xE0,
         0x08, 0xC8, 0x42, 0xE4, 0xE3,
     ];
-    let sections = [SectionTable {
-        name: *b".rdata\0\0",
-        virtual_size: 0x100,
-        virtual_address: 0x1000,
-        size_of_raw_data: 0x200,
-        pointer_to_raw_data: 0,
-        pointer_to_relocations: 0,
-        pointer_to_linenumbers: 0,
-        number_of_relocations: 0,
-        number_of_linenumbers: 0,
-        characteristics: 0,
-    }];
+    let sections = [section(0x1000, 0x100, 0, 0x200)];
     let data = two_entries(&bytes, 0x1000, &sections, &ParseOptions::default())?;
     let mut found = Vec::new(rt.alloc());
     for function in data.functions_arm64() {

@@ -2,6 +2,7 @@
 //! them; all others are made by hand from the layouts.
 
 use crate::images::image;
+use crate::sections::SECTION;
 use pe_core::{
     ByteRange, DataDirectory, Error, Header, OptionalHeader, ParseOptions, Reason, SectionTable,
     Strtab,
@@ -15,20 +16,6 @@ use pe_directories::{
 };
 use pe_images::with_every_directory;
 use std::test::Fail;
-
-/// RVAs 0x1000 to 0x11FF are the bytes from 0 on.
-const SECTION: SectionTable = SectionTable {
-    name: *b".data\0\0\0",
-    virtual_size: 0x200,
-    virtual_address: 0x1000,
-    size_of_raw_data: 0x200,
-    pointer_to_raw_data: 0,
-    pointer_to_relocations: 0,
-    pointer_to_linenumbers: 0,
-    number_of_relocations: 0,
-    number_of_linenumbers: 0,
-    characteristics: 0,
-};
 
 pub(crate) fn image_of(bytes: &[u8], is_64: bool) -> ImageBytes<'_> {
     ImageBytes {

@@ -4,6 +4,7 @@
 use crate::directories::{at, image_of};
 use crate::images::image;
 use crate::refusing::Refusing;
+use crate::sections::section;
 use pe_core::{Error, ParseOptions, Reason, SectionTable, Strtab};
 use pe_directories::{
     BoundImportDirectory, DelayImport, DelayImports, DelayedFunction, DirectoryError, ImageBytes,
@@ -304,18 +305,7 @@ impl Texts {
 
 /// As many sections as there may be, of which the last covers all bytes.
 fn most_sections(alloc: Global) -> Result<Vec<SectionTable>, AllocError> {
-    let empty = SectionTable {
-        name: *b"s\0\0\0\0\0\0\0",
-        virtual_size: 0,
-        virtual_address: 0x1000,
-        size_of_raw_data: 0,
-        pointer_to_raw_data: 0,
-        pointer_to_relocations: 0,
-        pointer_to_linenumbers: 0,
-        number_of_relocations: 0,
-        number_of_linenumbers: 0,
-        characteristics: 0,
-    };
+    let empty = section(0x1000, 0, 0, 0);
     let mut sections = vec![in alloc; empty; 65_534]?;
     sections.push(SectionTable {
         size_of_raw_data: 0x1000_0000,

@@ -1,6 +1,7 @@
 //! Exports: the directory, its list, and what refuses the one and is left out of the other.
 
 use crate::images::{image, with_byte};
+use crate::sections::section;
 use linked_list_allocator::LocalHeap;
 use pe_core::{
     DataDirectory, Error, Export, ExportAddress, ExportAddresses, ExportData, ParseOptions, Reason,
@@ -14,18 +15,7 @@ const ALIGNMENT: u32 = 0x200;
 
 /// One section: the addresses from 0x1000 on stand at 0x200.
 pub(crate) fn one_section() -> [SectionTable; 1] {
-    [SectionTable {
-        name: *b".rdata\0\0",
-        virtual_size: 0x1000,
-        virtual_address: 0x1000,
-        size_of_raw_data: 0x200,
-        pointer_to_raw_data: 0x200,
-        pointer_to_relocations: 0,
-        pointer_to_linenumbers: 0,
-        number_of_relocations: 0,
-        number_of_linenumbers: 0,
-        characteristics: 0,
-    }]
+    [section(0x1000, 0x1000, 0x200, 0x200)]
 }
 
 const DIRECTORY: DataDirectory = DataDirectory {

@@ -1,21 +1,8 @@
 //! Base relocations.
 
-use pe_core::{DataDirectory, Error, ParseOptions, Reason, RelocationData, SectionTable};
+use crate::sections::SECTION;
+use pe_core::{DataDirectory, Error, ParseOptions, Reason, RelocationData};
 use std::test::Fail;
-
-/// One section, whose addresses start at 0x1000 and whose bytes start at 0.
-const SECTION: SectionTable = SectionTable {
-    name: *b".reloc\0\0",
-    virtual_size: 0x100,
-    virtual_address: 0x1000,
-    size_of_raw_data: 0x200,
-    pointer_to_raw_data: 0,
-    pointer_to_relocations: 0,
-    pointer_to_linenumbers: 0,
-    number_of_relocations: 0,
-    number_of_linenumbers: 0,
-    characteristics: 0,
-};
 
 #[test]
 fn gives_the_bytes_of_the_directory(rt: HostRuntime) -> Result<(), Fail> {

@@ -5,23 +5,33 @@ use linked_list_allocator::LocalHeap;
 use pe_core::{CoffHeader, Error, ParseOptions, SectionTable, find_offset};
 use std::test::Fail;
 
-fn section(
+/// A section whose RVAs 0x1000 to 0x11FF are the bytes from 0 on.
+pub(crate) const SECTION: SectionTable = SectionTable {
+    name: *b".text\0\0\0",
+    virtual_size: 0x200,
+    virtual_address: 0x1000,
+    size_of_raw_data: 0x200,
+    pointer_to_raw_data: 0,
+    pointer_to_relocations: 0,
+    pointer_to_linenumbers: 0,
+    number_of_relocations: 0,
+    number_of_linenumbers: 0,
+    characteristics: 0,
+};
+
+/// A section by its RVA and its virtual size, its raw pointer and its raw size.
+pub(crate) fn section(
     virtual_address: u32,
     virtual_size: u32,
     pointer_to_raw_data: u32,
     size_of_raw_data: u32,
 ) -> SectionTable {
     SectionTable {
-        name: *b".text\0\0\0",
         virtual_size,
         virtual_address,
         size_of_raw_data,
         pointer_to_raw_data,
-        pointer_to_relocations: 0,
-        pointer_to_linenumbers: 0,
-        number_of_relocations: 0,
-        number_of_linenumbers: 0,
-        characteristics: 0,
+        ..SECTION
     }
 }
 

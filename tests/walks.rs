@@ -2,6 +2,7 @@
 //! functions do: what is expected is what each of them was entered with.
 
 use crate::frames::bytes_of;
+use crate::sections;
 use pe_core::{DataDirectory, ParseOptions, SectionTable};
 use pe_frame::{
     FrameError, Memory, MemoryList, MemoryPiece, Module, ModuleOrder, Modules, Registers, Stack,
@@ -355,19 +356,11 @@ fn program(alloc: Global) -> Result<Vec<u8>, AllocError> {
     image(alloc, 0x100, &parts)
 }
 
-/// A section header.
+/// A section whose RVA is its file offset.
 fn section(start: u32, size: u32, characteristics: u32) -> SectionTable {
     SectionTable {
-        name: [0; 8],
-        virtual_size: size,
-        virtual_address: start,
-        size_of_raw_data: size,
-        pointer_to_raw_data: start,
-        pointer_to_relocations: 0,
-        pointer_to_linenumbers: 0,
-        number_of_relocations: 0,
-        number_of_linenumbers: 0,
         characteristics,
+        ..sections::section(start, size, start, size)
     }
 }
 

@@ -15,10 +15,12 @@ fn buffer(alloc: Global, len: usize, byte: u8) -> Result<Vec<u8>, AllocError> {
     vec![in alloc; byte; len]
 }
 
-/// The three calls, as one: what they answer over a buffer.
+/// The four calls, as one: what they answer over a buffer.
 #[derive(Clone, Copy, Debug)]
 enum Writer {
     Image,
+    /// The file, and the image over it.
+    Whole,
     /// From this offset on, with zeros up to a multiple of this.
     Sections(usize, Option<usize>),
     Certificates,
@@ -28,6 +30,7 @@ impl Writer {
     fn write(self, pe: &PE<'_>, bytes: &mut [u8]) -> Result<usize, Error> {
         match self {
             Writer::Image => pe.write_into(bytes),
+            Writer::Whole => pe.write_whole(bytes),
             Writer::Sections(from, unit) => {
                 let mut offset = from;
                 let answer = pe.write_sections(bytes, &mut offset, unit);
@@ -128,15 +131,10 @@ fn writes_equal_sections_alone(rt: HostRuntime) -> Result<(), Fail> {
     put(&mut shared, &[(0x180, &[1, 0, 0, 0, 0xFF, 3, 0, 0])]);
     let pe = PE::parse(alloc, &shared)?;
     let overlap = Reason::WriteOverlap(0, 1);
-    is_refused(&rt, alloc, &pe, Writer::Image, SIZE, overlap)?;
-    is_refused(
-        &rt,
-        alloc,
-        &pe,
-        Writer::Sections(0x148, None),
-        SIZE,
-        overlap,
-    )
+    for writer in [Writer::Image, Writer::Whole, Writer::Sections(0x148, None)] {
+        is_refused(&rt, alloc, &pe, writer, SIZE, overlap)?;
+    }
+    Ok(())
 }
 
 /// Each error of a whole image, alone.
@@ -162,13 +160,13 @@ fn refuses_what_can_not_be_written(rt: HostRuntime) -> Result<(), Fail> {
     }
     let low = pointer_below_64(alloc)?;
     let pe = PE::parse_with_opts(alloc, &low, &permissive)?;
-    for writer in [Writer::Image, Writer::Certificates] {
+    for writer in [Writer::Image, Writer::Whole, Writer::Certificates] {
         is_refused(&rt, alloc, &pe, writer, SIZE, Reason::NoOptionalHeader)?;
     }
     Ok(())
 }
 
-/// Each error comes before those after it: all of them at once, and one less each time.
+/// Each error comes before those after it: all of them at once, and one less each time. A whole file has the last three alone.
 #[test]
 fn refuses_in_order(rt: HostRuntime) -> Result<(), Fail> {
     let alloc = rt.alloc();
@@ -189,8 +187,20 @@ fn refuses_in_order(rt: HostRuntime) -> Result<(), Fail> {
         put(&mut bytes, &[(offset, part)]);
         let pe = PE::parse_with_opts(alloc, &bytes, &permissive)?;
         is_refused(&rt, alloc, &pe, Writer::Image, 8, reason)?;
+        let of_file = match reason {
+            Reason::WriteSection(k) => Reason::WriteSection(k),
+            _ => Reason::WriteOverlap(0, 1),
+        };
+        is_refused(&rt, alloc, &pe, Writer::Whole, 8, of_file)?;
     }
-    Ok(())
+    // The second section has no bytes either.
+    put(&mut bytes, &[(0x180, &[0, 0])]);
+    let pe = PE::parse_with_opts(alloc, &bytes, &permissive)?;
+    let fit = Reason::WriteFit {
+        end: SIZE as u64,
+        length: 8,
+    };
+    is_refused(&rt, alloc, &pe, Writer::Whole, 8, fit)
 }
 
 /// The image with functions and these sections' raw sizes and pointers, at addresses of their own.
@@ -243,9 +253,9 @@ fn reports_the_sections(rt: HostRuntime) -> Result<(), Fail> {
     ] {
         let bytes = with_sections(alloc, data)?;
         let pe = PE::parse_with_opts(alloc, &bytes, &permissive)?;
-        is_refused(&rt, alloc, &pe, Writer::Image, SIZE, reason)?;
-        let alone = Writer::Sections(0x148, None);
-        is_refused(&rt, alloc, &pe, alone, SIZE, reason)?;
+        for writer in [Writer::Image, Writer::Whole, Writer::Sections(0x148, None)] {
+            is_refused(&rt, alloc, &pe, writer, SIZE, reason)?;
+        }
     }
     Ok(())
 }
@@ -458,6 +468,7 @@ fn refuses_short_buffers(rt: HostRuntime) -> Result<(), Fail> {
     let pe = PE::parse(alloc, &bytes)?;
     for (writer, needed) in [
         (Writer::Image, 0x410),
+        (Writer::Whole, 0x410),
         (Writer::Sections(0x148, Some(0x200)), 0x400),
         (Writer::Certificates, 0x410),
     ] {
@@ -516,6 +527,33 @@ fn writes_what_was_changed(rt: HostRuntime) -> Result<(), Fail> {
     let again = PE::parse(alloc, &written)?;
     assert!(rt; again.header == pe.header);
     assert_eq!(rt; again.certificates.len(), 1);
+    Ok(())
+}
+
+/// What no field describes stays as it is in the file, where `write_into` refuses the image or writes zeros: a pointer to COFF
+/// symbols, bytes after a section's data, bytes between the headers and the section, and those after the certificate.
+#[test]
+fn writes_a_whole_file(rt: HostRuntime) -> Result<(), Fail> {
+    let alloc = rt.alloc();
+    let mut bytes = with_functions(alloc)?;
+    put(
+        &mut bytes,
+        &[
+            (0x4C, &[3, 2, 1]),
+            (0x158, &[0xF0, 1, 0, 0]),
+            (0x170, &[8; 0x90]),
+            (0x3F0, &[7; 16]),
+        ],
+    );
+    bytes.extend_from_slice(&[1, 2, 3, 4, 5])?;
+    let mut expected = Vec::from_slice(alloc, &bytes)?;
+    put(&mut expected, &[(0x48, &[0x44, 0x33, 0x22, 0x11])]);
+    expected.extend_from_slice(&[0x55, 0x55])?;
+    let mut pe = PE::parse(alloc, &bytes)?;
+    pe.header.coff_header.time_date_stamp = 0x1122_3344;
+    let mut written = buffer(alloc, 0x417, 0x55)?;
+    assert_eq!(rt; pe.write_whole(&mut written)?, 0x415);
+    assert!(rt; written == expected);
     Ok(())
 }
 
