@@ -718,7 +718,8 @@ uint32_t pe_c_next_record(const uint8_t *bytes, size_t length, const pe_c_image_
 
 /* Finds the registers of a function's caller, from those inside the function, in its prolog and epilogs too, and writes them
  * over those of the frame. It undoes the records of frame->function, up to the root of their chain, or runs what is left of
- * an epilog.
+ * an epilog. Where that ends with a jump to an RVA, it runs it up to the jump, and undoes the records of the function that the
+ * exception table has there, if they can be read: the jump may go on in a part of the function.
  *
  * The stack is one piece of memory: `stack_length` bytes that start at the address frame->stack_start. After PE_C_MISSING
  * a caller reads a piece that has the eight bytes at frame->address, and makes the same call again.
@@ -730,9 +731,10 @@ uint32_t pe_c_next_record(const uint8_t *bytes, size_t length, const pe_c_image_
  *
  * Errors: those of pe_c_function_table, without PE_C_NOTHING; for each record those of pe_c_unwind_record, and
  * PE_C_LONG_CHAIN where more than 32 are chained, as in each loop. In an epilog for each instruction PE_C_MISSING,
- * PE_C_BAD_ADDRESS. Else for each record PE_C_SHORT, PE_C_UNWIND_CODE of its codes, PE_C_BAD_OPERATION, PE_C_BAD_ADDRESS
- * of its frame register; for each code PE_C_BAD_OPERATION, PE_C_BAD_ADDRESS, PE_C_MISSING; then PE_C_MISSING,
- * PE_C_BAD_ADDRESS of the return address. Last PE_C_NOT_RISING, but for interrupts: so a walk ends. */
+ * PE_C_BAD_ADDRESS. Else, and at the target of its jump, for each record PE_C_SHORT, PE_C_UNWIND_CODE of its codes,
+ * PE_C_BAD_OPERATION, PE_C_BAD_ADDRESS of its frame register; for each code PE_C_BAD_OPERATION, PE_C_BAD_ADDRESS,
+ * PE_C_MISSING; then PE_C_MISSING, PE_C_BAD_ADDRESS of the return address. Last PE_C_NOT_RISING, but for interrupts: so a
+ * walk ends. */
 uint32_t pe_c_step(const uint8_t *bytes, size_t length, const pe_c_image_info *image, const pe_c_section *sections,
                    size_t count, const uint8_t *code, size_t code_length, const uint8_t *stack, size_t stack_length,
                    pe_c_frame *frame) PE_C_RESULT(3, 10);

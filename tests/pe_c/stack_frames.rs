@@ -260,6 +260,92 @@ fn epilogs_are_known_by_their_code(rt: HostRuntime) -> Result<(), Fail> {
     Ok(())
 }
 
+/// A part of a function that starts in its frame, with rbx pushed, jumps to its own start. Its records are looked up there.
+#[test]
+fn a_jump_is_followed_in_the_image(rt: HostRuntime) -> Result<(), Fail> {
+    let mut bytes = with_records(rt.alloc())?;
+    put(
+        &mut bytes,
+        &[(8, &[0xC0, 0x10]), (0xC0, &[1, 0, 1, 0, 0, 0x30])],
+    );
+    let stack = stack_of(rt.alloc(), &[0x77, RETURN_ADDRESS])?;
+    let start = ENTRY - 8;
+    let registers = changed(&[(RSP, start)]);
+    // At 0x5010 jmp 0x5000
+    let code = [0xEB, 0xEE];
+    let mut frame = frame_at(0x10C0, 0x10, registers, start);
+    let table = with_table();
+    let answer = pe_c_step(&bytes, &table, &sections(), &code, &stack, &mut frame);
+    assert_eq!(rt; answer, DONE);
+    assert_eq!(rt;
+        [frame.registers.rip, frame.registers.general[RBX]],
+        [RETURN_ADDRESS, 0x77]
+    );
+    let piece = MemoryPiece {
+        start,
+        offset: 0,
+        length: 16,
+    };
+    let (mut frame, mut interrupted) = (frame_at(0x10C0, 0x10, registers, start), 7);
+    let answer = pe_c_step_pieces(
+        &bytes,
+        &table,
+        &sections(),
+        &code,
+        &stack,
+        &[piece],
+        &mut frame,
+        &mut interrupted,
+    );
+    assert_eq!(rt; [answer, interrupted], [DONE, 0]);
+    assert_eq!(rt;
+        [frame.registers.rip, frame.registers.general[RBX]],
+        [RETURN_ADDRESS, 0x77]
+    );
+    Ok(())
+}
+
+/// A function without a prolog jumps into another one behind its prolog, as parts of a function do: the frame is still in place.
+#[test]
+fn a_jump_into_another_function_is_followed(rt: HostRuntime) -> Result<(), Fail> {
+    let mut bytes = with_records(rt.alloc())?;
+    // The function from 0x5000 on pushes rbp and allocates 40 bytes in its first 5.
+    put(&mut bytes, &[(8, &[0x50, 0x10]), (0xC0, &[1, 0, 0, 0])]);
+    let caller = of_caller();
+    let words = [1, 2, 3, 4, 5, caller.general[RBP], RETURN_ADDRESS];
+    let stack = stack_of(rt.alloc(), &words)?;
+    let start = ENTRY - 48;
+    let mut frame = frame_at(0x10C0, 0, changed(&[(RSP, start), (RBP, 9)]), start);
+    frame.function.begin_address = 0x6000;
+    frame.function.end_address = 0x6010;
+    frame.rva = 0x6000;
+    let jumping = frame;
+    // At 0x6000 jmp 0x5005, 5 + 0x1000 bytes back, and jmp 0x7005, which is in no function.
+    let inside = [0xE9, 0, 0xF0, 0xFF, 0xFF];
+    let outside = [0xE9, 0, 0x10, 0, 0];
+    let table = with_table();
+    let answer = pe_c_step(&bytes, &table, &sections(), &inside, &stack, &mut frame);
+    assert_eq!(rt; answer, DONE);
+    assert_eq!(rt; fields_of(&frame.registers), fields_of(&caller));
+    let mut frame = jumping;
+    let answer = pe_c_step(&bytes, &table, &sections(), &outside, &stack, &mut frame);
+    assert_eq!(rt; answer, DONE);
+    assert_eq!(rt;
+        [frame.registers.rip, frame.registers.general[RSP]],
+        [1, start + 8]
+    );
+    // rbp is not all there.
+    let mut frame = jumping;
+    let short = &stack[..47];
+    let answer = pe_c_step(&bytes, &table, &sections(), &inside, short, &mut frame);
+    assert_eq!(rt;
+        [u64::from(answer), frame.address],
+        [u64::from(MISSING), ENTRY - 8]
+    );
+    assert_eq!(rt; fields_of(&frame.registers), fields_of(&jumping.registers));
+    Ok(())
+}
+
 /// Errors of codes and of addresses, and what they set.
 #[test]
 fn steps_that_are_refused(rt: HostRuntime) -> Result<(), Fail> {

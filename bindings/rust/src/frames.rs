@@ -163,7 +163,8 @@ impl Registers {
 }
 
 impl Functions<'_, '_> {
-    /// The registers of a function's caller, from those inside the function at an RVA, in its prolog and epilogs too.
+    /// The registers of a function's caller, from those inside the function at an RVA, in its prolog and epilogs too. A jump
+    /// that ends an epilog is followed to the function at its target.
     ///
     /// `rva` is the instruction pointer less the address where the image is loaded. In the top frame, and in one that an
     /// interrupt stopped, it is that of the instruction which is about to run: find the function by it, and pass in `code`

@@ -19,6 +19,10 @@ const NO_CALL: u64 = BASE + 0x1008;
 /// In a function that allocates 8 bytes, from where an interrupted thread goes on without a word of it in the record.
 const DISPATCHER: u64 = BASE + 0x1030;
 
+/// Further on in it a jump into the body of the first function, 42 bytes before the instruction after it.
+const JUMPING: u64 = BASE + 0x1038;
+const JUMP: [u8; 2] = [0xEB, 0xD6];
+
 /// In a function without a record, and the start of the one after it.
 const LEAF: u64 = BASE + 0x1050;
 const FIRST_BYTE: u64 = BASE + 0x1060;
@@ -39,6 +43,7 @@ fn program(characteristics: u32) -> Vec<u8> {
     made.characteristics = characteristics;
     made.content.resize(0x80, 0);
     made.content[0x0B..0x10].copy_from_slice(&CALL);
+    made.content[0x38..0x3A].copy_from_slice(&JUMP);
     let pushes = made.put(&[1, 5, 2, 0, 5, 0x32, 1, 0x30]);
     let allocates = made.put(&[1, 4, 1, 0, 4, 0x02]);
     let entries = [ADDRESS, 0x1020, pushes, 0x1020, 0x1040, allocates, 0x1060, 0x1080, pushes];
@@ -83,6 +88,13 @@ fn a_call_of_a_null_pointer_has_a_caller() {
         (AFTER_CALL, STACK + 24, Way::Leaf, true),
     ];
     assert_eq!(walk(CODE, DISPATCHER, STACK, &[&[8, 0], &OUTERMOST[..]].concat()), (frames, End::Bottom));
+}
+
+/// At the target of a jump the frame is in place, as in a function and its parts: 32 bytes, then rbx and the return address.
+#[test]
+fn a_jump_is_followed() {
+    let frames = vec![(JUMPING, STACK, Way::Top, false), (AFTER_CALL, STACK + 48, Way::Records, true)];
+    assert_eq!(walk(CODE, JUMPING, STACK, &[&[1, 2, 3, 4, 5], &OUTERMOST[..]].concat()), (frames, End::Bottom));
 }
 
 #[test]

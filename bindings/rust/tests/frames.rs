@@ -127,6 +127,25 @@ fn a_step_returns_the_callers_registers() {
     assert_eq!(found.map(|it| (it.rip, it.rsp(), it.general[RBP])), Ok((BASE + 0x5020, ENTRY + 8, OUTER + 24)));
 }
 
+/// At a jump to an RVA the records of the function there are undone: the frame may be one that it goes on in.
+#[test]
+fn a_step_follows_a_jump() {
+    let file = made::with_functions();
+    let image = image_of(&file);
+    let functions = image.functions().unwrap().unwrap();
+    let bytes = stack_bytes();
+    let inner = functions.find(0x500C).unwrap().unwrap();
+    let elsewhere = Function { begin: 0x7000, end: 0x7010, ..inner };
+    // At 0x7008, after the prolog: jmp 0x500C, which is 0x2001 bytes before the next instruction.
+    let code = [0xE9, 0xFF, 0xDF, 0xFF, 0xFF];
+    let caller = functions.step(elsewhere, 0x7008, &code, &registers(), stack_of(&bytes)).unwrap();
+    assert_eq!((caller.rip, caller.rsp(), caller.general[RBP]), (BASE + 0x5020, ENTRY + 8, OUTER + 24));
+    // jmp 0x6000, where no function is: the return address would be at rsp.
+    let code = [0xE9, 0xF3, 0xEF, 0xFF, 0xFF];
+    let left = functions.step(elsewhere, 0x7008, &code, &registers(), stack_of(&bytes));
+    assert_eq!(left, Err(StepError::Missing(ENTRY - 40)));
+}
+
 #[test]
 fn a_step_says_why_there_is_no_caller() {
     let file = made::with_functions();

@@ -2,15 +2,17 @@
 use Rattle.std.specs.Prelude.{◌≡◌, ℕ, ◌+◌, ◌*◌, ◌/◌, ◌%◌, ◌^◌, ◌==◌, if◌then◌else◌, Bool, List, slice_index, Option, Some, None, Result, Ok, Err}
 use Rattle.pe_core.specs.Refusals.{Refusal, kind_of}
 use Rattle.pe_core.specs.Rows.{each}
+use Rattle.pe_core.specs.declared.options.ParseOptions.{ParseOptions}
 use Rattle.pe_core.specs.declared.section_table.SectionTable.{SectionTable}
 use Rattle.pe_unwind.specs.ExceptionTable.{ExceptionView}
 use Rattle.pe_unwind.specs.Links.{links_of}
 use Rattle.pe_unwind.specs.UnwindRecord.{UnwindInfoView}
 use Rattle.pe_unwind.specs.declared.function_table.RuntimeFunction.{RuntimeFunction}
 use Rattle.pe_plan.specs.ShortPlans.{PlansShort}
-use Rattle.pe_frame.specs.Epilogs.{StepsOutWithCode, StepsWithCode}
+use Rattle.pe_frame.specs.Jumps.{StepsInImage}
 use Rattle.pe_frame.specs.Memory.{stack_word}
 use Rattle.pe_frame.specs.MemoryLists.{listed_word, memory_of}
+use Rattle.pe_frame.specs.Steps.{registers_alone}
 use Rattle.pe_frame.specs.Undoing.{popped}
 use Rattle.pe_frame.specs.declared.error.FrameError.{FrameError}
 use Rattle.pe_frame.specs.declared.error.FrameError.TheVariants.{Codes, Memory, Address, Operation, Arm64Code, Packed, NotRising}
@@ -43,11 +45,6 @@ flat_registers g = record { general = g.general; xmm = each (half_xmm g.xmm) 32;
 
 -- ---- steps
 
--- the short plan of a function in the exception data of an image, or what refuses these
-abbrev pub PlansShortIn : Result ExceptionView Refusal → List SectionTable → ℕ → RuntimeFunction → Result (Option (List UnwindInfoView)) Refusal → Type 0
-PlansShortIn (Err refusal) sections mode f answer = answer ≡ Err refusal
-PlansShortIn (Ok v) sections mode f answer = PlansShort (links_of v sections (options_of mode)) v.content f answer
-
 -- the number of an error of a step
 abbrev pub error_number : FrameError → ℕ
 error_number (Codes e) = result_number (kind_of e)
@@ -76,22 +73,38 @@ abbrev pub HandsOutCaller : ℕ → StackFrame → StackFrame → Result Registe
 HandsOutCaller number old new (Ok u) = (number ≡ 0) × (new ≡ record old { registers = flat_registers u })
 HandsOutCaller number old new (Err e) = (number ≡ error_number e) × (new ≡ at_address old (error_address e))
 
--- the same by the records of the frame's function: a step of pe_frame with the code from the frame's RVA on, over one
--- piece of memory
-abbrev pub HandsOutBy : List ℕ → List ℕ → ℕ → StackFrame → StackFrame → Result (Option (List UnwindInfoView)) Refusal → Type 0
-HandsOutBy code stack number old new (Err refusal) = (number ≡ result_number refusal) × (new ≡ old)
-HandsOutBy code stack number old new (Ok None) = (number ≡ 106) × (new ≡ old)
-HandsOutBy code stack number old new (Ok (Some plan)) =
-    (caller : Result Registers FrameError)
-    × StepsWithCode (stack_word stack old.stack_start) plan (old.function).begin_address old.rva code (registers_of old.registers) caller
-    × HandsOutCaller number old new caller
+-- What a step by the records of a function leaves: it is a step of pe_frame in the image, with the code from the frame's RVA on.
+-- `HandsOut` says what becomes of it, or of a number that refuses it.
+abbrev pub StepsBy : ExceptionView → List SectionTable → ParseOptions → List ℕ → (ℕ → Option ℕ) → StackFrame → (Result (Result (Registers × Bool) FrameError) ℕ → Type 0) → Result (Option (List UnwindInfoView)) Refusal → Type 0
+StepsBy v sections opts code memory old HandsOut (Err refusal) = HandsOut (Err (result_number refusal))
+StepsBy v sections opts code memory old HandsOut (Ok None) = HandsOut (Err 106)
+StepsBy v sections opts code memory old HandsOut (Ok (Some plan)) =
+    (left : Result (Registers × Bool) FrameError)
+    × StepsInImage v sections opts memory plan (old.function).begin_address old.rva code (registers_of old.registers) left
+    × HandsOut (Ok left)
+
+-- the same by the exception data of an image
+abbrev pub StepsOf : ExceptionView → List SectionTable → ParseOptions → List ℕ → (ℕ → Option ℕ) → StackFrame → (Result (Result (Registers × Bool) FrameError) ℕ → Type 0) → Type 0
+StepsOf v sections opts code memory old HandsOut =
+    (plan : Result (Option (List UnwindInfoView)) Refusal)
+    × PlansShort (links_of v sections opts) v.content old.function plan
+    × StepsBy v sections opts code memory old HandsOut plan
+
+-- the same, or what refuses the exception data
+abbrev pub StepsIn : Result ExceptionView Refusal → List SectionTable → ℕ → List ℕ → (ℕ → Option ℕ) → StackFrame → (Result (Result (Registers × Bool) FrameError) ℕ → Type 0) → Type 0
+StepsIn (Err refusal) sections mode code memory old HandsOut = HandsOut (Err (result_number refusal))
+StepsIn (Ok v) sections mode code memory old HandsOut = StepsOf v sections (options_of mode) code memory old HandsOut
+
+-- the number of a step, or of what refuses it, and the frame after it
+abbrev pub HandsOutAlone : ℕ → StackFrame → StackFrame → Result (Result (Registers × Bool) FrameError) ℕ → Type 0
+HandsOutAlone number old new (Ok left) = HandsOutCaller number old new (registers_alone left)
+HandsOutAlone number old new (Err n) = (number ≡ n) × (new ≡ old)
 
 -- what a call for a step returns, and the frame after it
 abbrev pub HandsOutStep : List ℕ → Image → List SectionTable → List ℕ → List ℕ → ℕ → StackFrame → StackFrame → Type 0
 HandsOutStep b image sections code stack number old new =
-    (plan : Result (Option (List UnwindInfoView)) Refusal)
-    × PlansShortIn (image_exceptions b image sections image.mode) sections image.mode old.function plan
-    × HandsOutBy code stack number old new plan
+    StepsIn (image_exceptions b image sections image.mode) sections image.mode code (stack_word stack old.stack_start) old
+    (HandsOutAlone number old new)
 
 -- ---- steps over pieces of memory
 
@@ -106,21 +119,16 @@ abbrev pub HandsOutLeft : ℕ → StackFrame → StackFrame → ℕ → ℕ → 
 HandsOutLeft number old new before after (Ok u) = HandsOutCaller number old new (Ok u.0) × (after ≡ (if u.1 then 1 else 0))
 HandsOutLeft number old new before after (Err e) = HandsOutCaller number old new (Err e) × (after ≡ before)
 
--- the same by the records of the frame's function: a step of pe_frame with the code from the frame's RVA on
-abbrev pub HandsOutLeftBy : List ℕ → (ℕ → Option ℕ) → ℕ → StackFrame → StackFrame → ℕ → ℕ → Result (Option (List UnwindInfoView)) Refusal → Type 0
-HandsOutLeftBy code memory number old new before after (Err refusal) = (number ≡ result_number refusal) × (new ≡ old) × (after ≡ before)
-HandsOutLeftBy code memory number old new before after (Ok None) = (number ≡ 106) × (new ≡ old) × (after ≡ before)
-HandsOutLeftBy code memory number old new before after (Ok (Some plan)) =
-    (left : Result (Registers × Bool) FrameError)
-    × StepsOutWithCode memory plan (old.function).begin_address old.rva code (registers_of old.registers) left
-    × HandsOutLeft number old new before after left
+-- the same, or the number of what refuses the step
+abbrev pub HandsOutLeftOr : ℕ → StackFrame → StackFrame → ℕ → ℕ → Result (Result (Registers × Bool) FrameError) ℕ → Type 0
+HandsOutLeftOr number old new before after (Ok left) = HandsOutLeft number old new before after left
+HandsOutLeftOr number old new before after (Err n) = (number ≡ n) × (new ≡ old) × (after ≡ before)
 
 -- what a step over this memory returns, the frame after it, and what it says of an interrupt
 abbrev pub HandsOutLeftStep : List ℕ → Image → List SectionTable → List ℕ → (ℕ → Option ℕ) → ℕ → StackFrame → StackFrame → ℕ → ℕ → Type 0
 HandsOutLeftStep b image sections code memory number old new before after =
-    (plan : Result (Option (List UnwindInfoView)) Refusal)
-    × PlansShortIn (image_exceptions b image sections image.mode) sections image.mode old.function plan
-    × HandsOutLeftBy code memory number old new before after plan
+    StepsIn (image_exceptions b image sections image.mode) sections image.mode code memory old
+    (HandsOutLeftOr number old new before after)
 
 -- what a call for a step over pieces returns
 abbrev pub HandsOutStepPieces : List ℕ → Image → List SectionTable → List ℕ → List ℕ → List MemoryPiece → ℕ → StackFrame → StackFrame → ℕ → ℕ → Type 0

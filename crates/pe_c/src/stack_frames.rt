@@ -2,15 +2,16 @@
 //! and the memory of its stack. A walk makes it again and again, from the innermost frame outwards.
 //! https://learn.microsoft.com/cpp/build/exception-handling-x64
 
-ghost use Rattle.std.specs.Prelude.{◌≡◌, ◌<◌};
+ghost use Rattle.std.specs.Prelude.{◌≡◌, ◌<◌, Ok};
 ghost use Rattle.std.specs.Option.{option_map};
 ghost use Rattle.pe_core.specs.Refusals.{answer_by};
 ghost use Rattle.pe_core.specs.Rows.{each};
 ghost use Rattle.pe_plan.specs.ShortPlans.{records_of};
 ghost use Rattle.pe_frame.specs.Memory.{stack_word};
+ghost use Rattle.pe_frame.specs.Steps.{registers_alone};
 ghost use Rattle.pe_frame.specs.Undoing.{popped};
 ghost use Rattle.pe_c.specs.Unwinding.{image_exceptions};
-ghost use Rattle.pe_c.specs.StackFrames.{whole_xmm, half_xmm, registers_of, flat_registers, error_number, error_address, PlansShortIn, HandsOutCaller, HandsOutLeafPieces, HandsOutLeft, HandsOutLeftStep, HandsOutStep, HandsOutStepPieces};
+ghost use Rattle.pe_c.specs.StackFrames.{whole_xmm, half_xmm, registers_of, flat_registers, error_number, error_address, StepsBy, StepsOf, StepsIn, HandsOutCaller, HandsOutLeafPieces, HandsOutLeft, HandsOutLeftStep, HandsOutStep, HandsOutStepPieces};
 
 use crate::image::{EXCEPTION_TABLE, Image, directory};
 use crate::results::{
@@ -18,7 +19,8 @@ use crate::results::{
 };
 use pe_core::{Error, SectionTable};
 use pe_frame::{
-    FrameError, Memory, MemoryList, MemoryPiece, Registers, Stack, leaf, step_out, step_with_code,
+    FrameError, ImageFunctions, Memory, MemoryList, MemoryPiece, Registers, Stack, leaf,
+    step_in_image,
 };
 use pe_plan::ShortPlan;
 use pe_unwind::{ExceptionData, RuntimeFunction};
@@ -114,26 +116,6 @@ fn flat_registers(registers: &Registers) -> FrameRegisters
     }
 }
 
-/// The short plan of a function in an image.
-fn plan_in<'a>(
-    bytes: &'a [u8],
-    image: &Image,
-    sections: &[SectionTable],
-    function: RuntimeFunction,
-) -> Result<Option<ShortPlan<'a>>, Error>
-    ensures { PlansShortIn
-        (image_exceptions bytes.entry.now image.now sections.now image.now.mode) sections.now
-        image.now.mode function (answer_by (option_map records_of) result) }
-{
-    let opts = options(image.mode);
-    let table = directory(image, EXCEPTION_TABLE);
-    let alignment = image.file_alignment;
-    match ExceptionData::parse_with_opts(bytes, table, sections, alignment, &opts) {
-        Ok(exceptions) => ShortPlan::of_function(&exceptions, function, sections, &opts),
-        Err(error) => Err(error),
-    }
-}
-
 /// The number of an error of a step, and the address that it speaks of.
 pub fn reported(error: &FrameError) -> (u32, Option<u64>)
     ensures { result ≡ (error_number error.now, error_address error.now) }
@@ -166,42 +148,6 @@ fn hand_out_caller(caller: Result<Registers, FrameError>, frame: &mut StackFrame
             number
         }
     }
-}
-
-/// Finds the registers of a function's caller, from those inside the function, and writes them over those of `frame`. It is
-/// `step_with_code` of pe_frame by the records of the frame's function, which is the one that lookup found: by
-/// the RVA in the top frame and after an interrupt, by the RVA less one in every other. `code` has the function's bytes from
-/// the RVA to its end there, and is empty where the RVA is a return address. `stack` is memory from `stack_start` on.
-///
-/// Errors: those of `pe_c_function_table`; then for each record those of `pe_c_unwind_record`, and `LONG_CHAIN` where more
-/// than 32 are chained. Then those of `step_with_code`: `SHORT` or `UNWIND_CODE` of a code, `BAD_OPERATION`, `BAD_ADDRESS`,
-/// `MISSING` and `NOT_RISING`. Of these `BAD_ADDRESS`, `MISSING` and `NOT_RISING` set `address`; nothing else of the frame
-/// changes. With more memory the same call can be made again.
-#[unsafe(no_mangle)]
-pub extern "C" fn pe_c_step(
-    bytes: &[u8],
-    image: &Image,
-    sections: &[SectionTable],
-    code: &[u8],
-    stack: &[u8],
-    frame: &mut StackFrame,
-) -> u32
-    ensures { HandsOutStep
-        bytes.now image.now sections.now code.now stack.now result frame.old frame.new }
-{
-    let plan = match plan_in(bytes, image, sections, frame.function) {
-        Ok(Some(plan)) => plan,
-        Ok(None) => return LONG_CHAIN,
-        Err(error) => return number_of(&error),
-    };
-    let memory = Stack {
-        start: frame.stack_start,
-        bytes: stack,
-    };
-    let start = frame.function.begin_address;
-    let registers = registers_of(&frame.registers);
-    let caller = step_with_code(plan.records(), start, frame.rva, code, registers, &memory);
-    hand_out_caller(caller, frame)
 }
 
 /// Finds the registers of the caller of a leaf function, which no function of the table covers, and writes them over those
@@ -238,6 +184,122 @@ fn hand_out_left(
     }
 }
 
+/// The registers of the caller by the plan of the frame's function in an image, and whether an interrupt left them; or the
+/// number of what refuses the records.
+fn left_by<M: Memory>(
+    functions: &ImageFunctions<'_>,
+    plan: Result<Option<ShortPlan<'_>>, Error>,
+    code: &[u8],
+    memory: &M,
+    frame: &StackFrame,
+) -> Result<Result<(Registers, bool), FrameError>, u32>
+    ensures { StepsBy functions.now.exceptions.now functions.now.sections.now functions.now.opts
+        code.now (M.word memory.now) frame.now (λ left. result ≡ left)
+        (answer_by (option_map records_of) plan.entry) }
+{
+    match plan {
+        Ok(Some(plan)) => {
+            let (start, registers) = (frame.function.begin_address, registers_of(&frame.registers));
+            let records = plan.records();
+            Ok(step_in_image(
+                functions, records, start, frame.rva, code, registers, memory,
+            ))
+        }
+        Ok(None) => Err(LONG_CHAIN),
+        Err(error) => Err(number_of(&error)),
+    }
+}
+
+/// The same by the records of the frame's function in an image.
+fn left_of<M: Memory>(
+    functions: &ImageFunctions<'_>,
+    code: &[u8],
+    memory: &M,
+    frame: &StackFrame,
+) -> Result<Result<(Registers, bool), FrameError>, u32>
+    ensures { StepsOf functions.now.exceptions.now functions.now.sections.now functions.now.opts
+        code.now (M.word memory.now) frame.now (λ left. result ≡ left) }
+{
+    let ImageFunctions {
+        exceptions,
+        sections,
+        opts,
+    } = *functions;
+    let plan = ShortPlan::of_function(exceptions, frame.function, sections, &opts);
+    left_by(functions, plan, code, memory, frame)
+}
+
+/// The same by the exception data of an image.
+fn left_in<M: Memory>(
+    bytes: &[u8],
+    image: &Image,
+    sections: &[SectionTable],
+    code: &[u8],
+    memory: &M,
+    frame: &StackFrame,
+) -> Result<Result<(Registers, bool), FrameError>, u32>
+    ensures { StepsIn (image_exceptions bytes.now image.now sections.now image.now.mode)
+        sections.now image.now.mode code.now (M.word memory.now) frame.now
+        (λ left. result ≡ left) }
+{
+    let opts = options(image.mode);
+    let table = directory(image, EXCEPTION_TABLE);
+    let alignment = image.file_alignment;
+    match ExceptionData::parse_with_opts(bytes, table, sections, alignment, &opts) {
+        Ok(exceptions) => {
+            let functions = ImageFunctions {
+                exceptions: &exceptions,
+                sections,
+                opts,
+            };
+            left_of(&functions, code, memory, frame)
+        }
+        Err(error) => Err(number_of(&error)),
+    }
+}
+
+/// The registers alone.
+fn registers_alone(left: Result<(Registers, bool), FrameError>) -> Result<Registers, FrameError>
+    ensures { result ≡ registers_alone left }
+{
+    match left {
+        Ok((registers, _)) => Ok(registers),
+        Err(error) => Err(error),
+    }
+}
+
+/// Finds the registers of a function's caller, from those inside the function, and writes them over those of `frame`. It is
+/// `step_in_image` of pe_frame by the records of the frame's function, which is the one that lookup found: by
+/// the RVA in the top frame and after an interrupt, by the RVA less one in every other. `code` has the function's bytes from
+/// the RVA to its end there, and is empty where the RVA is a return address. `stack` is memory from `stack_start` on. Where an
+/// epilog ends with a jump, the function at its target is looked up in the exception table, and its records are undone.
+///
+/// Errors: those of `pe_c_function_table`; then for each record those of `pe_c_unwind_record`, and `LONG_CHAIN` where more
+/// than 32 are chained. Then those of `step_in_image`: `SHORT` or `UNWIND_CODE` of a code, `BAD_OPERATION`, `BAD_ADDRESS`,
+/// `MISSING` and `NOT_RISING`. Of these `BAD_ADDRESS`, `MISSING` and `NOT_RISING` set `address`; nothing else of the frame
+/// changes. With more memory the same call can be made again.
+#[unsafe(no_mangle)]
+pub extern "C" fn pe_c_step(
+    bytes: &[u8],
+    image: &Image,
+    sections: &[SectionTable],
+    code: &[u8],
+    stack: &[u8],
+    frame: &mut StackFrame,
+) -> u32
+    ensures { HandsOutStep
+        bytes.now image.now sections.now code.now stack.now result frame.old frame.new }
+{
+    let memory = Stack {
+        start: frame.stack_start,
+        bytes: stack,
+    };
+    match left_in(bytes, image, sections, code, &memory, frame) {
+        Ok(left) => hand_out_caller(registers_alone(left), frame),
+        Err(number) => number,
+    }
+}
+
 /// A step over the stack of a frame by the records of its function: its number, and whether an interrupt left the registers.
 fn step_over<M: Memory>(
     bytes: &[u8],
@@ -251,15 +313,10 @@ fn step_over<M: Memory>(
     ensures { HandsOutLeftStep bytes.now image.now sections.now code.now
         (M.word memory.now) result frame.old frame.new interrupted.old interrupted.new }
 {
-    let plan = match plan_in(bytes, image, sections, frame.function) {
-        Ok(Some(plan)) => plan,
-        Ok(None) => return LONG_CHAIN,
-        Err(error) => return number_of(&error),
-    };
-    let (start, rva) = (frame.function.begin_address, frame.rva);
-    let registers = registers_of(&frame.registers);
-    let left = step_out(plan.records(), start, rva, code, registers, memory);
-    hand_out_left(left, frame, interrupted)
+    match left_in(bytes, image, sections, code, memory, frame) {
+        Ok(left) => hand_out_left(left, frame, interrupted),
+        Err(number) => number,
+    }
 }
 
 /// As `pe_c_step`, over memory in pieces: `memory` has their bytes, as a minidump file has, and `pieces` says where each is.
