@@ -68,6 +68,8 @@ mod resource_walks;
 #[cfg(test)]
 mod resources;
 #[cfg(test)]
+mod resources_edited;
+#[cfg(test)]
 mod resources_written;
 #[cfg(test)]
 mod samples;
