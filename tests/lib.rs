@@ -90,6 +90,8 @@ mod unwind_texts;
 #[cfg(test)]
 mod version_blocks;
 #[cfg(test)]
+mod version_written;
+#[cfg(test)]
 mod walks;
 #[cfg(test)]
 mod whole_images;
