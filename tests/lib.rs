@@ -68,6 +68,8 @@ mod resource_walks;
 #[cfg(test)]
 mod resources;
 #[cfg(test)]
+mod resources_edited;
+#[cfg(test)]
 mod resources_written;
 #[cfg(test)]
 mod samples;
@@ -87,6 +89,8 @@ mod unwind;
 mod unwind_texts;
 #[cfg(test)]
 mod version_blocks;
+#[cfg(test)]
+mod version_written;
 #[cfg(test)]
 mod walks;
 #[cfg(test)]

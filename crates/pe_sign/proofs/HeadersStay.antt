@@ -1,4 +1,4 @@
--- The headers of a file that differs from another one in the checksum and in the entry of the certificate directory.
+-- The headers of a file that differs from another one in the checksum and in one entry of the data directories.
 use Rattle.std.proofs.Common.{◌≡◌, ℕ, ◌+◌, ◌*◌, ◌<◌, ◌≤◌, ◌≢◌, ◌==◌, ◌||◌, Bool, true, false, List, [], length, get_or, set, Ok, Err, Some, None, refl, ap, sym, ◌∙◌, subst, ⊎_elim, arith}
 use Rattle.std.specs.Prelude.{nat_le, nat_lt, slice_range, if◌then◌else◌}
 use Rattle.std.proofs.lemmas.Bool.{cases_lt}
@@ -19,7 +19,7 @@ use Rattle.pe_core.specs.declared.data_directories.DataDirectory.{DataDirectory}
 use Rattle.pe_core.proofs.EntryItems.{length-each, get_or-each}
 use Rattle.pe_core.proofs.NumberBytes.{le-same}
 use Rattle.pe_core.proofs.Comparisons.{le_is}
-use Rattle.pe_sign.specs.WrittenHeaders.{optional_with, headers_with, directories_end_after, directories_end}
+use Rattle.pe_sign.specs.WrittenHeaders.{optional_changed, headers_changed, headers_with, directories_end_after, directories_end}
 use Rattle.pe_sign.proofs.Tests.{passed, value_is}
 
 -- before offset n two files have the same bytes, but for the checksum at offset c and the entry at offset e
@@ -154,45 +154,45 @@ row_after : (f b : List ℕ) (c e n : ℕ) → Stays f b c e n → (p : ℕ) →
 unfolding data_directory
 row_after f b c e n s p h i = rw (third f b c e n s p 4 (omega arith) (omega arith), third f b c e n s (p + 4) 4 (omega arith) (omega arith)) refl
 
--- a list whose fifth element alone is another one
-one_set : {X : Type 0} (g h : ℕ → X) (m : ℕ) (x d : X) → 4 < m → g 4 ≡ x → ((k : ℕ) → k < 4 → g k ≡ h k) → ((k : ℕ) → 4 < k → k < m → g k ≡ h k) → each g m ≡ set (each h m) 4 x
-one_set g h m x d many here below above =
-    ext_get_or d (each g m) (set (each h m) 4 x) (length-each g m ∙ sym (length-each h m) ∙ sym (length-set (each h m) 4 x))
+-- a list of which the element with one index alone is another one
+pub one_set : {X : Type 0} (g h : ℕ → X) (m i : ℕ) (x d : X) → i < m → g i ≡ x → ((k : ℕ) → k < i → g k ≡ h k) → ((k : ℕ) → i < k → k < m → g k ≡ h k) → each g m ≡ set (each h m) i x
+one_set g h m i x d many here below above =
+    ext_get_or d (each g m) (set (each h m) i x) (length-each g m ∙ sym (length-each h m) ∙ sym (length-set (each h m) i x))
     (λ k lt. let small : k < m = omega (arith, length-each g m) in
     get_or-each g m k d small ∙ ⊎_elim
-    (λ (lower : k < 4). let other : k ≢ 4 = omega arith in below k lower ∙ sym (get_or-each h m k d small) ∙ sym (get_or-set_other (each h m) 4 k x d other))
-    (λ (from : 4 ≤ k). ⊎_elim
-    (λ (higher : 4 < k). let other : k ≢ 4 = omega arith in above k higher small ∙ sym (get_or-each h m k d small) ∙ sym (get_or-set_other (each h m) 4 k x d other))
-    (λ (to : k ≤ 4). let is : k ≡ 4 = omega arith in rw is (here ∙ sym (get_or-set_same (each h m) 4 x d (omega (arith, length-each h m)))))
-    (cases_lt 4 k))
-    (cases_lt k 4))
+    (λ (lower : k < i). let other : k ≢ i = omega arith in below k lower ∙ sym (get_or-each h m k d small) ∙ sym (get_or-set_other (each h m) i k x d other))
+    (λ (from : i ≤ k). ⊎_elim
+    (λ (higher : i < k). let other : k ≢ i = omega arith in above k higher small ∙ sym (get_or-each h m k d small) ∙ sym (get_or-set_other (each h m) i k x d other))
+    (λ (to : k ≤ i). let is : k ≡ i = omega arith in rw is (here ∙ sym (get_or-set_same (each h m) i x d (omega (arith, length-each h m)))))
+    (cases_lt i k))
+    (cases_lt k i))
 
-rows_stay : (f b : List ℕ) (c e n : ℕ) → Stays f b c e n → (p m : ℕ) (entry : DataDirectory) → c + 4 ≤ p → e ≡ p + 32 → n ≡ p + 8 * m → data_directory f e ≡ entry →
-    rows (data_directory f) 8 p m ≡ set (rows (data_directory b) 8 p m) 4 entry
-rows_stay f b c e n s p m entry from at to is =
-    one_set (λ i. data_directory f (p + 8 * i)) (λ i. data_directory b (p + 8 * i)) m entry absent_directory (omega (arith, s.entry))
+rows_stay : (f b : List ℕ) (c e n : ℕ) → Stays f b c e n → (p m i : ℕ) (entry : DataDirectory) → c + 4 ≤ p → e ≡ p + 8 * i → n ≡ p + 8 * m → data_directory f e ≡ entry →
+    rows (data_directory f) 8 p m ≡ set (rows (data_directory b) 8 p m) i entry
+rows_stay f b c e n s p m i entry from at to is =
+    one_set (λ k. data_directory f (p + 8 * k)) (λ k. data_directory b (p + 8 * k)) m i entry absent_directory (omega (arith, s.entry))
     (ap (λ (k : ℕ). data_directory f k) (sym at) ∙ is)
     (λ k lt. row_before f b c e n s (p + 8 * k) (omega arith) (omega arith))
     (λ k gt lt. row_after f b c e n s (p + 8 * k) (omega arith) (omega arith))
 
 -- ---- the optional header at offset q
 
-pub optional_64 : (f b : List ℕ) (c e n : ℕ) → Stays f b c e n → (q : ℕ) (entry : DataDirectory) → c ≡ q + 64 → e ≡ q + 144 → is_pe32_plus b q ≡ true →
-    n ≡ q + 112 + 8 * kept (windows_fields_64 b (q + 24)).number_of_rva_and_sizes → data_directory f e ≡ entry → optional_header f q ≡ optional_with entry (le f c 4) (optional_header b q)
+pub optional_64 : (f b : List ℕ) (c e n : ℕ) → Stays f b c e n → (q i : ℕ) (entry : DataDirectory) → c ≡ q + 64 → e ≡ q + 112 + 8 * i → is_pe32_plus b q ≡ true →
+    n ≡ q + 112 + 8 * kept (windows_fields_64 b (q + 24)).number_of_rva_and_sizes → data_directory f e ≡ entry → optional_header f q ≡ optional_changed i entry (le f c 4) (optional_header b q)
 unfolding optional_header
-optional_64 f b c e n s q entry at_c at_e w to is =
+optional_64 f b c e n s q i entry at_c at_e w to is =
     let magic : is_pe32_plus f q ≡ true = ap (λ (m : ℕ). m == 0x20B) (first f b c e n s q 2 (omega arith)) ∙ w in
     let fields = windows_stay_64 f b c e n s (q + 24) (omega arith) (omega arith) in
-    let table = rows_stay f b c e n s (q + 112) (kept (windows_fields_64 b (q + 24)).number_of_rva_and_sizes) entry (omega arith) (omega arith) to is in
+    let table = rows_stay f b c e n s (q + 112) (kept (windows_fields_64 b (q + 24)).number_of_rva_and_sizes) i entry (omega arith) (omega arith) to is in
     rw (magic, w, standard_stay_64 f b c e n s q (omega arith), fields, table) refl
 
-pub optional_32 : (f b : List ℕ) (c e n : ℕ) → Stays f b c e n → (q : ℕ) (entry : DataDirectory) → c ≡ q + 64 → e ≡ q + 128 → is_pe32_plus b q ≡ false →
-    n ≡ q + 96 + 8 * kept (windows_fields_32 b (q + 28)).number_of_rva_and_sizes → data_directory f e ≡ entry → optional_header f q ≡ optional_with entry (le f c 4) (optional_header b q)
+pub optional_32 : (f b : List ℕ) (c e n : ℕ) → Stays f b c e n → (q i : ℕ) (entry : DataDirectory) → c ≡ q + 64 → e ≡ q + 96 + 8 * i → is_pe32_plus b q ≡ false →
+    n ≡ q + 96 + 8 * kept (windows_fields_32 b (q + 28)).number_of_rva_and_sizes → data_directory f e ≡ entry → optional_header f q ≡ optional_changed i entry (le f c 4) (optional_header b q)
 unfolding optional_header
-optional_32 f b c e n s q entry at_c at_e w to is =
+optional_32 f b c e n s q i entry at_c at_e w to is =
     let magic : is_pe32_plus f q ≡ false = ap (λ (m : ℕ). m == 0x20B) (first f b c e n s q 2 (omega arith)) ∙ w in
     let fields = windows_stay_32 f b c e n s (q + 28) (omega arith) (omega arith) in
-    let table = rows_stay f b c e n s (q + 96) (kept (windows_fields_32 b (q + 28)).number_of_rva_and_sizes) entry (omega arith) (omega arith) to is in
+    let table = rows_stay f b c e n s (q + 96) (kept (windows_fields_32 b (q + 28)).number_of_rva_and_sizes) i entry (omega arith) (omega arith) to is in
     rw (magic, w, standard_stay_32 f b c e n s q (omega arith), fields, table) refl
 
 -- ---- the tests
@@ -201,16 +201,16 @@ wide : (w : Bool) → 96 ≤ directories_offset w
 wide true = omega arith
 wide false = omega arith
 
-optional_accepted : (f b : List ℕ) (q : ℕ) (entry : DataDirectory) (sum : ℕ) → le f q 2 ≡ le b q 2 → optional_header f q ≡ optional_with entry sum (optional_header b q) →
+optional_accepted : (f b : List ℕ) (q i : ℕ) (entry : DataDirectory) (sum : ℕ) → le f q 2 ≡ le b q 2 → optional_header f q ≡ optional_changed i entry sum (optional_header b q) →
     (le b q 2 == 0x10B || is_pe32_plus b q) ≡ true → q + directories_offset (is_pe32_plus b q) + 8 * kept (optional_header b q).windows_fields.number_of_rva_and_sizes ≤ length f →
     (y : HeaderView) → outcome (optional_header_tests f q) y ≡ Ok y
 unfolding optional_header_tests
-optional_accepted f b q entry sum two same magic room y =
+optional_accepted f b q i entry sum two same magic room y =
     rw (two, same, magic, le_is (q + 2) (length f) (omega (arith, wide (is_pe32_plus b q))), le_is (q + directories_offset (is_pe32_plus b q)) (length f) (omega arith), le_is (q + directories_offset (is_pe32_plus b q) + 8 * kept (optional_header b q).windows_fields.number_of_rva_and_sizes) (length f) room) refl
 
 -- the optional header by its width: it is accepted again, and is the same but for the two fields
-pub record IsAgain (f b : List ℕ) (q sum : ℕ) (entry : DataDirectory) : Type 0 where
-  pub value : optional_header f q ≡ optional_with entry sum (optional_header b q)
+pub record IsAgain (f b : List ℕ) (q i sum : ℕ) (entry : DataDirectory) : Type 0 where
+  pub value : optional_header f q ≡ optional_changed i entry sum (optional_header b q)
   pub accepted : (y : HeaderView) → outcome (optional_header_tests f q) y ≡ Ok y
 
 plus : (b : List ℕ) (q : ℕ) → is_pe32_plus b q ≡ true → q + directories_offset (is_pe32_plus b q) + 8 * kept (optional_header b q).windows_fields.number_of_rva_and_sizes ≡ q + 112 + 8 * kept (windows_fields_64 b (q + 24)).number_of_rva_and_sizes
@@ -221,19 +221,19 @@ minus : (b : List ℕ) (q : ℕ) → is_pe32_plus b q ≡ false → q + director
 unfolding optional_header
 minus b q w = rw w refl
 
-by_width : (w : Bool) (f b : List ℕ) (c e n : ℕ) → Stays f b c e n → (q : ℕ) (entry : DataDirectory) → is_pe32_plus b q ≡ w → c ≡ q + 64 → e ≡ q + directories_offset (is_pe32_plus b q) + 32 →
-    n ≡ q + directories_offset (is_pe32_plus b q) + 8 * kept (optional_header b q).windows_fields.number_of_rva_and_sizes → data_directory f e ≡ entry → optional_header f q ≡ optional_with entry (le f c 4) (optional_header b q)
-by_width true f b c e n s q entry w at_c at_e to is =
-    optional_64 f b c e n s q entry at_c (at_e ∙ (rw w (omega arith))) w (to ∙ plus b q w) is
-by_width false f b c e n s q entry w at_c at_e to is =
-    optional_32 f b c e n s q entry at_c (at_e ∙ (rw w (omega arith))) w (to ∙ minus b q w) is
+by_width : (w : Bool) (f b : List ℕ) (c e n : ℕ) → Stays f b c e n → (q i : ℕ) (entry : DataDirectory) → is_pe32_plus b q ≡ w → c ≡ q + 64 → e ≡ q + directories_offset (is_pe32_plus b q) + 8 * i →
+    n ≡ q + directories_offset (is_pe32_plus b q) + 8 * kept (optional_header b q).windows_fields.number_of_rva_and_sizes → data_directory f e ≡ entry → optional_header f q ≡ optional_changed i entry (le f c 4) (optional_header b q)
+by_width true f b c e n s q i entry w at_c at_e to is =
+    optional_64 f b c e n s q i entry at_c (at_e ∙ (rw w (omega arith))) w (to ∙ plus b q w) is
+by_width false f b c e n s q i entry w at_c at_e to is =
+    optional_32 f b c e n s q i entry at_c (at_e ∙ (rw w (omega arith))) w (to ∙ minus b q w) is
 
-is_again : (f b : List ℕ) (c e n : ℕ) → Stays f b c e n → (q : ℕ) (entry : DataDirectory) → c ≡ q + 64 → e ≡ q + directories_offset (is_pe32_plus b q) + 32 →
+is_again : (f b : List ℕ) (c e n : ℕ) → Stays f b c e n → (q i : ℕ) (entry : DataDirectory) → c ≡ q + 64 → e ≡ q + directories_offset (is_pe32_plus b q) + 8 * i →
     n ≡ q + directories_offset (is_pe32_plus b q) + 8 * kept (optional_header b q).windows_fields.number_of_rva_and_sizes → data_directory f e ≡ entry →
-    (le b q 2 == 0x10B || is_pe32_plus b q) ≡ true → IsAgain f b q (le f c 4) entry
-is_again f b c e n s q entry at_c at_e to is magic =
-    let same = by_width (is_pe32_plus b q) f b c e n s q entry refl at_c at_e to is in
-    record { value = same; accepted = optional_accepted f b q entry (le f c 4) (first f b c e n s q 2 (omega arith)) same magic (omega (arith, to, s.inside)) }
+    (le b q 2 == 0x10B || is_pe32_plus b q) ≡ true → IsAgain f b q i (le f c 4) entry
+is_again f b c e n s q i entry at_c at_e to is magic =
+    let same = by_width (is_pe32_plus b q) f b c e n s q i entry refl at_c at_e to is in
+    record { value = same; accepted = optional_accepted f b q i entry (le f c 4) (first f b c e n s q 2 (omega arith)) same magic (omega (arith, to, s.inside)) }
 
 -- what the headers of a file passed that were accepted
 pub record Parsed (b : List ℕ) (mode : ParseMode) (h : HeaderView) : Type 0 where
@@ -324,38 +324,80 @@ end_is false b p e =
     ap (λ (m : ℕ). p + 24 + directories_offset (m == 0x20B) + 8 * length (optional_header b (p + 24)).data_directories) (magic_is b (p + 24))
     ∙ ap (λ (m : ℕ). p + 24 + directories_offset (is_pe32_plus b (p + 24)) + 8 * m) (count_is b (p + 24))
 
+-- with the checksum at its offset, and an entry of the directory with any index
+again_at : (f b : List ℕ) (mode : ParseMode) (h : HeaderView) (i at : ℕ) (entry : DataDirectory) → Parsed b mode h →
+    ((coff_header b ((dos_header b 0).pe_pointer + 4)).size_of_optional_header == 0) ≡ false →
+    at ≡ (dos_header b 0).pe_pointer + 24 + directories_offset (is_pe32_plus b ((dos_header b 0).pe_pointer + 24)) + 8 * i →
+    Stays f b ((dos_header b 0).pe_pointer + 88) at (directories_end (header b)) → data_directory f at ≡ entry →
+    header_at f mode ≡ Ok (headers_changed i entry (le f ((dos_header b 0).pe_pointer + 88) 4) (header b))
+unfolding header_at header_tests header
+again_at f b mode h i at entry a some at_e s is =
+    let p : ℕ = (dos_header b 0).pe_pointer in
+    let q : ℕ = p + 24 in
+    let c : ℕ = p + 88 in
+    let t : Bool = (coff_header b (p + 4)).size_of_optional_header == 0 in
+    let n : ℕ = directories_end_after p (if t then None else Some (optional_header b q)) in
+    let to = end_is t b p some in
+    let magic = optional_parsed t b q (header b) h some a.optional in
+    let at_c : c ≡ q + 64 = omega arith in
+    let optional : IsAgain f b q i (le f c 4) entry = is_again f b c at n s q i entry at_c at_e to is magic.magic in
+    let stub : slice_range f 64 p ≡ slice_range b 64 p = same_range f b 64 p (omega (arith, s.apart, s.entry, s.inside)) (omega (arith, s.apart, s.entry, s.inside_before)) (λ k from lt. s.before k (omega arith)) in
+    rw (
+      dos_stays f b c at n s (omega arith),
+      stub,
+      first f b c at n s p 4 (omega arith),
+      coff_stays f b c at n s (p + 4) (omega arith),
+      some,
+      le_is 64 (length f) (omega (arith, s.apart, s.entry, s.inside)),
+      a.magic,
+      a.pointer,
+      le_is (p + 4) (length f) (omega (arith, s.apart, s.entry, s.inside)),
+      a.signature,
+      le_is (p + 4 + 20) (length f) (omega (arith, s.apart, s.entry, s.inside)),
+      optional.value,
+    ) (optional.accepted _)
+
+-- there is an optional header
+some_optional : (t : Bool) (x o : OptionalHeaderView) → (if t then None else Some x) ≡ Some o → (t ≡ false) × (x ≡ o)
+some_optional true x o e = absurd cc
+some_optional false x o e = (refl, cc)
+
+changed_at : (f b : List ℕ) (mode : ParseMode) (h : HeaderView) (o : OptionalHeaderView) (i at : ℕ) (entry : DataDirectory) → Parsed b mode h → (header b).optional_header ≡ Some o →
+    at ≡ (header b).dos_header.pe_pointer + 24 + directories_offset (o.standard_fields.magic == 0x20B) + 8 * i →
+    Stays f b ((header b).dos_header.pe_pointer + 88) at (directories_end (header b)) → data_directory f at ≡ entry →
+    header_at f mode ≡ Ok (headers_changed i entry (le f ((header b).dos_header.pe_pointer + 88) 4) (header b))
+unfolding header
+changed_at f b mode h o i at entry a e at_e s is =
+    let p : ℕ = (dos_header b 0).pe_pointer in
+    let t : Bool = (coff_header b (p + 4)).size_of_optional_header == 0 in
+    let both : (t ≡ false) × (optional_header b (p + 24) ≡ o) = some_optional t (optional_header b (p + 24)) o e in
+    let magic : o.standard_fields.magic ≡ le b (p + 24) 2 = ap (λ (x : OptionalHeaderView). x.standard_fields.magic) (sym both.1) ∙ magic_is b (p + 24) in
+    again_at f b mode h i at entry a both.0 (at_e ∙ ap (λ (m : ℕ). p + 24 + directories_offset (m == 0x20B) + 8 * i) magic) s is
+
+-- the headers of a file with another checksum and another entry of the directory with this index
+pub headers_change : (f b : List ℕ) (mode : ParseMode) (h : HeaderView) (o : OptionalHeaderView) (i at : ℕ) (entry : DataDirectory) → header_at b mode ≡ Ok h → h.optional_header ≡ Some o →
+    at ≡ h.dos_header.pe_pointer + 24 + directories_offset (o.standard_fields.magic == 0x20B) + 8 * i →
+    Stays f b (h.dos_header.pe_pointer + 88) at (directories_end h) → data_directory f at ≡ entry →
+    header_at f mode ≡ Ok (headers_changed i entry (le f (h.dos_header.pe_pointer + 88) 4) h)
+headers_change f b mode h o i at entry e some at_e s is =
+    let a : Parsed b mode h = parsed b mode h e in
+    subst (λ (k : HeaderView). k.optional_header ≡ Some o → at ≡ k.dos_header.pe_pointer + 24 + directories_offset (o.standard_fields.magic == 0x20B) + 8 * i →
+    Stays f b (k.dos_header.pe_pointer + 88) at (directories_end k) → header_at f mode ≡ Ok (headers_changed i entry (le f (k.dos_header.pe_pointer + 88) 4) k)) a.value
+    (λ w x y. changed_at f b mode h o i at entry a w x y is) some at_e s
+
 again : (f b : List ℕ) (mode : ParseMode) (h : HeaderView) (l : LeftOut) (entry : DataDirectory) → Parsed b mode h → left_out_of (header b) ≡ Ok l → l.directory_entry.length ≡ 8 →
     Stays f b l.checksum.offset l.directory_entry.offset (directories_end (header b)) → data_directory f l.directory_entry.offset ≡ entry →
     header_at f mode ≡ Ok (headers_with entry (le f l.checksum.offset 4) (header b))
-unfolding header_at header_tests header
+unfolding header
 again f b mode h l entry a e eight s is =
     let p : ℕ = (dos_header b 0).pe_pointer in
     let q : ℕ = p + 24 in
-    let c : ℕ = l.checksum.offset in
     let at : ℕ = l.directory_entry.offset in
     let t : Bool = (coff_header b (p + 4)).size_of_optional_header == 0 in
-    let n : ℕ = directories_end_after p (if t then None else Some (optional_header b q)) in
     let fields : Fields t p (optional_header b q) l = fields_at t p (optional_header b q) l e eight in
-    let to = end_is t b p fields.some in
-    let magic = optional_parsed t b q (header b) h fields.some a.optional in
     let at_e : at ≡ q + directories_offset (is_pe32_plus b q) + 32 = fields.entry ∙ ap (λ (m : ℕ). p + 24 + directories_offset (m == 0x20B) + 32) (magic_is b q) in
-    let at_c : c ≡ q + 64 = omega (arith, fields.checksum) in
-    let optional : IsAgain f b q (le f c 4) entry = is_again f b c at n s q entry at_c at_e to is magic.magic in
-    let stub : slice_range f 64 p ≡ slice_range b 64 p = same_range f b 64 p (omega (arith, at_c, s.apart, s.entry, s.inside)) (omega (arith, at_c, s.apart, s.entry, s.inside_before)) (λ k from lt. s.before k (omega (arith, at_c))) in
-    rw (
-      dos_stays f b c at n s (omega (arith, at_c)),
-      stub,
-      first f b c at n s p 4 (omega (arith, at_c)),
-      coff_stays f b c at n s (p + 4) (omega (arith, at_c)),
-      fields.some,
-      le_is 64 (length f) (omega (arith, at_c, s.apart, s.entry, s.inside)),
-      a.magic,
-      a.pointer,
-      le_is (p + 4) (length f) (omega (arith, at_c, s.apart, s.entry, s.inside)),
-      a.signature,
-      le_is (p + 4 + 20) (length f) (omega (arith, at_c, s.apart, s.entry, s.inside)),
-      optional.value,
-    ) (optional.accepted _)
+    subst (λ (c : ℕ). Stays f b c at (directories_end (header b)) → header_at f mode ≡ Ok (headers_with entry (le f c 4) (header b))) (sym fields.checksum)
+    (λ r. again_at f b mode h 4 at entry a fields.some at_e r is) s
 
 pub headers_stay : (f b : List ℕ) (mode : ParseMode) (h : HeaderView) (l : LeftOut) (entry : DataDirectory) → header_at b mode ≡ Ok h → left_out_of h ≡ Ok l → l.directory_entry.length ≡ 8 →
     Stays f b l.checksum.offset l.directory_entry.offset (directories_end h) → data_directory f l.directory_entry.offset ≡ entry →

@@ -1,0 +1,12 @@
+pub mod Results
+pub mod Writes
+pub mod Placed
+pub mod Loops
+pub mod Stays
+pub mod Mapped
+pub mod WrittenHeaders
+pub mod WrittenSections
+pub mod WrittenLeaves
+pub mod WrittenImages
+pub mod Calls
+pub mod WrittenTrees

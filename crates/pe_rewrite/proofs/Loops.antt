@@ -1,0 +1,60 @@
+-- What the loops over sections and directories have found.
+use Rattle.std.proofs.Common.{◌≡◌, ℕ, ◌<◌, ◌≤◌, ◌≢◌, ◌==◌, ◌&&◌, Bool, true, false, List, length, Some, Ok, Err, refl, ap, sym, ◌∙◌, arith}
+use Rattle.std.specs.List.{list_all, position_or_len}
+use Rattle.std.proofs.lemmas.Bool.Decides.{nat_tests}
+use Rattle.std.proofs.lemmas.List.Sums.{position_or_len_is}
+use Rattle.pe_core.specs.Header.{HeaderView}
+use Rattle.pe_core.specs.Rows.{each}
+use Rattle.pe_core.specs.declared.section_table.SectionTable.{SectionTable}
+use Rattle.pe_core.proofs.Comparisons.{lt_is, lt_is_not}
+use Rattle.pe_core.proofs.EntryItems.{get_or-each, length-each}
+use Rattle.pe_core.specs.Header.{OptionalHeaderView}
+use Rattle.pe_core.specs.declared.data_directories.DataDirectory.{DataDirectory}
+use Rattle.pe_sign.proofs.SectionRows.{one_fails}
+use Rattle.pe_rewrite.specs.Places.{index_of, is_alone, is_apart, is_outside, leads_out, section_header, sections_apart}
+use Rattle.pe_rewrite.specs.RewriteRefusals.{NoSection}
+
+-- ---- the first section at an RVA
+
+first_at : (f : ℕ → SectionTable) (n rva i : ℕ) → i ≤ n → ((k : ℕ) → k < i → ((f k).virtual_address == rva) ≡ false) → (i < n → ((f i).virtual_address == rva) ≡ true) → position_or_len (λ s. s.virtual_address == rva) (each f n) ≡ i
+first_at f n rva i le none here =
+    let p : SectionTable → Bool = λ s. s.virtual_address == rva in
+    let size : length (each f n) ≡ n = length-each f n in
+    position_or_len_is p (each f n) i (f 0) (omega (arith, size, le))
+    (λ k lt. ap p (get_or-each f n k (f 0) (omega (arith, lt, le))) ∙ none k lt)
+    (λ lt. let below : i < n = omega (arith, size, lt) in ap p (get_or-each f n i (f 0) below) ∙ here below)
+
+pub index_found : (b : List ℕ) (h : HeaderView) (rva i : ℕ) → i < h.coff_header.number_of_sections → ((k : ℕ) → k < i → ((section_header b h k).virtual_address == rva) ≡ false) → ((section_header b h i).virtual_address == rva) ≡ true → index_of b h rva ≡ Ok i
+index_found b h rva i lt none here =
+    let n : ℕ = h.coff_header.number_of_sections in
+    let is = first_at (section_header b h) n rva i (omega (arith, lt)) none (λ x. here) in
+    rw (is, lt_is i n lt) refl
+
+pub index_missing : (b : List ℕ) (h : HeaderView) (rva : ℕ) → ((k : ℕ) → k < h.coff_header.number_of_sections → ((section_header b h k).virtual_address == rva) ≡ false) → index_of b h rva ≡ Err NoSection
+index_missing b h rva none =
+    let n : ℕ = h.coff_header.number_of_sections in
+    let is = first_at (section_header b h) n rva n (omega arith) none (λ x. absurd (omega (arith, x))) in
+    rw (is, lt_is_not n n (omega arith)) refl
+
+pub index_found_at : (b : List ℕ) (h : HeaderView) (rva i : ℕ) (s : SectionTable) → i < h.coff_header.number_of_sections → ((k : ℕ) → k < i → ((section_header b h k).virtual_address == rva) ≡ false) → s ≡ section_header b h i → s.virtual_address ≡ rva → index_of b h rva ≡ Ok i
+index_found_at b h rva i s lt none is at =
+    let same : (section_header b h i).virtual_address ≡ rva = ap (λ (x : SectionTable). x.virtual_address) (sym is) ∙ at in
+    index_found b h rva i lt none (grind (arith, nat_tests, same))
+
+pub other_start : (b : List ℕ) (h : HeaderView) (rva i : ℕ) (s : SectionTable) → s ≡ section_header b h i → s.virtual_address ≢ rva → ((section_header b h i).virtual_address == rva) ≡ false
+other_start b h rva i s is other = ap (λ (x : SectionTable). x.virtual_address == rva) (sym is) ∙ grind (arith, nat_tests, other)
+
+-- ---- what is not apart, or not alone
+
+pub apart_fails : (b : List ℕ) (h : HeaderView) (alignment i k : ℕ) → k < h.coff_header.number_of_sections → is_apart b h alignment i k ≡ false → sections_apart b h alignment i ≡ false
+apart_fails b h alignment i k lt e = one_fails (is_apart b h alignment i) (λ j. j) h.coff_header.number_of_sections k lt e
+
+and_false : (a : Bool) → (a && false) ≡ false
+and_false true = refl
+and_false false = refl
+
+pub alone_fails : (s : SectionTable) (o : OptionalHeaderView) (ds : List DataDirectory) (k : ℕ) → ds ≡ o.data_directories → k < length ds → leads_out s ds k ≡ false → is_alone s (Some o) ≡ false
+alone_fails s o ds k is lt e =
+    let fails : leads_out s o.data_directories k ≡ false = ap (λ (l : List DataDirectory). leads_out s l k) (sym is) ∙ e in
+    let all : list_all (leads_out s o.data_directories) (each (λ j. j) (length o.data_directories)) ≡ false = one_fails (leads_out s o.data_directories) (λ j. j) (length o.data_directories) k (omega (arith, lt, ap length is)) fails in
+    ap (λ (t : Bool). is_outside s o.standard_fields.address_of_entry_point && t) all ∙ and_false (is_outside s o.standard_fields.address_of_entry_point)

@@ -1,0 +1,145 @@
+-- The parts of a file, written one after the other into a buffer that has the file at its start.
+use Rattle.std.proofs.Common.{◌≡◌, ℕ, ◌+◌, ◌-◌, ◌≤◌, Bool, true, false, Result, Ok, Err, List, [], ◌∷◌, ◌++◌, length, take, drop, refl, ap, sym, ◌∙◌, subst, arith, length-append}
+use Rattle.std.specs.Prelude.{nat_le, replicate}
+use Rattle.std.proofs.lemmas.List.{append-nil, drop_all, take_at, length-replicate}
+use Rattle.pe_core.specs.Refusals.{WriteFit, outcome}
+use Rattle.pe_core.proofs.Comparisons.{le_is}
+use Rattle.pe_edit.specs.EditRefusals.{EditRefusal, Image, written}
+use Rattle.pe_core.specs.Bytes.{bytes_of, splice}
+use Rattle.pe_core.specs.Header.{HeaderView}
+use Rattle.pe_core.specs.declared.section_table.SectionTable.{SectionTable}
+use Rattle.pe_core.proofs.Splices.{length-bytes_of, length-splice, splice-splice}
+use Rattle.pe_sign.proofs.Splices.{splice_first, splice_front}
+use Rattle.pe_edit.specs.Written.{Leaf, section}
+use Rattle.pe_rewrite.specs.Edited.{Lies, changed, edited_file, filled, grown_size, resource_changes, sum_of, with_resources, with_sum}
+use Rattle.pe_rewrite.specs.declared.place.Place.{Place}
+
+-- ---- lengths
+
+pub length-filled : (s : SectionTable) (r : List ℕ) → length r ≤ s.size_of_raw_data → length (filled s r) ≡ s.size_of_raw_data
+unfolding filled
+length-filled s r h = simp (length-append, length-replicate) (omega arith)
+
+-- changes lie in a file of n bytes
+abbrev pub Fit : ℕ → List (ℕ × List ℕ) → Type 0
+Fit n [] = Unit {0}
+Fit n (c ∷ cs) = (c.0 + length c.1 ≤ n) × Fit n cs
+
+pub length-changed : (cs : List (ℕ × List ℕ)) (b : List ℕ) → Fit (length b) cs → length (changed cs b) ≡ length b
+length-changed [] b f = refl
+length-changed (c ∷ cs) b f =
+    let one : length (splice b c.0 c.1) ≡ length b = length-splice b c.0 c.1 f.0 in
+    length-changed cs (splice b c.0 c.1) (subst (λ (n : ℕ). Fit n cs) (sym one) f.1) ∙ one
+
+pub changes_fit : (h : HeaderView) (p : Place) (r : List ℕ) (n : ℕ) → Lies h p n → length r ≡ p.length → Fit n (resource_changes p r)
+changes_fit h p r n l e = (
+  omega (arith, l.end, length-filled p.section r (omega (arith, e, l.room))),
+  (
+    omega (arith, length-bytes_of 4 (grown_size p), l.row, l.raw, l.end),
+    (
+      omega (arith, length-bytes_of 4 p.section.virtual_address, l.entry, l.table, l.row, l.raw, l.end),
+      (omega (arith, length-bytes_of 4 p.length, l.entry, l.table, l.row, l.raw, l.end), tt),
+    ),
+  ),
+)
+
+pub resources_length : (h : HeaderView) (p : Place) (r b : List ℕ) → Lies h p (length b) → length r ≡ p.length → length (with_resources p r b) ≡ length b
+unfolding with_resources
+resources_length h p r b l e = length-changed (resource_changes p r) b (changes_fit h p r (length b) l e)
+
+pub sum_length : (h : HeaderView) (f : List ℕ) → h.dos_header.pe_pointer + 92 ≤ length f → length (with_sum h f) ≡ length f
+unfolding with_sum
+sum_length h f i = length-splice f (h.dos_header.pe_pointer + 88) (bytes_of 4 (sum_of h f)) (omega (arith, i, length-bytes_of 4 (sum_of h f)))
+
+-- the checksum lies in the file
+pub sum_inside : (h : HeaderView) (p : Place) (n : ℕ) → Lies h p n → h.dos_header.pe_pointer + 92 ≤ n
+sum_inside h p n l = omega (arith, l.sum, l.entry, l.table, l.row, l.raw, l.end)
+
+pub length-edited : (h : HeaderView) (p : Place) (xs : List Leaf) (b : List ℕ) → Lies h p (length b) → length (section p.section.virtual_address xs) ≡ p.length → length (edited_file h p xs b) ≡ length b
+length-edited h p xs b l e =
+    let same = resources_length h p (section p.section.virtual_address xs) b l e in
+    sum_length h (with_resources p (section p.section.virtual_address xs) b) (omega (arith, same, sum_inside h p (length b) l)) ∙ same
+
+-- ---- writes into the file
+
+-- a write into the file at the start of a buffer
+pub inner : (old b now next s : List ℕ) (p : ℕ) → now ≡ splice old 0 b → next ≡ splice now p s → p + length s ≤ length b → next ≡ splice old 0 (splice b p s)
+inner old b now next s p e f h =
+    f ∙ ap (λ (x : List ℕ). splice x p s) (e ∙ splice_front old b) ∙ splice_first b (drop (length b) old) p s h
+    ∙ ap (λ (n : ℕ). splice b p s ++ drop n old) (sym (length-splice b p s h)) ∙ sym (splice_front old (splice b p s))
+
+-- the file at the start of a buffer
+pub start_of : (old f now : List ℕ) (n : ℕ) → now ≡ splice old 0 f → length f ≡ n → take n now ≡ f
+start_of old f now n e h = ap (take n) (e ∙ splice_front old f) ∙ take_at f (drop (length f) old) n h
+
+-- the resources and the zeros after them
+pub filled_set : (old now next r : List ℕ) (s : SectionTable) (n : ℕ) → s.pointer_to_raw_data ≤ length old → n ≡ length r → now ≡ splice old s.pointer_to_raw_data r → next ≡ splice now (s.pointer_to_raw_data + n) (replicate (s.size_of_raw_data - n) 0) →
+    next ≡ splice old s.pointer_to_raw_data (filled s r)
+unfolding filled
+filled_set old now next r s n h is e f =
+    f ∙ ap (λ (k : ℕ). splice now (s.pointer_to_raw_data + k) (replicate (s.size_of_raw_data - k) 0)) is
+    ∙ ap (λ (x : List ℕ). splice x (s.pointer_to_raw_data + length r) (replicate (s.size_of_raw_data - length r) 0)) e
+    ∙ splice-splice old s.pointer_to_raw_data r (replicate (s.size_of_raw_data - length r) 0) h
+
+-- four changes, written one after the other
+four_set : (old b one two three four five : List ℕ) (c d e f : ℕ × List ℕ) → Fit (length b) (c ∷ d ∷ e ∷ f ∷ []) → one ≡ splice old 0 b →
+    two ≡ splice one c.0 c.1 → three ≡ splice two d.0 d.1 → four ≡ splice three e.0 e.1 → five ≡ splice four f.0 f.1 → five ≡ splice old 0 (changed (c ∷ d ∷ e ∷ f ∷ []) b)
+four_set old b one two three four five c d e f fit i j k l m =
+    let x : List ℕ = splice b c.0 c.1 in
+    let y : List ℕ = splice x d.0 d.1 in
+    let z : List ℕ = splice y e.0 e.1 in
+    let at_two : two ≡ splice old 0 x = inner old b one two c.1 c.0 i j fit.0 in
+    let at_x : length x ≡ length b = length-splice b c.0 c.1 fit.0 in
+    let at_three : three ≡ splice old 0 y = inner old x two three d.1 d.0 at_two k (omega (arith, at_x, fit.1.0)) in
+    let at_y : length y ≡ length b = length-splice x d.0 d.1 (omega (arith, at_x, fit.1.0)) ∙ at_x in
+    let at_four : four ≡ splice old 0 z = inner old y three four e.1 e.0 at_three l (omega (arith, at_y, fit.1.1.0)) in
+    let at_z : length z ≡ length b = length-splice y e.0 e.1 (omega (arith, at_y, fit.1.1.0)) ∙ at_y in
+    inner old z four five f.1 f.0 at_four m (omega (arith, at_z, fit.1.1.1.0))
+
+pub resources_set : (h : HeaderView) (p : Place) (old b one two three four five r : List ℕ) → Lies h p (length b) → length r ≡ p.length →
+    one ≡ splice old 0 b → two ≡ splice one p.section.pointer_to_raw_data (filled p.section r) → three ≡ splice two (p.row + 8) (bytes_of 4 (grown_size p)) →
+    four ≡ splice three p.entry (bytes_of 4 p.section.virtual_address) → five ≡ splice four (p.entry + 4) (bytes_of 4 p.length) → five ≡ splice old 0 (with_resources p r b)
+unfolding with_resources
+resources_set h p old b one two three four five r l e i j k m n =
+    four_set old b one two three four five (p.section.pointer_to_raw_data, filled p.section r) (p.row + 8, bytes_of 4 (grown_size p)) (p.entry, bytes_of 4 p.section.virtual_address) (p.entry + 4, bytes_of 4 p.length)
+    (changes_fit h p r (length b) l e) i j k m n
+
+pub edited_set : (h : HeaderView) (p : Place) (xs : List Leaf) (old b four five : List ℕ) (sum : ℕ) → Lies h p (length b) → length (section p.section.virtual_address xs) ≡ p.length →
+    four ≡ splice old 0 (with_resources p (section p.section.virtual_address xs) b) → sum ≡ sum_of h (take (length b) four) → five ≡ splice four (h.dos_header.pe_pointer + 88) (bytes_of 4 sum) →
+    five ≡ splice old 0 (edited_file h p xs b)
+unfolding with_sum
+edited_set h p xs old b four five sum l e i s j =
+    let f : List ℕ = with_resources p (section p.section.virtual_address xs) b in
+    let same = resources_length h p (section p.section.virtual_address xs) b l e in
+    let value : sum ≡ sum_of h f = s ∙ ap (sum_of h) (start_of old f four (length b) i same) in
+    inner old f four five (bytes_of 4 (sum_of h f)) (h.dos_header.pe_pointer + 88) i (j ∙ ap (λ (n : ℕ). splice four (h.dos_header.pe_pointer + 88) (bytes_of 4 n)) value)
+    (omega (arith, same, sum_inside h p (length b) l, length-bytes_of 4 (sum_of h f)))
+
+-- ---- the section alone
+
+splice_whole : (b s : List ℕ) → length s ≡ length b → splice b 0 s ≡ s
+splice_whole b s e = splice_front b s ∙ ap (λ (l : List ℕ). s ++ l) (drop_all (length s) b (omega (arith, e))) ∙ append-nil s
+
+value_of : (t : Bool) (r : EditRefusal) (m n : ℕ) (x y : List ℕ) → outcome {Y = ℕ × List ℕ} ((t, r) ∷ []) (m, x) ≡ Ok (n, y) → x ≡ y
+value_of true r m n x y e = let pair : ◌≡◌ {A = ℕ × List ℕ} (m, x) (n, y) = cc in ap (λ (z : ℕ × List ℕ). z.1) pair
+value_of false r m n x y e = absurd cc
+
+pub whole_written : (made : Result (List ℕ) EditRefusal) (s old new : List ℕ) (n : ℕ) → written made old ≡ Ok (n, new) → made ≡ Ok s → length s ≡ length old → new ≡ s
+whole_written (Ok r) s old new n e is size =
+    let same : r ≡ s = cc in
+    let fits : length r ≡ length old = ap length same ∙ size in
+    sym (value_of (nat_le (length r) (length old)) (Image WriteFit) (length r) n (splice old 0 r) new e) ∙ splice_whole old r fits ∙ same
+whole_written (Err r) s old new n e is size = absurd cc
+
+refused_by : (t : Bool) (r k : EditRefusal) (x : ℕ × List ℕ) → outcome ((t, r) ∷ []) x ≡ Err k → t ≡ false
+refused_by true r k x e = absurd cc
+refused_by false r k x e = refl
+
+pub never_refused : (made : Result (List ℕ) EditRefusal) (s old : List ℕ) (k : EditRefusal) → written made old ≡ Err k → made ≡ Ok s → length s ≡ length old → ⊥
+never_refused (Ok r) s old k e is size =
+    let same : r ≡ s = cc in
+    let fits : length r ≡ length old = ap length same ∙ size in
+    let no : nat_le (length r) (length old) ≡ false = refused_by (nat_le (length r) (length old)) (Image WriteFit) k (length r, splice old 0 r) e in
+    let is_fit : nat_le (length r) (length old) ≡ true = le_is (length r) (length old) (omega (arith, fits)) in
+    cc
+never_refused (Err r) s old k e is size = cc

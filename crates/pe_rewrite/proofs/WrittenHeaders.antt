@@ -1,0 +1,239 @@
+-- The headers and the section headers of an image whose resources changed.
+use Rattle.std.proofs.Common.{◌≡◌, ℕ, ◌+◌, ◌*◌, ◌^◌, ◌<◌, ◌≤◌, ◌==◌, ◌&&◌, Bool, true, false, List, length, get_or, Option, Some, None, Ok, refl, ap, sym, ◌∙◌, subst, arith}
+use Rattle.std.specs.Prelude.{nat_le, nat_lt, slice_range, if◌then◌else◌}
+use Rattle.pe_core.specs.Bytes.{AreBytes, bytes_of, le, range, splice}
+use Rattle.pe_core.specs.Header.{HeaderView, OptionalHeaderView, directories_offset, header_at}
+use Rattle.pe_core.specs.Records.{data_directory, section_table}
+use Rattle.pe_core.specs.Sections.{sections_offset}
+use Rattle.pe_core.specs.declared.options.ParseMode.{ParseMode}
+use Rattle.pe_core.specs.declared.section_table.SectionTable.{SectionTable}
+use Rattle.pe_core.proofs.NumberBytes.{le-same, le_small}
+use Rattle.pe_core.proofs.Splices.{length-bytes_of, length-splice}
+use Rattle.pe_edit.specs.Written.{Leaf, section, section_length}
+use Rattle.pe_edit.proofs.SectionRead.{length_of_section}
+use Rattle.pe_sign.specs.Checksum.{checksum_of}
+use Rattle.pe_sign.specs.WrittenHeaders.{directories_end, directories_end_after}
+use Rattle.pe_sign.proofs.Agreement.{agree_splice, in_field, sum_same}
+use Rattle.pe_sign.proofs.Digests.{range_below, range_past}
+use Rattle.pe_sign.proofs.HeadersStay.{Stays, headers_change, same_range}
+use Rattle.pe_rewrite.specs.Edited.{Lies, edited_file, filled, grown_size, sum_by, sum_of, with_resources, with_sum}
+use Rattle.pe_rewrite.specs.Places.{section_header}
+use Rattle.pe_rewrite.specs.WrittenImages.{edited_headers, entry_of, resized}
+use Rattle.pe_rewrite.specs.declared.place.Place.{Place}
+use Rattle.pe_rewrite.specs.declared.place.Target.{Target}
+use Rattle.pe_rewrite.proofs.Placed.{Made, Placed, place_lies, place_made}
+use Rattle.pe_rewrite.proofs.Stays.{byte_past, byte_stays, number_stays, number_there, sum_byte}
+use Rattle.pe_rewrite.proofs.Writes.{length-filled, resources_length, sum_inside, sum_length}
+
+-- ---- the checksum
+
+sum_over : (g : List ℕ) (c s : ℕ) → c + 4 ≤ length g → checksum_of (splice g c (bytes_of 4 s)) c ≡ checksum_of g c
+sum_over g c s room =
+    let size : length (bytes_of 4 s) ≡ 4 = length-bytes_of 4 s in
+    sum_same c (splice g c (bytes_of 4 s)) g (agree_splice (in_field c) g c (bytes_of 4 s) (omega (arith, size, room)) (λ k out. ap (λ (n : ℕ). nat_le c k && nat_lt k (c + n)) size ∙ out))
+
+sum_by_over : (p : ℕ) (o : Option OptionalHeaderView) (g : List ℕ) (s : ℕ) → p + 92 ≤ length g → sum_by p o (splice g (p + 88) (bytes_of 4 s)) ≡ sum_by p o g
+sum_by_over p None g s room = refl
+sum_by_over p (Some o) g s room = ap (λ (n : ℕ). if o.windows_fields.check_sum == 0 then 0 else n) (sum_over g (p + 88) s (omega (arith, room)))
+
+-- the checksum is that of the file with it
+pub sum_stays : (h : HeaderView) (g : List ℕ) → h.dos_header.pe_pointer + 92 ≤ length g → sum_of h (with_sum h g) ≡ sum_of h g
+unfolding with_sum
+sum_stays h g room = sum_by_over h.dos_header.pe_pointer h.optional_header g (sum_of h g) room
+
+small_checksum : (b : List ℕ) (c : ℕ) → checksum_of b c < 256 ^ 4
+unfolding checksum_of
+small_checksum b c = omega arith
+
+small_by : (t : Bool) (n : ℕ) → n < 256 ^ 4 → (if t then 0 else n) < 256 ^ 4
+small_by true n h = omega arith
+small_by false n h = h
+
+small_sum : (p : ℕ) (o : Option OptionalHeaderView) (g : List ℕ) → sum_by p o g < 256 ^ 4
+small_sum p None g = omega arith
+small_sum p (Some o) g = small_by (o.windows_fields.check_sum == 0) (checksum_of g (p + 88)) (small_checksum g (p + 88))
+
+sum_read : (h : HeaderView) (g : List ℕ) → h.dos_header.pe_pointer + 92 ≤ length g → le (with_sum h g) (h.dos_header.pe_pointer + 88) 4 ≡ sum_of h g
+unfolding with_sum
+sum_read h g room = number_there g (h.dos_header.pe_pointer + 88) 4 (sum_of h g) (small_sum h.dos_header.pe_pointer h.optional_header g) (omega (arith, room))
+
+-- ---- the numbers that are written
+
+outside_byte : (b s : List ℕ) (p k : ℕ) → p + length s ≤ length b → (nat_le p k && nat_lt k (p + length s)) ≡ false → get_or (splice b p s) k 0 ≡ get_or b k 0
+outside_byte b s p k room out = byte_past b p s (length s) k refl room out
+
+before : (b s : List ℕ) (q p : ℕ) → p + length s ≤ length b → q + 4 ≤ p → le (splice b p s) q 4 ≡ le b q 4
+before b s q p room h = number_stays (splice b p s) b q (λ k from lt. outside_byte b s p k room (range_below p (length s) k (omega (arith, lt, h))))
+
+after : (b s : List ℕ) (q p n : ℕ) → length s ≡ n → p + n ≤ length b → p + n ≤ q → le (splice b p s) q 4 ≡ le b q 4
+after b s q p n e room h = number_stays (splice b p s) b q (λ k from lt. outside_byte b s p k (omega (arith, e, room)) (range_past p (length s) k (omega (arith, e, from, h))))
+
+-- the file after the first three changes, and its length
+abbrev with_data : Place → List ℕ → List ℕ → List ℕ
+with_data p r b = splice b p.section.pointer_to_raw_data (filled p.section r)
+
+abbrev with_row : Place → List ℕ → List ℕ → List ℕ
+with_row p r b = splice (with_data p r b) (p.row + 8) (bytes_of 4 (grown_size p))
+
+abbrev with_address : Place → List ℕ → List ℕ → List ℕ
+with_address p r b = splice (with_row p r b) p.entry (bytes_of 4 p.section.virtual_address)
+
+data_length : (h : HeaderView) (p : Place) (r b : List ℕ) → Lies h p (length b) → length r ≡ p.length → length (with_data p r b) ≡ length b
+data_length h p r b l e = length-splice b p.section.pointer_to_raw_data (filled p.section r) (omega (arith, l.end, length-filled p.section r (omega (arith, e, l.room))))
+
+row_length : (h : HeaderView) (p : Place) (r b : List ℕ) → Lies h p (length b) → length r ≡ p.length → length (with_row p r b) ≡ length b
+row_length h p r b l e =
+    let same = data_length h p r b l e in
+    length-splice (with_data p r b) (p.row + 8) (bytes_of 4 (grown_size p)) (omega (arith, same, length-bytes_of 4 (grown_size p), l.row, l.raw, l.end)) ∙ same
+
+entry_inside : (h : HeaderView) (p : Place) (n : ℕ) → Lies h p n → p.entry + 8 ≤ n
+entry_inside h p n l = omega (arith, l.entry, l.table, l.row, l.raw, l.end)
+
+address_length : (h : HeaderView) (p : Place) (r b : List ℕ) → Lies h p (length b) → length r ≡ p.length → length (with_address p r b) ≡ length b
+address_length h p r b l e =
+    let same = row_length h p r b l e in
+    length-splice (with_row p r b) p.entry (bytes_of 4 p.section.virtual_address) (omega (arith, same, length-bytes_of 4 p.section.virtual_address, entry_inside h p (length b) l)) ∙ same
+
+-- the numbers that are read, before the checksum is written
+size_in : (h : HeaderView) (p : Place) (r b : List ℕ) → Lies h p (length b) → length r ≡ p.length → p.length < 256 ^ 4 → le (with_resources p r b) (p.entry + 4) 4 ≡ p.length
+unfolding with_resources
+size_in h p r b l e small = number_there (with_address p r b) (p.entry + 4) 4 p.length small (omega (arith, address_length h p r b l e, entry_inside h p (length b) l))
+
+address_in : (h : HeaderView) (p : Place) (r b : List ℕ) → Lies h p (length b) → length r ≡ p.length → p.section.virtual_address < 256 ^ 4 → le (with_resources p r b) p.entry 4 ≡ p.section.virtual_address
+unfolding with_resources
+address_in h p r b l e small =
+    before (with_address p r b) (bytes_of 4 p.length) p.entry (p.entry + 4) (omega (arith, address_length h p r b l e, length-bytes_of 4 p.length, entry_inside h p (length b) l)) (omega arith)
+    ∙ number_there (with_row p r b) p.entry 4 p.section.virtual_address small (omega (arith, row_length h p r b l e, entry_inside h p (length b) l))
+
+grown_in : (h : HeaderView) (p : Place) (r b : List ℕ) → Lies h p (length b) → length r ≡ p.length → grown_size p < 256 ^ 4 → le (with_resources p r b) (p.row + 8) 4 ≡ grown_size p
+unfolding with_resources
+grown_in h p r b l e small =
+    let rows : p.entry + 8 ≤ p.row = omega (arith, l.entry, l.table) in
+    after (with_address p r b) (bytes_of 4 p.length) (p.row + 8) (p.entry + 4) 4 (length-bytes_of 4 p.length) (omega (arith, address_length h p r b l e, entry_inside h p (length b) l)) (omega (arith, rows))
+    ∙ after (with_row p r b) (bytes_of 4 p.section.virtual_address) (p.row + 8) p.entry 4 (length-bytes_of 4 p.section.virtual_address) (omega (arith, row_length h p r b l e, entry_inside h p (length b) l)) (omega (arith, rows))
+    ∙ number_there (with_data p r b) (p.row + 8) 4 (grown_size p) small (omega (arith, data_length h p r b l e, l.row, l.raw, l.end))
+
+-- ---- the headers
+
+-- before the section table a byte stays that is in neither field
+field_stays : (h : HeaderView) (p : Place) (r b : List ℕ) (k : ℕ) → Lies h p (length b) → length r ≡ p.length → k < sections_offset h → (nat_le p.entry k && nat_lt k (p.entry + 8)) ≡ false →
+    (nat_le (h.dos_header.pe_pointer + 88) k && nat_lt k (h.dos_header.pe_pointer + 88 + 4)) ≡ false → get_or (with_sum h (with_resources p r b)) k 0 ≡ get_or b k 0
+field_stays h p r b k l e lt entry sum =
+    byte_stays h p r b k l e (range_below p.section.pointer_to_raw_data p.section.size_of_raw_data k (omega (arith, lt, l.table, l.row, l.raw))) (range_below (p.row + 8) 4 k (omega (arith, lt, l.table))) entry sum
+
+edited_size : (h : HeaderView) (p : Place) (r b : List ℕ) → Lies h p (length b) → length r ≡ p.length → length (with_sum h (with_resources p r b)) ≡ length b
+edited_size h p r b l e =
+    let same = resources_length h p r b l e in
+    sum_length h (with_resources p r b) (omega (arith, same, sum_inside h p (length b) l)) ∙ same
+
+headers_stay_with : (h : HeaderView) (p : Place) (r b : List ℕ) (n : ℕ) → Lies h p (length b) → length r ≡ p.length → p.entry + 8 ≤ n → n ≤ sections_offset h → Stays (with_sum h (with_resources p r b)) b (h.dos_header.pe_pointer + 88) p.entry n
+headers_stay_with h p r b n l e from to =
+    let c : ℕ = h.dos_header.pe_pointer + 88 in
+    let f : List ℕ = with_sum h (with_resources p r b) in
+    let all : n ≤ length b = omega (arith, to, l.table, l.row, l.raw, l.end) in
+    let size : length f ≡ length b = edited_size h p r b l e in
+    record {
+      apart = omega (arith, l.sum);
+      entry = from;
+      inside = omega (arith, size, all);
+      inside_before = all;
+      before = λ k lt. field_stays h p r b k l e (omega (arith, lt, l.sum, from, to)) (range_below p.entry 8 k (omega (arith, lt, l.sum))) (range_below c 4 k lt);
+      between = λ k past lt. field_stays h p r b k l e (omega (arith, lt, from, to)) (range_below p.entry 8 k lt) (range_past c 4 k past);
+      after = λ k past lt. field_stays h p r b k l e (omega (arith, lt, to)) (range_past p.entry 8 k past) (range_past c 4 k (omega (arith, past, l.sum)));
+    }
+
+-- the numbers are small
+pub record Small (p : Place) : Type 0 where
+  pub address : p.section.virtual_address < 256 ^ 4
+  pub length_of : p.length < 256 ^ 4
+
+small_place : (p : Place) (xs : List Leaf) → Made p.section.virtual_address p.length xs → Small p
+small_place p xs m =
+    let size : section_length xs ≡ p.length = sym (length_of_section p.section.virtual_address xs) ∙ m.size in
+    let end : p.section.virtual_address + section_length xs < 4294967296 = m.accepted.end in
+    record { address = omega (arith, end); length_of = omega (arith, size, end) }
+
+-- the entry of the file that is written
+entry_read : (h : HeaderView) (p : Place) (r b : List ℕ) → Lies h p (length b) → length r ≡ p.length → Small p → data_directory (with_sum h (with_resources p r b)) p.entry ≡ entry_of p
+unfolding data_directory
+entry_read h p r b l e s =
+    let g : List ℕ = with_resources p r b in
+    let f : List ℕ = with_sum h g in
+    let same : length g ≡ length b = resources_length h p r b l e in
+    let c : ℕ = h.dos_header.pe_pointer + 88 in
+    let past : (k : ℕ) → p.entry ≤ k → get_or f k 0 ≡ get_or g k 0 = λ k from. sum_byte h g k (omega (arith, same, sum_inside h p (length b) l)) (range_past c 4 k (omega (arith, from, l.sum))) in
+    let address : le f p.entry 4 ≡ p.section.virtual_address = number_stays f g p.entry (λ k from lt. past k from) ∙ address_in h p r b l e s.address in
+    let size : le f (p.entry + 4) 4 ≡ p.length = number_stays f g (p.entry + 4) (λ k from lt. past k (omega (arith, from))) ∙ size_in h p r b l e s.length_of in
+    rw (address, size) refl
+
+-- the headers are parsed
+pub header_edited : (mode : ParseMode) (b : List ℕ) (h : HeaderView) (xs : List Leaf) (p : Place) → header_at b mode ≡ Ok h → Placed b h xs p → header_at (edited_file h p xs b) mode ≡ Ok (edited_headers p (sum_of h (edited_file h p xs b)) h)
+header_edited mode b h xs p e x =
+    let l : Lies h p (length b) = place_lies b h xs p x in
+    let m : Made p.section.virtual_address p.length xs = place_made b h xs p x in
+    let r : List ℕ = section p.section.virtual_address xs in
+    let g : List ℕ = with_resources p r b in
+    let o : OptionalHeaderView = x.of.optional in
+    let q : ℕ = h.dos_header.pe_pointer in
+    let room : q + 92 ≤ length g = omega (arith, resources_length h p r b l m.size, sum_inside h p (length b) l) in
+    let at : p.entry ≡ q + 24 + directories_offset (o.standard_fields.magic == 0x20B) + 8 * 2 = ap (λ (y : Place). y.entry) (sym x.value) ∙ ap (λ (t : Target). t.entry) (sym x.of.value) in
+    let end : directories_end h ≡ q + 24 + directories_offset (o.standard_fields.magic == 0x20B) + 8 * length o.data_directories = ap (directories_end_after q) x.of.some in
+    headers_change (edited_file h p xs b) b mode h o 2 p.entry (entry_of p) e x.of.some at
+    (headers_stay_with h p r b (directories_end h) l m.size (omega (arith, at, end, x.of.many)) x.headers.directories)
+    (entry_read h p r b l m.size (small_place p xs m))
+    ∙ ap (λ (n : ℕ). Ok (edited_headers p n h)) (sum_read h g room ∙ sym (sum_stays h g room))
+
+-- ---- the section headers
+
+-- a section header of which all bytes stay but its size in memory
+pub row_resized : (f b : List ℕ) (p : ℕ) → p + 40 ≤ length f → p + 40 ≤ length b → ((k : ℕ) → p ≤ k → k < p + 40 → (nat_le (p + 8) k && nat_lt k (p + 8 + 4)) ≡ false → get_or f k 0 ≡ get_or b k 0) →
+    section_table f p ≡ resized (le f (p + 8) 4) (section_table b p)
+unfolding section_table
+row_resized f b p room i same =
+    let after_size : (q n : ℕ) → p + 12 ≤ q → q + n ≤ p + 40 → le f q n ≡ le b q n = λ q n from to. le-same f b q q n (λ k lt. same (q + k) (omega (arith, from)) (omega (arith, lt, to)) (range_past (p + 8) 4 (q + k) (omega (arith, from)))) in
+    let name : slice_range f p (p + 8) ≡ slice_range b p (p + 8) = same_range f b p (p + 8) (omega (arith, room)) (omega (arith, i)) (λ k from lt. same k from (omega (arith, lt)) (range_below (p + 8) 4 k lt)) in
+    rw (
+      name,
+      after_size (p + 12) 4 (omega arith) (omega arith),
+      after_size (p + 16) 4 (omega arith) (omega arith),
+      after_size (p + 20) 4 (omega arith) (omega arith),
+      after_size (p + 24) 4 (omega arith) (omega arith),
+      after_size (p + 28) 4 (omega arith) (omega arith),
+      after_size (p + 32) 2 (omega arith) (omega arith),
+      after_size (p + 34) 2 (omega arith) (omega arith),
+      after_size (p + 36) 4 (omega arith) (omega arith),
+    ) refl
+
+-- the size in memory that is read
+pub grown_read : (h : HeaderView) (p : Place) (xs : List Leaf) (b : List ℕ) → AreBytes b → (i : ℕ) → Lies h p (length b) → Made p.section.virtual_address p.length xs → i < h.coff_header.number_of_sections → sections_offset h + 40 * i ≡ p.row → section_header b h i ≡ p.section →
+    le (edited_file h p xs b) (p.row + 8) 4 ≡ grown_size p
+unfolding section_table
+grown_read h p xs b small i l m below row same =
+    let r : List ℕ = section p.section.virtual_address xs in
+    let g : List ℕ = with_resources p r b in
+    let size : length g ≡ length b = resources_length h p r b l m.size in
+    let old : p.section.virtual_size < 2 ^ 32 = subst (λ (n : ℕ). n < 2 ^ 32) (ap (λ (s : SectionTable). s.virtual_size) same) (le_small b (sections_offset h + 40 * i + 8) small) in
+    let short : p.length < 256 ^ 4 = (small_place p xs m).length_of in
+    let grown : grown_size p < 256 ^ 4 = omega (arith, old, short) in
+    number_stays (edited_file h p xs b) g (p.row + 8) (λ k from lt. sum_byte h g k (omega (arith, size, sum_inside h p (length b) l)) (range_past (h.dos_header.pe_pointer + 88) 4 k (omega (arith, from, l.sum, l.entry, l.table))))
+    ∙ grown_in h p r b l m.size grown
+
+-- ---- the section's data
+
+-- of the changes of the resources only the first is after the section table
+data_byte : (h : HeaderView) (p : Place) (r b : List ℕ) (k : ℕ) → Lies h p (length b) → length r ≡ p.length → p.section.pointer_to_raw_data ≤ k → get_or (with_resources p r b) k 0 ≡ get_or (with_data p r b) k 0
+unfolding with_resources
+data_byte h p r b k l e from =
+    let past : (q : ℕ) → q + 4 ≤ p.row + 40 → (nat_le q k && nat_lt k (q + 4)) ≡ false = λ q to. range_past q 4 k (omega (arith, to, from, l.row, l.raw)) in
+    byte_past (with_address p r b) (p.entry + 4) (bytes_of 4 p.length) 4 k (length-bytes_of 4 p.length) (omega (arith, address_length h p r b l e, entry_inside h p (length b) l)) (past (p.entry + 4) (omega (arith, l.entry, l.table)))
+    ∙ byte_past (with_row p r b) p.entry (bytes_of 4 p.section.virtual_address) 4 k (length-bytes_of 4 p.section.virtual_address) (omega (arith, row_length h p r b l e, entry_inside h p (length b) l)) (past p.entry (omega (arith, l.entry, l.table)))
+    ∙ byte_past (with_data p r b) (p.row + 8) (bytes_of 4 (grown_size p)) 4 k (length-bytes_of 4 (grown_size p)) (omega (arith, data_length h p r b l e, l.row, l.raw, l.end)) (past (p.row + 8) (omega arith))
+
+-- the bytes of the section's data are those that were written first
+pub data_range : (h : HeaderView) (p : Place) (r b : List ℕ) → Lies h p (length b) → length r ≡ p.length → p.section.pointer_to_raw_data + p.length ≤ length (with_sum h (with_resources p r b)) →
+    range (with_sum h (with_resources p r b)) p.section.pointer_to_raw_data p.length ≡ range (splice b p.section.pointer_to_raw_data (filled p.section r)) p.section.pointer_to_raw_data p.length
+data_range h p r b l e room =
+    let q : ℕ = p.section.pointer_to_raw_data in
+    same_range (with_sum h (with_resources p r b)) (with_data p r b) q (q + p.length) room (omega (arith, data_length h p r b l e, l.end, l.room))
+    (λ k from lt. sum_byte h (with_resources p r b) k (omega (arith, resources_length h p r b l e, sum_inside h p (length b) l)) (range_past (h.dos_header.pe_pointer + 88) 4 k (omega (arith, from, l.sum, l.entry, l.table, l.row, l.raw)))
+    ∙ data_byte h p r b k l e (omega (arith, from)))

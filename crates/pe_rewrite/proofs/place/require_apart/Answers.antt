@@ -1,0 +1,11 @@
+use Rattle.std.proofs.Common.{Bool, Ok, Err, ap, sym, ◌∙◌}
+use Rattle.std.specs.Prelude.{if◌then◌else◌}
+use Rattle.pe_core.specs.Header.{header_view}
+use Rattle.pe_rewrite.specs.RewriteRefusals.{Overlap}
+use Rattle.pe_rewrite.proofs.Loops.{apart_fails}
+use Rattle.pe_rewrite.proofs.place.require_apart.Goals as goal
+
+pub returns-then-not-is_apart : goal.returns-then-not-is_apart
+returns-then-not-is_apart c =
+    ap (λ (t : Bool). if t then Ok tt else Err Overlap)
+    (apart_fails c.args.bytes.now (header_view c.args.header.now) c.args.alignment c.args.index c.loop-other.other c.loop-other-test.true (sym c.is_apart.ensures ∙ c.if-not-is_apart.true))

@@ -1,0 +1,4 @@
+pub mod RewriteRefusals
+pub mod Places
+pub mod Edited
+pub mod WrittenImages

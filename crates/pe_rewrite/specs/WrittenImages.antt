@@ -1,0 +1,57 @@
+-- What is parsed of an image whose resources changed. (PE format: optional header, section table, the .rsrc section.)
+use Rattle.std.specs.Prelude.{◌≡◌, ℕ, ◌+◌, ◌*◌, ◌==◌, List, [], Option, Result, Ok, Err, if◌then◌else◌, map}
+use Rattle.pe_core.specs.Header.{HeaderView}
+use Rattle.pe_core.specs.Refusals.{Refusal}
+use Rattle.pe_core.specs.Sections.{sections_offset}
+use Rattle.pe_core.specs.declared.data_directories.DataDirectory.{DataDirectory}
+use Rattle.pe_core.specs.SectionMap.{section_map}
+use Rattle.pe_core.specs.declared.options.ParseOptions.{ParseOptions}
+use Rattle.pe_core.specs.declared.section_table.SectionTable.{SectionTable}
+use Rattle.pe_resource.specs.Contents.{file_bytes}
+use Rattle.pe_resource.specs.Leaves.{TreeRefusal, resource_tree}
+use Rattle.pe_resource.specs.declared.leaves.ResourceLeaf.{ResourceLeaf}
+use Rattle.pe_edit.specs.Reread.{LeafRefusal, Tree, leaf_with, of_image, read_key}
+use Rattle.pe_edit.specs.Written.{Leaf}
+use Rattle.pe_sign.specs.WrittenHeaders.{headers_changed}
+use Rattle.pe_core.specs.Refusals.{◌>>=◌}
+use Rattle.pe_rewrite.specs.declared.place.Place.{Place}
+
+-- the entry of the resource directory
+abbrev pub entry_of : Place → DataDirectory
+entry_of p = record { virtual_address = p.section.virtual_address; size = p.length }
+
+-- the headers: the entry of the resource directory, which is the third, and the checksum are others
+abbrev pub edited_headers : Place → ℕ → HeaderView → HeaderView
+edited_headers p sum h = headers_changed 2 (entry_of p) sum h
+
+-- a section header with another size in memory
+abbrev pub resized : ℕ → SectionTable → SectionTable
+resized size s = record s { virtual_size = size }
+
+-- ---- leaves, by the section map
+
+-- the content that a data entry describes, by where the map has its RVA; of no bytes, whether it is mapped or not
+abbrev pub content_at : (ℕ → Option ℕ) → List ℕ → ℕ → ℕ → Result (List ℕ) Refusal
+content_at map f rva size = if size == 0 then Ok [] else file_bytes f size (map rva)
+
+-- what is read of a leaf of the resources b: its keys, its language, and its content in the file f by the section map
+unfoldable pub mapped_leaf : (ℕ → Option ℕ) → List ℕ → List ℕ → ResourceLeaf → Result Leaf LeafRefusal
+mapped_leaf map f b x =
+    of_image (read_key b x.resource_type) >>= λ t.
+    of_image (read_key b x.name) >>= λ n.
+    of_image (read_key b x.language) >>= λ l.
+    of_image (content_at map f x.data_entry.offset_to_data x.data_entry.size) >>= λ c.
+    leaf_with t n l x.data_entry.code_page c
+
+abbrev pub mapped_item : (ℕ → Option ℕ) → List ℕ → List ℕ → Result ResourceLeaf TreeRefusal → Result Leaf LeafRefusal
+mapped_item map f b (Ok x) = mapped_leaf map f b x
+mapped_item map f b (Err r) = Err (Tree r)
+
+-- the leaves that a walk over the resources of an image finds, with their contents by the section map
+abbrev pub leaves_of_image : ParseOptions → List ℕ → DataDirectory → List SectionTable → ℕ → Result (List (Result Leaf LeafRefusal)) Refusal
+leaves_of_image o f directory sections alignment =
+    resource_tree o f directory sections alignment >>= λ tree. Ok (map (mapped_item (section_map o sections alignment) f tree.0) tree.1)
+
+-- i is the index of the resource section
+abbrev pub IsRow : HeaderView → Place → ℕ → Type 0
+IsRow h p i = p.row ≡ sections_offset h + 40 * i

@@ -1,0 +1,75 @@
+//! Laws over the definitions. Each is the contract of a function that does nothing.
+
+ghost use Rattle.std.specs.Prelude.{◌≡◌, ℕ, List, Ok, Some, false, true, length, map, slice_index, slice_set};
+ghost use Rattle.pe_core.specs.Bytes.{AreBytes};
+ghost use Rattle.pe_core.specs.Header.{HeaderView, OptionalHeaderView, header_at};
+ghost use Rattle.pe_core.specs.SectionMap.{section_map};
+ghost use Rattle.pe_core.specs.declared.options.ParseMode.{ParseMode};
+ghost use Rattle.pe_core.specs.declared.options.ParseOptions.{ParseOptions};
+ghost use Rattle.pe_resource.specs.Contents.{file_bytes};
+ghost use Rattle.pe_edit.specs.Written.{Each, Leaf, Numbers, section};
+ghost use Rattle.pe_rewrite.specs.Edited.{edited_of, grown_size, is_written, sum_of};
+ghost use Rattle.pe_rewrite.specs.Places.{is_outside, place_of, section_headers};
+ghost use Rattle.pe_rewrite.specs.WrittenImages.{IsRow, edited_headers, entry_of, leaves_of_image, resized};
+ghost use Rattle.pe_rewrite.specs.declared.place.Place.{Place};
+
+/// An edit changes the data of the resource section, its size in memory, the entry of the resource directory and the checksum.
+/// All other bytes of the file stay, those after its sections included, and no byte is added or lost.
+#[tactic(auto, using(crate::proofs::WrittenImages::length_stays, crate::proofs::WrittenImages::bytes_stay))]
+pub fn edits_change_no_more()
+    ensures length { (b : List ℕ) (h : HeaderView) (xs : List Leaf) (p : Place) (f : List ℕ) →
+        place_of b h xs ≡ Ok p → edited_of b h xs ≡ Ok f → length f ≡ length b }
+    ensures bytes { (b : List ℕ) (h : HeaderView) (xs : List Leaf) (p : Place) (f : List ℕ) (k : ℕ) →
+        place_of b h xs ≡ Ok p → edited_of b h xs ≡ Ok f → is_written h p k ≡ false →
+        slice_index f k ≡ slice_index b k }
+{}
+
+/// The headers of an image that `write_edited` wrote are parsed: they are those of the image, but for the entry of the resource
+/// directory and the checksum, which is that of the file, or 0 where it was 0.
+#[tactic(auto, using(crate::proofs::WrittenImages::headers_parsed))]
+pub fn edited_headers_are_parsed()
+    ensures { (mode : ParseMode) (b : List ℕ) (h : HeaderView) (xs : List Leaf) (p : Place)
+        (f : List ℕ) → header_at b mode ≡ Ok h → place_of b h xs ≡ Ok p → edited_of b h xs ≡ Ok f →
+        header_at f mode ≡ Ok (edited_headers p (sum_of h f) h) }
+{}
+
+/// The section headers of such an image are those of the image, but for the resource section's size in memory.
+#[tactic(auto, using(crate::proofs::WrittenImages::sections_parsed))]
+pub fn edited_sections_are_parsed()
+    ensures { (b : List ℕ) (h : HeaderView) (xs : List Leaf) (p : Place) (f : List ℕ) (i : ℕ) →
+        AreBytes b → place_of b h xs ≡ Ok p → edited_of b h xs ≡ Ok f → IsRow h p i →
+        section_headers f h ≡ slice_set (section_headers b h) i (resized (grown_size p) p.section) }
+{}
+
+/// By the section map of such an image every RVA outside of the resource section leads to the file offset that it led to in the
+/// image, and with the image's file alignment to the same byte.
+#[tactic(auto, using(crate::proofs::WrittenImages::map_is_same, crate::proofs::WrittenImages::mapped_byte))]
+pub fn other_addresses_stay()
+    ensures map { (o : ParseOptions) (b : List ℕ) (h : HeaderView) (xs : List Leaf) (p : Place)
+        (f : List ℕ) (alignment a : ℕ) → AreBytes b → place_of b h xs ≡ Ok p →
+        edited_of b h xs ≡ Ok f → is_outside p.section a ≡ true →
+        section_map o (section_headers f h) alignment a ≡ section_map o (section_headers b h) alignment a }
+    ensures byte { (o : ParseOptions) (b : List ℕ) (h : HeaderView) (xs : List Leaf) (p : Place)
+        (f : List ℕ) (w : OptionalHeaderView) (a q : ℕ) → place_of b h xs ≡ Ok p →
+        edited_of b h xs ≡ Ok f → h.optional_header ≡ Some w → o.resolve_rva ≡ true →
+        is_outside p.section a ≡ true →
+        section_map o (section_headers b h) w.windows_fields.file_alignment a ≡ Some q →
+        slice_index f q ≡ slice_index b q }
+{}
+
+/// The data of the resource directory of such an image, as mapped, are the section with the leaves that were given, and the
+/// leaves that pe_resource's walk finds in the image, with their contents by the section map, are these leaves.
+#[tactic(auto, using(crate::proofs::WrittenImages::directory_read, crate::proofs::WrittenTrees::leaves_found))]
+pub fn edited_leaves_are_read()
+    ensures directory { (o : ParseOptions) (b : List ℕ) (h : HeaderView) (xs : List Leaf) (p : Place)
+        (f : List ℕ) (w : OptionalHeaderView) → AreBytes b → place_of b h xs ≡ Ok p →
+        edited_of b h xs ≡ Ok f → h.optional_header ≡ Some w → o.resolve_rva ≡ true →
+        file_bytes f p.length (section_map o (section_headers f h) w.windows_fields.file_alignment
+        p.section.virtual_address) ≡ Ok (section p.section.virtual_address xs) }
+    ensures leaves { (o : ParseOptions) (b : List ℕ) (h : HeaderView) (xs : List Leaf) (p : Place)
+        (f : List ℕ) (w : OptionalHeaderView) → AreBytes b → Each Numbers xs →
+        place_of b h xs ≡ Ok p → edited_of b h xs ≡ Ok f → h.optional_header ≡ Some w →
+        o.resolve_rva ≡ true →
+        leaves_of_image o f (entry_of p) (section_headers f h) w.windows_fields.file_alignment
+        ≡ Ok (map (λ x. Ok x) xs) }
+{}

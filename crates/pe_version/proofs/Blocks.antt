@@ -1,0 +1,204 @@
+-- Blocks that are written are read.
+use Rattle.std.proofs.Common.{◌≡◌, ℕ, zero, suc, ◌+◌, ◌-◌, ◌*◌, ◌/◌, ◌%◌, ◌<◌, ◌≤◌, ◌==◌, ◌||◌, ◌&&◌, Bool, true, false, List, [], ◌∷◌, ◌++◌, length, take, drop, map, replicate, Option, Some, None, Result, Ok, if◌then◌else◌, refl, ap, sym, ◌∙◌, subst, arith, length-append}
+use Rattle.std.specs.Prelude.{nat_le}
+use Rattle.std.proofs.lemmas.List.{length-replicate, append_assoc, append-nil, take_at, drop_at, drop_all, nil_from_length}
+use Rattle.std.proofs.lemmas.Bool.Decides.{nat_tests}
+use Rattle.pe_core.specs.Bytes.{le, bytes_of, range, holds}
+use Rattle.pe_core.specs.Refusals.{Short, outcome}
+use Rattle.pe_core.proofs.Splices.{length-bytes_of}
+use Rattle.pe_resource.specs.VersionBlocks.{Block, BlockRefusal, Image, BelowHead, PastEnd, KeyEnd, after_key, block_of, whole_block, own_bytes, blocks_end, block_and_rest, first_block, then_blocks, blocks}
+use Rattle.pe_resource.specs.VersionStrings.{units, before_zero, key_length, value_offset, value_bytes, up_to_four}
+use Rattle.pe_resource.proofs.BlockLists.{blocks_start}
+use Rattle.pe_edit.proofs.Stands.{Stands, whole, left, right, number, part, moved, rest_of_number}
+use Rattle.pe_version.specs.WrittenBlocks.{AllFit, BlockValue, Fits, NoZero, before_others, block_bytes, block_length, blocks_bytes, padded_block, read_block, type_number, value_length, value_start}
+
+-- ---- keys
+
+two_zeros : (n : ℕ) → 2 ≤ n → replicate {A = ℕ} n 0 ≡ 0 ∷ 0 ∷ replicate (n - 2) 0
+two_zeros zero h = absurd (omega (arith, h))
+two_zeros (suc zero) h = absurd (omega (arith, h))
+two_zeros (suc (suc n)) h = ap (λ (m : ℕ). 0 ∷ 0 ∷ replicate m 0) (omega arith)
+
+-- the code units of a key before the zero one
+key_units : (key rest : List ℕ) → length key % 2 ≡ 0 → NoZero (units key) → before_zero (units (key ++ (0 ∷ 0 ∷ rest))) ≡ units key
+key_units [] rest e n = refl
+key_units (x ∷ []) rest e n = absurd (omega (arith, e))
+key_units (x ∷ y ∷ key) rest e n =
+    let t : (x + 256 * y == 0) ≡ false = grind (arith, nat_tests, n.0) in
+    rw t (ap (λ (us : List ℕ). (x + 256 * y) ∷ us) (key_units key rest (omega (arith, e)) n.1))
+
+units_length : (b : List ℕ) → length b % 2 ≡ 0 → 2 * length (units b) ≡ length b
+units_length [] e = refl
+units_length (x ∷ []) e = absurd (omega (arith, e))
+units_length (x ∷ y ∷ b) e = omega (arith, units_length b (omega (arith, e)))
+
+-- ---- what follows a place
+
+-- what stands last is all from its place on
+rest_from : (x : List ℕ) (p : ℕ) (tail : List ℕ) → Stands x p tail → length x ≡ p + length tail → drop p x ≡ tail
+rest_from x p tail s e =
+    let all : length x ≡ length s.front + (length tail + length s.back) = ap length s.is ∙ length-append s.front (tail ++ s.back) ∙ ap (λ (n : ℕ). length s.front + n) (length-append tail s.back) in
+    let none : s.back ≡ [] = nil_from_length s.back (omega (arith, all, e, s.size)) in
+    ap (drop p) s.is ∙ drop_at s.front (tail ++ s.back) p s.size ∙ ap (λ (l : List ℕ). tail ++ l) none ∙ append-nil tail
+
+-- ---- the parts of a block
+
+-- the value and the blocks with the zeros between them
+abbrev value_and_children : BlockValue → List ℕ
+value_and_children k = k.value ++ (replicate (before_others (length k.value) k.children - length k.value) 0 ++ k.children)
+
+pub more_by : (n : ℕ) (c : List ℕ) → n ≤ before_others n c
+more_by n [] = omega arith
+more_by n (x ∷ xs) = omega arith
+
+length_after : (k : BlockValue) → value_start k + length (value_and_children k) ≡ block_length k
+length_after k =
+    let zeros : ℕ = before_others (length k.value) k.children - length k.value in
+    let more : length k.value ≤ before_others (length k.value) k.children = more_by (length k.value) k.children in
+    omega (arith, length-append k.value (replicate zeros 0 ++ k.children), length-append (replicate zeros 0) k.children, length-replicate {A = ℕ} zeros 0, more)
+
+half_by : (t : Bool) (n : ℕ) → (if t then n / 2 else n) ≤ n
+half_by true n = omega arith
+half_by false n = omega arith
+
+type_by : (t : Bool) → type_number t < 2
+type_by true = omega arith
+type_by false = omega arith
+
+length_value : (k : BlockValue) → length k.value ≤ block_length k
+length_value k = let more : length k.value ≤ before_others (length k.value) k.children = more_by (length k.value) k.children in omega (arith, more)
+
+pub record Parts (x : List ℕ) (k : BlockValue) : Type 0 where
+  pub size : length x ≡ block_length k
+  pub first : le x 0 2 ≡ block_length k
+  pub second : le x 2 2 ≡ value_length k
+  pub third : le x 4 2 ≡ type_number k.is_text
+  pub key : range x 6 (length k.key) ≡ k.key
+  pub key_size : key_length x 6 ≡ length k.key
+  pub rest : drop (value_start k) x ≡ value_and_children k
+
+pub parts : (k : BlockValue) → Fits k → Parts (block_bytes k) k
+unfolding block_bytes
+parts k f =
+    let n : ℕ = block_length k in
+    let v : ℕ = value_length k in
+    let t : ℕ = type_number k.is_text in
+    let z : ℕ = value_start k - (6 + length k.key) in
+    let tail : List ℕ = value_and_children k in
+    let x5 : List ℕ = replicate z 0 ++ tail in
+    let x4 : List ℕ = k.key ++ x5 in
+    let x3 : List ℕ = bytes_of 2 t ++ x4 in
+    let x2 : List ℕ = bytes_of 2 v ++ x3 in
+    let x : List ℕ = bytes_of 2 n ++ x2 in
+    let s1 : Stands x 0 x = whole x in
+    let s2 : Stands x 2 x2 = rest_of_number x 0 2 n x2 s1 in
+    let s3 : Stands x 4 x3 = moved x (2 + 2) 4 x3 (omega arith) (rest_of_number x 2 2 v x3 s2) in
+    let s4 : Stands x 6 x4 = moved x (4 + 2) 6 x4 (omega arith) (rest_of_number x 4 2 t x4 s3) in
+    let s5 : Stands x (6 + length k.key) x5 = right x 6 (length k.key) k.key x5 refl s4 in
+    let s6 : Stands x (value_start k) tail = moved x (6 + length k.key + z) (value_start k) tail (omega arith) (right x (6 + length k.key) z (replicate z 0) tail (length-replicate {A = ℕ} z 0) s5) in
+    let after : value_start k + length tail ≡ n = length_after k in
+    let small : v < 65536 = omega (arith, f.short, half_by k.is_text (length k.value), length_value k) in
+    let six : length x ≡ 6 + length x4 = length-append (bytes_of 2 n) x2 ∙ omega (arith, length-append (bytes_of 2 v) x3, length-append (bytes_of 2 t) x4, length-bytes_of 2 n, length-bytes_of 2 v, length-bytes_of 2 t) in
+    let zeros : length x5 ≡ z + length tail = length-append (replicate z 0) tail ∙ omega (arith, length-replicate {A = ℕ} z 0) in
+    let all : length x ≡ value_start k + length tail = omega (arith, six, length-append k.key x5, zeros) in
+    let two : x5 ≡ 0 ∷ 0 ∷ (replicate (z - 2) 0 ++ tail) = ap (λ (l : List ℕ). l ++ tail) (two_zeros z (omega arith)) in
+    record {
+      size = all ∙ after;
+      first = number x 0 2 n f.short (left x 0 (bytes_of 2 n) x2 s1);
+      second = number x 2 2 v small (left x 2 (bytes_of 2 v) x3 s2);
+      third = number x 4 2 t (omega (arith, type_by k.is_text)) (left x 4 (bytes_of 2 t) x4 s3);
+      key = part x 6 (length k.key) k.key refl (left x 6 k.key x5 s4);
+      key_size = ap (λ (l : List ℕ). 2 * length (before_zero (units l))) (rest_from x 6 x4 s4 six ∙ ap (λ (l : List ℕ). k.key ++ l) two)
+          ∙ ap (λ (us : List ℕ). 2 * length us) (key_units k.key (replicate (z - 2) 0 ++ tail) f.key_even f.key_plain) ∙ units_length k.key f.key_even;
+      rest = rest_from x (value_start k) tail s6 all;
+    }
+
+-- ---- one block
+
+bytes_by : (t : Bool) (n : ℕ) → (t ≡ true → n % 2 ≡ 0) → (if type_number t == 1 then 2 * (if t then n / 2 else n) else (if t then n / 2 else n)) ≡ n
+bytes_by true n e = omega (arith, e refl)
+bytes_by false n e = refl
+
+children_by : (value children : List ℕ) → drop (up_to_four (length value)) (value ++ (replicate (before_others (length value) children - length value) 0 ++ children)) ≡ children
+children_by value [] =
+    let none : length value - length value ≡ 0 = omega arith in
+    rw none (drop_all (up_to_four (length value)) (value ++ []) (omega (arith, length-append {A = ℕ} value [])))
+children_by value (c ∷ cs) =
+    let zeros : List ℕ = replicate (up_to_four (length value) - length value) 0 in
+    let size : length (value ++ zeros) ≡ up_to_four (length value) = length-append value zeros ∙ omega (arith, length-replicate {A = ℕ} (up_to_four (length value) - length value) 0) in
+    ap (drop (up_to_four (length value))) (sym (append_assoc value zeros (c ∷ cs))) ∙ drop_at (value ++ zeros) (c ∷ cs) (up_to_four (length value)) size
+
+same_block : (h v t g : ℕ) (key after : List ℕ) (k : BlockValue) → h ≡ block_length k → v ≡ value_length k → t ≡ type_number k.is_text → g ≡ length k.value → key ≡ k.key → after ≡ value_and_children k →
+    ◌≡◌ {A = Block} (record { length = h; value_length = v; value_type = t; key = key; value = take g after; children = drop (up_to_four g) after }) (read_block k)
+same_block h v t g key after k e f i j l m =
+    let tail : List ℕ = replicate (before_others (length k.value) k.children - length k.value) 0 ++ k.children in
+    let first : take (length k.value) (k.value ++ tail) ≡ k.value = take_at k.value tail (length k.value) refl in
+    let rest : drop (up_to_four (length k.value)) (k.value ++ tail) ≡ k.children = children_by k.value k.children in
+    rw (e, f, i, j, l, m, first, rest) refl
+
+whole_by : (c : Bool) (x y : Block) → c ≡ true → x ≡ y → ◌≡◌ {A = Result Block BlockRefusal} (outcome ((c, KeyEnd) ∷ []) x) (Ok y)
+whole_by c x y e f = rw (e, f) refl
+
+whole_read : (x : List ℕ) (k : BlockValue) → Fits k → Parts x k → whole_block x ≡ Ok (read_block k)
+unfolding whole_block block_of value_offset
+whole_read x k f p =
+    let size : value_bytes x 0 ≡ length k.value = rw (p.third, p.second) (bytes_by k.is_text (length k.value) f.even) in
+    let place : value_offset x 0 ≡ value_start k = ap (λ (n : ℕ). up_to_four (6 + n + 2)) p.key_size ∙ ap (λ (n : ℕ). up_to_four n) (omega arith) in
+    let after : after_key x ≡ value_and_children k = ap (λ (n : ℕ). drop n x) place ∙ p.rest in
+    let name : range x 6 (key_length x 6) ≡ k.key = ap (λ (n : ℕ). range x 6 n) p.key_size ∙ p.key in
+    whole_by (holds x (6 + key_length x 6) 2) (block_of x) (read_block k)
+    (rw p.key_size (grind (arith, nat_tests, p.size)))
+    (same_block (le x 0 2) (le x 2 2) (le x 4 2) (value_bytes x 0) (range x 6 (key_length x 6)) (after_key x) k p.first p.second p.third size name after)
+
+-- ---- one block and what follows it
+
+own_by : (a c d : Bool) (x y : List ℕ) → a ≡ true → c ≡ true → d ≡ true → x ≡ y → ◌≡◌ {A = Result (List ℕ) BlockRefusal} (outcome ((a, Image Short) ∷ (c, BelowHead) ∷ (d, PastEnd) ∷ []) x) (Ok y)
+own_by a c d x y e f g h = rw (e, f, g, h) refl
+
+head_number : (b rest : List ℕ) (k : BlockValue) → Fits k → b ≡ block_bytes k ++ rest → le b 0 2 ≡ block_length k
+unfolding block_bytes
+head_number b rest k f e =
+    subst (λ (c : List ℕ). le c 0 2 ≡ block_length k) (sym e)
+    (number (block_bytes k ++ rest) 0 2 (block_length k) f.short (left (block_bytes k ++ rest) 0 (bytes_of 2 (block_length k)) _ (left (block_bytes k ++ rest) 0 (block_bytes k) rest (whole (block_bytes k ++ rest)))))
+
+first_by : (ends : Bool) (own : Result (List ℕ) BlockRefusal) (b x rest : List ℕ) (k : Block) → ends ≡ false → own ≡ Ok x → whole_block x ≡ Ok k → drop (up_to_four (length x)) b ≡ rest →
+    ◌≡◌ {A = Option (Result Block BlockRefusal × List ℕ)} (if ends then None else Some (block_and_rest b own)) (Some (Ok k, rest))
+first_by ends own b x rest k e f g h = rw (e, f, g, h) refl
+
+ends_by : (n h : ℕ) (c : Bool) → 0 < n → 0 < h → (n == 0 || (c && h == 0)) ≡ false
+ends_by n h true i j = let a : (n == 0) ≡ false = grind (arith, nat_tests) in let d : (h == 0) ≡ false = grind (arith, nat_tests) in rw (a, d) refl
+ends_by n h false i j = let a : (n == 0) ≡ false = grind (arith, nat_tests) in rw a refl
+
+no_block : then_blocks blocks (first_block []) ≡ []
+unfolding first_block
+no_block = refl
+
+pub first_read : (k : BlockValue) (more : List ℕ) → Fits k → first_block (padded_block k ++ more) ≡ Some (Ok (read_block k), more)
+unfolding first_block padded_block own_bytes
+first_read k more f =
+    let x : List ℕ = block_bytes k in
+    let n : ℕ = block_length k in
+    let pad : List ℕ = replicate (up_to_four n - n) 0 in
+    let b : List ℕ = (x ++ pad) ++ more in
+    let p : Parts x k = parts k f in
+    let joined : b ≡ x ++ (pad ++ more) = append_assoc x pad more in
+    let head : le b 0 2 ≡ n = head_number b (pad ++ more) k f joined in
+    let size : length b ≡ n + length (pad ++ more) = ap length joined ∙ length-append x (pad ++ more) ∙ ap (λ (m : ℕ). m + length (pad ++ more)) p.size in
+    let eight : 8 ≤ n = omega arith in
+    let here : range b 0 n ≡ x = part b 0 n x p.size (left b 0 x pad (left b 0 (x ++ pad) more (whole b))) in
+    let ends : blocks_end b ≡ false = ends_by (length b) (le b 0 2) (holds b 0 2) (omega (arith, size, eight)) (omega (arith, head, eight)) in
+    let own : own_bytes b ≡ Ok x = own_by (holds b 0 6) (nat_le 6 (le b 0 2)) (holds b 0 (le b 0 2)) (range b 0 (le b 0 2)) x
+    (grind (arith, nat_tests, size, eight)) (rw head (grind (arith, nat_tests, eight))) (rw head (grind (arith, nat_tests, size))) (rw head here) in
+    let long : length (x ++ pad) ≡ up_to_four n = length-append x pad ∙ omega (arith, p.size, length-replicate {A = ℕ} (up_to_four n - n) 0) in
+    let rest : drop (up_to_four (length x)) b ≡ more = ap (λ (m : ℕ). drop (up_to_four m) b) p.size ∙ drop_at (x ++ pad) more (up_to_four n) long in
+    first_by (blocks_end b) (own_bytes b) b x more (read_block k) ends own (whole_read x k f p) rest
+
+-- ---- all
+
+pub blocks_read : (ks : List BlockValue) → AllFit ks → blocks (blocks_bytes ks) ≡ map (λ k. Ok (read_block k)) ks
+unfolding blocks_bytes
+blocks_read [] f = blocks_start [] ∙ no_block
+blocks_read (k ∷ ks) f =
+    blocks_start (padded_block k ++ blocks_bytes ks)
+    ∙ ap (then_blocks blocks) (first_read k (blocks_bytes ks) f.0)
+    ∙ ap (λ (l : List (Result Block BlockRefusal)). Ok (read_block k) ∷ l) (blocks_read ks f.1)

@@ -1,0 +1,2 @@
+pub mod WrittenBlocks
+pub mod VersionRefusals

@@ -1,0 +1,215 @@
+//! Images whose resources are changed: the bytes that are written, and numbers in refusals. The image has two sections, of which
+//! the second has the resources, and five bytes after them. Its checksum is at 0xD0, the entry of the resource directory at
+//! 0x110, and the header of the resource section at 0x1A8. The checksum that is expected is pefile's of the same bytes.
+
+use crate::images::with_part;
+use pe_core::{DataDirectory, Header, ParseMode, ParseOptions};
+use pe_edit::{Resource, ResourceKey};
+use pe_images::{headers_alone, put};
+use pe_resource::ResourceData;
+use pe_rewrite::{RewriteError, edited_len, write_edited};
+use std::alloc::Global;
+use std::test::Fail;
+
+/// What a byte of the buffer is before a call.
+const OLD: u8 = 0xEE;
+
+/// The content of the resource, 0x100 bytes with the others.
+const CONTENT: [u8; 0x100] = [0x5A; 0x100];
+
+/// The length of the image, and that of its resources with one leaf of this content.
+const LENGTH: usize = 0x605;
+
+const RESOURCES: [u8; 4] = [0x58, 1, 0, 0];
+
+/// The checksum of the image that has them.
+const CHECKSUM: [u8; 4] = [0x19, 0x19, 0, 0];
+
+fn header_of(bytes: &[u8]) -> Result<Header<'_>, pe_core::Error> {
+    Header::parse_with_opts(bytes, &ParseOptions::default())
+}
+
+/// The image: code at the RVA 0x1000, resources at 0x2000.
+fn old_image(alloc: Global) -> Result<Vec<u8>, Fail> {
+    let mut bytes = headers_alone(alloc)?;
+    bytes.resize(LENGTH, 0x33)?;
+    put(
+        &mut bytes,
+        &[
+            (0x7E, &[2, 0]),
+            (0x110, &[0, 0x20, 0, 0, 0x10, 0, 0, 0]),
+            (
+                0x180,
+                b".text\0\0\0\0\x01\0\0\0\x10\0\0\0\x02\0\0\0\x02\0\0",
+            ),
+            (
+                0x1A8,
+                b".rsrc\0\0\0\x10\0\0\0\0\x20\0\0\0\x02\0\0\0\x04\0\0",
+            ),
+            (0x600, b"after"),
+        ],
+    );
+    Ok(bytes)
+}
+
+/// A resource of the type 10.
+fn resource(name: u16, content: &[u8]) -> Resource<'_> {
+    Resource {
+        resource_type: ResourceKey::Id(10),
+        name: ResourceKey::Id(name),
+        language: 0x409,
+        code_page: 1252,
+        content,
+    }
+}
+
+/// The error of an edit, the same by both calls; the buffer stays as it was.
+fn refused(alloc: Global, bytes: &[u8], leaves: &[Resource<'_>]) -> Result<String, Fail> {
+    let header = header_of(bytes)?;
+    let mut out = vec![in alloc; OLD; LENGTH]?;
+    let Err(error) = write_edited(bytes, &header, leaves, &mut out) else {
+        return Err("an image is written".into());
+    };
+    if !out.iter().all(|byte| *byte == OLD) {
+        return Err("the buffer has changed".into());
+    }
+    let Err(same) = edited_len(bytes, &header, leaves) else {
+        return Err("an image has a length".into());
+    };
+    let shown = format!(in alloc; "{error:?}")?;
+    if shown != format!(in alloc; "{same:?}")? {
+        return Err("the calls return two errors".into());
+    }
+    Ok(shown)
+}
+
+#[test]
+fn bytes_of_an_edit(rt: HostRuntime) -> Result<(), Fail> {
+    let bytes = old_image(rt.alloc())?;
+    let mut out = vec![in rt.alloc(); OLD; LENGTH + 3]?;
+    let leaves = [resource(1, &CONTENT)];
+    let header = header_of(&bytes)?;
+    assert_eq!(rt; edited_len(&bytes, &header, &leaves)?, LENGTH);
+    assert_eq!(rt; write_edited(&bytes, &header, &leaves, &mut out)?, LENGTH);
+    assert_eq!(rt; &out[..0x114], &bytes[..0x114]);
+    assert_eq!(rt; &out[0x114..0x118], RESOURCES.as_slice());
+    assert_eq!(rt; &out[0x118..0x1B0], &bytes[0x118..0x1B0]);
+    assert_eq!(rt; &out[0x1B0..0x1B4], RESOURCES.as_slice());
+    assert_eq!(rt; &out[0x1B4..0x400], &bytes[0x1B4..0x400]);
+    assert_eq!(rt; &out[0x458..0x558], CONTENT.as_slice());
+    assert!(rt; out[0x558..0x600].iter().all(|byte| *byte == 0));
+    assert_eq!(rt; &out[0x600..LENGTH], b"after".as_slice());
+    assert_eq!(rt; &out[LENGTH..], [OLD; 3].as_slice());
+    Ok(())
+}
+
+/// What is written is parsed, and has the leaf that was given.
+#[test]
+fn the_leaf_is_read(rt: HostRuntime) -> Result<(), Fail> {
+    let bytes = old_image(rt.alloc())?;
+    let mut out = vec![in rt.alloc(); OLD; LENGTH]?;
+    write_edited(
+        &bytes,
+        &header_of(&bytes)?,
+        &[resource(7, b"abc")],
+        &mut out,
+    )?;
+    let header = header_of(&out)?;
+    let sections = header.sections(rt.alloc(), &out)?;
+    let directory = DataDirectory {
+        virtual_address: 0x2000,
+        size: 0x60,
+    };
+    let opts = ParseOptions::default().with_parse_mode(ParseMode::Strict);
+    let mut walk = ResourceData::leaves(&out, directory, &sections, 0x200, &opts)?;
+    let Some(Ok(leaf)) = walk.next() else {
+        return Err("no leaf".into());
+    };
+    assert_eq!(rt; leaf.name.id(), Some(7));
+    let range = leaf.content_range(&out, &sections, 0x200, &opts)?;
+    assert_eq!(rt; range.of(&out), b"abc".as_slice());
+    assert!(rt; walk.next().is_none());
+    Ok(())
+}
+
+/// A checksum that is not 0 is made good.
+#[test]
+fn the_checksum_is_that_of_the_file(rt: HostRuntime) -> Result<(), Fail> {
+    let bytes = with_part(old_image(rt.alloc())?, 0xD0, &[1]);
+    let mut out = vec![in rt.alloc(); OLD; LENGTH]?;
+    write_edited(
+        &bytes,
+        &header_of(&bytes)?,
+        &[resource(1, &CONTENT)],
+        &mut out,
+    )?;
+    assert_eq!(rt; &out[0xD0..0xD4], CHECKSUM.as_slice());
+    Ok(())
+}
+
+#[test]
+fn numbers_in_refusals(rt: HostRuntime) -> Result<(), Fail> {
+    let leaves = [resource(1, &CONTENT)];
+    for (offset, part, text) in [
+        (0x8C, &[0, 0][..], "Image(Malformed(NoOptionalHeader))"),
+        (0xFC, &[2][..], "NoDirectory(2)"),
+        (0x120, &[0, 6, 0, 0, 8][..], "Signed"),
+        (0x8C, &[0x60][..], "Headers(240)"),
+        (0x7E, &[255][..], "Image(Short { at: 0, needed: 10584 })"),
+        (0xB1, &[8][..], "Alignment(2048)"),
+        (0xB5, &[1][..], "Alignment(256)"),
+        (0xB5, &[6][..], "Alignment(1536)"),
+        (0x111, &[0x30][..], "NoSection(12288)"),
+        (0x1BC, &[0x80, 3][..], "Section(1)"),
+        (0x1BD, &[6][..], "Section(1)"),
+        (0x1BD, &[0][..], "Section(1)"),
+        (0xA1, &[0x21][..], "SharedSection(8480)"),
+        (0x100, &[0, 0x21][..], "SharedSection(8448)"),
+        (0x84, &[0, 5][..], "Symbols(1280)"),
+        (0x84, &[0, 3, 0, 0, 15][..], "Symbols(768)"),
+        (0x191, &[4][..], "Overlap(0)"),
+        (0x18D, &[0x20][..], "Overlap(1)"),
+        (0x195, &[0][..], "Overlap(0)"),
+    ] {
+        let bytes = with_part(old_image(rt.alloc())?, offset, part);
+        let shown = refused(rt.alloc(), &bytes, &leaves)?;
+        assert_eq!(rt; shown.as_str(), text);
+    }
+    let bytes = old_image(rt.alloc())?;
+    let unsorted = [resource(2, b""), resource(1, b"")];
+    let shown = refused(rt.alloc(), &bytes, &unsorted)?;
+    assert_eq!(rt; shown.as_str(), "Leaves(Order(1))");
+    let two = [resource(1, &CONTENT), resource(2, &CONTENT)];
+    let shown = refused(rt.alloc(), &bytes, &two)?;
+    assert_eq!(rt; shown.as_str(), "NoRoom { needed: 648, room: 512 }");
+    Ok(())
+}
+
+#[test]
+fn texts_of_refusals(rt: HostRuntime) -> Result<(), Fail> {
+    for (error, text) in [
+        (
+            RewriteError::NoDirectory(2),
+            "no resource directory: the optional header has 2 data directories",
+        ),
+        (
+            RewriteError::Signed,
+            "image has certificates, which have to be detached first",
+        ),
+        (
+            RewriteError::Section(1),
+            "data of section 1 start in the headers, end after the end of the file, or are not aligned to 512",
+        ),
+        (
+            RewriteError::NoRoom {
+                needed: 656,
+                room: 512,
+            },
+            "resources have 0x290 bytes, and the data of the resource section 0x200",
+        ),
+    ] {
+        let shown = format!(in rt.alloc(); "{error}")?;
+        assert_eq!(rt; shown.as_str(), text);
+    }
+    Ok(())
+}
