@@ -4,8 +4,8 @@
  * The caller's obligations, for each call:
  *   - `bytes` points to the `length` bytes of the image, a file or memory, which are readable and which nothing writes
  *     during the call. It may be NULL if `length` is 0;
- *   - every other pointer is not NULL (an array of 0 entries may be), is aligned for its type, and points to
- *     initialised memory (`= PE_C_EMPTY`), also where the call only writes;
+ *   - every other pointer, also one in a view, is not NULL (an array of 0 entries may be), is aligned for its type, and points
+ *     to initialised memory (`= PE_C_EMPTY`), also where the call only writes;
  *   - what a call writes (`out`, a walk, `room`) overlaps no other argument.
  * There is no obligation on what the bytes or the fields of records contain: every value is legal. A wrong range gives an
  * error code, never undefined behaviour.
@@ -239,6 +239,17 @@ PE_C_SIZE(pe_c_directory, 8);
 PE_C_SIZE(pe_c_image_info, 208);
 PE_C_SIZE(pe_c_section, 40);
 
+/* An image as newer calls take it, in place of its parts: what pe_c_image and pe_c_sections returned of the bytes. */
+typedef struct {
+    const uint8_t *bytes;
+    size_t length;                  /* of the bytes */
+    const pe_c_image_info *image;   /* not NULL */
+    const pe_c_section *sections;
+    size_t count;                   /* of the sections */
+} pe_c_view;
+
+PE_C_SIZE(pe_c_view, 40);
+
 /* Reads the headers of an image, which are at the same offsets in a file and in memory.
  * Errors: PE_C_SHORT, PE_C_BAD_MAGIC of the DOS header; PE_C_HEADER_POINTER in strict mode; PE_C_SHORT, PE_C_BAD_MAGIC of
  * the PE signature; PE_C_SHORT of the COFF header; PE_C_SHORT, PE_C_BAD_MAGIC of the optional header; PE_C_SHORT of its
@@ -258,6 +269,100 @@ uint32_t pe_c_sections(const uint8_t *bytes, size_t length, const pe_c_image_inf
  * iPXE's, every call that maps RVAs so finds other offsets than a reader that does not round. */
 uint32_t pe_c_offset(const pe_c_image_info *image, const pe_c_section *sections, size_t count, uint32_t rva,
                      uint64_t *out) PE_C_RESULT(1, 5);
+
+/* ---- all numbers of the headers
+ *
+ * pe_c_image reads of them what other calls take; this call reads all. Fields have the names of winnt.h, without abbreviations. */
+
+/* IMAGE_DOS_HEADER, in its layout. Windows reads the first field and the last alone. */
+typedef struct {
+    uint16_t signature;             /* e_magic: 0x5A4D, "MZ" */
+    uint16_t bytes_on_last_page;    /* e_cblp */
+    uint16_t pages_in_file;         /* e_cp: of 512 bytes */
+    uint16_t relocations;           /* e_crlc */
+    uint16_t size_of_header_in_paragraphs;  /* e_cparhdr: of 16 bytes */
+    uint16_t minimum_extra_paragraphs;  /* e_minalloc */
+    uint16_t maximum_extra_paragraphs;  /* e_maxalloc */
+    uint16_t initial_relative_ss;   /* e_ss */
+    uint16_t initial_sp;            /* e_sp */
+    uint16_t checksum;              /* e_csum */
+    uint16_t initial_ip;            /* e_ip */
+    uint16_t initial_relative_cs;   /* e_cs */
+    uint16_t relocations_offset;    /* e_lfarlc */
+    uint16_t overlay_number;        /* e_ovno */
+    uint16_t reserved[4];           /* e_res */
+    uint16_t oem_id;                /* e_oemid */
+    uint16_t oem_information;       /* e_oeminfo */
+    uint16_t reserved2[10];         /* e_res2 */
+    uint32_t pe_pointer;            /* e_lfanew: file offset of the PE signature */
+} pe_c_dos_header;
+
+/* IMAGE_FILE_HEADER. */
+typedef struct {
+    uint32_t time_date_stamp;       /* seconds since 1970, or a hash in a reproducible build */
+    uint32_t pointer_to_symbol_table;   /* file offset of the COFF symbols, or 0 */
+    uint32_t number_of_symbol_table;    /* their entries of 18 bytes, auxiliary records included */
+    uint16_t machine;               /* IMAGE_FILE_MACHINE_ */
+    uint16_t number_of_sections;
+    uint16_t size_of_optional_header;   /* bytes; 0 where there is no optional header */
+    uint16_t characteristics;       /* IMAGE_FILE_ flags */
+} pe_c_coff_header;
+
+/* IMAGE_OPTIONAL_HEADER32 or IMAGE_OPTIONAL_HEADER64. */
+typedef struct {
+    uint64_t image_base;            /* preferred virtual address of the image */
+    uint64_t size_of_stack_reserve; /* bytes */
+    uint64_t size_of_stack_commit;  /* bytes */
+    uint64_t size_of_heap_reserve;  /* bytes */
+    uint64_t size_of_heap_commit;   /* bytes */
+    uint32_t size_of_code;          /* bytes */
+    uint32_t size_of_initialized_data;  /* bytes */
+    uint32_t size_of_uninitialized_data;    /* bytes */
+    uint32_t address_of_entry_point;    /* RVA, or 0 */
+    uint32_t base_of_code;          /* RVA */
+    uint32_t base_of_data;          /* RVA; 0 in PE32+, which has no such field */
+    uint32_t section_alignment;     /* bytes */
+    uint32_t file_alignment;        /* bytes */
+    uint32_t win32_version_value;   /* reserved */
+    uint32_t size_of_image;         /* bytes in memory */
+    uint32_t size_of_headers;       /* bytes in the file, rounded up to the file alignment */
+    uint32_t check_sum;
+    uint32_t loader_flags;          /* reserved */
+    uint32_t number_of_rva_and_sizes;   /* directories, as the header says */
+    uint32_t number_of_directories; /* those of them that are kept, at most 16 */
+    uint16_t magic;                 /* 0x10B in PE32, 0x20B in PE32+ */
+    uint16_t major_operating_system_version;
+    uint16_t minor_operating_system_version;
+    uint16_t major_image_version;
+    uint16_t minor_image_version;
+    uint16_t major_subsystem_version;
+    uint16_t minor_subsystem_version;
+    uint16_t subsystem;             /* IMAGE_SUBSYSTEM_ */
+    uint16_t dll_characteristics;   /* IMAGE_DLLCHARACTERISTICS_ flags */
+    uint8_t major_linker_version;
+    uint8_t minor_linker_version;
+} pe_c_optional_header;
+
+/* Without an optional header its numbers and both offsets are 0, and all directories are absent. */
+typedef struct {
+    pe_c_optional_header optional;
+    pe_c_range dos_stub;            /* between the DOS header and the PE signature; no bytes where these overlap */
+    uint64_t optional_offset;       /* of the optional header */
+    uint64_t directories_offset;    /* of the data directories, 8 bytes each */
+    pe_c_dos_header dos;
+    pe_c_coff_header coff;
+    uint32_t signature;             /* 0x4550, "PE" */
+    pe_c_directory directories[16]; /* by their indices; absent from number_of_directories on */
+} pe_c_headers_info;
+
+PE_C_SIZE(pe_c_dos_header, 64);
+PE_C_SIZE(pe_c_coff_header, 20);
+PE_C_SIZE(pe_c_optional_header, 120);
+PE_C_SIZE(pe_c_headers_info, 368);
+
+/* Reads all numbers of the headers of an image, which are at the same offsets in a file and in memory.
+ * Errors are those of pe_c_image. */
+uint32_t pe_c_headers(const uint8_t *bytes, size_t length, uint32_t mode, pe_c_headers_info *out) PE_C_RESULT(4);
 
 /* ---- the overlay */
 
@@ -322,14 +427,8 @@ uint32_t pe_c_next_rich_entry(const uint8_t *bytes, size_t length, uint32_t key,
  * is: CodeView names the PDB file of the image, POGO the parts that the linker joined, Repro marks a reproducible build.
  * https://learn.microsoft.com/windows/win32/debug/pe-format#the-debug-section
  *
- * pe_c_debug_entries lists the entries and reads no record. Each of the six calls that return a record reads all debug
- * data, so what damages one record is an error of all six. A record is that of the first entry of its type. The six
- * calls return PE_C_NOTHING without a debug directory or such a record, and share their errors:
- *   - the directory: PE_C_UNMAPPED; PE_C_DEBUG_BOUNDS in strict mode;
- *   - PDB 7.0, then PDB 2.0: PE_C_DEBUG_SIZE in strict mode; PE_C_SHORT, PE_C_DEBUG_DATA;
- *   - VC features, then characteristics: PE_C_SHORT;
- *   - Repro: PE_C_SHORT, PE_C_DEBUG_DATA;
- *   - POGO: PE_C_SHORT, PE_C_POGO_SIZE, PE_C_DEBUG_DATA. */
+ * A record is read from one entry: the first of its type, or one that the caller has. No other entry is read, so what damages one
+ * record makes no difference to another. */
 
 /* IMAGE_DEBUG_DIRECTORY. */
 typedef struct {
@@ -337,7 +436,7 @@ typedef struct {
     uint32_t time_date_stamp;       /* seconds since 1970, or a hash in a reproducible build */
     uint16_t major_version, minor_version;  /* of the record's format */
     uint32_t data_type;             /* IMAGE_DEBUG_TYPE_CODEVIEW 2, _VC_FEATURE 12, _POGO 13, _REPRO 16,
-                                       _EX_DLLCHARACTERISTICS 20, or another */
+                                       _EMBEDDEDPORTABLEPDB 17, _PDBCHECKSUM 19, _EX_DLLCHARACTERISTICS 20, or another */
     uint32_t size_of_data;          /* bytes of the record */
     uint32_t address_of_raw_data;   /* RVA of the record, or 0; in an image as loaded the library reads it there */
     uint32_t pointer_to_raw_data;   /* file offset of the record; in a file the library reads it there */
@@ -389,6 +488,19 @@ typedef struct {
     uint32_t size;                  /* bytes of the part */
 } pe_c_pogo_entry;
 
+/* A portable PDB in the image itself, of .NET. */
+typedef struct {
+    pe_c_range compressed;          /* raw Deflate data */
+    uint32_t uncompressed_size;     /* bytes of the PDB, as the record states it */
+    uint32_t spare;                 /* 0 */
+} pe_c_embedded_pdb;
+
+/* A checksum of the PDB file, of .NET: of its bytes with zeros in place of the PDB's id. */
+typedef struct {
+    pe_c_range algorithm;           /* the name of the algorithm, as "SHA256", not NUL-terminated */
+    pe_c_range checksum;            /* the rest of the record */
+} pe_c_pdb_checksum;
+
 PE_C_SIZE(pe_c_debug_entry, 28);
 PE_C_SIZE(pe_c_key, 40);
 PE_C_SIZE(pe_c_pdb20, 32);
@@ -396,6 +508,8 @@ PE_C_SIZE(pe_c_vc_features, 20);
 PE_C_SIZE(pe_c_repro, 24);
 PE_C_SIZE(pe_c_pogo, 24);
 PE_C_SIZE(pe_c_pogo_entry, 24);
+PE_C_SIZE(pe_c_embedded_pdb, 24);
+PE_C_SIZE(pe_c_pdb_checksum, 32);
 
 /* Returns the entries of the debug directory as a walk for pe_c_next_debug_entry. PE_C_NOTHING without a directory.
  * Errors: PE_C_UNMAPPED; PE_C_DEBUG_BOUNDS in strict mode. */
@@ -406,6 +520,13 @@ uint32_t pe_c_debug_entries(const uint8_t *bytes, size_t length, const pe_c_imag
  * Errors: PE_C_SHORT where the walk is not inside the bytes, or its last entry is truncated. */
 uint32_t pe_c_next_debug_entry(const uint8_t *bytes, size_t length, pe_c_range *walk, pe_c_debug_entry *out)
     PE_C_RESULT(3, 4);
+
+/* Returns the first entry of a type. A truncated last entry is none. PE_C_NOTHING without a directory or such an entry.
+ * Errors: PE_C_UNMAPPED; PE_C_DEBUG_BOUNDS in strict mode. */
+uint32_t pe_c_first_debug_entry(const pe_c_view *view, uint32_t data_type, pe_c_debug_entry *out) PE_C_RESULT(1, 3);
+
+/* The next six read the record of the first entry of a type, and return PE_C_NOTHING also without such an entry. Errors: those
+ * of pe_c_first_debug_entry, then those of the call of the same record below, which takes an entry. */
 
 /* Returns the symbol key: the CodeView record, if it is one of PDB 7.0. */
 uint32_t pe_c_symbol_key(const uint8_t *bytes, size_t length, const pe_c_image_info *image,
@@ -435,6 +556,51 @@ uint32_t pe_c_debug_repro(const uint8_t *bytes, size_t length, const pe_c_image_
 /* Returns the POGO record. PE_C_NOTHING also for another signature. */
 uint32_t pe_c_debug_pogo(const uint8_t *bytes, size_t length, const pe_c_image_info *image,
                          const pe_c_section *sections, size_t count, pe_c_pogo *out) PE_C_RESULT(3, 6);
+
+/* The next eight read the record of an entry that the caller has, in a mode, whatever the entry's type is. */
+
+/* Returns the symbol key. PE_C_NOTHING where the record is not one of PDB 7.0.
+ * Errors: PE_C_DEBUG_SIZE where the entry's size is below 24, in strict mode, and PE_C_NOTHING in permissive mode; PE_C_SHORT of
+ * the first 24 bytes; PE_C_DEBUG_DATA of the name. */
+uint32_t pe_c_symbol_key_of(const uint8_t *bytes, size_t length, uint32_t mode, const pe_c_debug_entry *entry,
+                            pe_c_key *out) PE_C_RESULT(4, 5);
+
+/* Returns a CodeView record of PDB 2.0. PE_C_NOTHING where it is none.
+ * Errors: PE_C_DEBUG_SIZE where the entry's size is below 16, in strict mode, and PE_C_NOTHING in permissive mode; PE_C_SHORT of
+ * the first 16 bytes; PE_C_DEBUG_DATA of the name. */
+uint32_t pe_c_pdb20_of(const uint8_t *bytes, size_t length, uint32_t mode, const pe_c_debug_entry *entry,
+                       pe_c_pdb20 *out) PE_C_RESULT(4, 5);
+
+/* Returns the counts of VC features.
+ * Error: PE_C_SHORT. */
+uint32_t pe_c_vc_features_of(const uint8_t *bytes, size_t length, uint32_t mode, const pe_c_debug_entry *entry,
+                             pe_c_vc_features *out) PE_C_RESULT(4, 5);
+
+/* Returns the extended DLL characteristics.
+ * Error: PE_C_SHORT. */
+uint32_t pe_c_characteristics_of(const uint8_t *bytes, size_t length, uint32_t mode, const pe_c_debug_entry *entry,
+                                 uint32_t *out) PE_C_RESULT(4, 5);
+
+/* Returns a Repro record.
+ * Errors: PE_C_SHORT of the hash's length; PE_C_DEBUG_DATA of the hash. */
+uint32_t pe_c_repro_of(const uint8_t *bytes, size_t length, uint32_t mode, const pe_c_debug_entry *entry,
+                       pe_c_repro *out) PE_C_RESULT(4, 5);
+
+/* Returns a POGO record. PE_C_NOTHING for another signature.
+ * Errors: PE_C_SHORT of the signature; PE_C_POGO_SIZE where the entry's size is at most 4; PE_C_DEBUG_DATA of the entries. */
+uint32_t pe_c_pogo_of(const uint8_t *bytes, size_t length, uint32_t mode, const pe_c_debug_entry *entry,
+                      pe_c_pogo *out) PE_C_RESULT(4, 5);
+
+/* Returns the portable PDB in an image.
+ * Errors: PE_C_DEBUG_SIZE where the entry's size is below 8; PE_C_SHORT of the first 8 bytes; PE_C_BAD_MAGIC; PE_C_DEBUG_DATA of
+ * the compressed data. */
+uint32_t pe_c_embedded_pdb_of(const uint8_t *bytes, size_t length, uint32_t mode, const pe_c_debug_entry *entry,
+                              pe_c_embedded_pdb *out) PE_C_RESULT(4, 5);
+
+/* Returns the checksum of the PDB file.
+ * Errors: PE_C_DEBUG_DATA; PE_C_DEBUG_SIZE where no zero ends the name of the algorithm. */
+uint32_t pe_c_pdb_checksum_of(const uint8_t *bytes, size_t length, uint32_t mode, const pe_c_debug_entry *entry,
+                              pe_c_pdb_checksum *out) PE_C_RESULT(4, 5);
 
 /* Returns the next entry of a POGO record.
  * Errors: PE_C_SHORT where the walk is not inside the bytes, or fewer than 8 bytes are left; PE_C_POGO_NAME where the name

@@ -6,7 +6,7 @@
 //! library are made here and in `walk`.
 
 use crate::frames::MemoryList;
-use crate::sys::{self, Directory, ImageInfo, Section};
+use crate::sys::{self, Directory, Headers, ImageInfo, Section};
 use alloc::vec::Vec;
 use core::fmt;
 
@@ -428,6 +428,20 @@ impl<'a> Image<'a> {
         &self.info
     }
 
+    /// All numbers of the headers, by their names: of the DOS header, the COFF header and the optional header. [`Image::info`]
+    /// has those that most callers need, and reads nothing anew.
+    ///
+    /// # Errors
+    ///
+    /// None of a file: they are those of [`Image::parse_as`], which would have returned them.
+    pub fn headers(&self) -> Result<Headers, Error> {
+        let mut headers = Headers::default();
+        // SAFETY: as above.
+        let number =
+            unsafe { sys::pe_c_headers(self.bytes.as_ptr(), self.bytes.len(), self.info.mode, &mut headers) };
+        Error::of(number).map(|()| headers)
+    }
+
     /// The section headers, in the order of the file.
     pub fn sections(&self) -> &[Section] {
         &self.sections
@@ -444,6 +458,17 @@ impl<'a> Image<'a> {
         let number =
             unsafe { sys::pe_c_offset(&self.info, self.sections.as_ptr(), self.sections.len(), rva, &mut offset) };
         (number == sys::DONE).then_some(offset)
+    }
+
+    /// The image as newer calls take it. It is for calls that end before `self` changes or ends.
+    pub(crate) fn view(&self) -> sys::View {
+        sys::View {
+            bytes: self.bytes.as_ptr(),
+            length: self.bytes.len(),
+            image: &self.info,
+            sections: self.sections.as_ptr(),
+            count: self.sections.len(),
+        }
     }
 
     /// Makes a call that takes the image.

@@ -30,3 +30,5 @@ pub mod BoundImports
 pub mod SectionNames
 pub mod VersionBlocks
 pub mod Overlays
+pub mod Headers
+pub mod DebugLaws
