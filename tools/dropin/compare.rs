@@ -203,11 +203,10 @@ macro_rules! old_reader {
                 facts.push(("section names", shown(names)));
                 facts.push(("old name", shown(pe.name)));
                 facts.push(("export_data", shown(&pe.export_data)));
-                for it in pe.exports.iter().take(MOST) {
-                    // Those whose RVA is unmapped are left out there.
-                    if let Some(offset) = $offset(it.offset) {
-                        facts.push(("export", shown((it.name, offset, it.rva, it.size, &it.reexport))));
-                    }
+                // Those whose RVA is unmapped are left out there.
+                let mapped = pe.exports.iter().filter_map(|it| Some((it, $offset(it.offset)?)));
+                for (it, offset) in mapped.take(MOST) {
+                    facts.push(("export", shown((it.name, offset, it.rva, it.size, &it.reexport))));
                 }
                 facts.push(("import_data", shown(&pe.import_data)));
                 facts.push(("imports", shown(&pe.imports)));

@@ -37,6 +37,8 @@
 //! # Ok::<(), goblin::error::Error>(())
 //! ```
 #![warn(unsafe_op_in_unsafe_fn)]
+// scroll derives such units.
+#![allow(clippy::unused_unit)]
 
 pub mod container;
 pub mod options;

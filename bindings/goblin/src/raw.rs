@@ -287,6 +287,7 @@ macro_rules! calls_of_bytes {
 
 calls_of_bytes! {
     image: pe_c_image(mode: u32) -> ImageInfo;
+    headers: pe_c_headers(mode: u32) -> sys::Headers;
     string_table: pe_c_string_table(info: &ImageInfo) -> Range;
     long_section_name: pe_c_long_section_name(table: &Range, section: &Section) -> Range;
     rich_header: pe_c_rich_header() -> sys::RichHeader;

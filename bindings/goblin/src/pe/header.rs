@@ -135,6 +135,32 @@ impl DosHeader {
     }
 }
 
+impl From<&sys::DosHeader> for DosHeader {
+    fn from(it: &sys::DosHeader) -> Self {
+        DosHeader {
+            signature: it.signature,
+            bytes_on_last_page: it.bytes_on_last_page,
+            pages_in_file: it.pages_in_file,
+            relocations: it.relocations,
+            size_of_header_in_paragraphs: it.size_of_header_in_paragraphs,
+            minimum_extra_paragraphs_needed: it.minimum_extra_paragraphs,
+            maximum_extra_paragraphs_needed: it.maximum_extra_paragraphs,
+            initial_relative_ss: it.initial_relative_ss,
+            initial_sp: it.initial_sp,
+            checksum: it.checksum,
+            initial_ip: it.initial_ip,
+            initial_relative_cs: it.initial_relative_cs,
+            file_address_of_relocation_table: it.relocations_offset,
+            overlay_number: it.overlay_number,
+            reserved: it.reserved,
+            oem_id: it.oem_id,
+            oem_info: it.oem_information,
+            reserved_2: it.reserved2,
+            pe_pointer: it.pe_pointer,
+        }
+    }
+}
+
 /// What follows the DOS header, up to the PE signature: as a rule a program that says that it needs Windows.
 #[derive(Debug, PartialEq, Copy, Clone, Default)]
 pub struct DosStub<'a> {
@@ -238,6 +264,20 @@ pub struct CoffHeader {
     pub characteristics: u16,
 }
 
+impl From<&sys::CoffHeader> for CoffHeader {
+    fn from(it: &sys::CoffHeader) -> Self {
+        CoffHeader {
+            machine: it.machine,
+            number_of_sections: it.number_of_sections,
+            time_date_stamp: it.time_date_stamp,
+            pointer_to_symbol_table: it.pointer_to_symbol_table,
+            number_of_symbol_table: it.number_of_symbol_table,
+            size_of_optional_header: it.size_of_optional_header,
+            characteristics: it.characteristics,
+        }
+    }
+}
+
 impl CoffHeader {
     /// Reads the header at an offset, and moves the offset. Error: `Scroll` where it is truncated.
     pub fn parse(bytes: &[u8], offset: &mut usize) -> error::Result<Self> {
@@ -330,15 +370,15 @@ impl<'a> Header<'a> {
     pub(crate) fn with_info(bytes: &'a [u8], opts: &ParseOptions) -> error::Result<(Self, ImageInfo)> {
         let found = raw::image(bytes, raw::mode_of(opts)).map_err(|it| it.of_headers(bytes))?;
         let info = found.ok_or_else(|| error::Error::Malformed("no headers".to_owned()))?;
-        let headers = raw::headers(bytes, &info)?;
-        let stub_len = (headers.dos_header.pe_pointer as usize).saturating_sub(DOS_STUB_OFFSET as usize);
+        let found = raw::headers(bytes, raw::mode_of(opts)).map_err(|it| it.of_headers(bytes))?;
+        let headers = found.ok_or_else(|| error::Error::Malformed("no headers".to_owned()))?;
         let header = Header {
-            dos_header: headers.dos_header,
-            dos_stub: DosStub { data: raw::bytes_at(bytes, DOS_STUB_OFFSET as usize, stub_len)? },
+            dos_header: (&headers.dos).into(),
+            dos_stub: DosStub { data: raw::slice(bytes, headers.dos_stub)? },
             rich_header: RichHeader::parse(bytes)?,
             signature: headers.signature,
-            coff_header: headers.coff_header,
-            optional_header: OptionalHeader::of(&info, &headers),
+            coff_header: (&headers.coff).into(),
+            optional_header: OptionalHeader::of(&headers)?,
         };
         Ok((header, info))
     }

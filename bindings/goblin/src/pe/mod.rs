@@ -240,12 +240,8 @@ impl<'a> TE<'a> {
         let header = header::TeHeader::parse(bytes, &mut offset)?;
         let sections = header.sections(bytes, &mut offset)?;
         let (opts, rva_offset) = (ParseOptions::te(), header.rva_offset()?);
-        let debug_data = match header.debug_dir == Default::default() {
-            true => debug::DebugData::default(),
-            false => {
-                debug::DebugData::parse_with_opts_and_fixup(bytes, header.debug_dir, &sections, 0, &opts, rva_offset)?
-            }
-        };
+        let debug_data =
+            debug::DebugData::parse_with_opts_and_fixup(bytes, header.debug_dir, &sections, 0, &opts, rva_offset)?;
         Ok(TE { header, sections, debug_data, rva_offset: rva_offset as usize })
     }
 }

@@ -5,7 +5,7 @@ use super::data_directories::{self, DataDirectories, DataDirectory};
 use crate::container;
 use crate::error;
 use crate::raw;
-use pe_c::sys::ImageInfo;
+use pe_c::sys;
 use scroll::{ctx, Pread, Pwrite, SizeWith};
 
 /// `IMAGE_NT_OPTIONAL_HDR32_MAGIC`: PE32.
@@ -228,19 +228,34 @@ impl OptionalHeader {
         }
     }
 
-    /// Of an image whose headers the library has read.
-    pub(crate) fn of(info: &ImageInfo, headers: &raw::Headers) -> Option<Self> {
-        let (standard_fields, windows_fields) = headers.fields?;
+    /// Of an image's headers, as the library has read them; `None` without one.
+    pub(crate) fn of(headers: &sys::Headers) -> error::Result<Option<Self>> {
+        if headers.coff.size_of_optional_header == 0 {
+            return Ok(None);
+        }
         let mut data_directories = DataDirectories::default();
-        let entries = data_directories.data_directories.iter_mut().zip(info.directories).enumerate();
+        let entries = data_directories.data_directories.iter_mut().zip(headers.directories).enumerate();
+        let start = usize::try_from(headers.directories_offset)?;
         for (index, (entry, found)) in entries {
             let directory = DataDirectory { virtual_address: found.virtual_address, size: found.size };
-            let at = headers.directories + index * data_directories::SIZEOF_DATA_DIRECTORY;
+            let at = start + index * data_directories::SIZEOF_DATA_DIRECTORY;
             *entry = data_directories::present(at, directory);
         }
-        Some(OptionalHeader { standard_fields, windows_fields, data_directories })
+        let it = &headers.optional;
+        Ok(Some(OptionalHeader { standard_fields: it.into(), windows_fields: it.into(), data_directories }))
     }
 }
+
+conversion!(&sys::OptionalHeader => StandardFields {
+    magic major_linker_version minor_linker_version size_of_code size_of_initialized_data size_of_uninitialized_data
+    address_of_entry_point base_of_code base_of_data
+});
+conversion!(&sys::OptionalHeader => WindowsFields64 {
+    image_base section_alignment file_alignment major_operating_system_version minor_operating_system_version
+    major_image_version minor_image_version major_subsystem_version minor_subsystem_version win32_version_value
+    size_of_image size_of_headers check_sum subsystem dll_characteristics size_of_stack_reserve size_of_stack_commit
+    size_of_heap_reserve size_of_heap_commit loader_flags number_of_rva_and_sizes
+});
 
 impl<'a> ctx::TryFromCtx<'a, scroll::Endian> for OptionalHeader {
     type Error = error::Error;

@@ -13,7 +13,6 @@ use crate::pe::optional_header as optional;
 use crate::pe::relocation::Relocation;
 use crate::pe::resource::{ImageResourceDirectory, ResourceDataEntry, ResourceEntry};
 use crate::pe::symbol::{self, Symbol};
-use pe_c::sys::ImageInfo;
 use scroll::{ctx::TryFromCtx, Pread};
 
 /// So many bytes at an offset that a caller names.
@@ -65,35 +64,7 @@ fn numbers<const WIDTH: usize, T>(table: &[u8], number: fn([u8; WIDTH]) -> T) ->
     Ok(found)
 }
 
-// ---- headers: pe_c_image returns twenty of their numbers
-
-/// All numbers of the headers of an image.
-pub(crate) struct Headers {
-    pub dos_header: DosHeader,
-    pub signature: u32,
-    pub coff_header: CoffHeader,
-    pub fields: Option<(optional::StandardFields, optional::WindowsFields)>,
-    /// Offset of the first data directory.
-    pub directories: usize,
-}
-
-/// The numbers of headers that pe_c_image has read: so each of these reads is inside the bytes.
-pub(crate) fn headers(bytes: &[u8], info: &ImageInfo) -> error::Result<Headers> {
-    let dos_header = dos_header(bytes)?;
-    let at = dos_header.pe_pointer as usize;
-    let (fields, directories) = match info.width {
-        0 => (None, at + 24),
-        32 => (Some(fields_32(bytes, at + 24)?), at + 24 + 96),
-        _ => (Some(fields_64(bytes, at + 24)?), at + 24 + 112),
-    };
-    Ok(Headers {
-        dos_header,
-        signature: record(bytes, at)?,
-        coff_header: coff_header(bytes, at + 4)?,
-        fields,
-        directories,
-    })
-}
+// ---- headers that stand alone: pe_c_headers reads those of an image
 
 type Fields = (optional::StandardFields, optional::WindowsFields);
 
@@ -108,11 +79,12 @@ pub(crate) fn fields_64(bytes: &[u8], at: usize) -> error::Result<Fields> {
     Ok((standard.into(), record(bytes, at + optional::SIZEOF_STANDARD_FIELDS_64)?))
 }
 
+/// Of a file that need not be an image.
 pub(crate) fn dos_header(bytes: &[u8]) -> error::Result<DosHeader> {
     record(bytes, 0)
 }
 
-/// Of an object, and of an image the fields that pe_c_image does not return.
+/// Of an object.
 pub(crate) fn coff_header(bytes: &[u8], at: usize) -> error::Result<CoffHeader> {
     record(bytes, at)
 }
