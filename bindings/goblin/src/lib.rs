@@ -8,8 +8,8 @@
 //!
 //! Each number, range and text of an image is what a call of the library returns, which is proved to be what its definition
 //! says, for every byte string. This crate turns them into goblin's types; that is tested, not proved. What no call returns
-//! yet is read by this crate itself, in one private module: the table `items.tsv` of this folder says of each public item
-//! which it is. `docs/DIFFERENCES.md` of the repository has what differs from goblin on purpose.
+//! yet is read by this crate itself, in one private module. `docs/FROM_GOBLIN.md` of the repository says of each public item
+//! which it is, and `docs/DIFFERENCES.md` what differs from goblin on purpose.
 //!
 //! | module | has |
 //! |---|---|

@@ -108,8 +108,7 @@ impl Symbol {
 
     /// The offset of the name in the string table without its size field, or `None` where the name stands here.
     pub fn name_offset(&self) -> Option<u32> {
-        let [0, _, _, _, offset @ ..] = self.name else { return None };
-        Some(u32::from_le_bytes(offset).wrapping_sub(4))
+        raw::long_name_offset(&self.name)
     }
 
     /// Makes the name an offset, from the size field of the string table.

@@ -31,7 +31,8 @@ impl PE<'_> {
             let data = section.data(self.bytes)?.ok_or_else(|| missing(section))?;
             let at = &mut (section.pointer_to_raw_data as usize);
             bytes.gwrite(&*data, at)?;
-            bytes[*at..][..utils::padding(data.len(), file_alignment.unwrap_or(1))].fill(0);
+            let zeros = utils::padding(data.len(), file_alignment.unwrap_or(1));
+            bytes.iter_mut().skip(*at).take(zeros).for_each(|it| *it = 0);
             bytes.gwrite_with(section, offset, ctx)?;
         }
         Ok(*offset)

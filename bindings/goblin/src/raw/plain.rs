@@ -271,6 +271,12 @@ pub(crate) fn symbol(table: &[u8], at: usize) -> error::Result<(Option<&str>, Sy
     Ok((name.and_then(|it| core::str::from_utf8(it).ok()), symbol))
 }
 
+/// The offset in the string table without its size field that a name of four zeros and a number is.
+pub(crate) fn long_name_offset(name: &[u8; 8]) -> Option<u32> {
+    let [0, _, _, _, offset @ ..] = *name else { return None };
+    Some(u32::from_le_bytes(offset).wrapping_sub(4))
+}
+
 /// An auxiliary record of a symbol.
 pub(crate) fn auxiliary<'a, T>(table: &'a [u8], index: usize) -> Option<T>
 where
