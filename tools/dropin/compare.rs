@@ -98,18 +98,21 @@ macro_rules! reader {
             fn x64(pe: &PE<'_>, data: &ExceptionData<'_>, facts: &mut Facts) {
                 let functions: Vec<_> = data.functions().take(MOST).flatten().collect();
                 facts.push(("functions", shown((&functions, data.len(), data.functions().len()))));
+                // In a table that is not sorted lookup finds this or that.
+                let is_sorted = data.functions().flatten().map(|it| it.begin_address).is_sorted();
                 for (index, function) in functions.iter().enumerate() {
                     if index % 7 == 0 {
                         facts.push(("get_function", outcome(data.get_function(index))));
-                        for rva in [function.begin_address, function.end_address, function.end_address.wrapping_sub(1)] {
-                            facts.push(("find_function", outcome(data.find_function(rva))));
-                        }
+                        let ends = [function.begin_address, function.end_address, function.end_address.wrapping_sub(1)];
+                        let found = ends.map(|rva| is_sorted.then(|| outcome(data.find_function(rva))));
+                        facts.push(("find_function", shown(found)));
                     }
+                    let is_link = function.unwind_info_address % 2 != 0;
                     let info = data.get_unwind_info(*function, &pe.sections);
-                    facts.push(("unwind_info", info.as_ref().map_or("error".to_owned(), |it| record(it))));
-                    let Ok(info) = info else { continue };
-                    facts.push(("unwind codes", listed(info.unwind_codes())));
-                    facts.push(("scope table", scopes(&info)));
+                    let text = info.map_or("error".to_owned(), |it| {
+                        format!("{} {} {}", record(&it), listed(it.unwind_codes()), scopes(&it))
+                    });
+                    facts.push((if is_link { "linked unwind_info" } else { "unwind_info" }, text));
                 }
             }
 
@@ -203,13 +206,11 @@ macro_rules! old_reader {
                 facts.push(("section names", shown(names)));
                 facts.push(("old name", shown(pe.name)));
                 facts.push(("export_data", shown(&pe.export_data)));
-                // Those whose RVA is unmapped are left out there.
-                let mapped = pe.exports.iter().filter_map(|it| Some((it, $offset(it.offset)?)));
-                for (it, offset) in mapped.take(MOST) {
-                    facts.push(("export", shown((it.name, offset, it.rva, it.size, &it.reexport))));
-                }
-                facts.push(("import_data", shown(&pe.import_data)));
-                facts.push(("imports", shown(&pe.imports)));
+                // Those whose RVA is unmapped are left out there, and those without a name here.
+                let mapped = pe.exports.iter().filter_map(|it| Some((it, it.name?, $offset(it.offset)?)));
+                let exports = mapped.map(|(it, name, offset)| shown((name, offset, it.rva, it.size, &it.reexport)));
+                facts.push(("exports", exports.take(MOST).collect::<Vec<_>>().join("\n")));
+                facts.push(("imports", shown((&pe.import_data, &pe.imports))));
                 facts.push(("old libraries", shown(&pe.libraries)));
                 Ok(facts)
             }
@@ -323,7 +324,7 @@ fn main() {
             "te" => compare_all(ours::te(&bytes), guarded(|| theirs::te(&bytes)), "te"),
             _ => {
                 let read = [false, true].map(|it| ours::parse(&bytes, it).map(|pe| ours::facts(&pe, &bytes).len()).ok());
-                drop(std::hint::black_box(read));
+                let _ = std::hint::black_box(read);
             }
         }
     }

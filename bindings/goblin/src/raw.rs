@@ -99,6 +99,23 @@ pub(crate) fn step<W, T>(
     Some(item.map_err(error::Error::from))
 }
 
+/// A number in fewer bits, which a call returns in more.
+pub(crate) fn narrow<T, U: TryFrom<T>>(value: T) -> error::Result<U> {
+    U::try_from(value).map_err(|_| error::Error::Malformed("number has too many bits".to_owned()))
+}
+
+/// The error of a buffer that a write does not fit.
+#[cfg(not(feature = "rest"))]
+pub(crate) fn too_short(end: usize) -> error::Error {
+    error::Error::BufferTooShort(end, "bytes")
+}
+
+/// The same in goblin 0.2.1, which has no variant for it.
+#[cfg(feature = "rest")]
+pub(crate) fn too_short(end: usize) -> error::Error {
+    error::Error::Malformed(format!("Buffer is too short for {end} bytes"))
+}
+
 // ---- memory
 
 fn out_of_memory(_: std::collections::TryReserveError) -> error::Error {

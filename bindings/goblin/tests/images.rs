@@ -118,7 +118,7 @@ fn writes_what_it_has_read() {
 fn a_write_that_does_not_fit_changes_nothing() {
     let mut copy = vec![0xcc; IMAGE.len() / 2];
     let error = copy.pwrite_with(PE::parse(IMAGE).unwrap(), 0, scroll::LE).expect_err("half a buffer");
-    assert!(matches!(error, Error::BufferTooShort(_, "bytes")), "{error:?}");
+    assert!(error.to_string().contains("Buffer is too short for"), "{error:?}");
     assert!(copy.iter().all(|it| *it == 0xcc));
     let mut pe = PE::parse(IMAGE).unwrap();
     let twin = SectionTable { virtual_size: 1, ..pe.sections[0].clone() };

@@ -487,7 +487,7 @@ impl<'a> ReproInfo<'a> {
     fn of(bytes: &'a [u8], it: &sys::Repro, entries: ImageDebugDirectoryIterator<'_>) -> error::Result<Self> {
         if it.has_hash != 0 {
             let buffer = raw::slice(bytes, it.hash)?;
-            return Ok(Self::Buffer { length: u32::try_from(it.hash.length)?, buffer });
+            return Ok(Self::Buffer { length: raw::narrow(it.hash.length)?, buffer });
         }
         let entry = entries.find_type(IMAGE_DEBUG_TYPE_REPRO).ok_or(Refusal::SHORT)?;
         Ok(Self::TimeDateStamp(entry.time_date_stamp))

@@ -197,10 +197,9 @@ impl UnwindCode {
             2 => UnwindOperation::SetFPRegister,
             3 => UnwindOperation::SaveNonVolatile(register, offset),
             4 => UnwindOperation::SaveXMM(register, offset),
-            5 => UnwindOperation::Epilog {
-                offset_low_or_size: u8::try_from(it.value)?,
-                offset_high_or_flags: it.operand,
-            },
+            5 => {
+                UnwindOperation::Epilog { offset_low_or_size: raw::narrow(it.value)?, offset_high_or_flags: it.operand }
+            }
             6 => UnwindOperation::SaveXMM128(register, offset),
             7 => UnwindOperation::PushMachineFrame(it.operand != 0),
             _ => UnwindOperation::Noop,
@@ -397,8 +396,8 @@ impl<'a> ExceptionData<'a> {
         let Some(table) = found.map_err(|it| directory_error(view, it))? else { return Ok(None) };
         Ok(Some(ExceptionData {
             bytes: view.bytes,
-            offset: usize::try_from(table.offset)?,
-            size: usize::try_from(table.length)?,
+            offset: raw::narrow(table.offset)?,
+            size: raw::narrow(table.length)?,
             file_alignment: view.info.file_alignment,
         }))
     }
@@ -904,9 +903,9 @@ pub struct Arm64UnwindCodeData {
 
 impl Arm64UnwindCodeData {
     fn of(it: &sys::Arm64Code) -> error::Result<Self> {
-        let len = u8::try_from(it.length)?;
+        let len = raw::narrow(it.length)?;
         // An offset that goblin's 16 bits have no room for is an error, and not another offset.
-        Ok(Arm64UnwindCodeData { offset: u16::try_from(it.offset)?, code: code_of(it, len)?, len })
+        Ok(Arm64UnwindCodeData { offset: raw::narrow(it.offset)?, code: code_of(it, len)?, len })
     }
 }
 
@@ -914,7 +913,7 @@ impl Arm64UnwindCodeData {
 fn code_of(it: &sys::Arm64Code, len: u8) -> error::Result<Arm64UnwindCode> {
     use Arm64UnwindCode::*;
     let (size_bytes, offset_bytes) = (it.value, it.value);
-    let reg = u8::try_from(it.operand)?;
+    let reg = raw::narrow(it.operand)?;
     let first_reg = reg;
     Ok(match it.kind {
         0 => AllocSmall { size_bytes },
@@ -946,8 +945,8 @@ fn code_of(it: &sys::Arm64Code, len: u8) -> error::Result<Arm64UnwindCode> {
             reg,
             offset_bytes,
         },
-        23 => SaveZReg { r: reg, o: u16::try_from(it.value)? },
-        24 => SavePReg { r: reg, o: u16::try_from(it.value)? },
+        23 => SaveZReg { r: reg, o: raw::narrow(it.value)? },
+        24 => SavePReg { r: reg, o: raw::narrow(it.value)? },
         25 => CustomStack(custom_stack_of(reg)),
         26 => PacSignLr,
         _ => Reserved { opcode: reg, data: it.value, data_len: len.saturating_sub(1) },

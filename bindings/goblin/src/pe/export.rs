@@ -236,7 +236,7 @@ impl<'a> Export<'a> {
                     Err(_) => continue,
                 },
             };
-            let offset = if found.has_offset != 0 { Some(usize::try_from(found.offset)?) } else { None };
+            let offset = if found.has_offset != 0 { Some(raw::narrow(found.offset)?) } else { None };
             let name = Some(view.text(found.name)?);
             raw::push(&mut exports, Export { name, offset, rva: found.rva as usize, size: 0, reexport })?;
         }

@@ -27,6 +27,7 @@ pub const SIZEOF_PE_MAGIC: usize = 4;
 /// The signature of a TE image, "VZ".
 pub const TE_MAGIC: u16 = 0x5a56;
 /// Bytes of a TE header.
+#[cfg(feature = "te")]
 pub(crate) const SIZEOF_TE_HEADER: usize = 40;
 
 /// Any machine.
@@ -222,8 +223,8 @@ impl<'a> RichHeader<'a> {
             key: found.key,
             data: raw::slice(bytes, found.entries)?,
             padding_size: RICH_START as usize - 4,
-            start_offset: u32::try_from(start)?,
-            end_offset: u32::try_from(found.entries.offset + found.entries.length)?,
+            start_offset: raw::narrow(start)?,
+            end_offset: raw::narrow(found.entries.offset + found.entries.length)?,
         }))
     }
 

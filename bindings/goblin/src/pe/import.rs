@@ -211,7 +211,8 @@ fn lookups_of<'a, T: Bitfield<'a>>(
     left: &mut usize,
 ) -> error::Result<ImportLookupTable<'a>> {
     let mut walk = library.imports;
-    let (start, count) = (usize::try_from(walk.left.offset)?, usize::try_from(walk.left.length)? / T::size_of());
+    let (start, size): (usize, usize) = (raw::narrow(walk.left.offset)?, raw::narrow(walk.left.length)?);
+    let count = size / T::size_of();
     *left = left.checked_sub(count).ok_or_else(too_many)?;
     let mut lookups = raw::list(count)?;
     while let Some(import) = view.next_import(&mut walk)? {

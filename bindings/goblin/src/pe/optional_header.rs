@@ -235,7 +235,7 @@ impl OptionalHeader {
         }
         let mut data_directories = DataDirectories::default();
         let entries = data_directories.data_directories.iter_mut().zip(headers.directories).enumerate();
-        let start = usize::try_from(headers.directories_offset)?;
+        let start: usize = raw::narrow(headers.directories_offset)?;
         for (index, (entry, found)) in entries {
             let directory = DataDirectory { virtual_address: found.virtual_address, size: found.size };
             let at = start + index * data_directories::SIZEOF_DATA_DIRECTORY;

@@ -174,7 +174,7 @@ impl<'a> Iterator for RelocationBlockIterator<'a> {
     fn next(&mut self) -> Option<Self::Item> {
         let found = raw::step(&mut self.walk, |walk| raw::next_relocation_block(self.bytes, walk))?;
         Some(found.and_then(|it| {
-            let size = u32::try_from(it.entries.length + BLOCK_HEADER_SIZE)?;
+            let size = raw::narrow(it.entries.length + BLOCK_HEADER_SIZE)?;
             Ok(RelocationBlock { rva: it.page_rva, size, bytes: raw::slice(self.bytes, it.entries)? })
         }))
     }

@@ -117,7 +117,7 @@ impl ctx::TryIntoCtx<scroll::Endian> for PE<'_> {
 
 fn fits(bytes: &[u8], end: usize) -> error::Result<()> {
     match bytes.len() < end {
-        true => Err(error::Error::BufferTooShort(end, "bytes")),
+        true => Err(raw::too_short(end)),
         false => Ok(()),
     }
 }
