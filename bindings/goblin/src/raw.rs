@@ -136,6 +136,13 @@ pub(crate) fn push<T>(items: &mut Vec<T>, item: T) -> error::Result<()> {
     Ok(())
 }
 
+/// An empty text with room for so many bytes.
+pub(crate) fn text_with_room(count: usize) -> error::Result<String> {
+    let mut text = String::new();
+    text.try_reserve_exact(count).map_err(out_of_memory)?;
+    Ok(text)
+}
+
 // ---- arguments
 
 /// As many section headers as Windows loads.

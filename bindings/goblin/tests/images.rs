@@ -4,7 +4,7 @@
 use goblin::error::Error;
 use goblin::pe::data_directories::DataDirectory;
 use goblin::pe::header::{Header, COFF_MACHINE_X86_64, PE_MAGIC};
-use goblin::pe::import::ImportData;
+use goblin::pe::import::{Import, ImportData};
 use goblin::pe::options::{Limits, ParseMode, ParseOptions};
 use goblin::pe::section_table::SectionTable;
 use goblin::pe::{Coff, PE};
@@ -100,6 +100,44 @@ fn more_imports_than_the_limit_are_an_error() {
     assert_eq!(format!("{:?}", found.expect_err("some 800 lists of 2,000 imports")), text);
     let limits = Limits { imports: 0 };
     assert!(PE::parse_with_limits(IMAGE, &ParseOptions::default(), &limits).is_ok());
+}
+
+/// A file whose directory of imports names one list of ordinals and slots.
+#[test]
+fn names_ordinals() {
+    let mut bytes = with_many_imports();
+    bytes[20..60].fill(0);
+    for (field, number) in [(0, 0x4100_u32), (12, 0x4080), (16, 0x7ff8)] {
+        bytes.pwrite_with(number, 20 + field, scroll::LE).unwrap();
+    }
+    bytes[0x4108..0x4110].fill(0);
+    let opts = ParseOptions { resolve_rva: false, ..Default::default() };
+    let directory = DataDirectory { virtual_address: 20, size: 20 };
+    let data = ImportData::parse_with_opts::<u64>(&bytes, directory, &[], 0, &opts).unwrap();
+    let imports = Import::parse::<u64>(&bytes, &data, &[]).unwrap();
+    let found: Vec<_> = imports.iter().map(|it| (&*it.name, it.dll, it.ordinal, it.offset, it.size)).collect();
+    assert_eq!(found, [("ORDINAL 7", "a.dll", 7, 0x7ff8, 8)]);
+}
+
+/// An object with many sections, whose names are all the same text of the string table, half of the file.
+#[test]
+fn section_names_longer_than_the_file_are_an_error() {
+    let (count, length) = (100_usize, 4_000_usize);
+    let at = 20 + 40 * count;
+    let mut bytes = vec![b'a'; at + 4 + length + 1];
+    bytes[..at + 4].fill(0);
+    bytes[at + 4 + length] = 0;
+    bytes.pwrite_with(count as u16, 2, scroll::LE).unwrap();
+    bytes.pwrite_with(at as u32, 8, scroll::LE).unwrap();
+    bytes.pwrite_with((4 + length + 1) as u32, at, scroll::LE).unwrap();
+    bytes[20..22].copy_from_slice(b"/4");
+    let coff = Coff::parse(&bytes).unwrap();
+    assert_eq!((coff.sections.len(), coff.sections[0].name().unwrap().len()), (count, length));
+    for section in 0..count {
+        bytes[20 + 40 * section..][..2].copy_from_slice(b"/4");
+    }
+    let error = Coff::parse(&bytes).expect_err("400,000 bytes of names in a file of 8,000");
+    assert_eq!(error.to_string(), "Malformed entity: section names are longer than the file");
 }
 
 #[test]

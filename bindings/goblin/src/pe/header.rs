@@ -304,8 +304,10 @@ impl CoffHeader {
         let found = raw::sections(bytes, &info)?;
         *offset += SIZEOF_SECTION_TABLE * found.len();
         let names = self.strings(bytes).ok().flatten();
-        let mut sections = raw::list(found.len())?;
-        sections.extend(found.iter().map(|it| SectionTable::of_object(it, names.as_ref())));
+        let (mut sections, mut left) = (raw::list(found.len())?, bytes.len());
+        for header in &found {
+            sections.push(SectionTable::of_object(header, names.as_ref(), &mut left)?);
+        }
         Ok(sections)
     }
 
@@ -471,7 +473,7 @@ impl TeHeader {
         *offset += SIZEOF_SECTION_TABLE * found.len();
         let mut sections = raw::list(found.len())?;
         for header in &found {
-            let section = SectionTable::of_object(header, None);
+            let section = SectionTable::of_object(header, None, &mut 0)?;
             sections.push(SectionTable {
                 virtual_address: section.virtual_address.wrapping_sub(by),
                 pointer_to_raw_data: section.pointer_to_raw_data.wrapping_sub(by),

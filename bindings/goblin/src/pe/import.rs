@@ -6,7 +6,7 @@ use super::options::{Limits, ParseOptions};
 use super::section_table::SectionTable;
 use crate::error;
 use crate::raw::{self, Index, Refusal, View};
-use core::fmt::{Debug, LowerHex};
+use core::fmt::{Debug, LowerHex, Write};
 use pe_c::sys;
 use scroll::{ctx::TryFromCtx, Pread, Pwrite, SizeWith};
 use std::borrow::Cow;
@@ -259,21 +259,34 @@ impl<'a> Import<'a> {
         for data in &import_data.import_data {
             let slots = data.import_directory_entry.import_address_table_rva as usize;
             for (index, entry) in data.import_lookup_table.iter().flatten().enumerate() {
-                imports.push(Self::of(entry, data.name, slots + index * T::size_of(), T::size_of()));
+                imports.push(Self::of(entry, data.name, slots + index * T::size_of(), T::size_of())?);
             }
         }
         Ok(imports)
     }
 
-    fn of(entry: &SyntheticImportLookupTableEntry<'a>, dll: &'a str, offset: usize, size: usize) -> Self {
-        match entry {
+    fn of(
+        entry: &SyntheticImportLookupTableEntry<'a>,
+        dll: &'a str,
+        offset: usize,
+        size: usize,
+    ) -> error::Result<Self> {
+        Ok(match entry {
             SyntheticImportLookupTableEntry::HintNameTableRVA((rva, it)) => {
                 let (name, rva) = (Cow::Borrowed(it.name), *rva as usize);
                 Import { name, dll, ordinal: it.hint, offset, rva, size }
             }
             SyntheticImportLookupTableEntry::OrdinalNumber(ordinal) => {
-                Import { name: Cow::Owned(format!("ORDINAL {ordinal}")), dll, ordinal: *ordinal, offset, rva: 0, size }
+                let name = Cow::Owned(ordinal_name(*ordinal)?);
+                Import { name, dll, ordinal: *ordinal, offset, rva: 0, size }
             }
-        }
+        })
     }
+}
+
+/// The name that goblin makes of an ordinal, in memory that is reserved first.
+fn ordinal_name(ordinal: u16) -> error::Result<String> {
+    let mut name = raw::text_with_room("ORDINAL 65535".len())?;
+    write!(name, "ORDINAL {ordinal}").map_err(|why| error::Error::Malformed(why.to_string()))?;
+    Ok(name)
 }

@@ -166,9 +166,10 @@ fn sections_of(view: View<'_, '_>) -> error::Result<Vec<section_table::SectionTa
         true => raw::string_table(view.bytes, view.info).ok().flatten(),
         false => None,
     };
-    let mut sections = raw::list(view.sections.len())?;
-    let found = view.sections.iter();
-    sections.extend(found.map(|it| section_table::SectionTable::of_image(view.bytes, it, names.as_ref())));
+    let (mut sections, mut left) = (raw::list(view.sections.len())?, view.bytes.len());
+    for header in view.sections {
+        sections.push(section_table::SectionTable::of_image(view.bytes, header, names.as_ref(), &mut left)?);
+    }
     Ok(sections)
 }
 

@@ -63,21 +63,26 @@ impl SectionTable {
         }
     }
 
-    /// Of an object, whose string table is passed without its size field.
-    pub(crate) fn of_object(it: &sys::Section, names: Option<&Strtab<'_>>) -> Self {
+    /// Of an object, whose string table is passed without its size field. The name is taken from how many bytes are left.
+    pub(crate) fn of_object(it: &sys::Section, names: Option<&Strtab<'_>>, left: &mut usize) -> error::Result<Self> {
         let section = Self::with_name(it, None);
         let offset = section.name_offset().ok().flatten();
         let offset = offset.and_then(|it| it.checked_sub(header::SIZEOF_STRING_TABLE_SIZE));
-        let real_name = offset.and_then(|it| names?.get_at(it)).map(str::to_owned);
-        SectionTable { real_name, ..section }
+        let name = offset.and_then(|it| names?.get_at(it));
+        Ok(SectionTable { real_name: name.map(|it| owned(it, left)).transpose()?, ..section })
     }
 
-    /// Of an image, by its string table.
-    pub(crate) fn of_image(bytes: &[u8], it: &sys::Section, names: Option<&sys::Range>) -> Self {
+    /// Of an image, by its string table. The name is taken from how many bytes are left.
+    pub(crate) fn of_image(
+        bytes: &[u8],
+        it: &sys::Section,
+        names: Option<&sys::Range>,
+        left: &mut usize,
+    ) -> error::Result<Self> {
         let names = names.filter(|_| it.name[0] == b'/');
         let found = names.and_then(|names| raw::long_section_name(bytes, names, it).ok().flatten());
         let name = found.and_then(|range| raw::text(bytes, range).ok());
-        Self::with_name(it, name.map(str::to_owned))
+        Ok(Self::with_name(it, name.map(|it| owned(it, left)).transpose()?))
     }
 
     /// Reads the header at an offset and the name that it leads to, and moves the offset. Errors: `Malformed` where it is
@@ -152,6 +157,17 @@ impl SectionTable {
     pub fn relocations<'a>(&self, bytes: &'a [u8]) -> error::Result<Relocations<'a>> {
         Relocations::parse(bytes, self.pointer_to_relocations as usize, self.number_of_relocations.into())
     }
+}
+
+/// A copy of a name, in memory that is reserved first. Many headers may name one long text, of which each has a copy: all copies
+/// together are no longer than the file, or it is an error.
+fn owned(name: &str, left: &mut usize) -> error::Result<String> {
+    *left = left
+        .checked_sub(name.len())
+        .ok_or_else(|| error::Error::Malformed("section names are longer than the file".to_owned()))?;
+    let mut copy = raw::text_with_room(name.len())?;
+    copy.push_str(name);
+    Ok(copy)
 }
 
 /// A name up to its first zero.
