@@ -12,6 +12,7 @@ pub(crate) use plain::*;
 
 use crate::error;
 use crate::pe::data_directories::DataDirectory;
+use crate::pe::debug::ImageDebugDirectory;
 use crate::pe::options::{ParseMode, ParseOptions};
 use crate::pe::section_table::SectionTable;
 use core::mem::MaybeUninit;
@@ -30,6 +31,7 @@ impl Refusal {
     pub const EXCEPTION_OFFSET: Refusal = Refusal(pe_c::Error::EXCEPTION_OFFSET.number());
     pub const CERTIFICATE_TABLE: Refusal = Refusal(pe_c::Error::CERTIFICATE_TABLE.number());
     pub const DEBUG_SIZE: Refusal = Refusal(pe_c::Error::DEBUG_SIZE.number());
+    pub const POGO_SIZE: Refusal = Refusal(pe_c::Error::POGO_SIZE.number());
     pub const DEBUG_DATA: Refusal = Refusal(pe_c::Error::DEBUG_DATA.number());
 
     /// The library's text.
@@ -201,6 +203,25 @@ pub(crate) fn mode_of(opts: &ParseOptions) -> u32 {
     layout | if opts.parse_mode == ParseMode::Permissive { sys::PERMISSIVE } else { 0 }
 }
 
+/// An entry of a debug directory as the library takes it.
+pub(crate) fn entry_of(it: &ImageDebugDirectory) -> sys::DebugEntry {
+    sys::DebugEntry {
+        characteristics: it.characteristics,
+        time_date_stamp: it.time_date_stamp,
+        major_version: it.major_version,
+        minor_version: it.minor_version,
+        data_type: it.data_type,
+        size_of_data: it.size_of_data,
+        address_of_raw_data: it.address_of_raw_data,
+        pointer_to_raw_data: it.pointer_to_raw_data,
+    }
+}
+
+/// Where the library reads the record of an entry: in a file at its offset, in an image as loaded at its RVA.
+pub(crate) fn place(it: &ImageDebugDirectory, mode: u32) -> usize {
+    (if mode & sys::MAPPED == 0 { it.pointer_to_raw_data } else { it.address_of_raw_data }) as usize
+}
+
 /// The index of a data directory, as winnt.h has it.
 #[derive(Clone, Copy)]
 pub(crate) enum Index {
@@ -262,10 +283,6 @@ impl<'a> View<'a, '_> {
         DataDirectory { virtual_address: found.virtual_address, size: found.size }
     }
 
-    pub fn is_permissive(&self) -> bool {
-        self.info.mode & sys::PERMISSIVE != 0
-    }
-
     /// The file offset of an RVA.
     pub fn offset(&self, rva: u32) -> Option<usize> {
         offset(self.info, self.sections, rva)
@@ -317,7 +334,12 @@ calls_of_bytes! {
     rich_header: pe_c_rich_header() -> sys::RichHeader;
     next_rich_entry: pe_c_next_rich_entry(key: u32, walk: &mut Range) -> sys::RichEntry;
     next_debug_entry: pe_c_next_debug_entry(walk: &mut Range) -> sys::DebugEntry;
-    codeview: pe_c_codeview(record: &Range) -> sys::Key;
+    symbol_key_of: pe_c_symbol_key_of(mode: u32, entry: &sys::DebugEntry) -> sys::Key;
+    pdb20_of: pe_c_pdb20_of(mode: u32, entry: &sys::DebugEntry) -> sys::Pdb20;
+    vc_features_of: pe_c_vc_features_of(mode: u32, entry: &sys::DebugEntry) -> sys::VcFeatures;
+    characteristics_of: pe_c_characteristics_of(mode: u32, entry: &sys::DebugEntry) -> u32;
+    repro_of: pe_c_repro_of(mode: u32, entry: &sys::DebugEntry) -> sys::Repro;
+    pogo_of: pe_c_pogo_of(mode: u32, entry: &sys::DebugEntry) -> sys::Pogo;
     next_pogo_entry: pe_c_next_pogo_entry(walk: &mut Range) -> sys::PogoEntry;
     next_certificate: pe_c_next_certificate(walk: &mut Range) -> sys::Certificate;
     digest_ranges: pe_c_digest_ranges(info: &ImageInfo) -> sys::Digest;
@@ -356,12 +378,6 @@ macro_rules! calls_of_an_image {
 
 calls_of_an_image! {
     debug_entries: pe_c_debug_entries() -> Range;
-    symbol_key: pe_c_symbol_key() -> sys::Key;
-    pdb20: pe_c_debug_pdb20() -> sys::Pdb20;
-    vc_features: pe_c_debug_vc_features() -> sys::VcFeatures;
-    characteristics: pe_c_debug_characteristics() -> u32;
-    repro: pe_c_debug_repro() -> sys::Repro;
-    pogo: pe_c_debug_pogo() -> sys::Pogo;
     function_table: pe_c_function_table() -> Range;
     unwind_record: pe_c_unwind_record(table: &Range, unwind: u32) -> sys::Record;
     arm64_table: pe_c_arm64_table() -> Range;

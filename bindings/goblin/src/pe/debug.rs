@@ -168,68 +168,39 @@ impl<'a> DebugData<'a> {
     ) -> error::Result<Self> {
         let (info, sections) = (raw::image_with(Index::Debug, dd, file_alignment, opts), raw::Sections::of(sections)?);
         let view = View { bytes, info: &info, sections: sections.list() };
-        match rva_offset {
-            0 => Ok(Self::of(view)?.unwrap_or_default()),
-            _ => Self::by_entries(view, rva_offset, opts),
-        }
+        Ok(Self::at(view, rva_offset)?.unwrap_or(DebugData { rva_offset, ..Default::default() }))
     }
 
-    /// Of an image. The calls read the records of the image's own entries.
+    /// Of an image.
     pub(crate) fn of(view: View<'a, '_>) -> error::Result<Option<Self>> {
+        Self::at(view, 0)
+    }
+
+    /// By the first entry of each type, whose records are read one by one; `None` without a directory.
+    fn at(view: View<'a, '_>, rva_offset: u32) -> error::Result<Option<Self>> {
         let Some(range) = view.debug_entries().map_err(|it| directory_error(view, it))? else {
             return Ok(None);
         };
         let data = view.slice(range)?;
-        Self::records(view, data).map(Some).map_err(|refusal| match refusal {
-            Either::Library(refusal) => record_error(view, data, refusal),
-            Either::Goblin(error) => error,
-        })
-    }
-
-    fn records(view: View<'a, '_>, data: &'a [u8]) -> Result<Self, Either> {
-        let entries = ImageDebugDirectoryIterator { data, rva_offset: 0 };
-        let pdb70 = view.symbol_key()?.map(|it| CodeviewPDB70DebugInfo::of(view.bytes, &it));
-        let pdb20 = view.pdb20()?.map(|it| CodeviewPDB20DebugInfo::of(view.bytes, &it));
-        let pogo = view.pogo()?.map(|it| POGOInfo::of(view.bytes, &it));
-        let repro = view.repro()?.map(|it| ReproInfo::of(view.bytes, &it, entries));
-        Ok(DebugData {
-            data,
-            rva_offset: 0,
-            codeview_pdb70_debug_info: pdb70.transpose()?,
-            codeview_pdb20_debug_info: pdb20.transpose()?,
-            vcfeature_info: view.vc_features()?.map(VCFeatureInfo::from),
-            ex_dll_characteristics_info: view
-                .characteristics()?
-                .map(|characteristics_ex| ExDllCharacteristicsInfo { characteristics_ex }),
-            repro_info: repro.transpose()?,
-            pogo_info: pogo.transpose()?,
-        })
-    }
-
-    /// By the first entry of each type, whose records are read one by one.
-    fn by_entries(view: View<'a, '_>, rva_offset: u32, opts: &ParseOptions) -> error::Result<Self> {
-        let found = view.debug_entries().map_err(|it| directory_error(view, it))?;
-        let data = found.map_or(Ok(&[][..]), |it| view.slice(it))?;
-        let (bytes, entries) = (view.bytes, ImageDebugDirectoryIterator { data, rva_offset });
+        let (bytes, mode, entries) = (view.bytes, view.info.mode, ImageDebugDirectoryIterator { data, rva_offset });
         let mut debug = DebugData { data, rva_offset, ..Default::default() };
         if let Some(entry) = &entries.find_type(IMAGE_DEBUG_TYPE_CODEVIEW) {
-            debug.codeview_pdb70_debug_info = CodeviewPDB70DebugInfo::parse_with_opts(bytes, entry, opts)?;
-            debug.codeview_pdb20_debug_info = CodeviewPDB20DebugInfo::parse_with_opts(bytes, entry, opts)?;
+            debug.codeview_pdb70_debug_info = CodeviewPDB70DebugInfo::of(bytes, entry, mode)?;
+            debug.codeview_pdb20_debug_info = CodeviewPDB20DebugInfo::of(bytes, entry, mode)?;
         }
         if let Some(entry) = &entries.find_type(IMAGE_DEBUG_TYPE_VC_FEATURE) {
-            debug.vcfeature_info = Some(VCFeatureInfo::parse_with_opts(bytes, entry, opts)?);
+            debug.vcfeature_info = Some(VCFeatureInfo::of(bytes, entry, mode)?);
         }
         if let Some(entry) = &entries.find_type(IMAGE_DEBUG_TYPE_EX_DLLCHARACTERISTICS) {
-            let found = ExDllCharacteristicsInfo::parse_with_opts(bytes, entry, opts)?;
-            debug.ex_dll_characteristics_info = Some(found);
+            debug.ex_dll_characteristics_info = Some(ExDllCharacteristicsInfo::of(bytes, entry, mode)?);
         }
         if let Some(entry) = &entries.find_type(IMAGE_DEBUG_TYPE_REPRO) {
-            debug.repro_info = Some(ReproInfo::parse_with_opts(bytes, entry, opts)?);
+            debug.repro_info = Some(ReproInfo::of(bytes, entry, mode)?);
         }
         if let Some(entry) = &entries.find_type(IMAGE_DEBUG_TYPE_POGO) {
-            debug.pogo_info = POGOInfo::parse_with_opts(bytes, entry, opts)?;
+            debug.pogo_info = POGOInfo::of(bytes, entry, mode)?;
         }
-        Ok(debug)
+        Ok(Some(debug))
     }
 
     /// The GUID of the PDB file.
@@ -245,24 +216,6 @@ impl<'a> DebugData<'a> {
     /// The entries.
     pub fn entries(&self) -> ImageDebugDirectoryIterator<'a> {
         ImageDebugDirectoryIterator { data: self.data, rva_offset: self.rva_offset }
-    }
-}
-
-/// An error of the library, or one that has goblin's type already.
-enum Either {
-    Library(Refusal),
-    Goblin(error::Error),
-}
-
-impl From<Refusal> for Either {
-    fn from(it: Refusal) -> Self {
-        Either::Library(it)
-    }
-}
-
-impl From<error::Error> for Either {
-    fn from(it: error::Error) -> Self {
-        Either::Goblin(it)
     }
 }
 
@@ -282,40 +235,44 @@ fn directory_error(view: View<'_, '_>, refusal: Refusal) -> error::Error {
     }
 }
 
-/// The error of a record of an image. The library does not say which record it is: it is that of a CodeView record which is
-/// too small, if one is.
-fn record_error(view: View<'_, '_>, data: &[u8], refusal: Refusal) -> error::Error {
-    let entries = ImageDebugDirectoryIterator { data, rva_offset: 0 };
-    match (refusal, entries.find_type(IMAGE_DEBUG_TYPE_CODEVIEW)) {
-        (Refusal::DEBUG_SIZE, Some(entry)) if !view.is_permissive() => wrong_size(&entry),
-        (Refusal::DEBUG_DATA, Some(entry)) => raw::corrupted(&entry),
-        (other, _) => other.into(),
+/// The error of a record, with goblin's text. The record's fields are read one after the other, of so many bytes each.
+fn record_error(
+    bytes: &[u8],
+    entry: &ImageDebugDirectory,
+    mode: u32,
+    fields: &[usize],
+    refusal: Refusal,
+) -> error::Error {
+    match refusal {
+        Refusal::SHORT => raw::short(bytes, raw::place(entry, mode), fields),
+        Refusal::DEBUG_DATA => error::Error::Malformed(format!("ImageDebugDirectory seems corrupted: {entry:?}")),
+        Refusal::DEBUG_SIZE => {
+            error::Error::Malformed(format!("ImageDebugDirectory size of data seems wrong: {:?}", entry.size_of_data))
+        }
+        other => other.into(),
     }
 }
 
-fn wrong_size(entry: &ImageDebugDirectory) -> error::Error {
-    error::Error::Malformed(format!("ImageDebugDirectory size of data seems wrong: {:?}", entry.size_of_data))
+/// What a call returns of a type of records that each entry of the type has.
+fn there<T>(found: Option<T>) -> error::Result<T> {
+    Ok(found.ok_or(Refusal::SHORT)?)
 }
 
-/// Where the record of an entry is: in a file at its offset, in an image as loaded at its RVA.
-fn place(entry: &ImageDebugDirectory, opts: &ParseOptions) -> usize {
-    (if opts.resolve_rva { entry.pointer_to_raw_data } else { entry.address_of_raw_data }) as usize
-}
-
-/// Whether a CodeView record is as long as its fields. Error: `Malformed` where it is not, in strict mode.
-fn has_fields(entry: &ImageDebugDirectory, size: u32, opts: &ParseOptions) -> error::Result<bool> {
-    match entry.size_of_data >= size {
-        false if !opts.parse_mode.is_permissive() => Err(wrong_size(entry)),
-        is_so => Ok(is_so),
-    }
-}
-
-/// The function that reads a record of a file.
+/// The functions that read a record of an image, the second with its doc.
 macro_rules! parse {
-    ($result:ty) => {
+    ($(#[$doc:meta])* $result:ty) => {
         /// The record of an entry in a file.
         pub fn parse(bytes: &'a [u8], idd: &ImageDebugDirectory) -> error::Result<$result> {
             Self::parse_with_opts(bytes, idd, &ParseOptions::default())
+        }
+
+        $(#[$doc])*
+        pub fn parse_with_opts(
+            bytes: &'a [u8],
+            idd: &ImageDebugDirectory,
+            opts: &ParseOptions,
+        ) -> error::Result<$result> {
+            Self::of(bytes, idd, raw::mode_of(opts))
         }
     };
 }
@@ -334,36 +291,25 @@ pub struct CodeviewPDB70DebugInfo<'a> {
     pub filename: &'a [u8],
 }
 
-const PDB70_SIZE: u32 = 24;
-
 impl<'a> CodeviewPDB70DebugInfo<'a> {
-    parse!(Option<Self>);
-
-    /// The record of an entry, or `None` where it is of another kind, and in permissive mode where it is too small. Errors:
-    /// `Malformed` where it is too small or truncated.
-    pub fn parse_with_opts(
-        bytes: &'a [u8],
-        idd: &ImageDebugDirectory,
-        opts: &ParseOptions,
-    ) -> error::Result<Option<Self>> {
-        if !has_fields(idd, PDB70_SIZE, opts)? {
-            return Ok(None);
-        }
-        let record = sys::Range { offset: place(idd, opts) as u64, length: idd.size_of_data.into() };
-        let found = raw::codeview(bytes, &record).map_err(|it| match it {
-            Refusal::DEBUG_DATA | Refusal::SHORT => raw::corrupted(idd),
-            other => other.into(),
-        })?;
-        found.map(|it| Self::of(bytes, &it)).transpose()
+    parse! {
+        /// The record of an entry, or `None` where it is of another kind, and in permissive mode where it is too small. Errors:
+        /// `Malformed` where it is too small or its name is truncated, `Scroll` where its fields are.
+        Option<Self>
     }
 
-    fn of(bytes: &'a [u8], it: &sys::Key) -> error::Result<Self> {
-        Ok(CodeviewPDB70DebugInfo {
-            codeview_signature: CODEVIEW_PDB70_MAGIC,
-            signature: it.guid,
-            age: it.age,
-            filename: raw::slice(bytes, it.name)?,
-        })
+    fn of(bytes: &'a [u8], entry: &ImageDebugDirectory, mode: u32) -> error::Result<Option<Self>> {
+        let found = raw::symbol_key_of(bytes, mode, &raw::entry_of(entry));
+        let found = found.map_err(|it| record_error(bytes, entry, mode, &[4, 16, 4], it))?;
+        let made = found.map(|it| {
+            Ok(CodeviewPDB70DebugInfo {
+                codeview_signature: CODEVIEW_PDB70_MAGIC,
+                signature: it.guid,
+                age: it.age,
+                filename: raw::slice(bytes, it.name)?,
+            })
+        });
+        made.transpose()
     }
 }
 
@@ -384,11 +330,15 @@ pub struct VCFeatureInfo {
 }
 
 impl<'a> VCFeatureInfo {
-    parse!(Self);
+    parse! {
+        /// The record of an entry. Error: `Scroll` where it is truncated.
+        Self
+    }
 
-    /// The record of an entry. Error: `Scroll` where it is truncated.
-    pub fn parse_with_opts(bytes: &'a [u8], idd: &ImageDebugDirectory, opts: &ParseOptions) -> error::Result<Self> {
-        raw::vc_features(bytes, place(idd, opts))
+    fn of(bytes: &[u8], entry: &ImageDebugDirectory, mode: u32) -> error::Result<Self> {
+        let found = raw::vc_features_of(bytes, mode, &raw::entry_of(entry));
+        let found = found.map_err(|it| record_error(bytes, entry, mode, &[4; 5], it))?;
+        there(found.map(VCFeatureInfo::from))
     }
 }
 
@@ -420,39 +370,26 @@ pub struct CodeviewPDB20DebugInfo<'a> {
     pub filename: &'a [u8],
 }
 
-const PDB20_SIZE: u32 = 16;
-
 impl<'a> CodeviewPDB20DebugInfo<'a> {
-    parse!(Option<Self>);
-
-    /// The record of an entry, or `None` where it is of another kind, and in permissive mode where it is too small. Errors:
-    /// `Malformed` where it is too small or its name is truncated, `Scroll` where its fields are.
-    pub fn parse_with_opts(
-        bytes: &'a [u8],
-        idd: &ImageDebugDirectory,
-        opts: &ParseOptions,
-    ) -> error::Result<Option<Self>> {
-        if !has_fields(idd, PDB20_SIZE, opts)? {
-            return Ok(None);
-        }
-        let at = place(idd, opts);
-        if raw::word_at(bytes, at)? != CODEVIEW_PDB20_MAGIC {
-            return Ok(None);
-        }
-        let [codeview_signature, codeview_offset, signature, age] = raw::words_at(bytes, at)?;
-        let (start, length) = (at + PDB20_SIZE as usize, (idd.size_of_data - PDB20_SIZE) as usize);
-        let filename = raw::part_at(bytes, start, length).ok_or_else(|| raw::corrupted(idd))?;
-        Ok(Some(CodeviewPDB20DebugInfo { codeview_signature, codeview_offset, signature, age, filename }))
+    parse! {
+        /// The record of an entry, or `None` where it is of another kind, and in permissive mode where it is too small. Errors:
+        /// `Malformed` where it is too small or its name is truncated, `Scroll` where its fields are.
+        Option<Self>
     }
 
-    fn of(bytes: &'a [u8], it: &sys::Pdb20) -> error::Result<Self> {
-        Ok(CodeviewPDB20DebugInfo {
-            codeview_signature: CODEVIEW_PDB20_MAGIC,
-            codeview_offset: it.offset,
-            signature: it.signature,
-            age: it.age,
-            filename: raw::slice(bytes, it.name)?,
-        })
+    fn of(bytes: &'a [u8], entry: &ImageDebugDirectory, mode: u32) -> error::Result<Option<Self>> {
+        let found = raw::pdb20_of(bytes, mode, &raw::entry_of(entry));
+        let found = found.map_err(|it| record_error(bytes, entry, mode, &[4; 4], it))?;
+        let made = found.map(|it| {
+            Ok(CodeviewPDB20DebugInfo {
+                codeview_signature: CODEVIEW_PDB20_MAGIC,
+                codeview_offset: it.offset,
+                signature: it.signature,
+                age: it.age,
+                filename: raw::slice(bytes, it.name)?,
+            })
+        });
+        made.transpose()
     }
 }
 
@@ -471,26 +408,18 @@ pub enum ReproInfo<'a> {
 }
 
 impl<'a> ReproInfo<'a> {
-    parse!(Self);
-
-    /// The record of an entry. Errors: `Scroll` where its length is truncated, `Malformed` where its hash is.
-    pub fn parse_with_opts(bytes: &'a [u8], idd: &ImageDebugDirectory, opts: &ParseOptions) -> error::Result<Self> {
-        if idd.size_of_data == 0 {
-            return Ok(Self::TimeDateStamp(idd.time_date_stamp));
-        }
-        let at = place(idd, opts);
-        let length = raw::word_at(bytes, at)?;
-        let buffer = raw::part_at(bytes, at + 4, length as usize).ok_or_else(|| raw::corrupted(idd))?;
-        Ok(Self::Buffer { length, buffer })
+    parse! {
+        /// The record of an entry. Errors: `Scroll` where its length is truncated, `Malformed` where its hash is.
+        Self
     }
 
-    fn of(bytes: &'a [u8], it: &sys::Repro, entries: ImageDebugDirectoryIterator<'_>) -> error::Result<Self> {
-        if it.has_hash != 0 {
-            let buffer = raw::slice(bytes, it.hash)?;
-            return Ok(Self::Buffer { length: raw::narrow(it.hash.length)?, buffer });
-        }
-        let entry = entries.find_type(IMAGE_DEBUG_TYPE_REPRO).ok_or(Refusal::SHORT)?;
-        Ok(Self::TimeDateStamp(entry.time_date_stamp))
+    fn of(bytes: &'a [u8], entry: &ImageDebugDirectory, mode: u32) -> error::Result<Self> {
+        let found = raw::repro_of(bytes, mode, &raw::entry_of(entry));
+        let it = there(found.map_err(|it| record_error(bytes, entry, mode, &[4], it))?)?;
+        Ok(match it.has_hash {
+            0 => Self::TimeDateStamp(entry.time_date_stamp),
+            _ => Self::Buffer { length: raw::narrow(it.hash.length)?, buffer: raw::slice(bytes, it.hash)? },
+        })
     }
 }
 
@@ -503,11 +432,15 @@ pub struct ExDllCharacteristicsInfo {
 }
 
 impl<'a> ExDllCharacteristicsInfo {
-    parse!(Self);
+    parse! {
+        /// The record of an entry. Error: `Scroll` where it is truncated.
+        Self
+    }
 
-    /// The record of an entry. Error: `Scroll` where it is truncated.
-    pub fn parse_with_opts(bytes: &'a [u8], idd: &ImageDebugDirectory, opts: &ParseOptions) -> error::Result<Self> {
-        Ok(Self { characteristics_ex: raw::word_at(bytes, place(idd, opts))? })
+    fn of(bytes: &[u8], entry: &ImageDebugDirectory, mode: u32) -> error::Result<Self> {
+        let found = raw::characteristics_of(bytes, mode, &raw::entry_of(entry));
+        let found = found.map_err(|it| record_error(bytes, entry, mode, &[4], it))?;
+        Ok(ExDllCharacteristicsInfo { characteristics_ex: there(found)? })
     }
 }
 
@@ -539,45 +472,40 @@ pub struct POGOEntryIterator<'a> {
 }
 
 impl<'a> POGOInfo<'a> {
-    parse!(Option<Self>);
-
-    /// The record of an entry, or `None` where its signature is another. Errors: `Scroll` where its signature is truncated,
-    /// `Malformed` where it has no entries or they are truncated.
-    pub fn parse_with_opts(
-        bytes: &'a [u8],
-        idd: &ImageDebugDirectory,
-        opts: &ParseOptions,
-    ) -> error::Result<Option<Self>> {
-        let start = place(idd, opts);
-        let signature = raw::word_at(bytes, start)?;
-        if ![IMAGE_DEBUG_POGO_SIGNATURE_LTCG, IMAGE_DEBUG_POGO_SIGNATURE_PGU].contains(&signature) {
-            return Ok(None);
-        }
-        let size = idd.size_of_data as usize;
-        if size <= POGO_SIGNATURE_SIZE {
-            return Err(error::Error::Malformed(format!(
-                "ImageDebugDirectory size_of_data {size:#x} is smaller or equal to POGO_SIGNATURE_SIZE \
-                 {POGO_SIGNATURE_SIZE:#x}"
-            )));
-        }
-        let (start, end) = (start + POGO_SIGNATURE_SIZE, start + size);
-        let data = raw::part_at(bytes, start, end - start).ok_or_else(|| {
-            error::Error::Malformed(format!(
-                "ImageDebugDirectory offset_start {start:#x} or offset_end {end:#x} exceed the bounds of the bytes \
-                 size {:#x}",
-                bytes.len()
-            ))
-        })?;
-        Ok(Some(POGOInfo { signature, data }))
+    parse! {
+        /// The record of an entry, or `None` where its signature is another. Errors: `Scroll` where its signature is truncated,
+        /// `Malformed` where it has no entries or they are truncated.
+        Option<Self>
     }
 
-    fn of(bytes: &'a [u8], it: &sys::Pogo) -> error::Result<Self> {
-        Ok(POGOInfo { signature: it.signature, data: raw::slice(bytes, it.entries)? })
+    fn of(bytes: &'a [u8], entry: &ImageDebugDirectory, mode: u32) -> error::Result<Option<Self>> {
+        let found = raw::pogo_of(bytes, mode, &raw::entry_of(entry));
+        let found = found.map_err(|it| pogo_error(bytes, entry, mode, it))?;
+        let made = found.map(|it| Ok(POGOInfo { signature: it.signature, data: raw::slice(bytes, it.entries)? }));
+        made.transpose()
     }
 
     /// The entries.
     pub fn entries(&self) -> POGOEntryIterator<'a> {
         POGOEntryIterator { data: self.data }
+    }
+}
+
+/// The error of a POGO record, with goblin's text.
+fn pogo_error(bytes: &[u8], entry: &ImageDebugDirectory, mode: u32, refusal: Refusal) -> error::Error {
+    let (start, size) = (raw::place(entry, mode), entry.size_of_data);
+    match refusal {
+        Refusal::POGO_SIZE => error::Error::Malformed(format!(
+            "ImageDebugDirectory size_of_data {size:#x} is smaller or equal to POGO_SIGNATURE_SIZE \
+             {POGO_SIGNATURE_SIZE:#x}"
+        )),
+        Refusal::DEBUG_DATA => error::Error::Malformed(format!(
+            "ImageDebugDirectory offset_start {:#x} or offset_end {:#x} exceed the bounds of the bytes size {:#x}",
+            start + POGO_SIGNATURE_SIZE,
+            start + size as usize,
+            bytes.len()
+        )),
+        other => record_error(bytes, entry, mode, &[POGO_SIGNATURE_SIZE], other),
     }
 }
 

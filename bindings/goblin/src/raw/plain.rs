@@ -5,7 +5,6 @@
 use super::{slice, Range, Refusal};
 use crate::error;
 use crate::pe::data_directories::DataDirectory;
-use crate::pe::debug::{ImageDebugDirectory, VCFeatureInfo};
 use crate::pe::export::ExportDirectoryTable;
 use crate::pe::header::{CoffHeader, DosHeader};
 use crate::pe::import::Bitfield;
@@ -157,16 +156,21 @@ pub(crate) fn address_table<'a, T: Bitfield<'a>>(
     Ok(Some(found))
 }
 
-// ---- debug records that a caller has an entry of, in whatever image: a call reads those of PDB 7.0 alone
+// ---- debug data: a refusal has no numbers
 
-pub(crate) fn vc_features(bytes: &[u8], at: usize) -> error::Result<VCFeatureInfo> {
-    let [pre_vc_plusplus_count, c_and_cplusplus_count, guard_stack_count, sdl_count, guard_count] =
-        words_at::<5>(bytes, at)?;
-    Ok(VCFeatureInfo { pre_vc_plusplus_count, c_and_cplusplus_count, guard_stack_count, sdl_count, guard_count })
+/// scroll's error of the first field that is not all there, of fields one after the other at an offset.
+pub(crate) fn short(bytes: &[u8], mut at: usize, fields: &[usize]) -> error::Error {
+    for field in fields {
+        if let Err(error) = bytes_at(bytes, at, *field) {
+            return error;
+        }
+        at += field;
+    }
+    Refusal::SHORT.into()
 }
 
 /// So many numbers one after the other: the record's own fields.
-pub(crate) fn words_at<const COUNT: usize>(bytes: &[u8], at: usize) -> error::Result<[u32; COUNT]> {
+fn words_at<const COUNT: usize>(bytes: &[u8], at: usize) -> error::Result<[u32; COUNT]> {
     let mut found = [0; COUNT];
     for (index, word) in found.iter_mut().enumerate() {
         *word = record(bytes, at + 4 * index)?;
@@ -191,11 +195,6 @@ pub(crate) fn pogo_error(data: &[u8]) -> error::Error {
             format!("Offset {:#x} exceeds buffer length {:#x}", (8 + end + 1).next_multiple_of(4), data.len())
         }
     })
-}
-
-/// The record of an entry does not fit the bytes.
-pub(crate) fn corrupted(entry: &ImageDebugDirectory) -> error::Error {
-    error::Error::Malformed(format!("ImageDebugDirectory seems corrupted: {entry:?}"))
 }
 
 // ---- unwind data: pe_c_arm64_unwind_record returns the fields of these words, and not the words
