@@ -1,0 +1,56 @@
+//! goblin's module `pe`, with goblin's names and types, over the proved library for C.
+//!
+//! A program that uses `goblin::pe` changes one line of its `Cargo.toml`, and no source:
+//!
+//! ```toml
+//! goblin = { package = "pe-goblin", path = "../bindings/goblin" }
+//! ```
+//!
+//! Each number, range and text of an image is what a call of the library returns, which is proved to be what its definition
+//! says, for every byte string. This crate turns them into goblin's types; that is tested, not proved. What no call returns
+//! yet is read by this crate itself, in one private module. `docs/FROM_GOBLIN.md` of the repository says of each public item
+//! which it is, and `docs/DIFFERENCES.md` what differs from goblin on purpose.
+//!
+//! | module | has |
+//! |---|---|
+//! | [`pe`] | images, TE images, COFF objects |
+//! | [`strtab`] | string tables |
+//! | [`error`] | [`error::Error`] |
+//! | `elf`, `mach`, `archive`, `Object` | goblin's own, with the feature `rest` |
+//!
+//! - No input makes a call panic or loop for ever, but where goblin's own interface says so: `Strtab`'s index, and an iterator
+//!   over a scope table that a caller made of other bytes.
+//! - A list is reserved before it is filled: out of memory is `Error::IO` with the kind `OutOfMemory`. An image with more
+//!   imports than [`pe::options::Limits`] allows is an error.
+//!
+//! ```
+//! # let bytes: &[u8] = include_bytes!(concat!(env!("CARGO_MANIFEST_DIR"), "/../../crates/peinfo/data/i.bin"));
+//! use goblin::pe::PE;
+//!
+//! let pe = PE::parse(bytes)?;
+//! assert_eq!(pe.entry, 0x1000);
+//! let exceptions = pe.exception_data.as_ref().expect("an x64 image with exception data");
+//! let function = exceptions.find_function(0x1025)?.expect("a function covers the RVA");
+//! for code in &exceptions.get_unwind_info(function, &pe.sections)? {
+//!     println!("{:?}", code?.operation);
+//! }
+//! # Ok::<(), goblin::error::Error>(())
+//! ```
+#![warn(unsafe_op_in_unsafe_fn)]
+// scroll derives such units.
+#![allow(clippy::unused_unit)]
+
+pub mod container;
+pub mod options;
+pub mod pe;
+mod raw;
+pub mod strtab;
+
+#[cfg(not(feature = "rest"))]
+pub mod error;
+#[cfg(feature = "rest")]
+mod object;
+#[cfg(feature = "rest")]
+pub use object::Object;
+#[cfg(feature = "rest")]
+pub use rest::{archive, elf, error, mach, peek, peek_bytes, Hint, HintData};

@@ -1,0 +1,287 @@
+//! Exports: what an image offers to others. A table of RVAs, and for those that have a name the name and its index there.
+//! <https://learn.microsoft.com/windows/win32/debug/pe-format#the-edata-section-image-only>
+
+use super::data_directories;
+use super::options::ParseOptions;
+use super::section_table::SectionTable;
+use super::utils;
+use crate::error;
+use crate::raw::{self, Index, Refusal, View};
+use pe_c::sys;
+use scroll::{ctx, Pread, Pwrite, SizeWith};
+
+/// The export directory, `IMAGE_EXPORT_DIRECTORY`.
+#[repr(C)]
+#[derive(Debug, PartialEq, Copy, Clone, Default, Pread, Pwrite, SizeWith)]
+pub struct ExportDirectoryTable {
+    /// Reserved.
+    pub export_flags: u32,
+    /// Seconds since 1970, or a hash in a reproducible build.
+    pub time_date_stamp: u32,
+    /// Of a version that the maker sets.
+    pub major_version: u16,
+    /// Of a version that the maker sets.
+    pub minor_version: u16,
+    /// RVA of the DLL's name.
+    pub name_rva: u32,
+    /// Ordinal of the export with the index 0.
+    pub ordinal_base: u32,
+    /// How many RVAs there are.
+    pub address_table_entries: u32,
+    /// How many names there are.
+    pub number_of_name_pointers: u32,
+    /// RVA of the RVAs.
+    pub export_address_table_rva: u32,
+    /// RVA of the RVAs of names.
+    pub name_pointer_rva: u32,
+    /// RVA of the indices of names.
+    pub ordinal_table_rva: u32,
+}
+
+/// Bytes of an [`ExportDirectoryTable`].
+pub const SIZEOF_EXPORT_DIRECTORY_TABLE: usize = 40;
+/// Bytes of an RVA in the table of RVAs.
+pub const SIZEOF_EXPORT_ADDRESS_TABLE_ENTRY: usize = 4;
+
+impl ExportDirectoryTable {
+    /// Reads the directory at an offset. Error: `Scroll` where it is truncated.
+    pub fn parse(bytes: &[u8], offset: usize) -> error::Result<Self> {
+        raw::export_directory(bytes, offset)
+    }
+}
+
+/// An entry of the table of RVAs.
+#[derive(Debug, Copy, Clone, PartialEq)]
+pub enum ExportAddressTableEntry {
+    /// RVA of what is exported.
+    ExportRVA(u32),
+    /// RVA of a text that names an export of another DLL.
+    ForwarderRVA(u32),
+}
+
+/// The table of RVAs.
+pub type ExportAddressTable = Vec<ExportAddressTableEntry>;
+/// RVAs of names.
+pub type ExportNamePointerTable = Vec<u32>;
+/// For each name its index in the table of RVAs.
+pub type ExportOrdinalTable = Vec<u16>;
+
+/// The export directory and its tables.
+#[derive(Debug, Default)]
+pub struct ExportData<'a> {
+    /// The DLL's name.
+    pub name: Option<&'a str>,
+    /// The directory.
+    pub export_directory_table: ExportDirectoryTable,
+    /// RVAs of names.
+    pub export_name_pointer_table: ExportNamePointerTable,
+    /// For each name its index in the table of RVAs.
+    pub export_ordinal_table: ExportOrdinalTable,
+    /// The table of RVAs.
+    pub export_address_table: ExportAddressTable,
+}
+
+/// The tables of an image, as the library walks them.
+pub(crate) struct Tables {
+    walk: sys::Exports,
+    addresses: sys::AddressTable,
+}
+
+impl<'a> ExportData<'a> {
+    /// The exports of a directory in a file.
+    pub fn parse(
+        bytes: &'a [u8],
+        dd: data_directories::DataDirectory,
+        sections: &[SectionTable],
+        file_alignment: u32,
+    ) -> error::Result<ExportData<'a>> {
+        Self::parse_with_opts(bytes, dd, sections, file_alignment, &ParseOptions::default())
+    }
+
+    /// The exports of a directory. Errors: `Malformed` where the directory is absent, unmapped or truncated, or a table is; and
+    /// out of memory.
+    pub fn parse_with_opts(
+        bytes: &'a [u8],
+        dd: data_directories::DataDirectory,
+        sections: &[SectionTable],
+        file_alignment: u32,
+        opts: &ParseOptions,
+    ) -> error::Result<ExportData<'a>> {
+        let (info, sections) = (raw::image_with(Index::Export, dd, file_alignment, opts), raw::Sections::of(sections)?);
+        match Self::of(View { bytes, info: &info, sections: sections.list() })? {
+            Some((data, _)) => Ok(data),
+            None => Err(unmapped(dd)),
+        }
+    }
+
+    pub(crate) fn of(view: View<'a, '_>) -> error::Result<Option<(Self, Tables)>> {
+        let directory = view.directory(Index::Export);
+        let Some(walk) = view.export_tables().map_err(|it| refused(view, it))? else { return Ok(None) };
+        let Some(addresses) = view.export_addresses()? else { return Ok(None) };
+        let at = view.offset(directory.virtual_address).ok_or_else(|| unmapped(directory))?;
+        let words = raw::words(view.bytes, walk.addresses)?;
+        let mut export_address_table = raw::list(words.len())?;
+        export_address_table.extend(words.into_iter().map(|rva| entry_of(directory, rva)));
+        let name = if addresses.has_name != 0 { Some(view.text(addresses.name)?) } else { None };
+        let data = ExportData {
+            name,
+            export_directory_table: raw::export_directory(view.bytes, at)?,
+            export_name_pointer_table: raw::words(view.bytes, walk.names)?,
+            export_ordinal_table: raw::halves(view.bytes, walk.ordinals)?,
+            export_address_table,
+        };
+        Ok(Some((data, Tables { walk, addresses })))
+    }
+}
+
+/// An entry of the table of RVAs: one inside the directory leads to a forwarder's text.
+fn entry_of(directory: data_directories::DataDirectory, rva: u32) -> ExportAddressTableEntry {
+    let start = directory.virtual_address as usize;
+    match utils::is_in_range(rva as usize, start, start + directory.size as usize) {
+        true => ExportAddressTableEntry::ForwarderRVA(rva),
+        false => ExportAddressTableEntry::ExportRVA(rva),
+    }
+}
+
+fn unmapped(directory: data_directories::DataDirectory) -> error::Error {
+    error::Error::Malformed(format!("cannot map export_rva ({:#x}) into offset", directory.virtual_address))
+}
+
+fn refused(view: View<'_, '_>, refusal: Refusal) -> error::Error {
+    let directory = view.directory(Index::Export);
+    match (refusal, view.offset(directory.virtual_address)) {
+        (Refusal::UNMAPPED, None) => unmapped(directory),
+        (Refusal::SHORT, Some(at)) => {
+            error::Error::Malformed(format!("cannot parse export_directory_table (offset {at:#x})"))
+        }
+        (other, _) => other.into(),
+    }
+}
+
+/// What a forwarder's text names.
+#[derive(Debug, Copy, Clone, PartialEq)]
+pub enum Reexport<'a> {
+    /// An export by its name.
+    DLLName {
+        /// Its name.
+        export: &'a str,
+        /// The DLL, without its extension.
+        lib: &'a str,
+    },
+    /// An export by its ordinal.
+    DLLOrdinal {
+        /// Its ordinal.
+        ordinal: usize,
+        /// The DLL, without its extension.
+        lib: &'a str,
+    },
+}
+
+impl<'a> Reexport<'a> {
+    /// Reads the forwarder's text at an offset. Errors: `Scroll` past the end, `Malformed` where it names nothing.
+    pub fn parse(bytes: &'a [u8], offset: usize) -> error::Result<Reexport<'a>> {
+        Self::of(raw::text_up_to(bytes, offset, 0)?)
+    }
+
+    /// A text is the DLL up to its first dot, and after that a name, or `#` and an ordinal.
+    fn of(text: &'a str) -> error::Result<Self> {
+        let malformed = || error::Error::Malformed(format!("Reexport {text} is malformed"));
+        let (lib, export) = text.split_once('.').filter(|it| !it.1.is_empty()).ok_or_else(malformed)?;
+        match export.strip_prefix('#') {
+            None => Ok(Reexport::DLLName { export, lib }),
+            Some(digits) => {
+                let ordinal = digits.parse::<u32>().map_err(|_| {
+                    error::Error::Malformed(format!("Cannot parse reexport ordinal from {} bytes", text.len()))
+                })?;
+                Ok(Reexport::DLLOrdinal { ordinal: ordinal as usize, lib })
+            }
+        }
+    }
+}
+
+impl<'a> ctx::TryFromCtx<'a, scroll::Endian> for Reexport<'a> {
+    type Error = error::Error;
+
+    fn try_from_ctx(bytes: &'a [u8], _: scroll::Endian) -> error::Result<(Self, usize)> {
+        let text = raw::text_up_to(bytes, 0, 0)?;
+        Ok((Self::of(text)?, text.len() + 1))
+    }
+}
+
+/// An export that has a name.
+#[derive(Debug, Default)]
+pub struct Export<'a> {
+    /// Its name.
+    pub name: Option<&'a str>,
+    /// File offset of the RVA, where a section maps it.
+    pub offset: Option<usize>,
+    /// RVA of what is exported, or of the forwarder's text.
+    pub rva: usize,
+    /// 0, as in goblin.
+    pub size: usize,
+    /// What a forwarder's text names.
+    pub reexport: Option<Reexport<'a>>,
+}
+
+impl<'a> Export<'a> {
+    /// Of the tables of an image. Those whose name or forwarder cannot be read are skipped, as in goblin.
+    pub(crate) fn of(view: View<'a, '_>, mut tables: Tables, count: usize) -> error::Result<Vec<Self>> {
+        let mut exports = raw::list(count)?;
+        while let Some(found) = view.next_export(&mut tables.walk)? {
+            let Some(by_index) = view.export_at(&tables.addresses, found.index.into())? else { continue };
+            let reexport = match by_index.is_forwarder {
+                0 => None,
+                _ => match Reexport::of(view.text(by_index.forwarder)?) {
+                    Ok(reexport) => Some(reexport),
+                    Err(_) => continue,
+                },
+            };
+            let offset = if found.has_offset != 0 { Some(raw::narrow(found.offset)?) } else { None };
+            let name = Some(view.text(found.name)?);
+            raw::push(&mut exports, Export { name, offset, rva: found.rva as usize, size: 0, reexport })?;
+        }
+        Ok(exports)
+    }
+
+    /// The exports of tables in a file.
+    pub fn parse(
+        bytes: &'a [u8],
+        export_data: &ExportData<'_>,
+        sections: &[SectionTable],
+        file_alignment: u32,
+    ) -> error::Result<Vec<Export<'a>>> {
+        Self::parse_with_opts(bytes, export_data, sections, file_alignment, &ParseOptions::default())
+    }
+
+    /// The exports of tables, which the caller may have changed: so each is read by this crate, at offsets of the library. One
+    /// whose index, name or forwarder cannot be read is skipped. Error: out of memory.
+    pub fn parse_with_opts(
+        bytes: &'a [u8],
+        export_data: &ExportData<'_>,
+        sections: &[SectionTable],
+        file_alignment: u32,
+        opts: &ParseOptions,
+    ) -> error::Result<Vec<Export<'a>>> {
+        let info = raw::image_with(Index::Export, data_directories::DataDirectory::default(), file_alignment, opts);
+        let sections = raw::Sections::of(sections)?;
+        let view = View { bytes, info: &info, sections: sections.list() };
+        let mut exports = raw::list(export_data.export_name_pointer_table.len())?;
+        let names = export_data.export_name_pointer_table.iter().zip(&export_data.export_ordinal_table);
+        for (name, index) in names {
+            let entry = export_data.export_address_table.get(usize::from(*index));
+            exports.extend(entry.and_then(|entry| Self::at(view, *name, *entry)));
+        }
+        Ok(exports)
+    }
+
+    fn at(view: View<'a, '_>, name: u32, entry: ExportAddressTableEntry) -> Option<Self> {
+        let name = raw::text_at(view.bytes, view.offset(name)?)?;
+        let (rva, reexport) = match entry {
+            ExportAddressTableEntry::ExportRVA(rva) => (rva, None),
+            ExportAddressTableEntry::ForwarderRVA(rva) => {
+                (rva, Some(Reexport::parse(view.bytes, view.offset(rva)?).ok()?))
+            }
+        };
+        Some(Export { name: Some(name), offset: view.offset(rva), rva: rva as usize, size: 0, reexport })
+    }
+}

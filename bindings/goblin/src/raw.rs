@@ -1,0 +1,401 @@
+//! The one place that calls the library: it has every `unsafe`, and makes the library's arguments of goblin's.
+//!
+//! A call takes the record that `pe_c_image` fills and the section headers. Every value of every field of them is legal, and
+//! the contract of a call says what it returns for each. So a function of goblin that takes a directory alone is the call over
+//! a record with that directory.
+//!
+//! What no call returns is read in `plain`, and nowhere else. `tools/try_goblin --check` looks for reads elsewhere.
+
+mod plain;
+
+pub(crate) use plain::*;
+
+use crate::error;
+use crate::pe::data_directories::DataDirectory;
+use crate::pe::debug::ImageDebugDirectory;
+use crate::pe::options::{ParseMode, ParseOptions};
+use crate::pe::section_table::SectionTable;
+use core::mem::MaybeUninit;
+use pe_c::sys::{self, ImageInfo, Range, Section};
+
+/// A result of the library that is neither DONE nor NOTHING.
+#[derive(Clone, Copy, Debug, PartialEq, Eq)]
+pub(crate) struct Refusal(pub u32);
+
+impl Refusal {
+    pub const SHORT: Refusal = Refusal(pe_c::Error::SHORT.number());
+    pub const BAD_MAGIC: Refusal = Refusal(pe_c::Error::BAD_MAGIC.number());
+    pub const UNMAPPED: Refusal = Refusal(pe_c::Error::UNMAPPED.number());
+    pub const DEBUG_BOUNDS: Refusal = Refusal(pe_c::Error::DEBUG_BOUNDS.number());
+    pub const EXCEPTION_SIZE: Refusal = Refusal(pe_c::Error::EXCEPTION_SIZE.number());
+    pub const EXCEPTION_OFFSET: Refusal = Refusal(pe_c::Error::EXCEPTION_OFFSET.number());
+    pub const CERTIFICATE_TABLE: Refusal = Refusal(pe_c::Error::CERTIFICATE_TABLE.number());
+    pub const DEBUG_SIZE: Refusal = Refusal(pe_c::Error::DEBUG_SIZE.number());
+    pub const POGO_SIZE: Refusal = Refusal(pe_c::Error::POGO_SIZE.number());
+    pub const DEBUG_DATA: Refusal = Refusal(pe_c::Error::DEBUG_DATA.number());
+
+    /// The library's text.
+    pub fn text(self) -> String {
+        let mut room = [0; 128];
+        // SAFETY: the pointer and the length are those of one array.
+        let length = unsafe { sys::pe_c_text(self.0, room.as_mut_ptr(), room.len()) };
+        String::from_utf8_lossy(room.get(..length).unwrap_or(&room)).into_owned()
+    }
+}
+
+impl From<Refusal> for error::Error {
+    fn from(it: Refusal) -> Self {
+        error::Error::Malformed(it.text())
+    }
+}
+
+/// What a call returned.
+fn returned<T>(number: u32, value: T) -> Result<Option<T>, Refusal> {
+    match number {
+        sys::DONE => Ok(Some(value)),
+        sys::NOTHING => Ok(None),
+        number => Err(Refusal(number)),
+    }
+}
+
+/// The bytes of a range that a call returned. They are all there, by the contract of that call.
+pub(crate) fn slice(bytes: &[u8], range: Range) -> error::Result<&[u8]> {
+    Ok(range.of(bytes).ok_or(Refusal::SHORT)?)
+}
+
+/// The text of a range that a call returned as UTF-8.
+pub(crate) fn text(bytes: &[u8], range: Range) -> error::Result<&str> {
+    let text = slice(bytes, range)?;
+    core::str::from_utf8(text).map_err(|_| error::Error::Malformed("invalid UTF-8".to_owned()))
+}
+
+/// All of the bytes, as a walk.
+pub(crate) fn whole(bytes: &[u8]) -> Range {
+    Range { offset: 0, length: bytes.len() as u64 }
+}
+
+/// What is left of the bytes from an offset on, as a walk.
+pub(crate) fn rest(bytes: &[u8], offset: usize) -> Range {
+    Range { offset: offset as u64, length: bytes.len().saturating_sub(offset) as u64 }
+}
+
+/// The bytes that a walk leaves; none where it is over.
+pub(crate) fn left(bytes: &[u8], walk: Option<Range>) -> &[u8] {
+    walk.and_then(|it| it.of(bytes)).unwrap_or_default()
+}
+
+/// How many entries of one size are left, a truncated one among them, as a hint of an iterator.
+pub(crate) fn items_left(bytes: &[u8], size: usize) -> (usize, Option<usize>) {
+    let count = bytes.len().div_ceil(size);
+    (count, Some(count))
+}
+
+/// The next item of a walk, which is over after its end and after an error.
+pub(crate) fn step<W, T>(
+    walk: &mut Option<W>,
+    call: impl FnOnce(&mut W) -> Result<Option<T>, Refusal>,
+) -> Option<error::Result<T>> {
+    let mut moved = walk.take()?;
+    let item = call(&mut moved).transpose()?;
+    *walk = item.is_ok().then_some(moved);
+    Some(item.map_err(error::Error::from))
+}
+
+/// A number in fewer bits, which a call returns in more.
+pub(crate) fn narrow<T, U: TryFrom<T>>(value: T) -> error::Result<U> {
+    U::try_from(value).map_err(|_| error::Error::Malformed("number has too many bits".to_owned()))
+}
+
+/// The error of a buffer that a write does not fit.
+#[cfg(not(feature = "rest"))]
+pub(crate) fn too_short(end: usize) -> error::Error {
+    error::Error::BufferTooShort(end, "bytes")
+}
+
+/// The same in goblin 0.2.1, which has no variant for it.
+#[cfg(feature = "rest")]
+pub(crate) fn too_short(end: usize) -> error::Error {
+    error::Error::Malformed(format!("Buffer is too short for {end} bytes"))
+}
+
+// ---- memory
+
+fn out_of_memory(_: std::collections::TryReserveError) -> error::Error {
+    error::Error::IO(std::io::ErrorKind::OutOfMemory.into())
+}
+
+/// An empty list with room for so many items.
+pub(crate) fn list<T>(count: usize) -> error::Result<Vec<T>> {
+    let mut items = Vec::new();
+    items.try_reserve_exact(count).map_err(out_of_memory)?;
+    Ok(items)
+}
+
+/// Adds an item to a list.
+pub(crate) fn push<T>(items: &mut Vec<T>, item: T) -> error::Result<()> {
+    items.try_reserve(1).map_err(out_of_memory)?;
+    items.push(item);
+    Ok(())
+}
+
+/// An empty text with room for so many bytes.
+pub(crate) fn text_with_room(count: usize) -> error::Result<String> {
+    let mut text = String::new();
+    text.try_reserve_exact(count).map_err(out_of_memory)?;
+    Ok(text)
+}
+
+// ---- arguments
+
+/// As many section headers as Windows loads.
+const ROOM: usize = 96;
+
+/// Section headers as the library takes them. So many as Windows loads stand in the record itself, whose other entries are
+/// never written: to fill them costs more than most calls.
+pub(crate) struct Sections {
+    few: [MaybeUninit<Section>; ROOM],
+    count: usize,
+    many: Vec<Section>,
+}
+
+impl Sections {
+    pub fn of(sections: &[SectionTable]) -> error::Result<Self> {
+        let mut found = Sections { few: [MaybeUninit::uninit(); ROOM], count: 0, many: Vec::new() };
+        if sections.len() > ROOM {
+            found.many = list(sections.len())?;
+            found.many.extend(sections.iter().map(section_of));
+        } else {
+            for (to, from) in found.few.iter_mut().zip(sections) {
+                to.write(section_of(from));
+            }
+            found.count = sections.len();
+        }
+        Ok(found)
+    }
+
+    pub fn list(&self) -> &[Section] {
+        if self.many.is_empty() {
+            // SAFETY: `of` wrote the first `count` entries, and a MaybeUninit has the layout of what it holds.
+            unsafe { core::slice::from_raw_parts(self.few.as_ptr().cast(), self.count) }
+        } else {
+            &self.many
+        }
+    }
+}
+
+pub(crate) fn section_of(it: &SectionTable) -> Section {
+    Section {
+        name: it.name,
+        virtual_size: it.virtual_size,
+        virtual_address: it.virtual_address,
+        size_of_raw_data: it.size_of_raw_data,
+        pointer_to_raw_data: it.pointer_to_raw_data,
+        pointer_to_relocations: it.pointer_to_relocations,
+        pointer_to_linenumbers: it.pointer_to_linenumbers,
+        number_of_relocations: it.number_of_relocations,
+        number_of_linenumbers: it.number_of_linenumbers,
+        characteristics: it.characteristics,
+    }
+}
+
+pub(crate) fn mode_of(opts: &ParseOptions) -> u32 {
+    let layout = if opts.resolve_rva { 0 } else { sys::MAPPED };
+    layout | if opts.parse_mode == ParseMode::Permissive { sys::PERMISSIVE } else { 0 }
+}
+
+/// An entry of a debug directory as the library takes it.
+pub(crate) fn entry_of(it: &ImageDebugDirectory) -> sys::DebugEntry {
+    sys::DebugEntry {
+        characteristics: it.characteristics,
+        time_date_stamp: it.time_date_stamp,
+        major_version: it.major_version,
+        minor_version: it.minor_version,
+        data_type: it.data_type,
+        size_of_data: it.size_of_data,
+        address_of_raw_data: it.address_of_raw_data,
+        pointer_to_raw_data: it.pointer_to_raw_data,
+    }
+}
+
+/// Where the library reads the record of an entry: in a file at its offset, in an image as loaded at its RVA.
+pub(crate) fn place(it: &ImageDebugDirectory, mode: u32) -> usize {
+    (if mode & sys::MAPPED == 0 { it.pointer_to_raw_data } else { it.address_of_raw_data }) as usize
+}
+
+/// The index of a data directory, as winnt.h has it.
+#[derive(Clone, Copy)]
+pub(crate) enum Index {
+    Export = 0,
+    Import = 1,
+    Resource = 2,
+    Exception = 3,
+    Certificate = 4,
+    BaseRelocation = 5,
+    Debug = 6,
+    Tls = 9,
+    LoadConfig = 10,
+    Clr = 14,
+}
+
+/// An image that has one directory.
+pub(crate) fn image_with(
+    index: Index,
+    directory: DataDirectory,
+    file_alignment: u32,
+    opts: &ParseOptions,
+) -> ImageInfo {
+    let mut info =
+        ImageInfo { mode: mode_of(opts), file_alignment, number_of_directories: 16, width: 64, ..Default::default() };
+    info.directories[index as usize] =
+        sys::Directory { virtual_address: directory.virtual_address, size: directory.size };
+    info
+}
+
+/// An image as loaded, of whatever bytes: its RVAs are their offsets.
+pub(crate) fn image_as_loaded(machine: u16) -> ImageInfo {
+    let mut info = ImageInfo { mode: sys::MAPPED, machine, width: 64, number_of_directories: 16, ..Default::default() };
+    // A function table, empty and past the first byte: the calls of ARM64 want that there is one.
+    info.directories[Index::Exception as usize] = sys::Directory { virtual_address: 4, size: 0 };
+    info
+}
+
+// ---- calls
+
+/// The bytes of an image, its record and its section headers: the first arguments of most calls.
+#[derive(Clone, Copy)]
+pub(crate) struct View<'a, 's> {
+    pub bytes: &'a [u8],
+    pub info: &'s ImageInfo,
+    pub sections: &'s [Section],
+}
+
+impl<'a> View<'a, '_> {
+    pub fn slice(&self, range: Range) -> error::Result<&'a [u8]> {
+        slice(self.bytes, range)
+    }
+
+    pub fn text(&self, range: Range) -> error::Result<&'a str> {
+        text(self.bytes, range)
+    }
+
+    pub fn directory(&self, index: Index) -> DataDirectory {
+        let found = self.info.directories[index as usize];
+        DataDirectory { virtual_address: found.virtual_address, size: found.size }
+    }
+
+    /// The file offset of an RVA.
+    pub fn offset(&self, rva: u32) -> Option<usize> {
+        offset(self.info, self.sections, rva)
+    }
+
+    /// The file offset of a virtual address.
+    pub fn offset_of_va(&self, va: u64) -> Option<usize> {
+        self.offset(va.checked_sub(self.info.base)?.try_into().ok()?)
+    }
+}
+
+/// The file offset of an RVA; in an image as loaded the RVA itself.
+pub(crate) fn offset(info: &ImageInfo, sections: &[Section], rva: u32) -> Option<usize> {
+    let mut out = 0;
+    // SAFETY: the record and the section headers are lent for the call, `out` too.
+    let number = unsafe { sys::pe_c_offset(info, sections.as_ptr(), sections.len(), rva, &mut out) };
+    returned(number, out).ok().flatten().and_then(|it| it.try_into().ok())
+}
+
+/// The section headers at the record's offset, as many as it names.
+pub(crate) fn sections(bytes: &[u8], info: &ImageInfo) -> error::Result<Vec<Section>> {
+    let count = usize::from(info.number_of_sections);
+    let mut room = list(count)?;
+    room.resize(count, Section::default());
+    // SAFETY: the pointers and lengths are those of one slice and of one array, the record is lent for the call.
+    let number = unsafe { sys::pe_c_sections(bytes.as_ptr(), bytes.len(), info, room.as_mut_ptr(), room.len()) };
+    returned(number, ())?;
+    Ok(room)
+}
+
+/// Makes functions of calls that take the bytes first.
+macro_rules! calls_of_bytes {
+    ($($name:ident: $call:ident($($more:ident: $kind:ty),*) -> $out:ty;)*) => { $(
+        pub(crate) fn $name(bytes: &[u8], $($more: $kind),*) -> Result<Option<$out>, Refusal> {
+            let mut out = <$out>::default();
+            // SAFETY: the pointer and the length are those of one slice; the other arguments and `out` are lent for the
+            // call, and the library requires nothing else.
+            let number = unsafe { sys::$call(bytes.as_ptr(), bytes.len(), $($more,)* &mut out) };
+            returned(number, out)
+        }
+    )* };
+}
+
+calls_of_bytes! {
+    image: pe_c_image(mode: u32) -> ImageInfo;
+    headers: pe_c_headers(mode: u32) -> sys::Headers;
+    string_table: pe_c_string_table(info: &ImageInfo) -> Range;
+    long_section_name: pe_c_long_section_name(table: &Range, section: &Section) -> Range;
+    rich_header: pe_c_rich_header() -> sys::RichHeader;
+    next_rich_entry: pe_c_next_rich_entry(key: u32, walk: &mut Range) -> sys::RichEntry;
+    next_debug_entry: pe_c_next_debug_entry(walk: &mut Range) -> sys::DebugEntry;
+    symbol_key_of: pe_c_symbol_key_of(mode: u32, entry: &sys::DebugEntry) -> sys::Key;
+    pdb20_of: pe_c_pdb20_of(mode: u32, entry: &sys::DebugEntry) -> sys::Pdb20;
+    vc_features_of: pe_c_vc_features_of(mode: u32, entry: &sys::DebugEntry) -> sys::VcFeatures;
+    characteristics_of: pe_c_characteristics_of(mode: u32, entry: &sys::DebugEntry) -> u32;
+    repro_of: pe_c_repro_of(mode: u32, entry: &sys::DebugEntry) -> sys::Repro;
+    pogo_of: pe_c_pogo_of(mode: u32, entry: &sys::DebugEntry) -> sys::Pogo;
+    next_pogo_entry: pe_c_next_pogo_entry(walk: &mut Range) -> sys::PogoEntry;
+    next_certificate: pe_c_next_certificate(walk: &mut Range) -> sys::Certificate;
+    digest_ranges: pe_c_digest_ranges(info: &ImageInfo) -> sys::Digest;
+    find_function: pe_c_find_function(table: &Range, rva: u32) -> sys::Function;
+    function_at: pe_c_function_at(table: &Range, index: u64) -> sys::Function;
+    next_code: pe_c_next_code(walk: &mut sys::Walk) -> sys::Code;
+    scope_table: pe_c_scope_table(handler_data: &Range) -> Range;
+    next_scope: pe_c_next_scope(walk: &mut Range) -> sys::Scope;
+    arm64_function_at: pe_c_arm64_function_at(table: &Range, index: u64) -> sys::Arm64Function;
+    next_arm64_scope: pe_c_next_arm64_scope(walk: &mut Range) -> sys::Arm64Scope;
+    arm64_codes: pe_c_arm64_codes(codes: &Range, start: u64) -> sys::Arm64Walk;
+    next_arm64_code: pe_c_next_arm64_code(walk: &mut sys::Arm64Walk) -> sys::Arm64Code;
+    next_tls_callback: pe_c_next_tls_callback(info: &ImageInfo, walk: &mut Range) -> u64;
+    next_metadata_stream: pe_c_next_metadata_stream(walk: &mut sys::MetadataStreams) -> sys::MetadataStream;
+    fixed_version_in: pe_c_fixed_version_in(content: &Range) -> sys::Version;
+    version_text_in: pe_c_version_text_in(content: &Range, name: u32) -> Range;
+    next_relocation_block: pe_c_next_relocation_block(walk: &mut Range) -> sys::RelocationBlock;
+}
+
+/// Makes methods of calls that take an image first.
+macro_rules! calls_of_an_image {
+    ($($name:ident: $call:ident($($more:ident: $kind:ty),*) -> $out:ty;)*) => { impl View<'_, '_> { $(
+        pub fn $name(&self, $($more: $kind),*) -> Result<Option<$out>, Refusal> {
+            let (bytes, sections, mut out) = (self.bytes, self.sections, <$out>::default());
+            // SAFETY: the pointers and lengths are those of two slices; the record, the other arguments and `out` are lent
+            // for the call, and the library requires nothing else.
+            let number = unsafe {
+                sys::$call(
+                    bytes.as_ptr(), bytes.len(), self.info, sections.as_ptr(), sections.len(), $($more,)* &mut out,
+                )
+            };
+            returned(number, out)
+        }
+    )* } };
+}
+
+calls_of_an_image! {
+    debug_entries: pe_c_debug_entries() -> Range;
+    function_table: pe_c_function_table() -> Range;
+    unwind_record: pe_c_unwind_record(table: &Range, unwind: u32) -> sys::Record;
+    arm64_table: pe_c_arm64_table() -> Range;
+    arm64_unwind_record: pe_c_arm64_unwind_record(function: &sys::Arm64Function) -> sys::Arm64Record;
+    export_tables: pe_c_export_tables() -> sys::Exports;
+    next_export: pe_c_next_export(walk: &mut sys::Exports) -> sys::Export;
+    export_addresses: pe_c_export_addresses() -> sys::AddressTable;
+    export_at: pe_c_export_at(table: &sys::AddressTable, index: u64) -> sys::Exported;
+    import_libraries: pe_c_import_libraries() -> sys::Libraries;
+    next_library: pe_c_next_library(walk: &mut sys::Libraries) -> sys::Library;
+    next_import: pe_c_next_import(walk: &mut sys::Imports) -> sys::Import;
+    version_content: pe_c_version_blocks() -> Range;
+    manifest: pe_c_manifest() -> Range;
+    resource_leaves: pe_c_resource_leaves() -> sys::ResourceWalk;
+    tls: pe_c_tls() -> sys::TlsDirectory;
+    tls_callbacks: pe_c_tls_callbacks(tls: &sys::TlsDirectory) -> Range;
+    load_config: pe_c_load_config() -> sys::LoadConfig;
+    relocation_blocks: pe_c_relocation_blocks() -> Range;
+    clr_header: pe_c_clr_header() -> sys::ClrHeader;
+    clr_metadata: pe_c_clr_metadata(header: &sys::ClrHeader) -> sys::Metadata;
+}

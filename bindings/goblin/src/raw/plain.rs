@@ -1,0 +1,309 @@
+//! Reads that this crate makes itself, since no call of the library returns what they read. Each function names what is missing.
+//!
+//! Where a call returns a range and not its numbers, the range is the call's and the numbers are read here.
+
+use super::{slice, Range, Refusal};
+use crate::error;
+use crate::pe::data_directories::DataDirectory;
+use crate::pe::export::ExportDirectoryTable;
+use crate::pe::header::{CoffHeader, DosHeader};
+use crate::pe::import::Bitfield;
+use crate::pe::optional_header as optional;
+use crate::pe::relocation::Relocation;
+use crate::pe::resource::{ImageResourceDirectory, ResourceDataEntry, ResourceEntry};
+use crate::pe::symbol::{self, Symbol};
+use scroll::{ctx::TryFromCtx, Pread};
+
+/// So many bytes at an offset that a caller names.
+pub(crate) fn bytes_at(bytes: &[u8], at: usize, count: usize) -> error::Result<&[u8]> {
+    match part_at(bytes, at, count) {
+        Some(found) => Ok(found),
+        None if at >= bytes.len() => Err(scroll::Error::BadOffset(at).into()),
+        None => Err(scroll::Error::TooBig { size: count, len: bytes.len() - at }.into()),
+    }
+}
+
+/// The same where there may be no byte at the offset if the count is 0.
+pub(crate) fn part_at(bytes: &[u8], at: usize, count: usize) -> Option<&[u8]> {
+    bytes.get(at..at.checked_add(count)?)
+}
+
+/// The bytes from an offset on that a caller names.
+pub(crate) fn from(bytes: &[u8], at: usize) -> error::Result<&[u8]> {
+    let rest = bytes.get(at..).filter(|it| !it.is_empty());
+    Ok(rest.ok_or(scroll::Error::BadOffset(at))?)
+}
+
+/// A record at an offset that a caller names, as scroll reads it.
+pub(crate) fn record<'a, T>(bytes: &'a [u8], at: usize) -> error::Result<T>
+where
+    T: TryFromCtx<'a, scroll::Endian, Error = scroll::Error>,
+{
+    Ok(bytes.pread_with(at, scroll::LE)?)
+}
+
+/// The text at an offset that a caller names, up to a byte or the end.
+pub(crate) fn text_up_to(bytes: &[u8], at: usize, end: u8) -> error::Result<&str> {
+    let rest = bytes.get(at..).ok_or(scroll::Error::BadOffset(at))?;
+    let text = rest.split(|it| *it == end).next().ok_or(scroll::Error::BadOffset(at))?;
+    core::str::from_utf8(text).map_err(|_| scroll::Error::BadInput { size: text.len(), msg: "invalid utf8" }.into())
+}
+
+/// The NUL-terminated text at an offset that a caller names.
+pub(crate) fn text_at(bytes: &[u8], at: usize) -> Option<&str> {
+    let rest = bytes.get(at..)?;
+    let end = rest.iter().position(|it| *it == 0)?;
+    core::str::from_utf8(&rest[..end]).ok()
+}
+
+/// The little-endian numbers of a table.
+fn numbers<const WIDTH: usize, T>(table: &[u8], number: fn([u8; WIDTH]) -> T) -> error::Result<Vec<T>> {
+    let mut found = super::list(table.len() / WIDTH)?;
+    found.extend(table.chunks_exact(WIDTH).filter_map(|it| it.try_into().ok()).map(number));
+    Ok(found)
+}
+
+// ---- headers that stand alone: pe_c_headers reads those of an image
+
+type Fields = (optional::StandardFields, optional::WindowsFields);
+
+pub(crate) fn fields_32(bytes: &[u8], at: usize) -> error::Result<Fields> {
+    let standard: optional::StandardFields32 = record(bytes, at)?;
+    let windows: optional::WindowsFields32 = record(bytes, at + optional::SIZEOF_STANDARD_FIELDS_32)?;
+    Ok((standard.into(), windows.into()))
+}
+
+pub(crate) fn fields_64(bytes: &[u8], at: usize) -> error::Result<Fields> {
+    let standard: optional::StandardFields64 = record(bytes, at)?;
+    Ok((standard.into(), record(bytes, at + optional::SIZEOF_STANDARD_FIELDS_64)?))
+}
+
+/// Of a file that need not be an image.
+pub(crate) fn dos_header(bytes: &[u8]) -> error::Result<DosHeader> {
+    record(bytes, 0)
+}
+
+/// Of an object.
+pub(crate) fn coff_header(bytes: &[u8], at: usize) -> error::Result<CoffHeader> {
+    record(bytes, at)
+}
+
+pub(crate) fn data_directory(bytes: &[u8], at: usize) -> error::Result<DataDirectory> {
+    record(bytes, at)
+}
+
+/// The magic number for which pe_c_image refused the bytes: the refusal has no numbers.
+pub(crate) fn bad_magic(bytes: &[u8]) -> error::Result<u64> {
+    let dos: u16 = record(bytes, 0)?;
+    if dos != crate::pe::header::DOS_MAGIC {
+        return Ok(dos.into());
+    }
+    let at = record::<u32>(bytes, crate::pe::header::PE_POINTER_OFFSET as usize)? as usize;
+    let signature: u32 = record(bytes, at)?;
+    if signature != crate::pe::header::PE_MAGIC {
+        return Ok(signature.into());
+    }
+    Ok(record::<u16>(bytes, at + 24)?.into())
+}
+
+/// The fields of a TE header, in the order of the format: no call reads TE images.
+#[cfg(feature = "te")]
+pub(crate) fn te_header(bytes: &[u8], at: usize) -> error::Result<crate::pe::header::TeHeader> {
+    record(bytes, at)
+}
+
+// ---- exports and imports
+
+/// No call returns the directory's numbers as they stand.
+pub(crate) fn export_directory(bytes: &[u8], at: usize) -> error::Result<ExportDirectoryTable> {
+    record(bytes, at)
+}
+
+/// The numbers of a table that pe_c_export_tables returns as a range.
+pub(crate) fn words(bytes: &[u8], range: Range) -> error::Result<Vec<u32>> {
+    numbers(slice(bytes, range)?, u32::from_le_bytes)
+}
+
+/// The same of numbers of 16 bits.
+pub(crate) fn halves(bytes: &[u8], range: Range) -> error::Result<Vec<u16>> {
+    numbers(slice(bytes, range)?, u16::from_le_bytes)
+}
+
+/// The RVA of an import's hint and name: pe_c_next_import returns what is there, and the RVA of the slot.
+pub(crate) fn hint_rva<'a, T: Bitfield<'a>>(bytes: &'a [u8], at: usize) -> error::Result<u32> {
+    Ok(record::<T>(bytes, at)?.to_rva())
+}
+
+/// An address table up to a zero or the end of the bytes, or `None` where it has more than `most` addresses: no call returns it
+/// as it stands.
+pub(crate) fn address_table<'a, T: Bitfield<'a>>(
+    bytes: &'a [u8],
+    start: usize,
+    most: usize,
+) -> error::Result<Option<Vec<u64>>> {
+    let (mut at, mut count) = (start, 0);
+    while record::<T>(bytes, at).is_ok_and(|it| !it.is_zero()) {
+        count += 1;
+        if count > most {
+            return Ok(None);
+        }
+        at += T::size_of();
+    }
+    let mut found = super::list(count)?;
+    for index in 0..count {
+        found.push(record::<T>(bytes, start + index * T::size_of())?.into());
+    }
+    Ok(Some(found))
+}
+
+// ---- debug data: a refusal has no numbers
+
+/// scroll's error of the first field that is not all there, of fields one after the other at an offset.
+pub(crate) fn short(bytes: &[u8], mut at: usize, fields: &[usize]) -> error::Error {
+    for field in fields {
+        if let Err(error) = bytes_at(bytes, at, *field) {
+            return error;
+        }
+        at += field;
+    }
+    Refusal::SHORT.into()
+}
+
+/// So many numbers one after the other: the record's own fields.
+fn words_at<const COUNT: usize>(bytes: &[u8], at: usize) -> error::Result<[u32; COUNT]> {
+    let mut found = [0; COUNT];
+    for (index, word) in found.iter_mut().enumerate() {
+        *word = record(bytes, at + 4 * index)?;
+    }
+    Ok(found)
+}
+
+/// goblin's error of an entry of POGO data that the library refuses as truncated, with its numbers, which a refusal has not.
+pub(crate) fn pogo_error(data: &[u8]) -> error::Error {
+    let words = match words_at::<2>(data, 0) {
+        Err(short) => return short,
+        Ok(words) => words,
+    };
+    let [rva, size] = words;
+    let name = data.get(8..).unwrap_or_default();
+    error::Error::Malformed(match name.iter().position(|it| *it == 0) {
+        None if name.is_empty() => {
+            format!("Offset 0x8 is too big for containing name field of POGO entry (rva {rva:#x} and size {size:#X})")
+        }
+        None => format!("Cannot find null-terminator for POGO entry (rva {rva:#x} and size {size:#X})"),
+        Some(end) => {
+            format!("Offset {:#x} exceeds buffer length {:#x}", (8 + end + 1).next_multiple_of(4), data.len())
+        }
+    })
+}
+
+// ---- unwind data: pe_c_arm64_unwind_record returns the fields of these words, and not the words
+
+pub(crate) fn word_at(bytes: &[u8], at: usize) -> error::Result<u32> {
+    record(bytes, at)
+}
+
+// ---- resources: the calls return leaves, and read version strings by their names alone
+
+pub(crate) fn resource_directory(bytes: &[u8], at: usize) -> error::Result<ImageResourceDirectory> {
+    record(bytes, at)
+}
+
+pub(crate) fn resource_entry(bytes: &[u8]) -> error::Result<ResourceEntry> {
+    record(bytes, 0)
+}
+
+pub(crate) fn resource_data_entry(bytes: &[u8], at: usize) -> error::Result<ResourceDataEntry> {
+    record(bytes, at)
+}
+
+/// A version string: its length, its value's length, its type, its key, and where its value starts.
+pub(crate) struct VersionString<'a> {
+    pub len: u16,
+    pub value_len: u16,
+    pub kind: u16,
+    pub key: &'a [u8],
+    pub value: usize,
+}
+
+/// The version string at an offset, or `None` where its length is 0.
+pub(crate) fn version_string(bytes: &[u8], at: usize) -> error::Result<Option<VersionString<'_>>> {
+    let len: u16 = record(bytes, at)?;
+    if len == 0 {
+        return Ok(None);
+    }
+    let (value_len, kind) = (record(bytes, at + 2)?, record(bytes, at + 4)?);
+    let units = bytes.get(at + 6..).unwrap_or_default();
+    let count = 2 * units.chunks_exact(2).take_while(|it| **it != [0, 0]).count();
+    let value = (at + 6 + count + 2).next_multiple_of(4);
+    Ok(Some(VersionString { len, value_len, kind, key: &units[..count], value }))
+}
+
+/// The UTF-16 code units of a text, which a call returns as a range; `None` where they are an odd number of bytes.
+pub(crate) fn code_units(bytes: &[u8]) -> Option<Vec<u16>> {
+    (bytes.len() % 2 == 0).then(|| numbers(bytes, u16::from_le_bytes).ok())?
+}
+
+// ---- the other directories
+
+/// What the loader wrote to a TLS slot: pe_c_tls returns its address.
+pub(crate) fn tls_slot(bytes: &[u8], at: usize) -> Option<u32> {
+    record(bytes, at).ok()
+}
+
+/// A base relocation as it stands: pe_c_next_relocation returns its fields, and may take the next one with it.
+pub(crate) fn relocation_word(bytes: &[u8], at: usize) -> error::Result<u16> {
+    record(bytes, at)
+}
+
+// ---- objects: no call reads COFF objects, but for their section headers
+
+pub(crate) fn coff_relocation(table: &[u8], at: usize) -> Option<Relocation> {
+    record(table, at).ok()
+}
+
+/// A symbol, and its name where that stands in the symbol itself.
+pub(crate) fn symbol(table: &[u8], at: usize) -> error::Result<(Option<&str>, Symbol)> {
+    let symbol: Symbol = record(table, at)?;
+    let name = table.get(at..at + 8).filter(|it| it[0] != 0);
+    let name = name.and_then(|it| it.split(|it| *it == 0).next());
+    Ok((name.and_then(|it| core::str::from_utf8(it).ok()), symbol))
+}
+
+/// The offset in the string table without its size field that a name of four zeros and a number is.
+pub(crate) fn long_name_offset(name: &[u8; 8]) -> Option<u32> {
+    let [0, _, _, _, offset @ ..] = *name else { return None };
+    Some(u32::from_le_bytes(offset).wrapping_sub(4))
+}
+
+/// An auxiliary record of a symbol.
+pub(crate) fn auxiliary<'a, T>(table: &'a [u8], index: usize) -> Option<T>
+where
+    T: TryFromCtx<'a, scroll::Endian, Error = scroll::Error>,
+{
+    record(table, index.checked_mul(symbol::COFF_SYMBOL_SIZE)?).ok()
+}
+
+/// The size of a string table, which its first field is.
+pub(crate) fn string_table_size(bytes: &[u8], at: usize) -> error::Result<u32> {
+    record(bytes, at)
+}
+
+impl Refusal {
+    /// The error of pe_c_image, in goblin's variant.
+    pub fn of_headers(self, bytes: &[u8]) -> error::Error {
+        match self {
+            Refusal::BAD_MAGIC => match bad_magic(bytes) {
+                Ok(magic) => error::Error::BadMagic(magic),
+                Err(short) => short,
+            },
+            Refusal::SHORT if bytes.len() < 2 => {
+                error::Error::Malformed("cannot parse DOS signature (offset 0x0)".to_owned())
+            }
+            Refusal::SHORT if bytes.len() < 64 => {
+                error::Error::Malformed("cannot parse PE header pointer (offset 0x3c)".to_owned())
+            }
+            other => other.into(),
+        }
+    }
+}

@@ -1,0 +1,189 @@
+//! What this crate adds to goblin's own tests, which `tools/try_goblin` runs: limits, errors, writing, numbers that no other
+//! reader of goblin's has.
+
+use goblin::error::Error;
+use goblin::pe::data_directories::DataDirectory;
+use goblin::pe::header::{Header, COFF_MACHINE_X86_64, PE_MAGIC};
+use goblin::pe::import::{Import, ImportData};
+use goblin::pe::options::{Limits, ParseMode, ParseOptions};
+use goblin::pe::section_table::SectionTable;
+use goblin::pe::{Coff, PE};
+use scroll::{Pread, Pwrite};
+
+/// An x64 image of a DLL: some code, exception data, a debug record.
+const IMAGE: &[u8] = include_bytes!(concat!(env!("CARGO_MANIFEST_DIR"), "/../../crates/peinfo/data/i.bin"));
+
+/// The image with bytes at an offset changed.
+fn with(offset: usize, bytes: &[u8]) -> Vec<u8> {
+    let mut image = IMAGE.to_vec();
+    image[offset..][..bytes.len()].copy_from_slice(bytes);
+    image
+}
+
+/// Offset of the PE signature, and of a data directory.
+fn pe_offset() -> usize {
+    IMAGE.pread_with::<u32>(0x3c, scroll::LE).unwrap() as usize
+}
+
+fn directory_offset(index: usize) -> usize {
+    pe_offset() + 24 + 112 + 8 * index
+}
+
+/// The error of an image.
+fn refused(bytes: &[u8]) -> String {
+    format!("{:?}", PE::parse(bytes).expect_err("a damaged image"))
+}
+
+#[test]
+fn has_the_numbers_of_its_headers() {
+    let pe = PE::parse(IMAGE).unwrap();
+    let header = pe.header.optional_header.unwrap();
+    assert_eq!((pe.header.signature, pe.header.coff_header.machine), (PE_MAGIC, COFF_MACHINE_X86_64));
+    assert_eq!((header.standard_fields.magic, pe.is_64), (0x20b, true));
+    let at = pe_offset();
+    let number = |offset: usize| IMAGE.pread_with::<u32>(at + offset, scroll::LE).unwrap();
+    assert_eq!(header.standard_fields.base_of_code, number(44));
+    assert_eq!(
+        (header.windows_fields.size_of_image, header.windows_fields.section_alignment),
+        (number(80), number(56))
+    );
+    assert_eq!(header.windows_fields.number_of_rva_and_sizes, 16);
+    assert_eq!(pe.header.dos_header.pe_pointer as usize, at);
+    assert_eq!(pe.header.dos_stub.data, &IMAGE[0x40..at]);
+}
+
+#[test]
+fn errors_have_goblins_variants_and_numbers() {
+    assert!(matches!(PE::parse(&with(0, b"ZM")), Err(Error::BadMagic(0x4d5a))));
+    assert!(matches!(PE::parse(&with(pe_offset(), b"NE")), Err(Error::BadMagic(0x454e))));
+    assert!(matches!(PE::parse(&with(pe_offset() + 24, &[7, 1])), Err(Error::BadMagic(0x107))));
+    assert_eq!(refused(b"M"), r#"Malformed("cannot parse DOS signature (offset 0x0)")"#);
+    assert_eq!(refused(&IMAGE[..60]), r#"Malformed("cannot parse PE header pointer (offset 0x3c)")"#);
+    let size = directory_offset(3) + 4;
+    let text = "Scroll(BadInput { size: 13, msg: \"invalid exception directory table size\" })";
+    assert_eq!(refused(&with(size, &[13, 0, 0, 0])), text);
+    let debug = with(directory_offset(6), &[0, 0, 0, 0x70, 28, 0, 0, 0]);
+    assert_eq!(refused(&debug), r#"Malformed("Cannot map ImageDebugDirectory rva 0x70000000 into offset")"#);
+}
+
+#[test]
+fn permissive_mode_drops_what_is_damaged() {
+    let damaged = with(directory_offset(3) + 4, &[13, 0, 0, 0]);
+    let opts = ParseOptions::default().with_parse_mode(ParseMode::Permissive);
+    let pe = PE::parse_with_opts(&damaged, &opts).unwrap();
+    assert!(pe.exception_data.is_none() && !pe.sections.is_empty());
+}
+
+/// A file of entries of an import directory that name one list, which is as long as the file.
+fn with_many_imports() -> Vec<u8> {
+    let mut bytes = vec![0; 0x8000];
+    for at in (0..0x4000).step_by(20) {
+        for (field, number) in [(0, 0x4100_u32), (12, 0x4080), (16, 0x7ff8)] {
+            bytes.pwrite_with(number, at + field, scroll::LE).unwrap();
+        }
+    }
+    bytes[0x3ffc..0x4080].fill(0);
+    bytes[0x4080..0x4086].copy_from_slice(b"a.dll\0");
+    for at in (0x4100..0x7ff0).step_by(8) {
+        bytes.pwrite_with(1_u64 << 63 | 7, at, scroll::LE).unwrap();
+    }
+    bytes
+}
+
+#[test]
+fn more_imports_than_the_limit_are_an_error() {
+    let bytes = with_many_imports();
+    let opts = ParseOptions { resolve_rva: false, ..Default::default() };
+    let directory = DataDirectory { virtual_address: 20, size: 20 };
+    let found = ImportData::parse_with_opts::<u64>(&bytes, directory, &[], 0, &opts);
+    let text = r#"Malformed("image has more imports than the limit")"#;
+    assert_eq!(format!("{:?}", found.expect_err("some 800 lists of 2,000 imports")), text);
+    let limits = Limits { imports: 0 };
+    assert!(PE::parse_with_limits(IMAGE, &ParseOptions::default(), &limits).is_ok());
+}
+
+/// A file whose directory of imports names one list of ordinals and slots.
+#[test]
+fn names_ordinals() {
+    let mut bytes = with_many_imports();
+    bytes[20..60].fill(0);
+    for (field, number) in [(0, 0x4100_u32), (12, 0x4080), (16, 0x7ff8)] {
+        bytes.pwrite_with(number, 20 + field, scroll::LE).unwrap();
+    }
+    bytes[0x4108..0x4110].fill(0);
+    let opts = ParseOptions { resolve_rva: false, ..Default::default() };
+    let directory = DataDirectory { virtual_address: 20, size: 20 };
+    let data = ImportData::parse_with_opts::<u64>(&bytes, directory, &[], 0, &opts).unwrap();
+    let imports = Import::parse::<u64>(&bytes, &data, &[]).unwrap();
+    let found: Vec<_> = imports.iter().map(|it| (&*it.name, it.dll, it.ordinal, it.offset, it.size)).collect();
+    assert_eq!(found, [("ORDINAL 7", "a.dll", 7, 0x7ff8, 8)]);
+}
+
+/// An object with many sections, whose names are all the same text of the string table, half of the file.
+#[test]
+fn section_names_longer_than_the_file_are_an_error() {
+    let (count, length) = (100_usize, 4_000_usize);
+    let at = 20 + 40 * count;
+    let mut bytes = vec![b'a'; at + 4 + length + 1];
+    bytes[..at + 4].fill(0);
+    bytes[at + 4 + length] = 0;
+    bytes.pwrite_with(count as u16, 2, scroll::LE).unwrap();
+    bytes.pwrite_with(at as u32, 8, scroll::LE).unwrap();
+    bytes.pwrite_with((4 + length + 1) as u32, at, scroll::LE).unwrap();
+    bytes[20..22].copy_from_slice(b"/4");
+    let coff = Coff::parse(&bytes).unwrap();
+    assert_eq!((coff.sections.len(), coff.sections[0].name().unwrap().len()), (count, length));
+    for section in 0..count {
+        bytes[20 + 40 * section..][..2].copy_from_slice(b"/4");
+    }
+    let error = Coff::parse(&bytes).expect_err("400,000 bytes of names in a file of 8,000");
+    assert_eq!(error.to_string(), "Malformed entity: section names are longer than the file");
+}
+
+#[test]
+fn writes_what_it_has_read() {
+    let pe = PE::parse(IMAGE).unwrap();
+    let mut copy = vec![0; IMAGE.len()];
+    let end = copy.pwrite_with(pe, 0, scroll::LE).unwrap();
+    assert_eq!(&copy[..end], &IMAGE[..end]);
+    let (one, other) = (PE::parse(&copy).unwrap(), PE::parse(IMAGE).unwrap());
+    assert_eq!(one.header, other.header);
+    assert_eq!(one.sections, other.sections);
+    assert_eq!(one.debug_data, other.debug_data);
+}
+
+#[test]
+fn a_write_that_does_not_fit_changes_nothing() {
+    let mut copy = vec![0xcc; IMAGE.len() / 2];
+    let error = copy.pwrite_with(PE::parse(IMAGE).unwrap(), 0, scroll::LE).expect_err("half a buffer");
+    assert!(error.to_string().contains("Buffer is too short for"), "{error:?}");
+    assert!(copy.iter().all(|it| *it == 0xcc));
+    let mut pe = PE::parse(IMAGE).unwrap();
+    let twin = SectionTable { virtual_size: 1, ..pe.sections[0].clone() };
+    pe.sections.push(twin);
+    let mut copy = vec![0xcc; IMAGE.len()];
+    let error = copy.pwrite_with(pe, 0, scroll::LE).expect_err("two sections with the same bytes");
+    assert!(error.to_string().contains("Overlapping"), "{error}");
+    assert!(copy.iter().all(|it| *it == 0xcc));
+}
+
+#[test]
+fn digest_covers_all_but_the_checksum_and_the_certificates() {
+    let pe = PE::parse(IMAGE).unwrap();
+    let parts: Vec<u8> = pe.authenticode_ranges().flatten().copied().collect();
+    let checksum = pe_offset() + 24 + 64;
+    let entry = directory_offset(4);
+    let table = IMAGE.pread_with::<u32>(entry, scroll::LE).unwrap() as usize;
+    let covered = [&IMAGE[..checksum], &IMAGE[checksum + 4..entry], &IMAGE[entry + 8..table]].concat();
+    assert!(parts == covered && table < IMAGE.len() && table % 8 == 0);
+}
+
+#[test]
+fn headers_stand_alone() {
+    let header = Header::parse(IMAGE).unwrap();
+    let at = pe_offset() + 24;
+    let alone: goblin::pe::optional_header::OptionalHeader = IMAGE.pread_with(at, scroll::LE).unwrap();
+    let found = header.optional_header.unwrap();
+    assert_eq!((alone.standard_fields, alone.windows_fields), (found.standard_fields, found.windows_fields));
+    assert!(Coff::parse(&IMAGE[pe_offset() + 4..]).is_ok());
+}
