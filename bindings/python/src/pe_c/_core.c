@@ -1,0 +1,1008 @@
+/* pe_c._core: the calls of pe.h for Python, by the stable ABI of Python 3.11.
+ *
+ * An Image holds the buffer of its bytes, so that they stay where they are, and copies those that may be written. Each
+ * method returns (value, number, is_limited): what there is before the first error, the number of that error or
+ * PE_C_DONE, and whether the budget ended it. What records become is written by tools/make_python, in _rows.h.
+ *
+ * A budget bounds what a hostile image costs: many of its lists and names may be one and the same bytes, and each RVA is
+ * looked for in all of its sections. */
+#define Py_LIMITED_API 0x030B0000
+#define PY_SSIZE_T_CLEAN
+#include <Python.h>
+#include <string.h>
+#include "pe.h"
+#include "_row_kinds.h"
+
+/* What a row costs, in bytes of the budget; to how many sections one such byte is equal, where the row's RVAs are mapped; how
+ * many rows a list has at most whose entries may be the same bytes; and how many levels version blocks have at most below
+ * the first, of which real ones have three. */
+enum { ROW_COST = 16, SECTIONS_A_BYTE = 16, MOST_ROWS = 1 << 18, MOST_DEPTH = 8 };
+
+typedef struct {
+    PyTypeObject *image;
+    PyTypeObject *rows[ROW_KINDS];
+} State;
+
+typedef struct {
+    PyObject_HEAD
+    State *state;                   /* of the module, which the type keeps */
+    Py_buffer view;
+    PyObject *memory;               /* a memoryview of what is read, read-only; NULL once closed */
+    pe_c_image_info info;
+    pe_c_section *sections;
+    pe_c_range strings;             /* the COFF string table, empty without one */
+    Py_ssize_t users;               /* how many calls read it: close() is refused meanwhile. Any of them may let others run,
+                                       since a new object may start the collector, and that finalizers */
+} Image;
+
+#define BYTES self->view.buf, (size_t)self->view.len
+#define SECTIONS self->sections, self->info.number_of_sections
+#define IMAGE BYTES, &self->info, SECTIONS
+
+typedef struct {
+    uint64_t bytes, rows;           /* that are left */
+    uint64_t each;                  /* what a row costs besides its texts */
+    int is_over, depth;
+} Budget;
+
+/* A list as far as it was read. It is NULL once an exception is set. */
+typedef struct {
+    PyObject *list;
+    Budget *budget;
+    Image *image;
+    Budget *names;                  /* what the long names of sections are paid by: a header is there without one too */
+    uint32_t result;
+} Rows;
+
+/* Takes it off the budget, or says that the budget is over. */
+static int pays(Budget *budget, uint64_t cost)
+{
+    budget->is_over = budget->is_over || budget->bytes < cost;
+    if (!budget->is_over)
+        budget->bytes -= cost;
+    return !budget->is_over;
+}
+
+/* ---- values */
+
+#define N(number) PyLong_FromUnsignedLongLong(number)
+#define B(flag) PyBool_FromLong((long)(flag))
+#define OPTIONAL(is_there, expression) ((is_there) ? (expression) : Py_NewRef(Py_None))
+/* A range that the library returned lies inside the bytes. */
+#define AT(range) (const char *)self->view.buf + (range).offset, (Py_ssize_t)(range).length
+
+static PyObject *bytes_of(const uint8_t *bytes, size_t length)
+{
+    return PyBytes_FromStringAndSize((const char *)bytes, (Py_ssize_t)length);
+}
+
+static PyObject *utf8(Image *self, pe_c_range range)
+{
+    return PyUnicode_DecodeUTF8(AT(range), "backslashreplace");
+}
+
+static PyObject *raw(Image *self, pe_c_range range)
+{
+    return PyBytes_FromStringAndSize(AT(range));
+}
+
+static PyObject *utf8_to_zero(Image *self, pe_c_range range)
+{
+    const char *start = (const char *)self->view.buf + range.offset, *end = memchr(start, 0, range.length);
+    range.length = end ? (uint64_t)(end - start) : range.length;
+    return utf8(self, range);
+}
+
+/* Lone surrogates become escapes: as they are, neither print nor json could write them. */
+static PyObject *utf16(Image *self, pe_c_range range)
+{
+    int little_endian = -1;
+    range.length &= ~(uint64_t)1;
+    return PyUnicode_DecodeUTF16(AT(range), "backslashreplace", &little_endian);
+}
+
+static PyObject *utf16_to_zero(Image *self, pe_c_range range)
+{
+    const char *start = (const char *)self->view.buf + range.offset;
+    uint64_t i = 0;
+    while (i + 1 < range.length && (start[i] || start[i + 1]))
+        i += 2;
+    range.length = i;
+    return utf16(self, range);
+}
+
+/* The part of the memory, as a memoryview: nothing is copied, and it keeps the memory alive. */
+static PyObject *view_of(Image *self, pe_c_range range)
+{
+    return PySequence_GetSlice(self->memory, (Py_ssize_t)range.offset, (Py_ssize_t)(range.offset + range.length));
+}
+
+static PyObject *resource_name(Image *self, pe_c_resource_name name)
+{
+    return name.has_name ? utf16(self, name.name) : N(name.id);
+}
+
+/* That of the string table, or of the header. */
+static PyObject *section_name(Image *self, Rows *rows, const pe_c_section *it)
+{
+    pe_c_range name = PE_C_EMPTY;
+    if (self->strings.length && it->name[0] == '/' && !rows->names->is_over) {
+        uint32_t result = pe_c_long_section_name(BYTES, &self->strings, it, &name);
+        /* The string that is none was read too, as far as the table goes. */
+        if (pays(rows->names, result == PE_C_DONE ? name.length : self->strings.length) && result == PE_C_DONE)
+            return utf8(self, name);
+    }
+    const uint8_t *end = memchr(it->name, 0, sizeof it->name);
+    Py_ssize_t length = end ? end - it->name : (Py_ssize_t)sizeof it->name;
+    return PyUnicode_DecodeUTF8((const char *)it->name, length, "backslashreplace");
+}
+
+/* ---- lists */
+
+static Budget budget_of(Image *self)
+{
+    uint64_t each = ROW_COST + self->info.number_of_sections / SECTIONS_A_BYTE;
+    return (Budget){(uint64_t)self->view.len * 4 + 65536, MOST_ROWS, each, 0, 0};
+}
+
+/* A budget for entries that are bytes of their own, so that there are no more of them than the file has room for, and whose
+ * RVAs are not mapped. */
+static Budget budget_of_own(Image *self)
+{
+    Budget budget = budget_of(self);
+    budget.rows = UINT64_MAX;
+    budget.each = ROW_COST;
+    return budget;
+}
+
+/* Pays for a row, and for so many bytes of its texts. */
+static int takes(Rows *rows, uint64_t texts)
+{
+    Budget *budget = rows->budget;
+    budget->is_over = budget->is_over || budget->rows == 0;
+    budget->rows -= budget->rows > 0;
+    return pays(budget, budget->each + texts);
+}
+
+/* What was read to find that no text is at the RVA: the bytes up to the first zero. */
+static uint64_t unread(Image *self, uint32_t rva)
+{
+    uint64_t offset = 0, length = (uint64_t)self->view.len;
+    if (pe_c_offset(&self->info, SECTIONS, rva, &offset) != PE_C_DONE || offset >= length)
+        return 0;
+    const char *start = (const char *)self->view.buf + offset, *end = memchr(start, 0, length - offset);
+    return end ? (uint64_t)(end - start) : length - offset;
+}
+
+static Rows rows_of(Image *self, Budget *budget)
+{
+    return (Rows){PyList_New(0), budget, self, budget, PE_C_DONE};
+}
+
+static int goes_on(const Rows *rows)
+{
+    return rows->list && rows->result == PE_C_DONE && !rows->budget->is_over;
+}
+
+/* Adds a row, which is NULL after an exception, and where the budget is over. */
+static void append(Rows *rows, PyObject *row)
+{
+    if (row ? PyList_Append(rows->list, row) < 0 : PyErr_Occurred() != NULL)
+        Py_CLEAR(rows->list);
+    Py_XDECREF(row);
+}
+
+/* Goes on with a walk: `call` is its next step. */
+#define EACH(rows, call, row) \
+    while (goes_on(rows) && ((rows)->result = (call)) == PE_C_DONE) \
+        append(rows, row)
+
+/* The rows as a tuple. An error of an inner list is that of the list around it, which ends there. */
+static PyObject *inside(Rows *outer, Rows *rows)
+{
+    PyObject *tuple = rows->list ? PyList_AsTuple(rows->list) : NULL;
+    Py_XDECREF(rows->list);
+    if (rows->result != PE_C_DONE && rows->result != PE_C_NOTHING)
+        outer->result = rows->result;
+    return tuple;
+}
+
+static PyObject *answer(PyObject *value, const Rows *rows)
+{
+    rows->image->users--;
+    unsigned long number = rows->result == PE_C_NOTHING ? PE_C_DONE : rows->result;
+    if (!value && !PyErr_Occurred())
+        value = Py_NewRef(Py_None);
+    return value ? Py_BuildValue("(NkN)", value, number, B(rows->budget->is_over)) : NULL;
+}
+
+static PyObject *finished(Rows *rows)
+{
+    PyObject *tuple = rows->list ? PyList_AsTuple(rows->list) : NULL;
+    Py_XDECREF(rows->list);
+    return answer(tuple, rows);
+}
+
+static PyObject *filled(Image *self, int kind, PyObject **items, Py_ssize_t count)
+{
+    PyObject *row = PyStructSequence_New(self->state->rows[kind]);
+    int is_well = row != NULL;
+    for (Py_ssize_t i = 0; i < count; i++) {
+        is_well = is_well && items[i];
+        if (row)
+            PyStructSequence_SetItem(row, i, items[i]);
+        else
+            Py_XDECREF(items[i]);
+    }
+    if (!is_well)
+        Py_CLEAR(row);
+    return row;
+}
+
+/* ---- lists inside of rows; each is a walk that its record has the start of */
+
+#define INNER(name, Record, Walk, start, Item, call, row) \
+    static PyObject *name(Image *self, Rows *outer, const Record *it) \
+    { \
+        Walk walk = start; \
+        Item item = PE_C_EMPTY; \
+        Rows rows = rows_of(self, outer->budget); \
+        EACH(&rows, call, row); \
+        return inside(outer, &rows); \
+    }
+#define ROW_OF(name) row_##name(self, &rows, &item)
+
+static PyObject *directories_of(Image *self, Rows *rows, const pe_c_directory *it, uint32_t count);
+static PyObject *rich_entries(Image *self, Rows *outer, const pe_c_rich_header_info *it);
+static PyObject *pogo_entries(Image *self, Rows *outer, const pe_c_pogo *it);
+static PyObject *unwind_codes(Image *self, Rows *outer, const pe_c_record *it);
+static PyObject *arm64_scopes(Image *self, Rows *outer, const pe_c_arm64_record *it);
+static PyObject *arm64_codes(Image *self, Rows *outer, const pe_c_arm64_record *it);
+static PyObject *imports_of(Image *self, Rows *outer, const pe_c_library *it);
+static PyObject *delayed_functions(Image *self, Rows *outer, const pe_c_delay_import *it);
+static PyObject *bound_forwarders(Image *self, Rows *outer, const pe_c_bound_import *it);
+static PyObject *version_children(Image *self, Rows *outer, const pe_c_version_block *it);
+static PyObject *tls_callbacks(Image *self, Rows *outer, const pe_c_tls_directory *it);
+static PyObject *relocations_of(Image *self, Rows *outer, const pe_c_relocation_block *it);
+static PyObject *metadata_streams(Image *self, Rows *outer, const pe_c_metadata *it);
+#include "_rows.h"
+
+INNER(rich_entries, pe_c_rich_header_info, pe_c_range, it->entries, pe_c_rich_entry,
+      pe_c_next_rich_entry(BYTES, it->key, &walk, &item), ROW_OF(rich_entry))
+INNER(pogo_entries, pe_c_pogo, pe_c_range, it->entries, pe_c_pogo_entry, pe_c_next_pogo_entry(BYTES, &walk, &item),
+      ROW_OF(pogo_entry))
+INNER(unwind_codes, pe_c_record, pe_c_walk, it->codes, pe_c_code, pe_c_next_code(BYTES, &walk, &item), ROW_OF(code))
+INNER(arm64_scopes, pe_c_arm64_record, pe_c_range, it->scopes, pe_c_arm64_scope,
+      pe_c_next_arm64_scope(BYTES, &walk, &item), ROW_OF(arm64_scope))
+INNER(imports_of, pe_c_library, pe_c_imports, it->imports, pe_c_import, pe_c_next_import(IMAGE, &walk, &item),
+      ROW_OF(import))
+INNER(delayed_functions, pe_c_delay_import, pe_c_delayed_functions, it->functions, pe_c_delayed_function,
+      pe_c_next_delayed_function(IMAGE, &walk, &item), ROW_OF(delayed_function))
+INNER(relocations_of, pe_c_relocation_block, pe_c_range, it->entries, pe_c_relocation,
+      pe_c_next_relocation(BYTES, it->page_rva, &walk, &item), ROW_OF(relocation))
+INNER(metadata_streams, pe_c_metadata, pe_c_metadata_streams, it->streams, pe_c_metadata_stream,
+      pe_c_next_metadata_stream(BYTES, &walk, &item), ROW_OF(metadata_stream))
+
+static PyObject *directories_of(Image *self, Rows *outer, const pe_c_directory *it, uint32_t count)
+{
+    Rows rows = rows_of(self, outer->budget);
+    for (uint32_t i = 0; i < count && i < 16 && goes_on(&rows); i++)
+        append(&rows, row_directory(self, &rows, &it[i]));
+    return inside(outer, &rows);
+}
+
+/* All codes of a record: those of its prolog, and those of its epilogs after them. */
+static PyObject *arm64_codes(Image *self, Rows *outer, const pe_c_arm64_record *it)
+{
+    pe_c_arm64_walk walk = PE_C_EMPTY;
+    pe_c_arm64_code item = PE_C_EMPTY;
+    Rows rows = rows_of(self, outer->budget);
+    rows.result = pe_c_arm64_codes(BYTES, &it->codes, 0, &walk);
+    EACH(&rows, pe_c_next_arm64_code(BYTES, &walk, &item), ROW_OF(arm64_code));
+    return inside(outer, &rows);
+}
+
+static PyObject *bound_forwarders(Image *self, Rows *outer, const pe_c_bound_import *it)
+{
+    pe_c_range table = PE_C_EMPTY, walk = it->forwarders;
+    pe_c_bound_forwarder item = PE_C_EMPTY;
+    Rows rows = rows_of(self, outer->budget);
+    rows.result = pe_c_bound_imports(BYTES, &self->info, &table);
+    EACH(&rows, pe_c_next_bound_forwarder(BYTES, &table, &walk, &item), ROW_OF(bound_forwarder));
+    return inside(outer, &rows);
+}
+
+/* A walk over version blocks goes on after an error of one of them; the first is that of the list. */
+static void add_version_blocks(Image *self, Rows *rows, pe_c_range walk)
+{
+    pe_c_version_block item = PE_C_EMPTY;
+    uint32_t first_error = PE_C_DONE;
+    while (rows->list && !rows->budget->is_over) {
+        uint32_t result = pe_c_next_version_block(BYTES, &walk, &item);
+        rows->result = PE_C_DONE;
+        if (result == PE_C_DONE)
+            append(rows, row_version_block(self, rows, &item));
+        if (result == PE_C_NOTHING)
+            break;
+        result = result == PE_C_DONE ? rows->result : result;
+        first_error = first_error == PE_C_DONE ? result : first_error;
+    }
+    rows->result = first_error;
+}
+
+static PyObject *version_children(Image *self, Rows *outer, const pe_c_version_block *it)
+{
+    Rows rows = rows_of(self, outer->budget);
+    if (outer->budget->depth >= MOST_DEPTH)
+        outer->budget->is_over = 1;
+    outer->budget->depth++;
+    add_version_blocks(self, &rows, it->children);
+    outer->budget->depth--;
+    return inside(outer, &rows);
+}
+
+static PyObject *tls_callbacks(Image *self, Rows *outer, const pe_c_tls_directory *it)
+{
+    pe_c_range walk = PE_C_EMPTY;
+    uint64_t item = 0;
+    Rows rows = rows_of(self, outer->budget);
+    rows.result = pe_c_tls_callbacks(IMAGE, it, &walk);
+    EACH(&rows, pe_c_next_tls_callback(BYTES, &self->info, &walk, &item), takes(&rows, 0) ? N(item) : NULL);
+    return inside(outer, &rows);
+}
+
+/* ---- methods */
+
+static int is_open(Image *self)
+{
+    if (!self->memory)
+        PyErr_SetString(PyExc_ValueError, "operation on a closed image");
+    return self->memory != NULL;
+}
+
+#define METHOD(name) static PyObject *name(Image *self, PyObject *Py_UNUSED(none))
+/* The image is in use from here on, until `answer` returns what was read. So arguments are read before it. */
+#define OPEN_BY(budget_made) \
+    if (!is_open(self)) \
+        return NULL; \
+    Budget budget = budget_made(self); \
+    Rows rows = {NULL, &budget, self, &budget, PE_C_DONE}; \
+    self->users++;
+#define OPEN OPEN_BY(budget_of)
+#define OPEN_OWN OPEN_BY(budget_of_own)
+
+/* A record of its own. */
+#define ONE(name, Item, call, row) \
+    METHOD(name) \
+    { \
+        OPEN \
+        Item item = PE_C_EMPTY; \
+        rows.result = call; \
+        return answer(rows.result == PE_C_DONE ? row : NULL, &rows); \
+    }
+
+/* A list: `start` starts its walk, and `call` goes on. */
+#define LIST(name, Walk, start, Item, call, row) \
+    METHOD(name) \
+    { \
+        OPEN \
+        Walk walk = PE_C_EMPTY; \
+        Item item = PE_C_EMPTY; \
+        rows = rows_of(self, &budget); \
+        rows.result = start; \
+        EACH(&rows, call, row); \
+        return finished(&rows); \
+    }
+
+METHOD(headers)
+{
+    OPEN_OWN
+    return answer(row_image_info(self, &rows, &self->info), &rows);
+}
+
+ONE(rich_header, pe_c_rich_header_info, pe_c_rich_header(BYTES, &item), ROW_OF(rich_header_info))
+ONE(symbol_key, pe_c_key, pe_c_symbol_key(IMAGE, &item), ROW_OF(key))
+ONE(pdb20, pe_c_pdb20, pe_c_debug_pdb20(IMAGE, &item), ROW_OF(pdb20))
+ONE(vc_features, pe_c_vc_features, pe_c_debug_vc_features(IMAGE, &item), ROW_OF(vc_features))
+ONE(extended_dll_characteristics, uint32_t, pe_c_debug_characteristics(IMAGE, &item), N(item))
+ONE(repro, pe_c_repro, pe_c_debug_repro(IMAGE, &item), ROW_OF(repro))
+ONE(pogo, pe_c_pogo, pe_c_debug_pogo(IMAGE, &item), ROW_OF(pogo))
+ONE(overlay, pe_c_range, pe_c_overlay(IMAGE, &item), view_of(self, item))
+ONE(tls, pe_c_tls_directory, pe_c_tls(IMAGE, &item), ROW_OF(tls_directory))
+ONE(load_config, pe_c_load_config_directory, pe_c_load_config(IMAGE, &item), ROW_OF(load_config_directory))
+ONE(clr_header, pe_c_cor20_header, pe_c_clr_header(IMAGE, &item), ROW_OF(cor20_header))
+ONE(export_table, pe_c_address_table, pe_c_export_addresses(IMAGE, &item), ROW_OF(address_table))
+
+LIST(imports, pe_c_libraries, pe_c_import_libraries(IMAGE, &walk), pe_c_library,
+     pe_c_next_library(IMAGE, &walk, &item), ROW_OF(library))
+LIST(delay_imports, pe_c_range, pe_c_delay_imports(IMAGE, &walk), pe_c_delay_import,
+     pe_c_next_delay_import(IMAGE, &walk, &item), ROW_OF(delay_import))
+LIST(debug_entries, pe_c_range, pe_c_debug_entries(IMAGE, &walk), pe_c_debug_entry,
+     pe_c_next_debug_entry(BYTES, &walk, &item), ROW_OF(debug_entry))
+LIST(resources, pe_c_resource_walk, pe_c_resource_leaves(IMAGE, &walk), pe_c_resource_leaf,
+     pe_c_next_resource_leaf(IMAGE, &walk, &item), ROW_OF(resource_leaf))
+
+/* The walk over certificates starts as the range of their directory, which is one of the file. */
+static uint32_t certificate_table(Image *self, pe_c_range *out)
+{
+    pe_c_directory table = self->info.directories[PE_C_DIRECTORY_SECURITY];
+    *out = (pe_c_range){table.virtual_address, table.size};
+    return (table.virtual_address || table.size) && !(self->info.mode & PE_C_MAPPED) ? PE_C_DONE : PE_C_NOTHING;
+}
+
+LIST(certificates, pe_c_range, certificate_table(self, &walk), pe_c_certificate,
+     pe_c_next_certificate(BYTES, &walk, &item), ROW_OF(certificate))
+
+METHOD(section_headers)
+{
+    OPEN_OWN
+    Budget names = budget;
+    rows = rows_of(self, &budget);
+    rows.names = &names;
+    for (uint32_t i = 0; i < self->info.number_of_sections && goes_on(&rows); i++)
+        append(&rows, row_section(self, &rows, &self->sections[i]));
+    budget.is_over |= names.is_over;
+    return finished(&rows);
+}
+
+METHOD(bound_imports)
+{
+    OPEN
+    pe_c_range table = PE_C_EMPTY;
+    pe_c_bound_import item = PE_C_EMPTY;
+    rows = rows_of(self, &budget);
+    rows.result = pe_c_bound_imports(BYTES, &self->info, &table);
+    pe_c_range walk = table;
+    EACH(&rows, pe_c_next_bound_import(BYTES, &table, &walk, &item), ROW_OF(bound_import));
+    return finished(&rows);
+}
+
+METHOD(clr_metadata)
+{
+    OPEN
+    pe_c_cor20_header header = PE_C_EMPTY;
+    pe_c_metadata item = PE_C_EMPTY;
+    rows.result = pe_c_clr_header(IMAGE, &header);
+    if (rows.result == PE_C_DONE)
+        rows.result = pe_c_clr_metadata(IMAGE, &header, &item);
+    return answer(rows.result == PE_C_DONE ? ROW_OF(metadata) : NULL, &rows);
+}
+
+/* The export with an index. Of a forwarder without a text, what was read of that is paid for. */
+static int export_at(Image *self, Rows *rows, const pe_c_address_table *table, uint64_t index, pe_c_exported *out)
+{
+    if (pe_c_export_at(IMAGE, table, index, out) != PE_C_DONE)
+        return 0;
+    return !out->is_forwarder || out->forwarder.length || pays(rows->budget, unread(self, out->rva));
+}
+
+/* The exports with a name, in the order of the names. The walk skips names that are no texts, as often as it has names: so
+ * each name is a walk of its own, after which what was read of it is paid for. */
+static void add_named(Image *self, Rows *rows, const pe_c_exports *all, const pe_c_address_table *table, uint8_t *is_named)
+{
+    pe_c_export named = PE_C_EMPTY;
+    pe_c_exported item = PE_C_EMPTY;
+    for (uint64_t i = 0; goes_on(rows) && i < all->names.length / 4; i++) {
+        pe_c_exports walk = {{all->names.offset + 4 * i, 4}, {all->ordinals.offset + 2 * i, 2}, all->addresses, 0};
+        uint32_t result = pe_c_next_export(IMAGE, &walk, &named);
+        if (result != PE_C_DONE && result != PE_C_NOTHING)
+            rows->result = result;
+        const uint8_t *rva = (const uint8_t *)self->view.buf + all->names.offset + 4 * i;
+        if (result == PE_C_NOTHING)
+            pays(rows->budget, ROW_COST + unread(self, rva[0] | rva[1] << 8 | rva[2] << 16 | (uint32_t)rva[3] << 24));
+        if (result != PE_C_DONE || !export_at(self, rows, table, named.index, &item))
+            continue;
+        is_named[named.index] = 1;
+        append(rows, takes(rows, named.name.length) ? row_exported(self, rows, &item, &named) : NULL);
+    }
+}
+
+/* Those without, in the order of their ordinals. An RVA of 0 is that of an unused ordinal. */
+static void add_unnamed(Image *self, Rows *rows, const pe_c_address_table *table, const uint8_t *is_named)
+{
+    pe_c_exported item = PE_C_EMPTY;
+    for (uint64_t i = 0; goes_on(rows) && i < table->addresses.length / 4; i++)
+        if (!is_named[i] && export_at(self, rows, table, i, &item) && item.rva)
+            append(rows, row_exported(self, rows, &item, NULL));
+}
+
+METHOD(exports)
+{
+    OPEN
+    pe_c_address_table table = PE_C_EMPTY;
+    pe_c_exports walk = PE_C_EMPTY;
+    rows = rows_of(self, &budget);
+    rows.result = pe_c_export_addresses(IMAGE, &table);
+    if (rows.result == PE_C_DONE)
+        rows.result = pe_c_export_tables(IMAGE, &walk);
+    if (rows.list && rows.result == PE_C_DONE) {
+        uint8_t *is_named = PyMem_Calloc(table.addresses.length / 4 + 1, 1);
+        if (is_named) {
+            add_named(self, &rows, &walk, &table, is_named);
+            add_unnamed(self, &rows, &table, is_named);
+        } else {
+            Py_CLEAR(rows.list);
+            PyErr_NoMemory();
+        }
+        PyMem_Free(is_named);
+    }
+    return finished(&rows);
+}
+
+METHOD(relocations)
+{
+    OPEN_OWN
+    pe_c_range walk = PE_C_EMPTY;
+    pe_c_relocation_block item = PE_C_EMPTY;
+    rows = rows_of(self, &budget);
+    rows.result = pe_c_relocation_blocks(IMAGE, &walk);
+    EACH(&rows, pe_c_next_relocation_block(BYTES, &walk, &item), ROW_OF(relocation_block));
+    return finished(&rows);
+}
+
+METHOD(functions)
+{
+    OPEN_OWN
+    pe_c_range table = PE_C_EMPTY;
+    pe_c_function item = PE_C_EMPTY;
+    rows = rows_of(self, &budget);
+    rows.result = pe_c_function_table(IMAGE, &table);
+    uint64_t i = 0, count = table.length / 12;
+    EACH(&rows, i < count ? pe_c_function_at(BYTES, &table, i++, &item) : PE_C_NOTHING, ROW_OF(function));
+    return finished(&rows);
+}
+
+METHOD(arm64_functions)
+{
+    OPEN_OWN
+    pe_c_range table = PE_C_EMPTY;
+    pe_c_arm64_function item = PE_C_EMPTY;
+    rows = rows_of(self, &budget);
+    rows.result = pe_c_arm64_table(IMAGE, &table);
+    uint64_t i = 0, count = table.length / 8;
+    EACH(&rows, i < count ? pe_c_arm64_function_at(BYTES, &table, i++, &item) : PE_C_NOTHING, ROW_OF(arm64_function));
+    return finished(&rows);
+}
+
+/* ---- methods with arguments */
+
+/* An RVA. A number that is none has no section, so it is PE_C_NOTHING. */
+static int rva_of(PyObject *argument, uint32_t *rva, uint32_t *result)
+{
+    unsigned long long number = PyLong_AsUnsignedLongLong(argument);
+    if (number == (unsigned long long)-1 && PyErr_Occurred())
+        return 0;
+    *rva = (uint32_t)number;
+    *result = number >> 32 ? PE_C_NOTHING : PE_C_DONE;
+    return 1;
+}
+
+static PyObject *offset_of(Image *self, PyObject *argument)
+{
+    uint64_t offset = 0;
+    uint32_t rva, result;
+    if (!rva_of(argument, &rva, &result))
+        return NULL;
+    OPEN
+    rows.result = result;
+    if (rows.result == PE_C_DONE)
+        rows.result = pe_c_offset(&self->info, SECTIONS, rva, &offset);
+    return answer(rows.result == PE_C_DONE ? N(offset) : NULL, &rows);
+}
+
+static PyObject *find_function(Image *self, PyObject *argument)
+{
+    pe_c_range table = PE_C_EMPTY;
+    pe_c_function item = PE_C_EMPTY;
+    uint32_t rva, result;
+    if (!rva_of(argument, &rva, &result))
+        return NULL;
+    OPEN
+    rows.result = result;
+    if (rows.result == PE_C_DONE)
+        rows.result = pe_c_function_table(IMAGE, &table);
+    if (rows.result == PE_C_DONE)
+        rows.result = pe_c_find_function(BYTES, &table, rva, &item);
+    return answer(rows.result == PE_C_DONE ? ROW_OF(function) : NULL, &rows);
+}
+
+static PyObject *find_arm64_function(Image *self, PyObject *argument)
+{
+    pe_c_range table = PE_C_EMPTY;
+    pe_c_arm64_function item = PE_C_EMPTY;
+    uint32_t rva, result;
+    if (!rva_of(argument, &rva, &result))
+        return NULL;
+    OPEN
+    rows.result = result;
+    if (rows.result == PE_C_DONE)
+        rows.result = pe_c_arm64_table(IMAGE, &table);
+    if (rows.result == PE_C_DONE)
+        rows.result = pe_c_find_arm64_function(IMAGE, &table, rva, &item);
+    return answer(rows.result == PE_C_DONE ? ROW_OF(arm64_function) : NULL, &rows);
+}
+
+/* The records of a function by its field `unwind`, up to the root of its chain. */
+static PyObject *unwind_records(Image *self, PyObject *argument)
+{
+    pe_c_range table = PE_C_EMPTY;
+    pe_c_plan plan = PE_C_EMPTY;
+    pe_c_record item = PE_C_EMPTY;
+    uint32_t unwind, result;
+    if (!rva_of(argument, &unwind, &result))
+        return NULL;
+    OPEN
+    rows = rows_of(self, &budget);
+    rows.result = result == PE_C_DONE ? pe_c_function_table(IMAGE, &table) : result;
+    pe_c_plan_from(unwind, &plan);
+    EACH(&rows, pe_c_next_record(IMAGE, &table, &plan, &item), ROW_OF(record));
+    return finished(&rows);
+}
+
+static PyObject *arm64_unwind(Image *self, PyObject *arguments)
+{
+    unsigned int begin, unwind;
+    if (!PyArg_ParseTuple(arguments, "II", &begin, &unwind))
+        return NULL;
+    OPEN
+    pe_c_arm64_function function = {begin, unwind};
+    pe_c_arm64_packed packed = PE_C_EMPTY;
+    pe_c_arm64_record item = PE_C_EMPTY;
+    pe_c_arm64_packed_fields(&function, &packed);
+    if (packed.is_packed)
+        return answer(row_arm64_packed(self, &rows, &packed), &rows);
+    rows.result = pe_c_arm64_unwind_record(IMAGE, &function, &item);
+    return answer(rows.result == PE_C_DONE ? ROW_OF(arm64_record) : NULL, &rows);
+}
+
+static int range_of(PyObject *arguments, pe_c_range *out)
+{
+    unsigned long long offset, length;
+    if (!PyArg_ParseTuple(arguments, "KK", &offset, &length))
+        return 0;
+    *out = (pe_c_range){offset, length};
+    return 1;
+}
+
+static PyObject *version_blocks(Image *self, PyObject *arguments)
+{
+    pe_c_range content;
+    if (!range_of(arguments, &content))
+        return NULL;
+    OPEN
+    rows = rows_of(self, &budget);
+    add_version_blocks(self, &rows, content);
+    return finished(&rows);
+}
+
+static PyObject *fixed_version(Image *self, PyObject *arguments)
+{
+    pe_c_range content;
+    pe_c_version item = PE_C_EMPTY;
+    if (!range_of(arguments, &content))
+        return NULL;
+    OPEN
+    rows.result = pe_c_fixed_version_in(BYTES, &content, &item);
+    return answer(rows.result == PE_C_DONE ? ROW_OF(version) : NULL, &rows);
+}
+
+static PyObject *codeview(Image *self, PyObject *arguments)
+{
+    pe_c_range record;
+    pe_c_key item = PE_C_EMPTY;
+    if (!range_of(arguments, &record))
+        return NULL;
+    OPEN
+    rows.result = pe_c_codeview(BYTES, &record, &item);
+    return answer(rows.result == PE_C_DONE ? ROW_OF(key) : NULL, &rows);
+}
+
+/* ---- whole files, without the GIL */
+
+METHOD(checksum)
+{
+    OPEN
+    pe_c_checksum_field item = PE_C_EMPTY;
+    Py_BEGIN_ALLOW_THREADS
+    rows.result = pe_c_checksum(BYTES, &self->info, &item);
+    Py_END_ALLOW_THREADS
+    return answer(rows.result == PE_C_DONE ? ROW_OF(checksum_field) : NULL, &rows);
+}
+
+static PyObject *numbers(const uint64_t *counts)
+{
+    PyObject *tuple = PyTuple_New(256);
+    for (Py_ssize_t i = 0; tuple && i < 256; i++) {
+        PyObject *number = N(counts[i]);
+        if (number)
+            PyTuple_SetItem(tuple, i, number);
+        else
+            Py_CLEAR(tuple);
+    }
+    return tuple;
+}
+
+/* How often each byte stands in a range, as far as the file has it. */
+static PyObject *histogram(Image *self, PyObject *arguments)
+{
+    pe_c_range range;
+    if (!range_of(arguments, &range))
+        return NULL;
+    OPEN
+    uint64_t length = (uint64_t)self->view.len, counts[256] = {0};
+    const uint8_t *bytes = self->view.buf;
+    uint64_t start = range.offset < length ? range.offset : length;
+    uint64_t end = range.length < length - start ? start + range.length : length;
+    Py_BEGIN_ALLOW_THREADS
+    for (uint64_t i = start; i < end; i++)
+        counts[bytes[i]]++;
+    Py_END_ALLOW_THREADS
+    return answer(numbers(counts), &rows);
+}
+
+/* What an Authenticode digest covers: the ranges, and how many zeros follow. */
+METHOD(digest_ranges)
+{
+    OPEN
+    pe_c_digest item = PE_C_EMPTY;
+    rows.result = pe_c_digest_ranges(BYTES, &self->info, &item);
+    if (rows.result != PE_C_DONE)
+        return answer(NULL, &rows);
+    return answer(Py_BuildValue("(NNNNK)", view_of(self, item.ranges[0]), view_of(self, item.ranges[1]),
+                                view_of(self, item.ranges[2]), view_of(self, item.ranges[3]),
+                                (unsigned long long)item.zeros), &rows);
+}
+
+/* A file that was written, or none after an error. */
+static PyObject *written(PyObject *file, const Rows *rows)
+{
+    if (rows->result != PE_C_DONE)
+        Py_CLEAR(file);
+    return answer(file, rows);
+}
+
+static PyObject *attach(Image *self, PyObject *arguments)
+{
+    const char *certificate;
+    Py_ssize_t length;
+    unsigned int placement;
+    uint64_t size = 0;
+    if (!PyArg_ParseTuple(arguments, "y#I", &certificate, &length, &placement))
+        return NULL;
+    OPEN
+    const uint8_t *bytes = (const uint8_t *)certificate;
+    rows.result = pe_c_attached_length(BYTES, &self->info, bytes, (size_t)length, placement, &size);
+    PyObject *file = rows.result == PE_C_DONE ? PyBytes_FromStringAndSize(NULL, (Py_ssize_t)size) : NULL;
+    if (file)
+        rows.result = pe_c_attach(BYTES, &self->info, bytes, (size_t)length, placement,
+                                  (uint8_t *)PyBytes_AsString(file), (size_t)size, &size);
+    return written(file, &rows);
+}
+
+METHOD(detach)
+{
+    uint64_t size = 0;
+    OPEN
+    rows.result = pe_c_detached_length(BYTES, &self->info, &size);
+    PyObject *file = rows.result == PE_C_DONE ? PyBytes_FromStringAndSize(NULL, (Py_ssize_t)size) : NULL;
+    if (file)
+        rows.result = pe_c_detach(BYTES, &self->info, (uint8_t *)PyBytes_AsString(file), (size_t)size, &size);
+    return written(file, &rows);
+}
+
+/* ---- the image as an object */
+
+static void let_go(Image *self)
+{
+    if (self->memory) {
+        Py_CLEAR(self->memory);
+        PyBuffer_Release(&self->view);
+    }
+    PyMem_Free(self->sections);
+    self->sections = NULL;
+}
+
+METHOD(close_image)
+{
+    if (self->users) {
+        PyErr_SetString(PyExc_BufferError, "another call reads this image");
+        return NULL;
+    }
+    let_go(self);
+    Py_RETURN_NONE;
+}
+
+static PyObject *get_memory(Image *self, void *Py_UNUSED(none))
+{
+    return is_open(self) ? Py_NewRef(self->memory) : NULL;
+}
+
+static PyObject *get_closed(Image *self, void *Py_UNUSED(none))
+{
+    return B(!self->memory);
+}
+
+static int traverse(Image *self, visitproc visit, void *arg)
+{
+    Py_VISIT(self->memory);
+    Py_VISIT(self->view.obj);
+    Py_VISIT((PyObject *)Py_TYPE((PyObject *)self));
+    return 0;
+}
+
+static void finish(Image *self)
+{
+    PyTypeObject *type = Py_TYPE((PyObject *)self);
+    PyObject_GC_UnTrack(self);
+    let_go(self);
+    freefunc release = (freefunc)PyType_GetSlot(type, Py_tp_free);
+    release(self);
+    Py_DECREF(type);
+}
+
+/* A memoryview of the bytes that the image has as its buffer, which can't be written. */
+static PyObject *memory_of(Image *self, PyObject *data)
+{
+    PyObject *memory = PyMemoryView_FromObject(data);
+    PyObject *bytes = memory ? PyObject_CallMethod(memory, "cast", "s", "B") : NULL;
+    PyObject *readonly = bytes ? PyObject_CallMethod(bytes, "toreadonly", NULL) : NULL;
+    Py_XDECREF(memory);
+    Py_XDECREF(bytes);
+    if (readonly && PyObject_Size(readonly) != self->view.len) {
+        PyErr_SetString(PyExc_BufferError, "the object has another buffer each time");
+        Py_CLEAR(readonly);
+    }
+    return readonly;
+}
+
+/* Holds the buffer of the object, or a copy of one that others may write while a call reads. */
+static int holds(Image *self, PyObject *data, int is_copied)
+{
+    if (PyObject_GetBuffer(data, &self->view, PyBUF_SIMPLE) < 0)
+        return 0;
+    if (!self->view.readonly && is_copied) {
+        data = PyBytes_FromStringAndSize(self->view.buf, self->view.len);
+        PyBuffer_Release(&self->view);
+        if (!data)
+            return 0;
+        if (PyObject_GetBuffer(data, &self->view, PyBUF_SIMPLE) < 0) {
+            Py_DECREF(data);
+            return 0;
+        }
+    } else {
+        Py_INCREF(data);
+    }
+    self->memory = memory_of(self, data);
+    Py_DECREF(data);
+    if (!self->memory)
+        PyBuffer_Release(&self->view);
+    return self->memory != NULL;
+}
+
+/* Reads the headers. Returns the library's result, or PE_C_MEMORY with an exception. */
+static uint32_t reads(Image *self, unsigned int mode)
+{
+    uint32_t result = pe_c_image(BYTES, mode, &self->info);
+    if (result != PE_C_DONE)
+        return result;
+    self->sections = PyMem_Calloc(self->info.number_of_sections + 1u, sizeof *self->sections);
+    if (!self->sections) {
+        PyErr_NoMemory();
+        return PE_C_MEMORY;
+    }
+    result = pe_c_sections(BYTES, &self->info, SECTIONS);
+    if (result == PE_C_DONE && pe_c_string_table(BYTES, &self->info, &self->strings) != PE_C_DONE)
+        self->strings = (pe_c_range)PE_C_EMPTY;
+    return result;
+}
+
+/* image(data, mode, copy) returns an image, or None, and the number of the error. */
+static PyObject *image(PyObject *module, PyObject *arguments)
+{
+    PyObject *data;
+    unsigned int mode;
+    int is_copied;
+    if (!PyArg_ParseTuple(arguments, "OIp", &data, &mode, &is_copied))
+        return NULL;
+    State *state = PyModule_GetState(module);
+    allocfunc allocate = (allocfunc)PyType_GetSlot(state->image, Py_tp_alloc);
+    Image *self = (Image *)allocate(state->image, 0);
+    if (!self)
+        return NULL;
+    self->state = state;
+    uint32_t result = holds(self, data, is_copied) ? reads(self, mode) : PE_C_MEMORY;
+    PyObject *made = (PyObject *)self;
+    if (result != PE_C_DONE) {
+        Py_DECREF(made);
+        made = Py_NewRef(Py_None);
+    }
+    if (PyErr_Occurred()) {
+        Py_DECREF(made);
+        return NULL;
+    }
+    return Py_BuildValue("(Nk)", made, (unsigned long)result);
+}
+
+static PyObject *text_of(PyObject *Py_UNUSED(module), PyObject *argument)
+{
+    uint8_t room[128];
+    unsigned long number = PyLong_AsUnsignedLong(argument);
+    if (number == (unsigned long)-1 && PyErr_Occurred())
+        return NULL;
+    size_t length = pe_c_text((uint32_t)number, room, sizeof room);
+    return PyUnicode_DecodeUTF8((const char *)room, (Py_ssize_t)length, "strict");
+}
+
+#define WITHOUT(name) {#name, (PyCFunction)name, METH_NOARGS, NULL}
+#define WITH_ONE(name) {#name, (PyCFunction)name, METH_O, NULL}
+#define WITH_SOME(name) {#name, (PyCFunction)name, METH_VARARGS, NULL}
+static PyMethodDef methods[] = {
+    {"sections", (PyCFunction)section_headers, METH_NOARGS, NULL}, {"close", (PyCFunction)close_image, METH_NOARGS, NULL},
+    WITHOUT(headers), WITHOUT(rich_header), WITHOUT(symbol_key), WITHOUT(pdb20), WITHOUT(vc_features), WITHOUT(repro),
+    WITHOUT(extended_dll_characteristics), WITHOUT(pogo),
+    WITHOUT(overlay), WITHOUT(tls), WITHOUT(load_config), WITHOUT(clr_header), WITHOUT(clr_metadata),
+    WITHOUT(export_table),
+    WITHOUT(imports), WITHOUT(delay_imports), WITHOUT(bound_imports), WITHOUT(debug_entries), WITHOUT(resources),
+    WITHOUT(relocations), WITHOUT(certificates), WITHOUT(exports), WITHOUT(functions), WITHOUT(arm64_functions),
+    WITHOUT(checksum), WITHOUT(digest_ranges), WITHOUT(detach), WITH_ONE(offset_of), WITH_ONE(find_function),
+    WITH_ONE(find_arm64_function), WITH_ONE(unwind_records), WITH_SOME(arm64_unwind), WITH_SOME(version_blocks),
+    WITH_SOME(fixed_version), WITH_SOME(codeview), WITH_SOME(histogram), WITH_SOME(attach),
+    {NULL, NULL, 0, NULL}};
+
+static PyGetSetDef getters[] = {{"memory", (getter)get_memory, NULL, NULL, NULL},
+                                {"closed", (getter)get_closed, NULL, NULL, NULL}, {NULL, NULL, NULL, NULL, NULL}};
+static PyType_Slot slots[] = {{Py_tp_dealloc, finish}, {Py_tp_traverse, traverse}, {Py_tp_methods, methods},
+                              {Py_tp_getset, getters}, {0, NULL}};
+static PyType_Spec spec = {"pe_c._core.Image", sizeof(Image), 0,
+                           Py_TPFLAGS_DEFAULT | Py_TPFLAGS_HAVE_GC | Py_TPFLAGS_DISALLOW_INSTANTIATION, slots};
+
+/* ---- the module */
+
+static int start(PyObject *module)
+{
+    State *state = PyModule_GetState(module);
+    state->image = (PyTypeObject *)PyType_FromModuleAndSpec(module, &spec, NULL);
+    if (!state->image || PyModule_AddType(module, state->image) < 0)
+        return -1;
+    for (int kind = 0; kind < ROW_KINDS; kind++) {
+        PyStructSequence_Desc description = row_kinds[kind];
+        state->rows[kind] = PyStructSequence_NewType(&description);
+        if (!state->rows[kind] || PyModule_AddType(module, state->rows[kind]) < 0)
+            return -1;
+    }
+    return 0;
+}
+
+static int traverse_module(PyObject *module, visitproc visit, void *arg)
+{
+    State *state = PyModule_GetState(module);
+    Py_VISIT(state->image);
+    for (int kind = 0; kind < ROW_KINDS; kind++)
+        Py_VISIT(state->rows[kind]);
+    return 0;
+}
+
+static int clear_module(PyObject *module)
+{
+    State *state = PyModule_GetState(module);
+    Py_CLEAR(state->image);
+    for (int kind = 0; kind < ROW_KINDS; kind++)
+        Py_CLEAR(state->rows[kind]);
+    return 0;
+}
+
+static PyMethodDef functions_of_module[] = {WITH_SOME(image), WITH_ONE(text_of), {NULL, NULL, 0, NULL}};
+/* From 3.12 on a slot says that interpreters with locks of their own may have the module, as all that changes is in
+ * its state. 3.11, whose headers do not name it, refuses a slot that it does not know. */
+enum { MULTIPLE_INTERPRETERS = 3 };
+static PyModuleDef_Slot first_slots[] = {{Py_mod_exec, start}, {0, NULL}};
+static PyModuleDef_Slot module_slots[] = {{Py_mod_exec, start}, {MULTIPLE_INTERPRETERS, (void *)2}, {0, NULL}};
+static PyModuleDef definition = {PyModuleDef_HEAD_INIT, "pe_c._core", NULL, sizeof(State), functions_of_module,
+                                 first_slots, traverse_module, clear_module, NULL};
+
+PyMODINIT_FUNC PyInit__core(void)
+{
+    if (Py_Version >= 0x030C0000)
+        definition.m_slots = module_slots;
+    return PyModuleDef_Init(&definition);
+}

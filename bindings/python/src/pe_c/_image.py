@@ -1,0 +1,522 @@
+"""An image: its headers and parts, each read when it is asked for first."""
+from __future__ import annotations
+
+import enum
+import hashlib
+import os
+import struct
+from typing import TYPE_CHECKING, Any, Callable, NamedTuple, TypeVar
+
+from . import _core
+from ._core import (Arm64Function, Arm64Packed, Arm64Record, BoundLibrary, Certificate, Checksum, ClrHeader, DebugEntry,
+                    DelayLibrary, Export, ExportTable, FixedVersion, Function, Headers, Library, LoadConfig, Metadata, Pdb20,
+                    Pogo, RelocationBlock, Repro, Resource, RichHeader, Section, SymbolKey, Tls, UnwindRecord, VcFeatures,
+                    VersionBlock)
+from ._kinds import Kind
+from ._ordinals import ORDINALS
+from ._part import SHOWN, Error, Part, entropy_of, error_of, plain, shown
+
+if TYPE_CHECKING:
+    from _typeshed import ReadableBuffer
+
+T = TypeVar("T")
+RT_VERSION, RT_MANIFEST = 16, 24
+IMAGE_FILE_DLL, IMAGE_FILE_EXECUTABLE_IMAGE = 0x2000, 0x2
+# Windows rounds raw pointers down to multiples of it.
+SECTOR = 512
+# The parts that are lists, and those that are one record each, in the order in which their errors are listed.
+LISTS = ("sections", "imports", "exports", "delay_imports", "bound_imports", "debug_entries", "certificates", "resources", "relocations",
+         "functions", "arm64_functions")
+RECORDS = ("symbol_key", "tls", "load_config", "clr_header", "clr_metadata")
+
+
+class Mode(enum.IntFlag):
+    """How an image is read. MAPPED is added to one of the others for an image as loaded."""
+
+    STRICT = 0
+    """damaged directories are errors"""
+    PERMISSIVE = 1
+    """what pe.h lists under "Modes" is accepted"""
+    MAPPED = 2
+    """the bytes are a module in memory, or a copy of one, from its first byte on: RVAs are offsets"""
+
+
+class Version(NamedTuple):
+    """Version information in one language."""
+
+    language: int | str
+    """the language identifier of the resource, 0 for any language"""
+    fixed: FixedVersion | None
+    """the fixed file information, or None where it is missing or damaged"""
+    strings: dict[str, dict[str, str]]
+    """the strings by their names, for each key of a string table, such as "040904B0": the language and the code page"""
+    translations: tuple[tuple[int, int], ...]
+    """language and code page of each translation in VarFileInfo"""
+    blocks: Part[VersionBlock]
+    """all blocks as a tree; its `error` is the first of them"""
+
+
+class Unwind(NamedTuple):
+    """What unwinds an RVA of x64."""
+
+    function: Function
+    """the function that covers it"""
+    records: Part[UnwindRecord]
+    """its unwind records: its own, then those that it is chained to"""
+
+
+class Image:
+    """A PE image over the bytes of a file: bytes, a bytearray, an mmap, a memoryview or anything else with a buffer.
+
+    It holds the buffer, and copies one that may be written; with copy=False it holds that too, and nothing may write
+    to it while a call reads. Raises Error where the headers are refused, and TypeError or BufferError for what is no
+    buffer.
+
+    After that a part that is a list never raises: what ended it is its `error`. A part that is one record, or None
+    without one, raises Error where it is damaged. After close() each raises ValueError. Contents, as those of
+    resources, are memoryviews: they are not copied, can't be written, and stay valid after close(). """
+
+    def __init__(self, data: ReadableBuffer, mode: Mode = Mode.PERMISSIVE, *, copy: bool = True,
+                 path: str | None = None) -> None:
+        self.path = path
+        self._kept: dict[str, Any] = {}
+        core, number = _core.image(data, int(mode), copy)
+        if core is None:
+            raise error_of(number, "headers", path)
+        self._core = core
+
+    def close(self) -> None:
+        """Lets the buffer go. Raises BufferError while another call reads the image, as that of another thread."""
+        self._core.close()
+        self._kept.clear()
+
+    @property
+    def closed(self) -> bool:
+        return self._core.closed
+
+    def __enter__(self) -> Image:
+        return self
+
+    def __exit__(self, *_: object) -> None:
+        self.close()
+
+    def __repr__(self) -> str:
+        if self.closed:
+            return "<pe_c.Image, closed>"
+        headers = self.headers
+        return f"<pe_c.Image {self.path or ''} machine 0x{headers.machine:x} width {headers.width} {len(self.memory)} bytes>"
+
+    # ---- reading
+
+    def _read(self, name: str, *arguments: Any) -> tuple[Any, int, bool]:
+        answer: tuple[Any, int, bool] = getattr(self._core, name)(*arguments)
+        return answer
+
+    def _once(self, name: str, read: Callable[[], T]) -> T:
+        """What is read of an open image, kept until it is closed: from then on each read raises ValueError."""
+        if name not in self._kept:
+            self._kept[name] = read()
+        kept: T = self._kept[name]
+        return kept
+
+    def _part_of(self, answer: tuple[Any, int, bool], name: str) -> Part[Any]:
+        rows, number, is_limited = answer
+        part: Part[Any] = Part(rows or ())
+        part.error = error_of(number, name, self.path) if number else None
+        part.is_limited = is_limited
+        return part
+
+    def _part(self, name: str) -> Part[Any]:
+        return self._once(name, lambda: self._part_of(self._read(name), name))
+
+    def _kept_answer(self, name: str) -> tuple[Any, int, bool]:
+        return self._once(name, lambda: self._read(name))
+
+    def _one(self, name: str) -> Any:
+        value, number, _ = self._kept_answer(name)
+        if number:
+            raise error_of(number, name, self.path)
+        return value
+
+    def _asked(self, part: str, name: str, *arguments: Any) -> Any:
+        value, number, _ = self._read(name, *arguments)
+        if number:
+            raise error_of(number, part, self.path)
+        return value
+
+    # ---- headers
+
+    @property
+    def memory(self) -> memoryview:
+        """All bytes of the image, which can't be written."""
+        return self._core.memory
+
+    @property
+    def headers(self) -> Headers:
+        """The headers. Without an optional header the numbers that it has are 0."""
+        headers: Headers = self._one("headers")
+        return headers
+
+    @property
+    def is_64(self) -> bool:
+        """Whether it is PE32+."""
+        return self.headers.width == 64
+
+    @property
+    def is_dll(self) -> bool:
+        return bool(self.headers.characteristics & IMAGE_FILE_DLL)
+
+    @property
+    def sections(self) -> Part[Section]:
+        """The section headers. A name that is longer than 8 bytes is that of the COFF string table."""
+        return self._part("sections")
+
+    @property
+    def rich_header(self) -> RichHeader | None:
+        """Which tools made the objects of the image, by Microsoft's linker."""
+        row: RichHeader | None = self._one("rich_header")
+        return row
+
+    @property
+    def overlay(self) -> memoryview | None:
+        """The bytes after the headers and the raw data of all sections; None where no byte follows."""
+        view: memoryview | None = self._one("overlay")
+        return view
+
+    # ---- lists
+
+    @property
+    def imports(self) -> Part[Library]:
+        """The DLLs that the image imports, each with its imports."""
+        return self._part("imports")
+
+    @property
+    def delay_imports(self) -> Part[DelayLibrary]:
+        """The DLLs that are loaded when one of their functions is called first."""
+        return self._part("delay_imports")
+
+    @property
+    def bound_imports(self) -> Part[BoundLibrary]:
+        """The DLLs whose addresses stand in the import address table."""
+        return self._part("bound_imports")
+
+    @property
+    def exports(self) -> Part[Export]:
+        """The exports: those with a name, in the order of the names, then the others, in the order of their
+        ordinals."""
+        return self._part("exports")
+
+    @property
+    def debug_entries(self) -> Part[DebugEntry]:
+        """The entries of the debug directory."""
+        return self._part("debug_entries")
+
+    @property
+    def certificates(self) -> Part[Certificate]:
+        """The attribute certificates, which hold Authenticode signatures. They are not verified."""
+        return self._part("certificates")
+
+    @property
+    def resources(self) -> Part[Resource]:
+        """All resources, each in each language."""
+        return self._part("resources")
+
+    @property
+    def relocations(self) -> Part[RelocationBlock]:
+        """The base relocations, a block a page."""
+        return self._part("relocations")
+
+    @property
+    def functions(self) -> Part[Function]:
+        """The function table of an x64 image."""
+        return self._part("functions")
+
+    @property
+    def arm64_functions(self) -> Part[Arm64Function]:
+        """The function table of an ARM64 image."""
+        return self._part("arm64_functions")
+
+    # ---- records
+
+    @property
+    def export_table(self) -> ExportTable | None:
+        """The DLL's own name, and the ordinal of its first export."""
+        row: ExportTable | None = self._one("export_table")
+        return row
+
+    @property
+    def symbol_key(self) -> SymbolKey | None:
+        """The CodeView record of PDB 7.0, by which a symbol server files the symbols."""
+        row: SymbolKey | None = self._one("symbol_key")
+        return row
+
+    @property
+    def pdb20(self) -> Pdb20 | None:
+        """The CodeView record of PDB 2.0."""
+        row: Pdb20 | None = self._one("pdb20")
+        return row
+
+    @property
+    def vc_features(self) -> VcFeatures | None:
+        """The record of VC features: counts that dumpbin /headers shows."""
+        row: VcFeatures | None = self._one("vc_features")
+        return row
+
+    @property
+    def extended_dll_characteristics(self) -> int | None:
+        """IMAGE_DLLCHARACTERISTICS_EX_ flags."""
+        flags: int | None = self._one("extended_dll_characteristics")
+        return flags
+
+    @property
+    def repro(self) -> Repro | None:
+        """The Repro record, which marks a reproducible build."""
+        row: Repro | None = self._one("repro")
+        return row
+
+    @property
+    def pogo(self) -> Pogo | None:
+        """The POGO record: the parts of the image's sections."""
+        row: Pogo | None = self._one("pogo")
+        return row
+
+    @property
+    def tls(self) -> Tls | None:
+        """The TLS directory, with the virtual addresses of its callbacks."""
+        row: Tls | None = self._one("tls")
+        return row
+
+    @property
+    def load_config(self) -> LoadConfig | None:
+        """The load configuration. A field that the structure is too short for is None."""
+        row: LoadConfig | None = self._one("load_config")
+        return row
+
+    @property
+    def clr_header(self) -> ClrHeader | None:
+        """The CLR header of an image for the .NET runtime."""
+        row: ClrHeader | None = self._one("clr_header")
+        return row
+
+    @property
+    def clr_metadata(self) -> Metadata | None:
+        """The root of the metadata, with its streams."""
+        row: Metadata | None = self._one("clr_metadata")
+        return row
+
+    # ---- version and manifest
+
+    def _version_of(self, leaf: Resource) -> Version:
+        place = (leaf.offset or 0, leaf.size)
+        fixed, _, _ = self._read("fixed_version", *place)
+        blocks: Part[VersionBlock] = self._part_of(self._read("version_blocks", *place), "version")
+        strings: dict[str, dict[str, str]] = {}
+        translations: list[tuple[int, int]] = []
+        for info in (it for root in blocks for it in root.children):
+            for it in info.children:
+                if info.key == "StringFileInfo":
+                    table = strings.setdefault(it.key, {})
+                    for text in it.children:
+                        table.setdefault(text.key, text.value if isinstance(text.value, str) else "")
+                elif info.key == "VarFileInfo" and isinstance(it.value, bytes):
+                    translations += [(one, two) for one, two in struct.iter_unpack("<HH", it.value[:len(it.value) & ~3])]
+        return Version(leaf.language, fixed, strings, tuple(translations), blocks)
+
+    @property
+    def versions(self) -> tuple[Version, ...]:
+        """Version information in each language. What is damaged in one of them is the error of its `blocks`."""
+        return self._once("versions", lambda: tuple(self._version_of(it) for it in self.resources
+                                                    if it.type == RT_VERSION and it.content is not None))
+
+    @property
+    def manifest(self) -> memoryview | None:
+        """The first manifest, an XML text in UTF-8 as a rule."""
+        return next((it.content for it in self.resources if it.type == RT_MANIFEST and it.content is not None), None)
+
+    # ---- addresses
+
+    def offset_of(self, rva: int) -> int | None:
+        """The file offset of an RVA, or None where no section maps it. It may be past the end of the file."""
+        offset: int | None = self._asked("address", "offset_of", rva)
+        return offset
+
+    def at(self, rva: int, length: int) -> memoryview:
+        """`length` bytes from an RVA on, or as many as the file has. Raises Error where the RVA is unmapped."""
+        offset = self.offset_of(rva)
+        if offset is None:
+            raise error_of(Kind.UNMAPPED, f"RVA 0x{rva:x}", self.path)
+        return self.memory[offset:offset + max(length, 0)]
+
+    def data(self, section: Section) -> memoryview:
+        """A section's raw data: `size_of_raw_data` bytes from `pointer_to_raw_data` on, as far as the file has them."""
+        start = section.pointer_to_raw_data
+        return self.memory[start:start + section.size_of_raw_data]
+
+    def entropy(self, section: Section | None = None) -> float:
+        """Shannon's entropy of a section's raw data, or of the file, in bits a byte, 0.0 to 8.0."""
+        place = (section.pointer_to_raw_data, section.size_of_raw_data) if section else (0, len(self.memory))
+        return entropy_of(self._asked("entropy", "histogram", *place))
+
+    @property
+    def entropies(self) -> tuple[float | None, ...]:
+        """The entropy of each section's raw data, in bits a byte; None after as many bytes as four times those of the file: the
+        sections of a hostile image may all be the same bytes."""
+        def read() -> tuple[float | None, ...]:
+            found: list[float | None] = []
+            left = self._limit()
+            for it in self.sections:
+                left -= len(self.data(it))
+                found.append(self.entropy(it) if left >= 0 else None)
+            return tuple(found)
+        return self._once("entropies", read)
+
+    def _limit(self) -> int:
+        """How many bytes are hashed and counted at most where parts may be the same bytes."""
+        return 4 * len(self.memory) + 65536
+
+    # ---- functions
+
+    def unwind(self, rva: int) -> Unwind | None:
+        """The function that covers an RVA of x64, and its unwind records. None where none does, as for a leaf
+        function."""
+        function: Function | None = self._asked("functions", "find_function", rva)
+        if function is None:
+            return None
+        return Unwind(function, self._part_of(self._read("unwind_records", function.unwind), "unwind"))
+
+    def arm64_unwind(self, rva: int) -> tuple[Arm64Function, Arm64Packed | Arm64Record] | None:
+        """The function that covers an RVA of ARM64, and its unwind data. None where none does."""
+        function: Arm64Function | None = self._asked("functions", "find_arm64_function", rva)
+        if function is None:
+            return None
+        return function, self._asked("unwind", "arm64_unwind", function.begin, function.unwind)
+
+    # ---- hashes
+
+    def imphash(self) -> str | None:
+        """The MD5 of the imports' names, as pefile's get_imphash. None without imports, and where the list is not
+        whole: the hash of a part of it would be that of another image."""
+        if not self.imports or self.imports.error or self.imports.is_limited:
+            return None
+        names = []
+        for library in self.imports:
+            dll = library.name.lower()
+            stem, dot, extension = dll.rpartition(".")
+            stem = stem if dot and extension in ("ocx", "sys", "dll") else dll
+            known = ORDINALS.get(dll, {})
+            for it in library.imports:
+                name = known.get(it.ordinal, f"ord{it.ordinal}") if it.name is None else it.name
+                names += [f"{stem}.{name.lower()}"] if name else []
+        return hashlib.md5(",".join(names).encode(), usedforsecurity=False).hexdigest()
+
+    def exphash(self) -> str | None:
+        """The SHA-256 of the exports' names, as pefile's get_exphash. None as for imphash()."""
+        if not self.exports or self.exports.error or self.exports.is_limited:
+            return None
+        names = [it.name.lower() for it in self.exports if it.name is not None and it.rva]
+        return hashlib.sha256(",".join(names).encode()).hexdigest() if names else None
+
+    def rich_hash(self, algorithm: str = "md5") -> str | None:
+        """The hash of the Rich header's entries without its key, as pefile's get_rich_header_hash."""
+        rich = self.rich_header
+        if rich is None:
+            return None
+        state = hashlib.new(algorithm, struct.pack("<4I", 0x536E6144, 0, 0, 0))
+        for it in rich.entries:
+            state.update(struct.pack("<HHI", it.build, it.product, it.objects))
+        return state.hexdigest()
+
+    def digest(self, algorithm: str = "sha256") -> str:
+        """The Authenticode digest: what a signature of this image covers. Raises Error without an optional header."""
+        *ranges, zeros = self._asked("digest", "digest_ranges")
+        state = hashlib.new(algorithm)
+        for it in ranges:
+            state.update(it)
+        state.update(bytes(zeros))
+        return state.hexdigest()
+
+    def right_checksum(self) -> Checksum:
+        """The checksum that the image should have, and the file offset of its field. Raises Error without an optional
+        header."""
+        row: Checksum = self._asked("checksum", "checksum")
+        return row
+
+    # ---- signing
+
+    def attach(self, certificate: bytes, *, in_place: bool = False) -> bytes:
+        """The file with an entry of a certificate table (WIN_CERTIFICATE) after its others, or in their place. Raises
+        Error."""
+        file: bytes = self._asked("attach", "attach", certificate, int(in_place))
+        return file
+
+    def detach(self) -> bytes:
+        """The file without its certificates. Raises Error."""
+        file: bytes = self._asked("detach", "detach")
+        return file
+
+    # ---- all of it
+
+    @property
+    def warnings(self) -> tuple[Error, ...]:
+        """What of the image is damaged, an error a part. Parts that are limited are in `limited`."""
+        def read() -> tuple[Error, ...]:
+            found = [part.error for part in (self._part(name) for name in LISTS) if part.error]
+            found += [it.blocks.error for it in self.versions if it.blocks.error]
+            return tuple(found + [it for it in map(self._error_of, RECORDS) if it])
+        return self._once("warnings", read)
+
+    def _error_of(self, name: str) -> Error | None:
+        _, number, _ = self._kept_answer(name)
+        return error_of(number, name, self.path) if number else None
+
+    @property
+    def limited(self) -> tuple[str, ...]:
+        """The parts of which there are more rows than the image's bytes account for, as only hostile images have."""
+        return tuple(name for name in LISTS if self._part(name).is_limited)
+
+    @property
+    def notes(self) -> tuple[str, ...]:
+        """What of a sound image other readers may see otherwise: a file alignment below 512."""
+        headers = self.headers
+        if headers.mode & Mode.MAPPED or not headers.width or headers.file_alignment >= SECTOR:
+            return ()
+        return (f"file alignment {headers.file_alignment}: sections are mapped from their raw pointers rounded down to {SECTOR}",)
+
+    def to_dict(self) -> dict[str, Any]:
+        """What the image is in values that json takes. Never raises Error: `warnings` has what is damaged."""
+        answers = {name: self._kept_answer(name)[0] for name in ("rich_header", *RECORDS)}
+        digest = self.digest() if self.headers.width else None
+        left, limit = [self._limit()], self._limit()
+        return {"path": self.path, "size": len(self.memory), "headers": plain(self.headers, left),
+                **{name: self._part(name).to_dict(limit) for name in LISTS}, "entropies": list(self.entropies),
+                **{name: plain(it, left) for name, it in answers.items()},
+                "versions": [{"language": it.language, "fixed": plain(it.fixed, left), "strings": it.strings}
+                             for it in self.versions],
+                "imphash": self.imphash(), "rich_hash": self.rich_hash(), "digest": digest, "limited": list(self.limited),
+                "notes": list(self.notes),
+                "warnings": [{"part": it.part, "number": it.number, "text": it.text} for it in self.warnings]}
+
+    def _repr_html_(self) -> str:
+        rows = "".join(f"<tr><td>{shown(it.name)}</td><td>0x{it.virtual_address:x}</td><td>{it.size_of_raw_data}</td>"
+                       f"<td><meter max=8 value={value or 0:.2f}></meter> {value or 0:.2f}</td></tr>"
+                       for it, value in list(zip(self.sections, self.entropies))[:SHOWN])
+        head = "".join(f"<th>{it}</th>" for it in ("section", "RVA", "bytes in the file", "entropy"))
+        warned = "".join(f"<li>{shown(str(it))}</li>" for it in (*self.warnings, *self.notes))
+        return (f"<h4>{shown(self.path or 'image')}</h4><table><tr>{head}</tr>{rows}</table>"
+                f"<p>{len(self.imports)} libraries, {len(self.exports)} exports</p><ul>{warned}</ul>")
+
+
+def open(path: str | os.PathLike[str], mode: Mode = Mode.PERMISSIVE, *, limit: int = 1 << 32) -> Image:
+    """The image of a file, which is read whole: a file that is mapped, and that another program truncates, would end
+    this one.
+
+    Raises Error where its headers are refused, and OSError where it can't be read or has more than `limit` bytes.
+    """
+    import errno
+    import io
+    name = os.fspath(path)
+    with io.open(name, "rb", buffering=0) as file:
+        if os.fstat(file.fileno()).st_size > limit:
+            raise OSError(errno.EFBIG, os.strerror(errno.EFBIG), name)
+        data = file.readall()
+    return Image(data, mode, path=name)

@@ -1,0 +1,137 @@
+"""The results of calls, by their numbers. Written by tools/make_python of pe.h."""
+import enum
+
+
+class Kind(enum.IntEnum):
+    """Why something is refused, by its number in pe.h: numbers never change, and new ones may come."""
+
+    MEMORY = 1
+    """out of memory; never returned"""
+    SHORT = 2
+    """truncated"""
+    BAD_MAGIC = 3
+    """invalid magic number"""
+    HEADER_POINTER = 4
+    """PE header offset lies inside the DOS header; strict mode only"""
+    IMPORT_NAME = 5
+    """import name not NUL-terminated or not UTF-8"""
+    STRING_TABLE = 6
+    """string table truncated, or string not NUL-terminated or not UTF-8"""
+    CERTIFICATE_REVISION = 7
+    """invalid certificate revision"""
+    CERTIFICATE_TYPE = 8
+    """invalid certificate type"""
+    CERTIFICATE_SIZE = 9
+    """certificate truncated"""
+    CERTIFICATE_TABLE = 10
+    """certificate table ends past the end of the file"""
+    UNMAPPED = 11
+    """RVA maps to no file offset"""
+    DEBUG_BOUNDS = 12
+    """debug directory ends past the end of the file; strict mode only"""
+    DEBUG_SIZE = 13
+    """debug record too small; strict mode only"""
+    DEBUG_DATA = 14
+    """debug record truncated"""
+    POGO_SIZE = 15
+    """POGO record has no entries"""
+    POGO_NAME = 16
+    """POGO entry truncated"""
+    EXCEPTION_SIZE = 17
+    """exception directory size is not a multiple of the entry size"""
+    EXCEPTION_OFFSET = 18
+    """exception directory is not aligned to 4 bytes"""
+    EXCEPTION_BOUNDS = 19
+    """exception directory ends past the end of the file"""
+    FUNCTION_INDEX = 20
+    """function index out of range"""
+    FUNCTION_LINK = 21
+    """link leads to no function entry"""
+    FUNCTION_CYCLE = 22
+    """loop in unwind links or chained records"""
+    UNWIND_VERSION = 23
+    """unknown unwind record version"""
+    UNWIND_CODE = 24
+    """invalid unwind code"""
+    ARM64_VERSION = 25
+    """unknown ARM64 unwind record version"""
+    ARM64_STREAM = 26
+    """invalid ARM64 unwind code stream"""
+    ARM64_CUT = 27
+    """ARM64 unwind code truncated"""
+    RESOURCE_BOUNDS = 28
+    """resource data ends past the bytes that hold it"""
+    RESOURCE_CYCLE = 29
+    """loop in the resource tree"""
+    RESOURCE_STRING = 30
+    """version string value missing, or its length above 32,767"""
+    TE_SIZE = 31
+    """stripped size smaller than the TE header; never returned"""
+    NO_OPTIONAL_HEADER = 32
+    """image has no optional header"""
+    WRITE_ALIGNMENT = 33
+    """alignment cannot be written; never returned"""
+    WRITE_SYMBOLS = 34
+    """images with COFF symbols cannot be written; never returned"""
+    WRITE_OVERLAP = 35
+    """sections overlap in the file; never returned"""
+    WRITE_SECTION = 36
+    """section data is not in the source bytes; never returned"""
+    WRITE_FIT = 37
+    """write does not fit the buffer"""
+    IMPORTS_LIMIT = 38
+    """image has more imports than the limit; never returned"""
+    NOTHING = 100
+    """there is nothing of the kind, or the walk is over"""
+    ROOM = 101
+    """the array is too small"""
+    MISSING = 102
+    """eight bytes of memory are missing, at the frame's address"""
+    BAD_ADDRESS = 103
+    """address and the offset of an unwind code do not fit 64 bits"""
+    BAD_OPERATION = 104
+    """unwind operation cannot be undone"""
+    NOT_RISING = 105
+    """stack pointer of the caller is not above that of the function"""
+    LONG_CHAIN = 106
+    """more than 32 unwind records are chained"""
+    SIGN_NO_DIRECTORY = 201
+    """image has no certificate directory"""
+    SIGN_TABLE_NOT_LAST = 202
+    """certificate table ends before the end of the file"""
+    SIGN_HEADERS = 203
+    """headers end after the start of the certificates or the end of the file"""
+    SIGN_SECTION = 204
+    """section data ends after the start of the certificates or the end of the file"""
+    SIGN_TABLE_OFFSET = 205
+    """certificate table is not aligned to 8 bytes"""
+    SIGN_TOO_LARGE = 206
+    """image with the certificate has 2^32 bytes or more"""
+    DIRECTORY_BLOCK_SIZE = 301
+    """base relocation block size below 8 or odd"""
+    DIRECTORY_BLOCK_TRUNCATED = 302
+    """base relocation block truncated"""
+    DIRECTORY_NO_ARGUMENT = 303
+    """base relocation has no argument"""
+    DIRECTORY_VA_BELOW_BASE = 304
+    """virtual address below the image base"""
+    DIRECTORY_CLR_HEADER_SIZE = 305
+    """CLR header smaller than 72 bytes"""
+    DIRECTORY_STREAM_NAME = 306
+    """name of a metadata stream not NUL-terminated"""
+    DIRECTORY_DELAY_IMPORT_NAME = 307
+    """name of a delay import not NUL-terminated or not UTF-8"""
+    DIRECTORY_BOUND_IMPORT_NAME = 308
+    """name of a bound import not NUL-terminated or not UTF-8"""
+    TREE_NOT_DIRECTORY = 401
+    """resource data entry above the level of languages"""
+    TREE_NOT_DATA = 402
+    """resource directory below the level of languages"""
+    TREE_NO_ENTRIES = 403
+    """resource directory of names or languages has no entries"""
+    OTHER = -1
+    """a number that this version does not know"""
+
+    @classmethod
+    def _missing_(cls, value: object) -> "Kind":
+        return cls.OTHER

@@ -1,0 +1,118 @@
+"""Lists of rows, and errors. A row is what a record of the format becomes: a tuple whose fields have names."""
+from __future__ import annotations
+
+import hashlib
+import html
+from typing import Any, Iterable, TypeVar
+
+from . import _core
+from ._kinds import Kind
+
+T = TypeVar("T")
+# How many rows a notebook shows.
+SHOWN = 100
+
+
+class Error(ValueError):
+    """Why an image or a part of it is refused.
+
+    number  that of pe.h, which never changes
+    text    what it means, such as "truncated"
+    part    the part of the image, such as "imports"
+    path    the path of the file, or None for an image of bytes
+    """
+
+    def __init__(self, number: int, text: str, part: str, path: str | None = None) -> None:
+        super().__init__(number, text, part, path)
+        self.number, self.text, self.part, self.path = number, text, part, path
+
+    @property
+    def kind(self) -> Kind:
+        """The number as a constant; Kind.OTHER for one that this version does not know."""
+        return Kind(self.number)
+
+    def __str__(self) -> str:
+        return ": ".join(it for it in (self.path, self.part, self.text) if it)
+
+
+def error_of(number: int, part: str, path: str | None) -> Error:
+    return Error(number, _core.text_of(number), part, path)
+
+
+class Part(tuple[T, ...]):
+    """The rows of a part of an image, up to what ended it.
+
+    error        the error of what follows the last row, or None where that is the end of the list
+    is_limited   whether the image has more rows than its bytes account for, as only hostile ones have; those that are here are
+                 the first
+    """
+
+    error: Error | None = None
+    is_limited: bool = False
+
+    def check(self) -> Part[T]:
+        """The rows, if they are all there. Raises the error that ended them."""
+        if self.error:
+            raise self.error
+        return self
+
+    @property
+    def columns(self) -> tuple[str, ...]:
+        """The names of the fields of a row; none where there are no rows."""
+        rows: tuple[Any, ...] = self
+        return fields_of(rows[0]) if rows else ()
+
+    def to_dict(self, limit: int = 1 << 30) -> list[Any]:
+        """The rows as json takes them: dicts, numbers, texts; of contents their length and SHA-256, which is None after `limit`
+        bytes: the contents of a hostile image may all be the same bytes."""
+        left = [limit]
+        return [plain(it, left) for it in self]
+
+    def frame(self) -> Any:
+        """A pandas DataFrame with a column a field. Raises ImportError without pandas."""
+        import pandas  # type: ignore[import]
+        rows: tuple[Any, ...] = self
+        return pandas.DataFrame([tuple(it) for it in rows], columns=self.columns)
+
+    def _repr_html_(self) -> str:
+        rows: tuple[Any, ...] = self
+        lines = "".join(f"<tr>{''.join(f'<td>{shown(it)}</td>' for it in row)}</tr>" for row in rows[:SHOWN])
+        head = "".join(f"<th>{it}</th>" for it in self.columns)
+        more = f"<p>{len(rows) - SHOWN} more</p>" if len(rows) > SHOWN else ""
+        error = f"<p><b>{shown(str(self.error))}</b></p>" if self.error else ""
+        return f"<table><tr>{head}</tr>{lines}</table>{more}{error}"
+
+
+def fields_of(row: Any) -> tuple[str, ...]:
+    names: tuple[str, ...] = getattr(type(row), "__match_args__", ())
+    return names
+
+
+def plain(value: Any, left: list[int]) -> Any:
+    """A value as json takes it. `left` has how many bytes may still be hashed."""
+    if hasattr(type(value), "n_sequence_fields"):
+        return {name: plain(getattr(value, name), left) for name in fields_of(value)}
+    if isinstance(value, (list, tuple)):
+        return [plain(it, left) for it in value]
+    if isinstance(value, memoryview):
+        left[0] -= len(value)
+        return {"bytes": len(value), "sha256": hashlib.sha256(value).hexdigest() if left[0] >= 0 else None}
+    return value.hex() if isinstance(value, bytes) else value
+
+
+def shown(value: Any) -> str:
+    """A value as a cell of HTML, in which no text of an image is markup or a control character."""
+    if isinstance(value, memoryview):
+        return f"{value.nbytes} bytes"
+    if isinstance(value, tuple):
+        return f"{len(value)} entries" if not fields_of(value) else html.escape(repr(tuple(value)))
+    text = value if isinstance(value, str) else repr(value)
+    return html.escape("".join(it if it.isprintable() else it.encode("unicode_escape").decode() for it in text))
+
+
+def entropy_of(counts: Iterable[int]) -> float:
+    """Shannon's entropy of bytes in bits a byte, 0.0 to 8.0, by how often each byte stands there."""
+    import math
+    some = [it for it in counts if it]
+    total = sum(some)
+    return -sum(it / total * math.log(it / total, 2) for it in some) if len(some) > 1 else 0.0

@@ -1,0 +1,120 @@
+"""What of pefile's names is not in pe_c.pefile, and why: one table. A name is NAME of the module, CLASS.NAME or
+STRUCTURE.FIELD.
+
+Such a name is an attribute that is missing: hasattr() is False, and the error says which name it is and why."""
+from __future__ import annotations
+
+HEADERS = "the library for C has no call for this field of the headers"
+EXPORT = "the library for C has no call for the fields of the export directory"
+TREE = "the library for C lists resources, not their directories"
+LENGTHS = "the library for C returns version blocks without their lengths and offsets"
+CONFIG = "the library for C reads the load configuration up to GuardFlags, without this field"
+WRITER = "the library for C writes certificates alone"
+LOADED = "the library for C lays no image out as a loader does"
+DUMP = "pe_c.Image.to_dict() has all values"
+PARTS = "each directory is read when its attribute is asked for"
+UNWIND = "pe_c.Image.unwind() has the records and codes"
+INSIDE = "it is a part of how pefile reads"
+BOUND = "the library for C does not compare the two tables"
+NAMES = "the library for C resolves the name, and does not return where it stands"
+STRINGS = "the library for C does not split string tables (RT_STRING)"
+MISC = "the library for C does not read this record"
+
+
+def _all(reason: str, names: str, of: str = "") -> dict[str, str]:
+    return {f"{of}{it}": reason for it in names.split()}
+
+
+GAPS: dict[str, str] = {
+    **_all(HEADERS, "e_cblp e_cp e_crlc e_cparhdr e_minalloc e_maxalloc e_ss e_sp e_csum e_ip e_cs e_lfarlc e_ovno e_res e_oemid "
+                    "e_oeminfo e_res2", "IMAGE_DOS_HEADER."),
+    **_all(HEADERS, "PointerToSymbolTable NumberOfSymbols", "IMAGE_FILE_HEADER."),
+    **_all(HEADERS, "MajorLinkerVersion MinorLinkerVersion SizeOfCode SizeOfInitializedData SizeOfUninitializedData BaseOfCode "
+                    "BaseOfData MajorOperatingSystemVersion MinorOperatingSystemVersion MajorImageVersion MinorImageVersion "
+                    "MajorSubsystemVersion MinorSubsystemVersion Reserved1 SizeOfStackReserve SizeOfStackCommit "
+                    "SizeOfHeapReserve SizeOfHeapCommit LoaderFlags NumberOfRvaAndSizes", "IMAGE_OPTIONAL_HEADER."),
+    **_all(EXPORT, "Characteristics TimeDateStamp MajorVersion MinorVersion Name NumberOfNames AddressOfFunctions "
+                   "AddressOfNames AddressOfNameOrdinals", "IMAGE_EXPORT_DIRECTORY."),
+    **_all(EXPORT, "ordinal_offset address_offset name_offset forwarder_offset", "ExportData."),
+    **_all(TREE, "Characteristics TimeDateStamp MajorVersion MinorVersion NumberOfNamedEntries NumberOfIdEntries",
+           "IMAGE_RESOURCE_DIRECTORY."),
+    **_all(TREE, "OffsetToData NameOffset OffsetToDirectory", "IMAGE_RESOURCE_DIRECTORY_ENTRY."),
+    **_all(TREE, "Name Id OffsetToData NameOffset OffsetToDirectory", "IMAGE_RESOURCE_DIRECTORY_ENTRY of a name."),
+    **_all(TREE, "Reserved", "IMAGE_RESOURCE_DATA_ENTRY."),
+    **_all(STRINGS, "strings", "ResourceDirData."),
+    **_all(LENGTHS, "Length ValueLength Type", "VS_VERSIONINFO."),
+    **_all(LENGTHS, "Length ValueLength Type", "StringFileInfo."),
+    **_all(LENGTHS, "Length ValueLength Type entries_offsets", "StringTable."),
+    **_all(LENGTHS, "Length ValueLength Type", "String."),
+    **_all(LENGTHS, "Length ValueLength Type", "Var."),
+    **_all(BOUND, "bound struct_iat struct_table", "ImportData."),
+    **_all(BOUND, "ForwarderString Function Ordinal AddressOfData", "IMAGE_THUNK_DATA."),
+    **_all(NAMES, "hint_name_table_rva ordinal_offset", "ImportData."),
+    **_all(NAMES, "OffsetModuleName NumberOfModuleForwarderRefs", "IMAGE_BOUND_IMPORT_DESCRIPTOR."),
+    **_all(NAMES, "OffsetModuleName Reserved", "IMAGE_BOUND_FORWARDER_REF."),
+    **_all(INSIDE, "Data", "IMAGE_BASE_RELOCATION_ENTRY."),
+    **_all(INSIDE, "struct", "RelocationData."),
+    **_all(CONFIG, "GlobalFlagsClear GlobalFlagsSet CriticalSectionDefaultTimeout DeCommitFreeBlockThreshold "
+                   "DeCommitTotalFreeThreshold LockPrefixTable MaximumAllocationSize VirtualMemoryThreshold ProcessHeapFlags "
+                   "ProcessAffinityMask CSDVersion Reserved1 EditList CodeIntegrityFlags CodeIntegrityCatalog "
+                   "CodeIntegrityCatalogOffset CodeIntegrityReserved GuardAddressTakenIatEntryTable "
+                   "GuardAddressTakenIatEntryCount GuardLongJumpTargetTable GuardLongJumpTargetCount DynamicValueRelocTable "
+                   "CHPEMetadataPointer GuardRFFailureRoutine GuardRFFailureRoutineFunctionPointer "
+                   "DynamicValueRelocTableOffset DynamicValueRelocTableSection Reserved2 "
+                   "GuardRFVerifyStackPointerFunctionPointer HotPatchTableOffset Reserved3 EnclaveConfigurationPointer "
+                   "GuardRFVerifyStackPointerFunctionPointerI", "IMAGE_LOAD_CONFIG_DIRECTORY."),
+    **_all(CONFIG, "dynamic_relocations", "LoadConfigData."),
+    **_all(CONFIG, "has_dynamic_relocs parse_dynamic_relocations", "PE."),
+    **_all(CONFIG, "PageRelativeOffset IndirectCall IATIndex", "IMAGE_IMPORT_CONTROL_TRANSFER_DYNAMIC_RELOCATION."),
+    **_all(CONFIG, "PageRelativeOffset IndirectCall RexWPrefix CfgCheck Reserved",
+           "IMAGE_INDIR_CONTROL_TRANSFER_DYNAMIC_RELOCATION."),
+    **_all(CONFIG, "PageRelativeOffset RegisterNumber", "IMAGE_SWITCHTABLE_BRANCH_DYNAMIC_RELOCATION."),
+    **_all(CONFIG, "Version Size", "IMAGE_DYNAMIC_RELOCATION_TABLE."),
+    **_all(CONFIG, "Symbol BaseRelocSize", "IMAGE_DYNAMIC_RELOCATION."),
+    **_all(CONFIG, "Symbol BaseRelocSize", "IMAGE_DYNAMIC_RELOCATION64."),
+    **_all(CONFIG, "HeaderSize FixupInfoSize Symbol SymbolGroup Flags", "IMAGE_DYNAMIC_RELOCATION_V2."),
+    **_all(CONFIG, "HeaderSize FixupInfoSize Symbol SymbolGroup Flags", "IMAGE_DYNAMIC_RELOCATION64_V2."),
+    **_all(UNWIND, "unwindinfo", "ExceptionsDirEntryData."),
+    **_all(UNWIND, "UnwindInfo PrologEpilogOp PrologEpilogOpPushReg PrologEpilogOpAllocLarge PrologEpilogOpAllocSmall "
+                   "PrologEpilogOpSetFP PrologEpilogOpSaveReg PrologEpilogOpSaveRegFar PrologEpilogOpSaveXMM "
+                   "PrologEpilogOpSaveXMMFar PrologEpilogOpPushFrame PrologEpilogOpEpilogMarker PrologEpilogOpsFactory"),
+    **_all(MISC, "DataType Length Unicode Reserved1 Reserved2 Data", "IMAGE_DEBUG_MISC."),
+    **_all(WRITER, "write set_dword_at_rva set_dword_at_offset set_word_at_rva set_word_at_offset set_qword_at_rva "
+                   "set_qword_at_offset set_bytes_at_rva set_bytes_at_offset set_data_bytes merge_modified_section_data", "PE."),
+    **_all(WRITER, "set_file_offset", "Structure."),
+    **_all(WRITER, "AddressSet set_flags set_format set_bitfields_format"),
+    **_all(LOADED, "get_memory_mapped_image relocate_image", "PE."),
+    **_all(DUMP, "print_info dump_info dump_dict", "PE."),
+    **_all(DUMP, "dump dump_dict", "Structure."),
+    **_all(DUMP, "dump dump_dict", "StructureWithBitfields."),
+    **_all(DUMP, "Dump main"),
+    **_all(PARTS, "parse_sections parse_exceptions_directory parse_directory_bound_imports parse_directory_tls "
+                  "parse_directory_load_config parse_relocations_directory parse_image_base_relocation_list parse_relocations "
+                  "parse_relocations_with_format parse_debug_directory parse_resources_directory parse_resource_data_entry "
+                  "parse_resource_entry parse_version_information parse_export_directory parse_delay_import_directory "
+                  "parse_import_directory parse_imports get_import_table parse_rich_header", "PE."),
+    **_all(INSIDE, "dword_align normalize_import_va", "PE."),
+    **_all(INSIDE, "__pack__ get_field_absolute_offset get_field_relative_offset", "Structure."),
+    **_all(INSIDE, "lru_cache cache_adjust_FileAlignment cache_adjust_SectionAlignment count_zeroes long "
+                   "MAX_STRING_LENGTH MAX_IMPORT_SYMBOLS MAX_IMPORT_NAME_LENGTH MAX_DLL_LENGTH MAX_SYMBOL_NAME_LENGTH "
+                   "MAX_SECTIONS MAX_RESOURCE_ENTRIES MAX_RESOURCE_DEPTH MAX_SYMBOL_EXPORT_COUNT STRUCT_SIZEOF_TYPES "
+                   "sizeof_type StructureWithBitfields DynamicRelocationData allowed_filename is_valid_dos_filename "
+                   "allowed_function_name is_valid_function_name parse_strings retrieve_flags power_of_two b"),
+    **_all(INSIDE, "invalidate render_pascal_16 get_pascal_16_length ask_unicode_16 render_unicode_16 get_rva",
+           "UnicodeStringWrapperPostProcessor."),
+    **_all(STRINGS, "get_resources_strings", "PE."),
+}
+
+
+class NotInPeC(AttributeError):
+    """A name of pefile that pe_c.pefile does not have. `reason` says why."""
+
+    def __init__(self, name: str, reason: str) -> None:
+        super().__init__(f"{name}: {reason}")
+        self.reason = reason
+
+
+def missing(owner: str, name: str) -> AttributeError:
+    """The error of an attribute that is not there."""
+    full = f"{owner}.{name}" if owner else name
+    return NotInPeC(full, GAPS[full]) if full in GAPS else AttributeError(f"there is no {full}")

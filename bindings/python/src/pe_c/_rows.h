@@ -1,0 +1,1037 @@
+/* The rows that records of pe.h become. Written by tools/make_python of pe.h. */
+
+static PyObject *row_directory(Image *self, Rows *rows, const pe_c_directory *it);
+static PyObject *row_image_info(Image *self, Rows *rows, const pe_c_image_info *it);
+static PyObject *row_section(Image *self, Rows *rows, const pe_c_section *it);
+static PyObject *row_rich_header_info(Image *self, Rows *rows, const pe_c_rich_header_info *it);
+static PyObject *row_rich_entry(Image *self, Rows *rows, const pe_c_rich_entry *it);
+static PyObject *row_debug_entry(Image *self, Rows *rows, const pe_c_debug_entry *it);
+static PyObject *row_key(Image *self, Rows *rows, const pe_c_key *it);
+static PyObject *row_pdb20(Image *self, Rows *rows, const pe_c_pdb20 *it);
+static PyObject *row_vc_features(Image *self, Rows *rows, const pe_c_vc_features *it);
+static PyObject *row_repro(Image *self, Rows *rows, const pe_c_repro *it);
+static PyObject *row_pogo(Image *self, Rows *rows, const pe_c_pogo *it);
+static PyObject *row_pogo_entry(Image *self, Rows *rows, const pe_c_pogo_entry *it);
+static PyObject *row_certificate(Image *self, Rows *rows, const pe_c_certificate *it);
+static PyObject *row_checksum_field(Image *self, Rows *rows, const pe_c_checksum_field *it);
+static PyObject *row_function(Image *self, Rows *rows, const pe_c_function *it);
+static PyObject *row_record(Image *self, Rows *rows, const pe_c_record *it);
+static PyObject *row_code(Image *self, Rows *rows, const pe_c_code *it);
+static PyObject *row_arm64_function(Image *self, Rows *rows, const pe_c_arm64_function *it);
+static PyObject *row_arm64_packed(Image *self, Rows *rows, const pe_c_arm64_packed *it);
+static PyObject *row_arm64_record(Image *self, Rows *rows, const pe_c_arm64_record *it);
+static PyObject *row_arm64_scope(Image *self, Rows *rows, const pe_c_arm64_scope *it);
+static PyObject *row_arm64_code(Image *self, Rows *rows, const pe_c_arm64_code *it);
+static PyObject *row_address_table(Image *self, Rows *rows, const pe_c_address_table *it);
+static PyObject *row_exported(Image *self, Rows *rows, const pe_c_exported *it, const pe_c_export *named);
+static PyObject *row_library(Image *self, Rows *rows, const pe_c_library *it);
+static PyObject *row_import(Image *self, Rows *rows, const pe_c_import *it);
+static PyObject *row_delay_descriptor(Image *self, Rows *rows, const pe_c_delay_descriptor *it);
+static PyObject *row_delay_import(Image *self, Rows *rows, const pe_c_delay_import *it);
+static PyObject *row_delayed_function(Image *self, Rows *rows, const pe_c_delayed_function *it);
+static PyObject *row_bound_import(Image *self, Rows *rows, const pe_c_bound_import *it);
+static PyObject *row_bound_forwarder(Image *self, Rows *rows, const pe_c_bound_forwarder *it);
+static PyObject *row_version(Image *self, Rows *rows, const pe_c_version *it);
+static PyObject *row_version_block(Image *self, Rows *rows, const pe_c_version_block *it);
+static PyObject *row_resource_leaf(Image *self, Rows *rows, const pe_c_resource_leaf *it);
+static PyObject *row_tls_directory(Image *self, Rows *rows, const pe_c_tls_directory *it);
+static PyObject *row_load_config_directory(Image *self, Rows *rows, const pe_c_load_config_directory *it);
+static PyObject *row_relocation_block(Image *self, Rows *rows, const pe_c_relocation_block *it);
+static PyObject *row_relocation(Image *self, Rows *rows, const pe_c_relocation *it);
+static PyObject *row_cor20_header(Image *self, Rows *rows, const pe_c_cor20_header *it);
+static PyObject *row_metadata(Image *self, Rows *rows, const pe_c_metadata *it);
+static PyObject *row_metadata_stream(Image *self, Rows *rows, const pe_c_metadata_stream *it);
+
+static PyStructSequence_Field row_directory_fields[] = {
+    {"virtual_address", "RVA"},
+    {"size", "bytes"},
+    {NULL, NULL}};
+
+static PyObject *row_directory(Image *self, Rows *rows, const pe_c_directory *it)
+{
+    if (!takes(rows, 0))
+        return NULL;
+    PyObject *items[] = {
+        N(it->virtual_address),
+        N(it->size),
+    };
+    return filled(self, ROW_DIRECTORY, items, 2);
+}
+
+static PyStructSequence_Field row_image_info_fields[] = {
+    {"base", "ImageBase, the preferred virtual address of the image; add RVAs to it"},
+    {"sections_offset", "offset of the section headers"},
+    {"checksum_offset", "offset of the field CheckSum, 4 bytes"},
+    {"certificate_entry_offset", "offset of directory PE_C_DIRECTORY_SECURITY, 8 bytes; 0 without that entry"},
+    {"entry", "RVA of the entry point"},
+    {"file_alignment", "bytes; a power of two, or no RVA of a file is mapped"},
+    {"mode", "how the image is read: that of the call of pe_c_image. A caller may change it"},
+    {"section_alignment", "bytes: sections start at multiples of it in memory"},
+    {"size_of_image", "bytes of the image in memory"},
+    {"size_of_headers", "bytes of the headers in the file, rounded up to the file alignment"},
+    {"checksum", "CheckSum, as the file has it; 0 in most that are no drivers"},
+    {"time_date_stamp", "seconds since 1970, or a hash in a reproducible build"},
+    {"number_of_directories", "those that the optional header has, at most 16; the others are absent"},
+    {"directories", "by their indices, PE_C_DIRECTORY_EXPORT and so on"},
+    {"machine", "IMAGE_FILE_MACHINE_AMD64 0x8664, _ARM64 0xAA64, _I386 0x14C, or another"},
+    {"width", "64 for PE32+, 32 for PE32, 0 without an optional header"},
+    {"number_of_sections", NULL},
+    {"characteristics", "IMAGE_FILE_ flags; IMAGE_FILE_DLL 0x2000"},
+    {"subsystem", "IMAGE_SUBSYSTEM_: 1 native, 2 Windows GUI, 3 Windows console, 10 EFI, or another"},
+    {"dll_characteristics", "IMAGE_DLLCHARACTERISTICS_ flags"},
+    {NULL, NULL}};
+
+static PyObject *row_image_info(Image *self, Rows *rows, const pe_c_image_info *it)
+{
+    if (!takes(rows, 0))
+        return NULL;
+    PyObject *items[] = {
+        N(it->base),
+        N(it->sections_offset),
+        N(it->checksum_offset),
+        N(it->certificate_entry_offset),
+        N(it->entry),
+        N(it->file_alignment),
+        N(it->mode),
+        N(it->section_alignment),
+        N(it->size_of_image),
+        N(it->size_of_headers),
+        N(it->checksum),
+        N(it->time_date_stamp),
+        N(it->number_of_directories),
+        directories_of(self, rows, it->directories, it->number_of_directories),
+        N(it->machine),
+        N(it->width),
+        N(it->number_of_sections),
+        N(it->characteristics),
+        N(it->subsystem),
+        N(it->dll_characteristics),
+    };
+    return filled(self, ROW_IMAGE_INFO, items, 20);
+}
+
+static PyStructSequence_Field row_section_fields[] = {
+    {"name", NULL},
+    {"raw_name", "padded with zeros; a name of 8 bytes is not NUL-terminated"},
+    {"virtual_size", "bytes in memory"},
+    {"virtual_address", "RVA of its first byte"},
+    {"size_of_raw_data", "bytes in the file"},
+    {"pointer_to_raw_data", "file offset"},
+    {"pointer_to_relocations", "file offset; 0 in images"},
+    {"pointer_to_linenumbers", "file offset, or 0"},
+    {"number_of_relocations", NULL},
+    {"number_of_linenumbers", NULL},
+    {"characteristics", "IMAGE_SCN_ flags"},
+    {NULL, NULL}};
+
+static PyObject *row_section(Image *self, Rows *rows, const pe_c_section *it)
+{
+    if (!takes(rows, 0))
+        return NULL;
+    PyObject *items[] = {
+        section_name(self, rows, it),
+        bytes_of(it->name, sizeof it->name),
+        N(it->virtual_size),
+        N(it->virtual_address),
+        N(it->size_of_raw_data),
+        N(it->pointer_to_raw_data),
+        N(it->pointer_to_relocations),
+        N(it->pointer_to_linenumbers),
+        N(it->number_of_relocations),
+        N(it->number_of_linenumbers),
+        N(it->characteristics),
+    };
+    return filled(self, ROW_SECTION, items, 11);
+}
+
+static PyStructSequence_Field row_rich_header_info_fields[] = {
+    {"entries", "8 bytes each, XORed with the key; a walk through them"},
+    {"key", "what the header is XORed with"},
+    {"checksum", "of the DOS header, the DOS stub and the entries: the linker takes it as the key"},
+    {"key_is_checksum", "1 where they are equal, so that nobody changed what the checksum covers; else 0"},
+    {NULL, NULL}};
+
+static PyObject *row_rich_header_info(Image *self, Rows *rows, const pe_c_rich_header_info *it)
+{
+    if (!takes(rows, 0))
+        return NULL;
+    PyObject *items[] = {
+        rich_entries(self, rows, it),
+        N(it->key),
+        N(it->checksum),
+        B(it->key_is_checksum),
+    };
+    return filled(self, ROW_RICH_HEADER_INFO, items, 4);
+}
+
+static PyStructSequence_Field row_rich_entry_fields[] = {
+    {"build", "the build of the tool"},
+    {"product", "which tool it is"},
+    {"objects", "how many objects it made"},
+    {NULL, NULL}};
+
+static PyObject *row_rich_entry(Image *self, Rows *rows, const pe_c_rich_entry *it)
+{
+    if (!takes(rows, 0))
+        return NULL;
+    PyObject *items[] = {
+        N(it->build),
+        N(it->product),
+        N(it->count),
+    };
+    return filled(self, ROW_RICH_ENTRY, items, 3);
+}
+
+static PyStructSequence_Field row_debug_entry_fields[] = {
+    {"characteristics", "reserved"},
+    {"time_date_stamp", "seconds since 1970, or a hash in a reproducible build"},
+    {"major_version", "of the record's format"},
+    {"minor_version", "of the record's format"},
+    {"data_type", "IMAGE_DEBUG_TYPE_CODEVIEW 2, _VC_FEATURE 12, _POGO 13, _REPRO 16, _EX_DLLCHARACTERISTICS 20, or another"},
+    {"size_of_data", "bytes of the record"},
+    {"address_of_raw_data", "RVA of the record, or 0; in an image as loaded the library reads it there"},
+    {"pointer_to_raw_data", "file offset of the record; in a file the library reads it there"},
+    {NULL, NULL}};
+
+static PyObject *row_debug_entry(Image *self, Rows *rows, const pe_c_debug_entry *it)
+{
+    if (!takes(rows, 0))
+        return NULL;
+    PyObject *items[] = {
+        N(it->characteristics),
+        N(it->time_date_stamp),
+        N(it->major_version),
+        N(it->minor_version),
+        N(it->data_type),
+        N(it->size_of_data),
+        N(it->address_of_raw_data),
+        N(it->pointer_to_raw_data),
+    };
+    return filled(self, ROW_DEBUG_ENTRY, items, 8);
+}
+
+static PyStructSequence_Field row_key_fields[] = {
+    {"guid", "as in the file: little-endian u32, u16, u16, then 8 bytes"},
+    {"age", "grows by one each time the PDB is written"},
+    {"name", "the rest of the record: the PDB file's name, as a rule with a zero after it"},
+    {"raw_name", "the rest of the record: the PDB file's name, as a rule with a zero after it"},
+    {NULL, NULL}};
+
+static PyObject *row_key(Image *self, Rows *rows, const pe_c_key *it)
+{
+    if (!takes(rows, it->name.length))
+        return NULL;
+    PyObject *items[] = {
+        bytes_of(it->guid, sizeof it->guid),
+        N(it->age),
+        utf8_to_zero(self, it->name),
+        raw(self, it->name),
+    };
+    return filled(self, ROW_KEY, items, 4);
+}
+
+static PyStructSequence_Field row_pdb20_fields[] = {
+    {"name", "the rest of the record: the PDB file's name, as a rule with a zero after it"},
+    {"offset", "0 where the symbols are in a file of their own"},
+    {"signature", "time stamp of the PDB, seconds since 1970"},
+    {"age", "grows by one each time the PDB is written"},
+    {NULL, NULL}};
+
+static PyObject *row_pdb20(Image *self, Rows *rows, const pe_c_pdb20 *it)
+{
+    if (!takes(rows, it->name.length))
+        return NULL;
+    PyObject *items[] = {
+        utf8_to_zero(self, it->name),
+        N(it->offset),
+        N(it->signature),
+        N(it->age),
+    };
+    return filled(self, ROW_PDB20, items, 4);
+}
+
+static PyStructSequence_Field row_vc_features_fields[] = {
+    {"pre_vc_plusplus_count", "\"Pre-VC++ 11.00\""},
+    {"c_and_cplusplus_count", "\"C/C++\""},
+    {"guard_stack_count", "\"/GS\""},
+    {"sdl_count", "\"/sdl\""},
+    {"guard_count", "\"guardN\""},
+    {NULL, NULL}};
+
+static PyObject *row_vc_features(Image *self, Rows *rows, const pe_c_vc_features *it)
+{
+    if (!takes(rows, 0))
+        return NULL;
+    PyObject *items[] = {
+        N(it->pre_vc_plusplus_count),
+        N(it->c_and_cplusplus_count),
+        N(it->guard_stack_count),
+        N(it->sdl_count),
+        N(it->guard_count),
+    };
+    return filled(self, ROW_VC_FEATURES, items, 5);
+}
+
+static PyStructSequence_Field row_repro_fields[] = {
+    {"hash", "empty unless has_hash"},
+    {NULL, NULL}};
+
+static PyObject *row_repro(Image *self, Rows *rows, const pe_c_repro *it)
+{
+    if (!takes(rows, 0))
+        return NULL;
+    PyObject *items[] = {
+        OPTIONAL(it->has_hash, view_of(self, it->hash)),
+    };
+    return filled(self, ROW_REPRO, items, 1);
+}
+
+static PyStructSequence_Field row_pogo_fields[] = {
+    {"entries", "a walk for pe_c_next_pogo_entry, at its start"},
+    {"signature", "0x4C544347 (LTCG) or 0x50475500 (PGU)"},
+    {NULL, NULL}};
+
+static PyObject *row_pogo(Image *self, Rows *rows, const pe_c_pogo *it)
+{
+    if (!takes(rows, 0))
+        return NULL;
+    PyObject *items[] = {
+        pogo_entries(self, rows, it),
+        N(it->signature),
+    };
+    return filled(self, ROW_POGO, items, 2);
+}
+
+static PyStructSequence_Field row_pogo_entry_fields[] = {
+    {"name", "with its final zero"},
+    {"rva", "RVA of the part"},
+    {"size", "bytes of the part"},
+    {NULL, NULL}};
+
+static PyObject *row_pogo_entry(Image *self, Rows *rows, const pe_c_pogo_entry *it)
+{
+    if (!takes(rows, it->name.length))
+        return NULL;
+    PyObject *items[] = {
+        utf8_to_zero(self, it->name),
+        N(it->rva),
+        N(it->size),
+    };
+    return filled(self, ROW_POGO_ENTRY, items, 3);
+}
+
+static PyStructSequence_Field row_certificate_fields[] = {
+    {"body", "what follows the header of 8 bytes"},
+    {"length", "dwLength: bytes of header and body"},
+    {"revision", "WIN_CERT_REVISION_1_0 0x100 or _2_0 0x200"},
+    {"type", "WIN_CERT_TYPE_X509 1, _PKCS_SIGNED_DATA 2, _RESERVED_1 3, _TS_STACK_SIGNED 4"},
+    {NULL, NULL}};
+
+static PyObject *row_certificate(Image *self, Rows *rows, const pe_c_certificate *it)
+{
+    if (!takes(rows, 0))
+        return NULL;
+    PyObject *items[] = {
+        view_of(self, it->body),
+        N(it->length),
+        N(it->revision),
+        N(it->type),
+    };
+    return filled(self, ROW_CERTIFICATE, items, 4);
+}
+
+static PyStructSequence_Field row_checksum_field_fields[] = {
+    {"offset", "file offset of the field that holds it, 4 bytes, little-endian"},
+    {"value", "what the field has to hold; what it holds makes no difference"},
+    {NULL, NULL}};
+
+static PyObject *row_checksum_field(Image *self, Rows *rows, const pe_c_checksum_field *it)
+{
+    if (!takes(rows, 0))
+        return NULL;
+    PyObject *items[] = {
+        N(it->offset),
+        N(it->value),
+    };
+    return filled(self, ROW_CHECKSUM_FIELD, items, 2);
+}
+
+static PyStructSequence_Field row_function_fields[] = {
+    {"begin", "RVA of its first byte"},
+    {"end", "RVA after its last byte"},
+    {"unwind", "RVA of its unwind record; an odd one is a link: the RVA of another entry, plus 1"},
+    {NULL, NULL}};
+
+static PyObject *row_function(Image *self, Rows *rows, const pe_c_function *it)
+{
+    if (!takes(rows, 0))
+        return NULL;
+    PyObject *items[] = {
+        N(it->begin),
+        N(it->end),
+        N(it->unwind),
+    };
+    return filled(self, ROW_FUNCTION, items, 3);
+}
+
+static PyStructSequence_Field row_record_fields[] = {
+    {"version", "a walk for pe_c_next_code, at its start"},
+    {"frame_register", "a walk for pe_c_next_code, at its start"},
+    {"codes", "a walk for pe_c_next_code, at its start"},
+    {"handler", "RVA of the handler, or 0"},
+    {"chained", "the function whose record continues this one; 0 unless is_chained"},
+    {"is_chained", "1 or 0"},
+    {"frame_register_offset", "bytes: subtract them from the frame register to get the base of saves"},
+    {"size_of_prolog", "bytes"},
+    {"handler_kind", "0 none, 1 exception handler (also with both flags), 2 termination handler"},
+    {NULL, NULL}};
+
+static PyObject *row_record(Image *self, Rows *rows, const pe_c_record *it)
+{
+    if (!takes(rows, 0))
+        return NULL;
+    PyObject *items[] = {
+        N(it->codes.version),
+        N(it->codes.frame_register),
+        unwind_codes(self, rows, it),
+        N(it->handler),
+        OPTIONAL(it->is_chained, row_function(self, rows, &it->chained)),
+        B(it->is_chained),
+        N(it->frame_register_offset),
+        N(it->size_of_prolog),
+        N(it->handler_kind),
+    };
+    return filled(self, ROW_RECORD, items, 9);
+}
+
+static PyStructSequence_Field row_code_fields[] = {
+    {"code_offset", "bytes from the start of the prolog to the end of the instruction; undo the code at this offset and after it"},
+    {"operation", "PE_C_PUSH .. PE_C_NOOP"},
+    {"operand", "a register: 0 to 15 rax, rcx, rdx, rbx, rsp, rbp, rsi, rdi, r8 .. r15; 17 to 32 xmm0 .. xmm15; or as the operation says; else 0"},
+    {"from_frame", "1: once PE_C_SET_FRAME has run, `value` counts from the frame register minus frame_register_offset. Before that, and if this is 0, it counts from rsp"},
+    {"value", "bytes, or as the operation says; else 0"},
+    {NULL, NULL}};
+
+static PyObject *row_code(Image *self, Rows *rows, const pe_c_code *it)
+{
+    if (!takes(rows, 0))
+        return NULL;
+    PyObject *items[] = {
+        N(it->code_offset),
+        N(it->operation),
+        N(it->operand),
+        B(it->from_frame),
+        N(it->value),
+    };
+    return filled(self, ROW_CODE, items, 5);
+}
+
+static PyStructSequence_Field row_arm64_function_fields[] = {
+    {"begin", "RVA of its first byte"},
+    {"unwind", "packed unwind data, or the RVA of its unwind record: its two lowest bits say which"},
+    {NULL, NULL}};
+
+static PyObject *row_arm64_function(Image *self, Rows *rows, const pe_c_arm64_function *it)
+{
+    if (!takes(rows, 0))
+        return NULL;
+    PyObject *items[] = {
+        N(it->begin),
+        N(it->unwind),
+    };
+    return filled(self, ROW_ARM64_FUNCTION, items, 2);
+}
+
+static PyStructSequence_Field row_arm64_packed_fields[] = {
+    {"flag", "0: `unwind` is the RVA of a record; 1 a function; 2 a fragment; 3 reserved"},
+    {"function_length", "bytes"},
+    {"frame_size", "bytes of stack that the function allocates"},
+    {"reg_f", "RegF: 0, or the number of saved registers from d8 on, less 1"},
+    {"reg_i", "RegI: the number of saved registers from x19 on"},
+    {"h", "H: 1 where x0 .. x7 are stored at the start of the function"},
+    {"cr", "CR: 0 x29 and lr are not saved, 1 lr is, 2 and 3 both are, with 2 signed"},
+    {"is_packed", "1 unless `flag` is 0"},
+    {NULL, NULL}};
+
+static PyObject *row_arm64_packed(Image *self, Rows *rows, const pe_c_arm64_packed *it)
+{
+    if (!takes(rows, 0))
+        return NULL;
+    PyObject *items[] = {
+        N(it->flag),
+        N(it->function_length),
+        N(it->frame_size),
+        N(it->reg_f),
+        N(it->reg_i),
+        N(it->h),
+        N(it->cr),
+        B(it->is_packed),
+    };
+    return filled(self, ROW_ARM64_PACKED, items, 8);
+}
+
+static PyStructSequence_Field row_arm64_record_fields[] = {
+    {"scopes", "a walk for pe_c_next_arm64_scope, at its start"},
+    {"codes", "the code bytes, for pe_c_arm64_codes"},
+    {"handler", "RVA of the handler, or 0"},
+    {"function_length", "bytes"},
+    {"epilog_in_header", "1 where the one epilog has no scope: its codes start at epilog_start"},
+    {"epilog_start", "index of that epilog's first code byte; else 0"},
+    {"version", "0"},
+    {NULL, NULL}};
+
+static PyObject *row_arm64_record(Image *self, Rows *rows, const pe_c_arm64_record *it)
+{
+    if (!takes(rows, 0))
+        return NULL;
+    PyObject *items[] = {
+        arm64_scopes(self, rows, it),
+        arm64_codes(self, rows, it),
+        OPTIONAL(it->has_handler, N(it->handler)),
+        N(it->function_length),
+        B(it->epilog_in_header),
+        N(it->epilog_start),
+        N(it->version),
+    };
+    return filled(self, ROW_ARM64_RECORD, items, 7);
+}
+
+static PyStructSequence_Field row_arm64_scope_fields[] = {
+    {"start_offset", "bytes, from the start of the function to that of the epilog"},
+    {"start_index", "index of the epilog's first code byte, for pe_c_arm64_codes"},
+    {"reserved", "bits 18 to 21"},
+    {"word", "the whole entry"},
+    {NULL, NULL}};
+
+static PyObject *row_arm64_scope(Image *self, Rows *rows, const pe_c_arm64_scope *it)
+{
+    if (!takes(rows, 0))
+        return NULL;
+    PyObject *items[] = {
+        N(it->start_offset),
+        N(it->start_index),
+        N(it->reserved),
+        N(it->word),
+    };
+    return filled(self, ROW_ARM64_SCOPE, items, 4);
+}
+
+static PyStructSequence_Field row_arm64_code_fields[] = {
+    {"offset", "bytes, from the start of the record's codes to this one"},
+    {"length", "bytes of the code, 1 to 5"},
+    {"kind", "PE_C_ARM64_ALLOC_SMALL .. PE_C_ARM64_RESERVED"},
+    {"operand", "a register, or as the kind says; else 0"},
+    {"value", "bytes, or as the kind says; else 0"},
+    {"flags", "of PE_C_ARM64_SAVE_ANY_REG; else 0"},
+    {NULL, NULL}};
+
+static PyObject *row_arm64_code(Image *self, Rows *rows, const pe_c_arm64_code *it)
+{
+    if (!takes(rows, 0))
+        return NULL;
+    PyObject *items[] = {
+        N(it->offset),
+        N(it->length),
+        N(it->kind),
+        N(it->operand),
+        N(it->value),
+        N(it->flags),
+    };
+    return filled(self, ROW_ARM64_CODE, items, 6);
+}
+
+static PyStructSequence_Field row_address_table_fields[] = {
+    {"name", "of the DLL: UTF-8, without its final zero; empty unless has_name"},
+    {"number_of_functions", "RVAs of what is exported, 4 bytes each"},
+    {"directory", "the export directory: an RVA inside it is that of a forwarder's text"},
+    {"ordinal_base", "ordinal of the export with the index 0"},
+    {NULL, NULL}};
+
+static PyObject *row_address_table(Image *self, Rows *rows, const pe_c_address_table *it)
+{
+    if (!takes(rows, it->name.length))
+        return NULL;
+    PyObject *items[] = {
+        OPTIONAL(it->has_name, utf8(self, it->name)),
+        N(it->addresses.length / 4),
+        row_directory(self, rows, &it->directory),
+        N(it->ordinal_base),
+    };
+    return filled(self, ROW_ADDRESS_TABLE, items, 4);
+}
+
+static PyStructSequence_Field row_exported_fields[] = {
+    {"name", NULL},
+    {"offset", NULL},
+    {"forwarder", "the forwarder's text, \"DLL.NAME\" or \"DLL.#ORDINAL\": UTF-8, without its final zero; empty unless is_forwarder, and where no text is there"},
+    {"ordinal", "its index plus ordinal_base"},
+    {"rva", "RVA of what is exported, or of the forwarder's text; 0 for an unused ordinal"},
+    {NULL, NULL}};
+
+static PyObject *row_exported(Image *self, Rows *rows, const pe_c_exported *it, const pe_c_export *named)
+{
+    if (!takes(rows, it->forwarder.length))
+        return NULL;
+    PyObject *items[] = {
+        OPTIONAL(named, utf8(self, named->name)),
+        OPTIONAL(named && named->has_offset, N(named->offset)),
+        OPTIONAL(it->is_forwarder, utf8(self, it->forwarder)),
+        N(it->ordinal),
+        N(it->rva),
+    };
+    return filled(self, ROW_EXPORTED, items, 5);
+}
+
+static PyStructSequence_Field row_library_fields[] = {
+    {"name", "of the DLL: UTF-8, without its final zero"},
+    {"imports", "a walk for pe_c_next_import, at its start"},
+    {"lookup_table_rva", "RVA of the list; where it is 0, the list is the address table"},
+    {"time_date_stamp", "0, or not 0 where the imports are bound"},
+    {"forwarder_chain", "index of the first forwarder, or -1"},
+    {"name_rva", "RVA of the DLL's name"},
+    {"address_table_rva", "RVA of the slots that the loader fills"},
+    {NULL, NULL}};
+
+static PyObject *row_library(Image *self, Rows *rows, const pe_c_library *it)
+{
+    if (!takes(rows, it->name.length))
+        return NULL;
+    PyObject *items[] = {
+        utf8(self, it->name),
+        imports_of(self, rows, it),
+        N(it->lookup_table_rva),
+        N(it->time_date_stamp),
+        N(it->forwarder_chain),
+        N(it->name_rva),
+        N(it->address_table_rva),
+    };
+    return filled(self, ROW_LIBRARY, items, 7);
+}
+
+static PyStructSequence_Field row_import_fields[] = {
+    {"name", "UTF-8, without its final zero; empty unless has_name"},
+    {"name_offset", "UTF-8, without its final zero; empty unless has_name"},
+    {"rva", "RVA of the slot that the loader fills"},
+    {"ordinal", "the ordinal; with a name its hint, an index into the DLL's table of names"},
+    {NULL, NULL}};
+
+static PyObject *row_import(Image *self, Rows *rows, const pe_c_import *it)
+{
+    if (!takes(rows, it->name.length))
+        return NULL;
+    PyObject *items[] = {
+        OPTIONAL(it->has_name, utf8(self, it->name)),
+        OPTIONAL(it->has_name, N(it->name.offset)),
+        N(it->rva),
+        N(it->ordinal),
+    };
+    return filled(self, ROW_IMPORT, items, 4);
+}
+
+static PyStructSequence_Field row_delay_descriptor_fields[] = {
+    {"attributes", "flags, of which bit 0 is defined"},
+    {"name", "where the DLL's name is"},
+    {"module_handle", "where the DLL's handle is written when it is loaded"},
+    {"import_address_table", "where the functions' addresses are written"},
+    {"import_name_table", "where the table of what is imported is"},
+    {"bound_import_address_table", "where the addresses are if the DLL has the time stamp; 0 for none"},
+    {"unload_information_table", "where a copy of the address table is, to unload the DLL; 0 for none"},
+    {"time_date_stamp", "of the DLL to which the image is bound; 0 where it is not bound"},
+    {NULL, NULL}};
+
+static PyObject *row_delay_descriptor(Image *self, Rows *rows, const pe_c_delay_descriptor *it)
+{
+    if (!takes(rows, 0))
+        return NULL;
+    PyObject *items[] = {
+        N(it->attributes),
+        N(it->name),
+        N(it->module_handle),
+        N(it->import_address_table),
+        N(it->import_name_table),
+        N(it->bound_import_address_table),
+        N(it->unload_information_table),
+        N(it->time_date_stamp),
+    };
+    return filled(self, ROW_DELAY_DESCRIPTOR, items, 8);
+}
+
+static PyStructSequence_Field row_delay_import_fields[] = {
+    {"name", "of the DLL: UTF-8, without its final zero"},
+    {"imports", "a walk for pe_c_next_delayed_function, at its start"},
+    {"descriptor", NULL},
+    {NULL, NULL}};
+
+static PyObject *row_delay_import(Image *self, Rows *rows, const pe_c_delay_import *it)
+{
+    if (!takes(rows, it->name.length))
+        return NULL;
+    PyObject *items[] = {
+        utf8(self, it->name),
+        delayed_functions(self, rows, it),
+        row_delay_descriptor(self, rows, &it->descriptor),
+    };
+    return filled(self, ROW_DELAY_IMPORT, items, 3);
+}
+
+static PyStructSequence_Field row_delayed_function_fields[] = {
+    {"name", "UTF-8, without its final zero; empty unless has_name"},
+    {"ordinal", "the ordinal; with a name its hint, an index into the DLL's table of names"},
+    {NULL, NULL}};
+
+static PyObject *row_delayed_function(Image *self, Rows *rows, const pe_c_delayed_function *it)
+{
+    if (!takes(rows, it->name.length))
+        return NULL;
+    PyObject *items[] = {
+        OPTIONAL(it->has_name, utf8(self, it->name)),
+        N(it->ordinal),
+    };
+    return filled(self, ROW_DELAYED_FUNCTION, items, 2);
+}
+
+static PyStructSequence_Field row_bound_import_fields[] = {
+    {"name", "UTF-8, not NUL-terminated"},
+    {"forwarders", "8 bytes each; a walk through the DLLs that this one forwards to"},
+    {"time_date_stamp", "of the DLL"},
+    {NULL, NULL}};
+
+static PyObject *row_bound_import(Image *self, Rows *rows, const pe_c_bound_import *it)
+{
+    if (!takes(rows, it->name.length))
+        return NULL;
+    PyObject *items[] = {
+        utf8(self, it->name),
+        bound_forwarders(self, rows, it),
+        N(it->time_date_stamp),
+    };
+    return filled(self, ROW_BOUND_IMPORT, items, 3);
+}
+
+static PyStructSequence_Field row_bound_forwarder_fields[] = {
+    {"name", "UTF-8, not NUL-terminated"},
+    {"time_date_stamp", "of the DLL"},
+    {NULL, NULL}};
+
+static PyObject *row_bound_forwarder(Image *self, Rows *rows, const pe_c_bound_forwarder *it)
+{
+    if (!takes(rows, it->name.length))
+        return NULL;
+    PyObject *items[] = {
+        utf8(self, it->name),
+        N(it->time_date_stamp),
+    };
+    return filled(self, ROW_BOUND_FORWARDER, items, 2);
+}
+
+static PyStructSequence_Field row_version_fields[] = {
+    {"signature", "0xFEEF04BD"},
+    {"struct_version", "major in the high 16 bits, minor in the low"},
+    {"file_version_ms", "1.2.3.4 is 0x00010002 and 0x00030004"},
+    {"file_version_ls", "1.2.3.4 is 0x00010002 and 0x00030004"},
+    {"product_version_ms", "likewise"},
+    {"product_version_ls", "likewise"},
+    {"file_flags_mask", "which bits of file_flags are valid"},
+    {"file_flags", "VS_FF_ flags"},
+    {"file_os", "VOS_"},
+    {"file_type", "VFT_: 1 application, 2 DLL, 3 driver"},
+    {"file_subtype", "VFT2_"},
+    {"file_date_ms", "a FILETIME, mostly 0"},
+    {"file_date_ls", "a FILETIME, mostly 0"},
+    {NULL, NULL}};
+
+static PyObject *row_version(Image *self, Rows *rows, const pe_c_version *it)
+{
+    if (!takes(rows, 0))
+        return NULL;
+    PyObject *items[] = {
+        N(it->signature),
+        N(it->struct_version),
+        N(it->file_version_ms),
+        N(it->file_version_ls),
+        N(it->product_version_ms),
+        N(it->product_version_ls),
+        N(it->file_flags_mask),
+        N(it->file_flags),
+        N(it->file_os),
+        N(it->file_type),
+        N(it->file_subtype),
+        N(it->file_date_ms),
+        N(it->file_date_ls),
+    };
+    return filled(self, ROW_VERSION, items, 13);
+}
+
+static PyStructSequence_Field row_version_block_fields[] = {
+    {"key", "UTF-16 code units, little-endian, without the zero that ends them"},
+    {"value", "a text in UTF-16, which ends at the first zero, or binary data"},
+    {"children", "a walk over the blocks that it contains"},
+    {"language", "the language identifier that the first four digits are; else 0"},
+    {"code_page", "the code page that the last four digits are; else 0"},
+    {NULL, NULL}};
+
+static PyObject *row_version_block(Image *self, Rows *rows, const pe_c_version_block *it)
+{
+    if (!takes(rows, it->value.length + it->key.length))
+        return NULL;
+    PyObject *items[] = {
+        utf16(self, it->key),
+        it->value_type ? utf16_to_zero(self, it->value) : raw(self, it->value),
+        version_children(self, rows, it),
+        OPTIONAL(it->has_language, N(it->language)),
+        OPTIONAL(it->has_language, N(it->code_page)),
+    };
+    return filled(self, ROW_VERSION_BLOCK, items, 5);
+}
+
+static PyStructSequence_Field row_resource_leaf_fields[] = {
+    {"type", "an id is RT_ of winuser.h"},
+    {"name", "the resource among those of its type"},
+    {"language", "an id is a language identifier; 0 for any language"},
+    {"content", "the empty range where content_result is not PE_C_DONE"},
+    {"offset", "the empty range where content_result is not PE_C_DONE"},
+    {"content_result", "PE_C_DONE, or why the content is not in the file: PE_C_UNMAPPED, PE_C_RESOURCE_BOUNDS"},
+    {"rva", "RVA of the content"},
+    {"size", "bytes of the content"},
+    {"code_page", "of texts in the content, mostly 0"},
+    {NULL, NULL}};
+
+static PyObject *row_resource_leaf(Image *self, Rows *rows, const pe_c_resource_leaf *it)
+{
+    if (!takes(rows, 0))
+        return NULL;
+    PyObject *items[] = {
+        resource_name(self, it->resource_type),
+        resource_name(self, it->name),
+        resource_name(self, it->language),
+        OPTIONAL(it->content_result == PE_C_DONE, view_of(self, it->content)),
+        OPTIONAL(it->content_result == PE_C_DONE, N(it->content.offset)),
+        N(it->content_result),
+        N(it->rva),
+        N(it->size),
+        N(it->code_page),
+    };
+    return filled(self, ROW_RESOURCE_LEAF, items, 9);
+}
+
+static PyStructSequence_Field row_tls_directory_fields[] = {
+    {"callbacks", NULL},
+    {"start_address_of_raw_data", "where the data starts of which each thread gets a copy"},
+    {"end_address_of_raw_data", "where this data ends"},
+    {"address_of_index", "where the loader writes the number of the slot that leads to a copy"},
+    {"address_of_callbacks", "where the table of callbacks is; 0 where there are none"},
+    {"size_of_zero_fill", "how many zeros follow the data in a copy, in bytes"},
+    {"characteristics", "bits 20 to 23: the alignment, 1 to 14 for 1 to 8192 bytes"},
+    {NULL, NULL}};
+
+static PyObject *row_tls_directory(Image *self, Rows *rows, const pe_c_tls_directory *it)
+{
+    if (!takes(rows, 0))
+        return NULL;
+    PyObject *items[] = {
+        tls_callbacks(self, rows, it),
+        N(it->start_address_of_raw_data),
+        N(it->end_address_of_raw_data),
+        N(it->address_of_index),
+        N(it->address_of_callbacks),
+        N(it->size_of_zero_fill),
+        N(it->characteristics),
+    };
+    return filled(self, ROW_TLS_DIRECTORY, items, 7);
+}
+
+static PyStructSequence_Field row_load_config_directory_fields[] = {
+    {"security_cookie", "where the security cookie is"},
+    {"se_handler_table", "x86: where the table of exception handlers is, their RVAs, sorted, 4 bytes each"},
+    {"se_handler_count", "how many entries it has"},
+    {"guard_cf_check_function_pointer", "where the pointer is to what checks the target of an indirect call"},
+    {"guard_cf_dispatch_function_pointer", "where the pointer is to what checks the target and calls it"},
+    {"guard_cf_function_table", "where the table is of the functions that may be called indirectly, sorted: an RVA each, 4 bytes, then guard_flags >> 28 bytes more"},
+    {"guard_cf_function_count", "how many entries it has"},
+    {"size", "bytes of the structure, as it says itself"},
+    {"time_date_stamp", "seconds since 1970"},
+    {"guard_flags", "IMAGE_GUARD_ flags"},
+    {"major_version", NULL},
+    {"minor_version", NULL},
+    {"dependent_load_flags", "where DLLs that the image imports are looked for, flags of LoadLibraryEx"},
+    {NULL, NULL}};
+
+static PyObject *row_load_config_directory(Image *self, Rows *rows, const pe_c_load_config_directory *it)
+{
+    if (!takes(rows, 0))
+        return NULL;
+    PyObject *items[] = {
+        OPTIONAL(it->has_security_cookie, N(it->security_cookie)),
+        OPTIONAL(it->has_se_handler_table, N(it->se_handler_table)),
+        OPTIONAL(it->has_se_handler_count, N(it->se_handler_count)),
+        OPTIONAL(it->has_guard_cf_check_function_pointer, N(it->guard_cf_check_function_pointer)),
+        OPTIONAL(it->has_guard_cf_dispatch_function_pointer, N(it->guard_cf_dispatch_function_pointer)),
+        OPTIONAL(it->has_guard_cf_function_table, N(it->guard_cf_function_table)),
+        OPTIONAL(it->has_guard_cf_function_count, N(it->guard_cf_function_count)),
+        N(it->size),
+        OPTIONAL(it->has_time_date_stamp, N(it->time_date_stamp)),
+        OPTIONAL(it->has_guard_flags, N(it->guard_flags)),
+        OPTIONAL(it->has_major_version, N(it->major_version)),
+        OPTIONAL(it->has_minor_version, N(it->minor_version)),
+        OPTIONAL(it->has_dependent_load_flags, N(it->dependent_load_flags)),
+    };
+    return filled(self, ROW_LOAD_CONFIG_DIRECTORY, items, 13);
+}
+
+static PyStructSequence_Field row_relocation_block_fields[] = {
+    {"entries", "2 bytes each; a walk through the relocations of the block"},
+    {"size_of_block", "2 bytes each; a walk through the relocations of the block"},
+    {"page_rva", "RVA of the page that they count from"},
+    {NULL, NULL}};
+
+static PyObject *row_relocation_block(Image *self, Rows *rows, const pe_c_relocation_block *it)
+{
+    if (!takes(rows, 0))
+        return NULL;
+    PyObject *items[] = {
+        relocations_of(self, rows, it),
+        N(it->entries.length + 8),
+        N(it->page_rva),
+    };
+    return filled(self, ROW_RELOCATION_BLOCK, items, 3);
+}
+
+static PyStructSequence_Field row_relocation_fields[] = {
+    {"rva", "RVA of what to change; in a hostile block it may pass 32 bits"},
+    {"kind", "IMAGE_REL_BASED_ of winnt.h, below 16"},
+    {"argument", "low 16 bits of the number that IMAGE_REL_BASED_HIGHADJ (4) changes; else 0"},
+    {NULL, NULL}};
+
+static PyObject *row_relocation(Image *self, Rows *rows, const pe_c_relocation *it)
+{
+    if (!takes(rows, 0))
+        return NULL;
+    PyObject *items[] = {
+        N(it->rva),
+        N(it->kind),
+        N(it->argument),
+    };
+    return filled(self, ROW_RELOCATION, items, 3);
+}
+
+static PyStructSequence_Field row_cor20_header_fields[] = {
+    {"cb", "bytes of the header, as it says itself: 72 or more"},
+    {"major_runtime_version", "the version of the runtime that is needed"},
+    {"minor_runtime_version", NULL},
+    {"metadata", NULL},
+    {"flags", "COMIMAGE_FLAGS_"},
+    {"entry_point_token", "a metadata token; an RVA with COMIMAGE_FLAGS_NATIVE_ENTRYPOINT (0x10)"},
+    {"resources", "managed resources"},
+    {"strong_name_signature", NULL},
+    {"code_manager_table", "0"},
+    {"vtable_fixups", "fixups of tables of virtual functions"},
+    {"export_address_table_jumps", "0"},
+    {"managed_native_header", "of code that was compiled ahead of time (ReadyToRun), else 0"},
+    {NULL, NULL}};
+
+static PyObject *row_cor20_header(Image *self, Rows *rows, const pe_c_cor20_header *it)
+{
+    if (!takes(rows, 0))
+        return NULL;
+    PyObject *items[] = {
+        N(it->cb),
+        N(it->major_runtime_version),
+        N(it->minor_runtime_version),
+        row_directory(self, rows, &it->metadata),
+        N(it->flags),
+        N(it->entry_point_token),
+        row_directory(self, rows, &it->resources),
+        row_directory(self, rows, &it->strong_name_signature),
+        row_directory(self, rows, &it->code_manager_table),
+        row_directory(self, rows, &it->vtable_fixups),
+        row_directory(self, rows, &it->export_address_table_jumps),
+        row_directory(self, rows, &it->managed_native_header),
+    };
+    return filled(self, ROW_COR20_HEADER, items, 12);
+}
+
+static PyStructSequence_Field row_metadata_fields[] = {
+    {"version", "such as \"v4.0.30319\": UTF-8 up to the first zero, and the zeros after it"},
+    {"streams", "a walk for pe_c_next_metadata_stream, at its start"},
+    {"major_version", "of the format of metadata"},
+    {"minor_version", NULL},
+    {"flags", "reserved"},
+    {NULL, NULL}};
+
+static PyObject *row_metadata(Image *self, Rows *rows, const pe_c_metadata *it)
+{
+    if (!takes(rows, it->version.length))
+        return NULL;
+    PyObject *items[] = {
+        utf8_to_zero(self, it->version),
+        metadata_streams(self, rows, it),
+        N(it->major_version),
+        N(it->minor_version),
+        N(it->flags),
+    };
+    return filled(self, ROW_METADATA, items, 5);
+}
+
+static PyStructSequence_Field row_metadata_stream_fields[] = {
+    {"name", "without its final zero; at most 31 bytes"},
+    {"content", "the stream's bytes; empty unless has_content"},
+    {"offset", "of the stream, from the start of the metadata"},
+    {"size", "of the stream in bytes"},
+    {NULL, NULL}};
+
+static PyObject *row_metadata_stream(Image *self, Rows *rows, const pe_c_metadata_stream *it)
+{
+    if (!takes(rows, it->name.length))
+        return NULL;
+    PyObject *items[] = {
+        utf8(self, it->name),
+        OPTIONAL(it->has_content, view_of(self, it->content)),
+        N(it->offset),
+        N(it->size),
+    };
+    return filled(self, ROW_METADATA_STREAM, items, 4);
+}
+
+static const PyStructSequence_Desc row_kinds[] = {
+    [ROW_DIRECTORY] = {"pe_c._core.Directory", "A data directory. Both fields are 0 where it is absent.", row_directory_fields, 2},
+    [ROW_IMAGE_INFO] = {"pe_c._core.Headers", "The headers of an image. Without an optional header the numbers that it has are 0, and its directories are absent.", row_image_info_fields, 20},
+    [ROW_SECTION] = {"pe_c._core.Section", "IMAGE_SECTION_HEADER.", row_section_fields, 11},
+    [ROW_RICH_HEADER_INFO] = {"pe_c._core.RichHeader", NULL, row_rich_header_info_fields, 4},
+    [ROW_RICH_ENTRY] = {"pe_c._core.RichEntry", NULL, row_rich_entry_fields, 3},
+    [ROW_DEBUG_ENTRY] = {"pe_c._core.DebugEntry", "IMAGE_DEBUG_DIRECTORY.", row_debug_entry_fields, 8},
+    [ROW_KEY] = {"pe_c._core.SymbolKey", "A CodeView record of PDB 7.0 (\"RSDS\"): a symbol server files the PDB under its name, GUID and age.", row_key_fields, 4},
+    [ROW_PDB20] = {"pe_c._core.Pdb20", "A CodeView record of PDB 2.0 (\"NB10\").", row_pdb20_fields, 4},
+    [ROW_VC_FEATURES] = {"pe_c._core.VcFeatures", "VC features: the counts that dumpbin /headers shows.", row_vc_features_fields, 5},
+    [ROW_REPRO] = {"pe_c._core.Repro", "Repro: the same sources build the same image.", row_repro_fields, 1},
+    [ROW_POGO] = {"pe_c._core.Pogo", "POGO: the parts of the image's sections, such as \".text$mn\".", row_pogo_fields, 2},
+    [ROW_POGO_ENTRY] = {"pe_c._core.PogoEntry", NULL, row_pogo_entry_fields, 3},
+    [ROW_CERTIFICATE] = {"pe_c._core.Certificate", "WIN_CERTIFICATE.", row_certificate_fields, 4},
+    [ROW_CHECKSUM_FIELD] = {"pe_c._core.Checksum", "The checksum that an image should have. Windows tests it for drivers and boot files.", row_checksum_field_fields, 2},
+    [ROW_FUNCTION] = {"pe_c._core.Function", "RUNTIME_FUNCTION.", row_function_fields, 3},
+    [ROW_RECORD] = {"pe_c._core.UnwindRecord", "UNWIND_INFO.", row_record_fields, 9},
+    [ROW_CODE] = {"pe_c._core.UnwindCode", "UNWIND_CODE.", row_code_fields, 5},
+    [ROW_ARM64_FUNCTION] = {"pe_c._core.Arm64Function", "An entry of the function table.", row_arm64_function_fields, 2},
+    [ROW_ARM64_PACKED] = {"pe_c._core.Arm64Packed", "Packed unwind data. The fields mean nothing unless is_packed.", row_arm64_packed_fields, 8},
+    [ROW_ARM64_RECORD] = {"pe_c._core.Arm64Record", "An unwind record (.xdata).", row_arm64_record_fields, 7},
+    [ROW_ARM64_SCOPE] = {"pe_c._core.Arm64Scope", "An epilog scope.", row_arm64_scope_fields, 4},
+    [ROW_ARM64_CODE] = {"pe_c._core.Arm64Code", "An ARM64 unwind code.", row_arm64_code_fields, 6},
+    [ROW_ADDRESS_TABLE] = {"pe_c._core.ExportTable", "The table of RVAs, which has all exports by their index, also those without a name.", row_address_table_fields, 4},
+    [ROW_EXPORTED] = {"pe_c._core.Export", "An export by its index.", row_exported_fields, 5},
+    [ROW_LIBRARY] = {"pe_c._core.Library", "IMAGE_IMPORT_DESCRIPTOR.", row_library_fields, 7},
+    [ROW_IMPORT] = {"pe_c._core.Import", NULL, row_import_fields, 4},
+    [ROW_DELAY_DESCRIPTOR] = {"pe_c._core.DelayDescriptor", "IMAGE_DELAYLOAD_DESCRIPTOR. Addresses are RVAs where bit 0 of the attributes is set, else virtual addresses, as linkers before Visual C++ 7 wrote them.", row_delay_descriptor_fields, 8},
+    [ROW_DELAY_IMPORT] = {"pe_c._core.DelayLibrary", NULL, row_delay_import_fields, 3},
+    [ROW_DELAYED_FUNCTION] = {"pe_c._core.DelayedFunction", NULL, row_delayed_function_fields, 2},
+    [ROW_BOUND_IMPORT] = {"pe_c._core.BoundLibrary", "IMAGE_BOUND_IMPORT_DESCRIPTOR.", row_bound_import_fields, 3},
+    [ROW_BOUND_FORWARDER] = {"pe_c._core.BoundForwarder", "IMAGE_BOUND_FORWARDER_REF.", row_bound_forwarder_fields, 2},
+    [ROW_VERSION] = {"pe_c._core.FixedVersion", "VS_FIXEDFILEINFO.", row_version_fields, 13},
+    [ROW_VERSION_BLOCK] = {"pe_c._core.VersionBlock", "A block of version information, which is a tree of them. The first block, VS_VERSION_INFO, is all of it; its value is the fixed file information. It contains StringFileInfo, with a string table for each language, whose blocks are strings with any key; and VarFileInfo, with Translation, whose value is a language and a code page, uint16_t each, for each language of the file.", row_version_block_fields, 5},
+    [ROW_RESOURCE_LEAF] = {"pe_c._core.Resource", NULL, row_resource_leaf_fields, 9},
+    [ROW_TLS_DIRECTORY] = {"pe_c._core.Tls", "IMAGE_TLS_DIRECTORY.", row_tls_directory_fields, 7},
+    [ROW_LOAD_CONFIG_DIRECTORY] = {"pe_c._core.LoadConfig", "IMAGE_LOAD_CONFIG_DIRECTORY32 or IMAGE_LOAD_CONFIG_DIRECTORY64, up to the guard flags. A field that the structure is too short for, or the image, is 0, and so is the field of its name with has_, which else is 1. The addresses are virtual addresses, mostly 0 where there is nothing: less image->base one is an RVA, for pe_c_offset.", row_load_config_directory_fields, 13},
+    [ROW_RELOCATION_BLOCK] = {"pe_c._core.RelocationBlock", "IMAGE_BASE_RELOCATION.", row_relocation_block_fields, 3},
+    [ROW_RELOCATION] = {"pe_c._core.Relocation", NULL, row_relocation_fields, 3},
+    [ROW_COR20_HEADER] = {"pe_c._core.ClrHeader", "IMAGE_COR20_HEADER.", row_cor20_header_fields, 12},
+    [ROW_METADATA] = {"pe_c._core.Metadata", "The root of the metadata.", row_metadata_fields, 5},
+    [ROW_METADATA_STREAM] = {"pe_c._core.MetadataStream", NULL, row_metadata_stream_fields, 4},
+};

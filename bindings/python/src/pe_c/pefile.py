@@ -1,0 +1,875 @@
+"""pefile's names over pe_c: `from pe_c import pefile` in place of `import pefile`.
+
+Names and values are those of pefile 2023.2.7, so names of DLLs and functions are bytes. Each directory is read when
+its attribute is asked for first, so fast_load makes no difference, and an image without one has no such attribute, as
+in pefile. A name that is not here is in the table of _pefile_gaps.py with why, and asking for it raises NotInPeC, an
+AttributeError: there are no values that stand for what was not read. An image is not changed: what is assigned stays
+in the object.
+
+PE(..) raises PEFormatError where the headers are refused. After that methods raise PEFormatError alone, and no
+attribute raises but AttributeError. """
+from __future__ import annotations
+
+import hashlib
+import os
+import struct
+from typing import Any, Iterable, Iterator
+
+from . import _image, _pefile_tables as _tables, _row_names as _rows
+from ._kinds import Kind
+from ._ordinals import ORDINALS
+from ._part import Error, Part, entropy_of
+from ._pefile_gaps import NotInPeC as NotInPeC, missing as _missing
+
+__author__ = "Lovandezh"
+__contact__ = ""
+__version__ = "2023.2.7"
+"""That of pefile whose names these are."""
+
+IMAGE_DOS_SIGNATURE, IMAGE_DOSZM_SIGNATURE = 0x5A4D, 0x4D5A
+IMAGE_NE_SIGNATURE, IMAGE_LE_SIGNATURE, IMAGE_LX_SIGNATURE, IMAGE_TE_SIGNATURE = 0x454E, 0x454C, 0x584C, 0x5A56
+IMAGE_NT_SIGNATURE = 0x4550
+IMAGE_NUMBEROF_DIRECTORY_ENTRIES = 16
+IMAGE_ORDINAL_FLAG, IMAGE_ORDINAL_FLAG64 = 0x80000000, 0x8000000000000000
+OPTIONAL_HEADER_MAGIC_PE, OPTIONAL_HEADER_MAGIC_PE_PLUS = 0x10B, 0x20B
+FILE_ALIGNMENT_HARDCODED_VALUE = 0x200
+fast_load = False
+"""It makes no difference: each directory is read when its attribute is asked for."""
+(UWOP_PUSH_NONVOL, UWOP_ALLOC_LARGE, UWOP_ALLOC_SMALL, UWOP_SET_FPREG, UWOP_SAVE_NONVOL, UWOP_SAVE_NONVOL_FAR, UWOP_EPILOG,
+ UWOP_SAVE_XMM128, UWOP_SAVE_XMM128_FAR, UWOP_PUSH_MACHFRAME) = 0, 1, 2, 3, 4, 5, 6, 8, 9, 10
+
+
+def two_way_dict(pairs: list[tuple[str, int]]) -> dict[Any, Any]:
+    """Names by their numbers, and numbers by their names."""
+    return {**{number: name for name, number in pairs}, **dict(pairs)}
+
+
+directory_entry_types = _tables.directory_entry_types
+image_characteristics = _tables.image_characteristics
+section_characteristics = _tables.section_characteristics
+debug_types, subsystem_types, machine_types = _tables.debug_types, _tables.subsystem_types, _tables.machine_types
+relocation_types, dll_characteristics = _tables.relocation_types, _tables.dll_characteristics
+unwind_info_flags, registers = _tables.unwind_info_flags, _tables.registers
+resource_type, lang, sublang = _tables.resource_type, _tables.lang, _tables.sublang
+DIRECTORY_ENTRY = two_way_dict(directory_entry_types)
+IMAGE_CHARACTERISTICS = two_way_dict(image_characteristics)
+SECTION_CHARACTERISTICS = two_way_dict(section_characteristics)
+DEBUG_TYPE = two_way_dict(debug_types)
+SUBSYSTEM_TYPE = two_way_dict(subsystem_types)
+MACHINE_TYPE = two_way_dict(machine_types)
+RELOCATION_TYPE = two_way_dict(relocation_types)
+DLL_CHARACTERISTICS = two_way_dict(dll_characteristics)
+UNWIND_INFO_FLAGS = two_way_dict(unwind_info_flags)
+REGISTERS = two_way_dict(registers)
+RESOURCE_TYPE = two_way_dict(resource_type)
+LANG = two_way_dict(lang)
+SUBLANG: dict[Any, Any] = dict(sublang)
+for _name, _number in sublang:
+    SUBLANG.setdefault(_number, []).append(_name)
+
+
+def get_sublang_name_for_lang(lang_value: int, sublang_value: int) -> str:
+    """The name of a sublanguage: the first that has the language's name in it, else the first of its number."""
+    names: list[str] = SUBLANG.get(sublang_value, ["*unknown*"])
+    known = LANG.get(lang_value, "*unknown*")
+    return next((it for it in names if known in it), names[0])
+
+
+def __getattr__(name: str) -> Any:
+    raise _missing("", name)
+
+
+class PEFormatError(Exception):
+    """An image that is refused. `value` says why."""
+
+    def __init__(self, value: str) -> None:
+        super().__init__(value)
+        self.value = value
+
+    def __str__(self) -> str:
+        return repr(self.value)
+
+
+def _bytes(text: str | None) -> bytes | None:
+    return None if text is None else text.encode("utf-8", "backslashreplace")
+
+
+# ---- structures
+
+# Of each structure its size in the file; two where PE32+ has another.
+_SIZES = {"IMAGE_DOS_HEADER": 64, "IMAGE_NT_HEADERS": 4, "IMAGE_FILE_HEADER": 20, "IMAGE_OPTIONAL_HEADER": 96,
+          "IMAGE_OPTIONAL_HEADER64": 112, "IMAGE_SECTION_HEADER": 40, "IMAGE_DATA_DIRECTORY": 8}
+# The flags that a structure has as attributes: the field that they are of, the table and how their names start.
+_FLAGS = {"IMAGE_FILE_HEADER": ("Characteristics", IMAGE_CHARACTERISTICS, "IMAGE_FILE_"),
+          "IMAGE_OPTIONAL_HEADER": ("DllCharacteristics", DLL_CHARACTERISTICS, "IMAGE_DLLCHARACTERISTICS_"),
+          "IMAGE_SECTION_HEADER": ("Characteristics", SECTION_CHARACTERISTICS, "IMAGE_SCN_")}
+
+
+class Structure:
+    """A structure of winnt.h: its fields are attributes, and so are its flags, True or False."""
+
+    name: str
+    DATA_DIRECTORY: list[Structure]
+    StringTable: list[Structure]
+    Var: list[Structure]
+    entry: dict[bytes | None, str]
+
+    def __init__(self, structure: str, offset: int | None = None, /, **fields: Any) -> None:
+        self.name = self._structure = structure
+        self._offset = offset
+        self._fields = tuple(fields)
+        self.__dict__.update(fields)
+
+    def __getattr__(self, name: str) -> Any:
+        structure = self.__dict__.get("_structure", "").replace("HEADER64", "HEADER")
+        field, table, start = _FLAGS.get(structure, ("", {}, "-"))
+        if name.startswith(start) and name in table:
+            return bool(getattr(self, field) & table[name])
+        raise _missing(structure if f"Structure.{name}" not in _GAPS_OF_ALL else "Structure", name)
+
+    def __repr__(self) -> str:
+        return f"<Structure: [{self.name}] {' '.join(f'{it}={getattr(self, it)!r}' for it in self._fields)}>"
+
+    def get_file_offset(self) -> int:
+        """The file offset of the structure, where the library says where that is."""
+        if self._offset is None:
+            raise NotInPeC(f"{self.name}.get_file_offset", "the library for C does not return where this structure stands")
+        return self._offset
+
+    def sizeof(self) -> int:
+        """The bytes of the structure in the file."""
+        if self._structure not in _SIZES:
+            raise NotInPeC(f"{self.name}.sizeof", "it is known of headers alone")
+        return _SIZES[self._structure]
+
+    def all_zeroes(self) -> bool:
+        """Whether all fields are 0 that are there."""
+        return not any(getattr(self, it) for it in self._fields if isinstance(getattr(self, it), int))
+
+
+_GAPS_OF_ALL = ("Structure.dump", "Structure.dump_dict", "Structure.set_file_offset", "Structure.__pack__",
+                "Structure.get_field_absolute_offset", "Structure.get_field_relative_offset")
+
+
+class _Unpacked(Structure):
+    """A structure of a caller's own, by a format as pefile has them: its name, and for each field "CODE,NAME" as
+    struct has it."""
+
+    def __init__(self, format: tuple[str, Iterable[str]], data: bytes, offset: int | None) -> None:
+        fields = [it.split(",") for it in format[1]]
+        self._codes, self._names = "<" + "".join(it[0] for it in fields), [it[1:] for it in fields]
+        values = struct.unpack_from(self._codes, data)
+        super().__init__(format[0], offset, **{name: value for names, value in zip(self._names, values) for name in names})
+
+    def sizeof(self) -> int:
+        return struct.calcsize(self._codes)
+
+    def __pack__(self) -> bytes:
+        return struct.pack(self._codes, *(getattr(self, names[0]) for names in self._names))
+
+
+class SectionStructure(Structure):
+    """A section header, and the data of its section."""
+
+    def __init__(self, pe: PE, row: _rows.Section, offset: int, following: int | None) -> None:
+        super().__init__("IMAGE_SECTION_HEADER", offset, Name=row.raw_name, Misc=row.virtual_size,
+                         Misc_PhysicalAddress=row.virtual_size, Misc_VirtualSize=row.virtual_size,
+                         VirtualAddress=row.virtual_address, SizeOfRawData=row.size_of_raw_data,
+                         PointerToRawData=row.pointer_to_raw_data, PointerToRelocations=row.pointer_to_relocations,
+                         PointerToLinenumbers=row.pointer_to_linenumbers, NumberOfRelocations=row.number_of_relocations,
+                         NumberOfLinenumbers=row.number_of_linenumbers, Characteristics=row.characteristics)
+        self.pe, self.next_section_virtual_address = pe, following
+
+    def get_PointerToRawData_adj(self) -> int:
+        """The file offset of the section's first byte: its pointer rounded down to 512, but in images of a smaller
+        alignment."""
+        return self.pe.adjust_FileAlignment(self.PointerToRawData, self.pe.OPTIONAL_HEADER.FileAlignment)
+
+    def get_VirtualAddress_adj(self) -> int:
+        """The RVA of the section's first byte, rounded down to the section alignment."""
+        header = self.pe.OPTIONAL_HEADER
+        return self.pe.adjust_SectionAlignment(self.VirtualAddress, header.SectionAlignment, header.FileAlignment)
+
+    def _range(self, start: int | None, length: int | None, ignore_padding: bool) -> slice:
+        offset = self.get_PointerToRawData_adj() + (0 if start is None else start - self.get_VirtualAddress_adj())
+        end = offset + (self.SizeOfRawData if length is None else length)
+        end = min(end, offset + self.Misc_VirtualSize) if ignore_padding else end
+        return slice(offset, min(end, self.PointerToRawData + self.SizeOfRawData))
+
+    def get_data(self, start: int | None = None, length: int | None = None, ignore_padding: bool = False) -> bytes:
+        """The section's data in the file, from the RVA `start` on; without what is after its size in memory with
+        ignore_padding."""
+        return self.pe.__data__[self._range(start, length, ignore_padding)]
+
+    def get_rva_from_offset(self, offset: int) -> int:
+        return offset - self.get_PointerToRawData_adj() + self.get_VirtualAddress_adj()
+
+    def get_offset_from_rva(self, rva: int) -> int:
+        return rva - self.get_VirtualAddress_adj() + self.get_PointerToRawData_adj()
+
+    def contains_offset(self, offset: int) -> bool:
+        start = self.get_PointerToRawData_adj()
+        return bool(start <= offset < start + self.SizeOfRawData)
+
+    def contains_rva(self, rva: int) -> bool:
+        """Whether the section has the RVA, up to where the next section starts."""
+        start = self.get_VirtualAddress_adj()
+        is_whole = len(self.pe.__data__) - self.get_PointerToRawData_adj() >= self.SizeOfRawData
+        size = max(self.SizeOfRawData, self.Misc_VirtualSize) if is_whole else self.Misc_VirtualSize
+        following = self.next_section_virtual_address
+        if following is not None and self.VirtualAddress < following < start + size:
+            size = following - start
+        return bool(start <= rva < start + size)
+
+    def contains(self, rva: int) -> bool:
+        return self.contains_rva(rva)
+
+    def _hash(self, algorithm: str) -> str:
+        return hashlib.new(algorithm, self.pe._view[self._range(None, None, False)], usedforsecurity=False).hexdigest()
+
+    def get_hash_md5(self) -> str:
+        return self._hash("md5")
+
+    def get_hash_sha1(self) -> str:
+        return self._hash("sha1")
+
+    def get_hash_sha256(self) -> str:
+        return self._hash("sha256")
+
+    def get_hash_sha512(self) -> str:
+        return self._hash("sha512")
+
+    def get_entropy(self) -> float:
+        """Shannon's entropy of the section's data, in bits a byte."""
+        place = self._range(None, None, False)
+        length = max(place.stop - place.start, 0) if place.start >= 0 else 0
+        return entropy_of(self.pe._image._asked("entropy", "histogram", max(place.start, 0), length))
+
+    def entropy_H(self, data: bytes) -> float:
+        """Shannon's entropy of some bytes, in bits a byte."""
+        return entropy_of(data.count(bytes([it])) for it in set(data))
+
+
+class DataContainer:
+    """What a directory has: its attributes are those that it was made of."""
+
+    def __init__(self, **attributes: Any) -> None:
+        self.__dict__.update(attributes)
+
+    def __getattr__(self, name: str) -> Any:
+        raise _missing(type(self).__name__, name)
+
+
+class ImportDescData(DataContainer):
+    """A DLL: struct, imports, dll."""
+
+
+class ImportData(DataContainer):
+    """An import: import_by_ordinal, ordinal, hint, name, name_offset, address, thunk_rva, thunk_offset, pe."""
+
+    name: bytes | None
+
+
+class ExportDirData(DataContainer):
+    """The exports: struct, symbols, name."""
+
+
+class ExportData(DataContainer):
+    """An export: ordinal, address, name, forwarder, pe."""
+
+
+class ResourceDirData(DataContainer):
+    """A resource directory: struct, entries."""
+
+
+class ResourceDirEntryData(DataContainer):
+    """An entry of a resource directory: struct, name, id, and directory or data."""
+
+
+class ResourceDataEntryData(DataContainer):
+    """A resource in a language: struct, lang, sublang."""
+
+
+class DebugData(DataContainer):
+    """A debug entry: struct, and the record to which it leads as entry, or None."""
+
+
+class BaseRelocationData(DataContainer):
+    """A block of base relocations: struct, entries."""
+
+
+class RelocationData(DataContainer):
+    """A base relocation: type, base_rva, rva."""
+
+
+class TlsData(DataContainer):
+    """The TLS directory: struct."""
+
+
+class BoundImportDescData(DataContainer):
+    """A bound DLL: struct, name, entries."""
+
+
+class BoundImportRefData(DataContainer):
+    """A DLL that a bound DLL forwards to: struct, name."""
+
+
+class LoadConfigData(DataContainer):
+    """The load configuration: struct."""
+
+
+class ExceptionsDirEntryData(DataContainer):
+    """An entry of the function table of x64: struct."""
+
+
+class RichHeader(DataContainer):
+    """The Rich header: checksum, values, key, raw_data, clear_data."""
+
+
+class UnicodeStringWrapperPostProcessor(str):
+    """The name of a resource, a text."""
+
+    def decode(self, *_: object) -> str:
+        return str(self)
+
+    def __getattr__(self, name: str) -> Any:
+        raise _missing("UnicodeStringWrapperPostProcessor", name)
+
+
+# ---- directories
+
+
+def _imports(pe: PE, rows: Iterable[Any], rva_of: Any) -> Iterator[ImportData]:
+    """The imports of a DLL. Those of ordinal 0 are not imports to pefile."""
+    base = pe.OPTIONAL_HEADER.ImageBase
+    for i, it in enumerate(rows):
+        if it.name is None and it.ordinal == 0 or it.name == "":
+            continue
+        thunk_rva, address_rva = rva_of(i)
+        yield ImportData(pe=pe, import_by_ordinal=it.name is None, ordinal=it.ordinal if it.name is None else None,
+                         hint=it.ordinal if it.name is not None else None, name=_bytes(it.name),
+                         address=base + address_rva, thunk_rva=thunk_rva, thunk_offset=pe._image.offset_of(thunk_rva),
+                         name_offset=getattr(it, "name_offset", None))
+
+
+def _with_names(dll: bytes, imports: list[ImportData]) -> list[ImportData]:
+    known = ORDINALS.get(dll.decode("utf-8", "replace").lower(), {})
+    for it in imports:
+        if it.name is None and it.ordinal in known:
+            it.name = known[it.ordinal].encode()
+    return imports
+
+
+def _read_imports(pe: PE) -> list[ImportDescData]:
+    width = 8 if pe._image.is_64 else 4
+    found = []
+    for row in pe._image.imports:
+        table, slots = row.lookup_table_rva or row.address_table_rva, row.address_table_rva
+        descriptor = Structure("IMAGE_IMPORT_DESCRIPTOR", None, OriginalFirstThunk=row.lookup_table_rva,
+                               Characteristics=row.lookup_table_rva, TimeDateStamp=row.time_date_stamp,
+                               ForwarderChain=row.forwarder_chain, Name=row.name_rva, FirstThunk=row.address_table_rva)
+        dll = _bytes(row.name) or b""
+        imports = list(_imports(pe, row.imports, lambda i: (table + i * width, slots + i * width)))
+        if imports and dll:
+            found.append(ImportDescData(struct=descriptor, imports=_with_names(dll, imports), dll=dll))
+    return found
+
+
+def _read_delay_imports(pe: PE) -> list[ImportDescData]:
+    width = 8 if pe._image.is_64 else 4
+    found = []
+    for row in pe._image.delay_imports:
+        it = row.descriptor
+        base = 0 if it.attributes & 1 else pe.OPTIONAL_HEADER.ImageBase
+        table, slots = it.import_name_table - base, it.import_address_table - base
+        descriptor = Structure("IMAGE_DELAY_IMPORT_DESCRIPTOR", None, grAttrs=it.attributes, szName=it.name,
+                               phmod=it.module_handle, pIAT=it.import_address_table, pINT=it.import_name_table,
+                               pBoundIAT=it.bound_import_address_table, pUnloadIAT=it.unload_information_table,
+                               dwTimeStamp=it.time_date_stamp)
+        imports = list(_imports(pe, row.imports, lambda i: (table + i * width, slots + i * width)))
+        if imports:
+            dll = _bytes(row.name) or b""
+            found.append(ImportDescData(struct=descriptor, imports=_with_names(dll, imports), dll=dll))
+    return found
+
+
+def _read_exports(pe: PE) -> ExportDirData | None:
+    table = pe._value("export_table")
+    if table is None or pe._image.exports.error:
+        return None
+    symbols = [ExportData(pe=pe, ordinal=it.ordinal, address=it.rva, name=_bytes(it.name), forwarder=_bytes(it.forwarder))
+               for it in pe._image.exports if it.rva]
+    return ExportDirData(struct=Structure("IMAGE_EXPORT_DIRECTORY", None, Base=table.ordinal_base,
+                                          NumberOfFunctions=table.number_of_functions),
+                         symbols=symbols, name=_bytes(table.name))
+
+
+def _pdb70(key: _rows.SymbolKey) -> Structure:
+    one, two, three, four, five = struct.unpack_from("<IHHBB", key.guid)
+    return Structure("CV_INFO_PDB70", None, CvSignature=b"RSDS", Signature_Data1=one, Signature_Data2=two, Signature_Data3=three,
+                     Signature_Data4=four, Signature_Data5=five, Signature_Data6=key.guid[10:],
+                     Signature_Data6_value=int.from_bytes(key.guid[10:], "big"), Age=key.age, PdbFileName=key.raw_name,
+                     Signature_String=f"{one:08X}{two:04X}{three:04X}{key.guid[8:].hex().upper()}{key.age:X}")
+
+
+def _read_record(pe: PE, row: _rows.DebugEntry) -> Structure | None:
+    """The CodeView record of a debug entry."""
+    if row.data_type != DEBUG_TYPE["IMAGE_DEBUG_TYPE_CODEVIEW"]:
+        return None
+    key, number, _ = pe._image._read("codeview", row.pointer_to_raw_data, row.size_of_data)
+    if key is not None:
+        return _pdb70(key)
+    old = pe._value("pdb20") if number == 0 else None
+    return None if old is None else Structure("CV_INFO_PDB20", None, CvHeaderSignature=0x3031424E, CvHeaderOffset=old.offset,
+                                              Signature=old.signature, Age=old.age, PdbFileName=_bytes(old.name + "\0"))
+
+
+def _read_debug(pe: PE) -> list[DebugData]:
+    return [DebugData(struct=Structure("IMAGE_DEBUG_DIRECTORY", None, Characteristics=it.characteristics,
+                                       TimeDateStamp=it.time_date_stamp, MajorVersion=it.major_version,
+                                       MinorVersion=it.minor_version, Type=it.data_type, SizeOfData=it.size_of_data,
+                                       AddressOfRawData=it.address_of_raw_data, PointerToRawData=it.pointer_to_raw_data),
+                      entry=_read_record(pe, it)) for it in pe._image.debug_entries]
+
+
+def _named(value: int | str, **more: Any) -> ResourceDirEntryData:
+    """An entry of a directory. The upper two levels lead to directories, the last one to data: the library refuses
+    others."""
+    is_directory = int("directory" in more)
+    if isinstance(value, int):
+        entry = Structure(_ENTRY, None, Name=value, Id=value, DataIsDirectory=is_directory)
+    else:
+        entry = Structure(f"{_ENTRY} of a name", None, DataIsDirectory=is_directory)
+        entry.name = _ENTRY
+    is_name = isinstance(value, str)
+    return ResourceDirEntryData(struct=entry, name=UnicodeStringWrapperPostProcessor(value) if is_name else None,
+                                id=None if is_name else value, **more)
+
+
+_ENTRY = "IMAGE_RESOURCE_DIRECTORY_ENTRY"
+
+
+def _directory() -> ResourceDirData:
+    return ResourceDirData(struct=Structure("IMAGE_RESOURCE_DIRECTORY"), entries=[])
+
+
+def _read_resources(pe: PE) -> ResourceDirData | None:
+    """The tree of the leaves: types, names, languages."""
+    root = _directory()
+    types: dict[int | str, tuple[ResourceDirData, dict[int | str, ResourceDirData]]] = {}
+    for leaf in pe._image.resources:
+        if leaf.type not in types:
+            types[leaf.type] = (_directory(), {})
+            root.entries.append(_named(leaf.type, directory=types[leaf.type][0]))
+        its, names = types[leaf.type]
+        if leaf.name not in names:
+            names[leaf.name] = _directory()
+            its.entries.append(_named(leaf.name, directory=names[leaf.name]))
+        language = leaf.language if isinstance(leaf.language, int) else 0
+        data = Structure("IMAGE_RESOURCE_DATA_ENTRY", None, OffsetToData=leaf.rva, Size=leaf.size, CodePage=leaf.code_page)
+        names[leaf.name].entries.append(_named(leaf.language, data=ResourceDataEntryData(
+            struct=data, lang=language & 0x3FF, sublang=language >> 10)))
+    return root if root.entries else None
+
+
+def _read_relocations(pe: PE) -> list[BaseRelocationData]:
+    return [BaseRelocationData(struct=Structure("IMAGE_BASE_RELOCATION", None, VirtualAddress=row.page_rva,
+                                                SizeOfBlock=row.size_of_block),
+                               entries=[RelocationData(type=it.kind, base_rva=row.page_rva, rva=it.rva) for it in row.entries])
+            for row in pe._image.relocations]
+
+
+def _read_tls(pe: PE) -> TlsData | None:
+    it = pe._value("tls")
+    return None if it is None else TlsData(struct=Structure(
+        "IMAGE_TLS_DIRECTORY", None, StartAddressOfRawData=it.start_address_of_raw_data,
+        EndAddressOfRawData=it.end_address_of_raw_data, AddressOfIndex=it.address_of_index,
+        AddressOfCallBacks=it.address_of_callbacks, SizeOfZeroFill=it.size_of_zero_fill, Characteristics=it.characteristics))
+
+
+_CONFIG = {"Size": "size", "TimeDateStamp": "time_date_stamp", "MajorVersion": "major_version", "MinorVersion": "minor_version",
+           "SecurityCookie": "security_cookie", "SEHandlerTable": "se_handler_table", "SEHandlerCount": "se_handler_count",
+           "GuardCFCheckFunctionPointer": "guard_cf_check_function_pointer",
+           "GuardCFDispatchFunctionPointer": "guard_cf_dispatch_function_pointer",
+           "GuardCFFunctionTable": "guard_cf_function_table", "GuardCFFunctionCount": "guard_cf_function_count",
+           "GuardFlags": "guard_flags"}
+
+
+def _read_load_config(pe: PE) -> LoadConfigData | None:
+    """The load configuration; fields that the structure is too short for are missing."""
+    it = pe._value("load_config")
+    if it is None:
+        return None
+    fields = {name: getattr(it, own) for name, own in _CONFIG.items() if getattr(it, own) is not None}
+    return LoadConfigData(struct=Structure("IMAGE_LOAD_CONFIG_DIRECTORY", None, **fields))
+
+
+def _read_bound_imports(pe: PE) -> list[BoundImportDescData]:
+    def of(name: str, stamp: int) -> Structure:
+        return Structure(name, None, TimeDateStamp=stamp)
+    return [BoundImportDescData(struct=of("IMAGE_BOUND_IMPORT_DESCRIPTOR", row.time_date_stamp), name=_bytes(row.name),
+                                entries=[BoundImportRefData(struct=of("IMAGE_BOUND_FORWARDER_REF", it.time_date_stamp),
+                                                            name=_bytes(it.name)) for it in row.forwarders])
+            for row in pe._image.bound_imports]
+
+
+def _read_exceptions(pe: PE) -> list[ExceptionsDirEntryData]:
+    return [ExceptionsDirEntryData(struct=Structure("RUNTIME_FUNCTION", None, BeginAddress=it.begin, EndAddress=it.end,
+                                                    UnwindData=it.unwind)) for it in pe._image.functions]
+
+
+def _read_rich(pe: PE) -> RichHeader | None:
+    row = pe._value("rich_header")
+    if row is None:
+        return None
+    values = [number for it in row.entries for number in (it.product << 16 | it.build, it.objects)]
+    clear = struct.pack(f"<4I{len(values)}I", 0x536E6144, 0, 0, 0, *values)
+    raw = struct.pack(f"<{len(values) + 4}I", *(it ^ row.key for it in (0x536E6144, 0, 0, 0, *values)))
+    return RichHeader(checksum=row.key, values=values, key=struct.pack("<I", row.key), raw_data=raw, clear_data=clear)
+
+
+# ---- version information
+
+
+def _versions(pe: PE) -> list[_image.Version]:
+    """Version information of the first resource of its type, in each language: pefile reads no other."""
+    leaves = [it for it in pe._image.resources if it.type == _image.RT_VERSION and it.content is not None]
+    return [version for leaf, version in zip(leaves, pe._image.versions) if leaf.name == leaves[0].name]
+
+
+def _file_info(block: _rows.VersionBlock) -> Structure:
+    """StringFileInfo with its tables, or VarFileInfo with its values."""
+    made = Structure(block.key if block.key == "VarFileInfo" else "StringFileInfo", None, Key=_bytes(block.key))
+    if block.key.startswith("StringFileInfo"):
+        made.StringTable = []
+        for table in block.children:
+            entries = {_bytes(it.key): _bytes(it.value) if isinstance(it.value, str) else b"" for it in table.children}
+            lengths = {key: (len(key or b""), len(value or b"")) for key, value in entries.items()}
+            made.StringTable.append(Structure("StringTable", None, LangID=_bytes(table.key), entries=entries,
+                                              entries_lengths=lengths))
+    elif block.key.startswith("VarFileInfo"):
+        made.Var = [_var(it) for it in block.children]
+    return made
+
+
+def _var(block: _rows.VersionBlock) -> Structure:
+    made = Structure("Var")
+    numbers = block.value if isinstance(block.value, bytes) else b""
+    for pair in struct.iter_unpack("<HH", numbers[:len(numbers) & ~3]):
+        made.entry = {_bytes(block.key): "0x%04x 0x%04x" % pair}
+    return made
+
+
+def _read_file_info(pe: PE) -> list[list[Structure]]:
+    return [[_file_info(it) for root in version.blocks[:1] for it in root.children] for version in _versions(pe)
+            if version.fixed is not None]
+
+
+def _read_version_info(pe: PE) -> list[Structure]:
+    return [Structure("VS_VERSIONINFO", None, Key=_bytes(root.key)) for it in _versions(pe) for root in it.blocks[:1]]
+
+
+def _read_fixed_info(pe: PE) -> list[Structure]:
+    return [Structure("VS_FIXEDFILEINFO", None, Signature=it.signature, StrucVersion=it.struct_version,
+                      FileVersionMS=it.file_version_ms, FileVersionLS=it.file_version_ls,
+                      ProductVersionMS=it.product_version_ms, ProductVersionLS=it.product_version_ls,
+                      FileFlagsMask=it.file_flags_mask, FileFlags=it.file_flags, FileOS=it.file_os, FileType=it.file_type,
+                      FileSubtype=it.file_subtype, FileDateMS=it.file_date_ms, FileDateLS=it.file_date_ls)
+            for it in (version.fixed for version in _versions(pe)) if it is not None]
+
+
+# What is read when it is asked for, and is no attribute where there is nothing.
+_READ = {"DIRECTORY_ENTRY_IMPORT": _read_imports, "DIRECTORY_ENTRY_DELAY_IMPORT": _read_delay_imports,
+         "DIRECTORY_ENTRY_EXPORT": _read_exports, "DIRECTORY_ENTRY_DEBUG": _read_debug,
+         "DIRECTORY_ENTRY_RESOURCE": _read_resources, "DIRECTORY_ENTRY_BASERELOC": _read_relocations,
+         "DIRECTORY_ENTRY_TLS": _read_tls, "DIRECTORY_ENTRY_LOAD_CONFIG": _read_load_config,
+         "DIRECTORY_ENTRY_BOUND_IMPORT": _read_bound_imports, "DIRECTORY_ENTRY_EXCEPTION": _read_exceptions,
+         "FileInfo": _read_file_info, "VS_VERSIONINFO": _read_version_info, "VS_FIXEDFILEINFO": _read_fixed_info}
+
+
+class PE:
+    """An image, by pefile's names. It takes the name of a file, or its bytes as `data`."""
+
+    def __init__(self, name: str | os.PathLike[str] | None = None, data: Any = None, fast_load: bool | None = None,
+                 max_symbol_exports: int = 8192, max_repeated_symbol: int = 120) -> None:
+        if name is None and data is None:
+            raise ValueError("Must supply either name or data")
+        try:
+            self._image = _image.open(name) if name is not None else _image.Image(data)
+        except Error as error:
+            raise PEFormatError(str(error)) from None
+        self.max_symbol_exports, self.max_repeated_symbol = max_symbol_exports, max_repeated_symbol
+        self._view = self._image.memory
+        whole = self._view.obj
+        self.__data__: bytes = whole if isinstance(whole, bytes) and len(whole) == len(self._view) else bytes(self._view)
+        self._read_headers()
+
+    # ---- headers
+
+    def _read_headers(self) -> None:
+        it = self._image.headers
+        if it.width == 0:
+            self.close()
+            raise PEFormatError("No Optional Header found, invalid PE32 or PE32+ file.")
+        optional = it.checksum_offset - 64
+        nt = optional - 24
+        self.DOS_HEADER = Structure("IMAGE_DOS_HEADER", 0, e_magic=IMAGE_DOS_SIGNATURE, e_lfanew=nt)
+        self.FILE_HEADER = Structure("IMAGE_FILE_HEADER", nt + 4, Machine=it.machine, NumberOfSections=it.number_of_sections,
+                                     TimeDateStamp=it.time_date_stamp, SizeOfOptionalHeader=it.sections_offset - optional,
+                                     Characteristics=it.characteristics)
+        name, magic, size = (("IMAGE_OPTIONAL_HEADER64", OPTIONAL_HEADER_MAGIC_PE_PLUS, 112) if it.width == 64
+                             else ("IMAGE_OPTIONAL_HEADER", OPTIONAL_HEADER_MAGIC_PE, 96))
+        self.OPTIONAL_HEADER = Structure(name, optional, Magic=magic, AddressOfEntryPoint=it.entry, ImageBase=it.base,
+                                         SectionAlignment=it.section_alignment, FileAlignment=it.file_alignment,
+                                         SizeOfImage=it.size_of_image, SizeOfHeaders=it.size_of_headers, CheckSum=it.checksum,
+                                         Subsystem=it.subsystem, DllCharacteristics=it.dll_characteristics)
+        self.OPTIONAL_HEADER.DATA_DIRECTORY = [
+            Structure("IMAGE_DATA_DIRECTORY", optional + size + 8 * i, VirtualAddress=row.virtual_address, Size=row.size)
+            for i, row in enumerate(it.directories)]
+        for i, directory in enumerate(self.OPTIONAL_HEADER.DATA_DIRECTORY):
+            directory.name = DIRECTORY_ENTRY[i]
+        self.NT_HEADERS = Structure("IMAGE_NT_HEADERS", nt, Signature=IMAGE_NT_SIGNATURE, FILE_HEADER=self.FILE_HEADER,
+                                    OPTIONAL_HEADER=self.OPTIONAL_HEADER)
+        self.PE_TYPE = magic
+        rows = sorted(enumerate(self._image.sections), key=lambda pair: pair[1].virtual_address)
+        following = [row.virtual_address for _, row in rows[1:]] + [None]
+        self.sections = [SectionStructure(self, row, it.sections_offset + 40 * i, after)
+                         for (i, row), after in zip(rows, following)]
+
+    @property
+    def header(self) -> bytes:
+        """The bytes before the first section."""
+        end = self._image.headers.sections_offset + 40 * len(self.sections)
+        lowest = min((it.get_PointerToRawData_adj() for it in self.sections if it.PointerToRawData), default=0)
+        return self.__data__[:lowest if lowest and lowest >= end else end]
+
+    def __getattr__(self, name: str) -> Any:
+        read: Any = _READ.get(name)
+        if name in ("_view", "__data__"):
+            raise ValueError("operation on a closed image")
+        if name == "RICH_HEADER":
+            self.RICH_HEADER = _read_rich(self)
+            return self.RICH_HEADER
+        value = read(self) if read is not None and "_image" in self.__dict__ else None
+        if not value:
+            raise _missing("PE", name)
+        self.__dict__[name] = value
+        return value
+
+    def _value(self, name: str) -> Any:
+        """A record, or None where the image has none or a damaged one."""
+        try:
+            return getattr(self._image, name)
+        except Error:
+            return None
+
+    def __enter__(self) -> PE:
+        return self
+
+    def __exit__(self, *_: object) -> None:
+        self.close()
+
+    def close(self) -> None:
+        """Lets the bytes go. What was not read before raises ValueError from then on."""
+        for name in ("_view", "__data__"):
+            self.__dict__.pop(name, None)
+        self._image.close()
+
+    def __unpack_data__(self, format: tuple[str, Iterable[str]], data: bytes, file_offset: int | None) -> Structure | None:
+        """A structure of the caller's own from some bytes; None where they are too short."""
+        try:
+            return _Unpacked(format, bytes(data), file_offset)
+        except struct.error:
+            return None
+
+    def full_load(self) -> None:
+        """Does nothing: each directory is read when it is asked for."""
+
+    def parse_data_directories(self, directories: Any = None, forwarded_exports_only: bool = False,
+                               import_dllnames_only: bool = False) -> None:
+        """Does nothing: each directory is read when it is asked for, and whole."""
+
+    def get_warnings(self) -> list[str]:
+        """What of the image is damaged. pefile's texts, and its guesses at packers, are others."""
+        limited = [f"{it}: more entries than the file accounts for" for it in self._image.limited]
+        return [*map(str, self._image.warnings), *limited, *self._image.notes]
+
+    def show_warnings(self) -> None:
+        for it in self.get_warnings():
+            print(">", it)
+
+    # ---- hashes
+
+    def get_imphash(self) -> str:
+        """The imphash; "" without imports, and where their list is not whole."""
+        return self._image.imphash() or ""
+
+    def get_exphash(self) -> str:
+        """The hash of the exports' names; "" without names, and where their list is not whole."""
+        return self._image.exphash() or ""
+
+    def get_rich_header_hash(self, algorithm: str = "md5") -> str:
+        if algorithm not in ("md5", "sha1", "sha256", "sha512"):
+            raise Exception("Invalid hashing algorithm specified")
+        return self._image.rich_hash(algorithm) or ""
+
+    def generate_checksum(self) -> int:
+        """The checksum that the image should have."""
+        return self._image.right_checksum().value
+
+    def verify_checksum(self) -> bool:
+        return bool(self.OPTIONAL_HEADER.CheckSum == self.generate_checksum())
+
+    # ---- addresses
+
+    def adjust_FileAlignment(self, val: int, file_alignment: int) -> int:
+        return val if file_alignment < FILE_ALIGNMENT_HARDCODED_VALUE else val // 0x200 * 0x200
+
+    def adjust_SectionAlignment(self, val: int, section_alignment: int, file_alignment: int) -> int:
+        alignment = file_alignment if section_alignment < 0x1000 else section_alignment
+        return val // alignment * alignment if alignment else val
+
+    def get_section_by_rva(self, rva: int) -> SectionStructure | None:
+        return next((it for it in self.sections if it.contains_rva(rva)), None)
+
+    def get_section_by_offset(self, offset: int) -> SectionStructure | None:
+        return next((it for it in self.sections if it.contains_offset(offset)), None)
+
+    def get_offset_from_rva(self, rva: int) -> int:
+        """The file offset of an RVA. Outside of all sections it is the RVA itself, inside of the file."""
+        section = self.get_section_by_rva(rva)
+        if section:
+            return section.get_offset_from_rva(rva)
+        if rva >= len(self.__data__):
+            raise PEFormatError(f"data at RVA 0x{rva:x} can't be fetched")
+        return rva
+
+    def get_rva_from_offset(self, offset: int) -> int | None:
+        section = self.get_section_by_offset(offset)
+        if section:
+            return section.get_rva_from_offset(offset)
+        lowest = min((it.get_VirtualAddress_adj() for it in self.sections), default=offset + 1)
+        return offset if offset < lowest else None
+
+    def get_physical_by_rva(self, rva: int) -> int | None:
+        try:
+            return self.get_offset_from_rva(rva)
+        except PEFormatError:
+            return None
+
+    def get_data(self, rva: int = 0, length: int | None = None) -> bytes:
+        """Bytes from an RVA on, up to the end of its section. Raises PEFormatError for an RVA that is nowhere."""
+        section = self.get_section_by_rva(rva)
+        if section:
+            return section.get_data(rva, length)
+        end = rva + length if length else None
+        if rva < len(self.header):
+            return self.header[rva:end]
+        if rva >= len(self.__data__):
+            raise PEFormatError("data at RVA can't be fetched. Corrupt header?")
+        return self.__data__[rva:end]
+
+    def get_bytes_from_data(self, offset: int, data: bytes) -> bytes:
+        return bytes(data[offset:])
+
+    def get_string_from_data(self, offset: int, data: bytes) -> bytes:
+        return bytes(data[offset:]).split(b"\0")[0]
+
+    def get_string_at_rva(self, rva: int | None, max_length: int = 0x100000) -> bytes | None:
+        """A NUL-terminated text, without the zero."""
+        if rva is None:
+            return None
+        section = self.get_section_by_rva(rva)
+        data = section.get_data(rva, max_length) if section else self.__data__[rva:rva + max_length]
+        return self.get_string_from_data(0, data)
+
+    def get_string_u_at_rva(self, rva: int, max_length: int = 2**16, encoding: str | None = None) -> bytes:
+        """A text of UTF-16 that ends at a zero, encoded."""
+        data = self.get_data(rva, max_length * 2) if max_length else b""
+        units = struct.unpack(f"<{len(data) // 2}H", data[:len(data) & ~1])
+        end = units.index(0) if 0 in units else len(units)
+        return data[:end * 2].decode("utf-16-le", "surrogatepass").encode(encoding or "utf-8", "backslashreplace")
+
+    def _number(self, form: str, data: bytes, offset: int) -> int | None:
+        size = struct.calcsize(form)
+        piece = bytes(data[offset * size:(offset + 1) * size])
+        return int(struct.unpack(form, piece)[0]) if len(piece) == size and offset >= 0 else None
+
+    def _number_at(self, form: str, rva: int) -> int | None:
+        try:
+            return self._number(form, self.get_data(rva, struct.calcsize(form)), 0)
+        except PEFormatError:
+            return None
+
+    def get_word_from_data(self, data: bytes, offset: int) -> int | None:
+        return self._number("<H", data, offset)
+
+    def get_dword_from_data(self, data: bytes, offset: int) -> int | None:
+        return self._number("<I", data, offset)
+
+    def get_qword_from_data(self, data: bytes, offset: int) -> int | None:
+        return self._number("<Q", data, offset)
+
+    def get_word_at_rva(self, rva: int) -> int | None:
+        return self._number_at("<H", rva)
+
+    def get_dword_at_rva(self, rva: int) -> int | None:
+        return self._number_at("<I", rva)
+
+    def get_qword_at_rva(self, rva: int) -> int | None:
+        return self._number_at("<Q", rva)
+
+    def get_word_from_offset(self, offset: int) -> int | None:
+        return self._number("<H", self.__data__[offset:offset + 2], 0)
+
+    def get_dword_from_offset(self, offset: int) -> int | None:
+        return self._number("<I", self.__data__[offset:offset + 4], 0)
+
+    def get_qword_from_offset(self, offset: int) -> int | None:
+        return self._number("<Q", self.__data__[offset:offset + 8], 0)
+
+    def get_data_from_word(self, word: int) -> bytes:
+        return struct.pack("<H", word)
+
+    def get_data_from_dword(self, dword: int) -> bytes:
+        return struct.pack("<I", dword & 0xFFFFFFFF)
+
+    def get_data_from_qword(self, word: int) -> bytes:
+        return struct.pack("<Q", word)
+
+    # ---- the image as a whole
+
+    def get_overlay_data_start_offset(self) -> int | None:
+        """The file offset of what follows the headers and the raw data of all sections, or None."""
+        view = self._image.overlay
+        return None if view is None else len(self.__data__) - len(view)
+
+    def get_overlay(self) -> bytes | None:
+        start = self.get_overlay_data_start_offset()
+        return None if start is None else self.__data__[start:]
+
+    def trim(self) -> bytes:
+        """The file without its overlay."""
+        return self.__data__[:self.get_overlay_data_start_offset()]
+
+    def has_relocs(self) -> bool:
+        return hasattr(self, "DIRECTORY_ENTRY_BASERELOC")
+
+    def is_dll(self) -> bool:
+        return bool(self.FILE_HEADER.Characteristics & _image.IMAGE_FILE_DLL)
+
+    def is_exe(self) -> bool:
+        is_executable = bool(self.FILE_HEADER.Characteristics & _image.IMAGE_FILE_EXECUTABLE_IMAGE)
+        return is_executable and not self.is_dll() and not self.is_driver()
+
+    def is_driver(self) -> bool:
+        """Whether the image imports of the kernel, or is a native one with pageable sections."""
+        libraries = getattr(self, "DIRECTORY_ENTRY_IMPORT", None)
+        if libraries is None:
+            return False
+        kernel = {b"ntoskrnl.exe", b"hal.dll", b"ndis.sys", b"bootvid.dll", b"kdcom.dll"}
+        if kernel & {it.dll.lower() for it in libraries}:
+            return True
+        native = ("IMAGE_SUBSYSTEM_NATIVE", "IMAGE_SUBSYSTEM_NATIVE_WINDOWS")
+        is_paged = any(it.Name.lower().rstrip(b"\0") in (b"page", b"paged") for it in self.sections)
+        return is_paged and SUBSYSTEM_TYPE.get(self.OPTIONAL_HEADER.Subsystem) in native

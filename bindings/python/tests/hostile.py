@@ -1,0 +1,132 @@
+"""Made images: of some hundred KB, whose lists and names are one and the same bytes, many times over; and of what the other
+images of the tests do not have. `hostile.py FOLDER` writes the latter into a folder, for tools/compare_pefile."""
+import os
+import struct
+import sys
+
+RVA, OFFSET = 0x1000, 0x400
+EXPORT, IMPORT, RESOURCE = 0, 1, 2
+
+
+def image(body, directories):
+    """An x64 image with one section, and its directories: RVA and size of each by its index."""
+    body = bytes(body) + bytes(-len(body) % 0x200)
+    size = len(body)
+    head = bytearray(OFFSET)
+    head[:2] = b"MZ"
+    struct.pack_into("<I4sHHIIIHH", head, 0x3C, 0x40, b"PE\0\0", 0x8664, 1, 0, 0, 0, 240, 0x2022)
+    struct.pack_into("<HBBIIIII", head, 0x58, 0x20B, 0, 0, size, 0, 0, RVA, RVA)
+    struct.pack_into("<QII", head, 0x70, 0x180000000, 0x1000, 0x200)
+    struct.pack_into("<HHHHHHIIIIHH", head, 0x80, 6, 0, 0, 0, 6, 0, 0, RVA + size, OFFSET, 0, 3, 0)
+    struct.pack_into("<QQQQII", head, 0xA0, 0, 0, 0, 0, 0, 16)
+    for index, place in directories.items():
+        struct.pack_into("<II", head, 0xC8 + 8 * index, *place)
+    struct.pack_into("<8sIIIIIIHHI", head, 0x148, b".text", size, RVA, size, OFFSET, 0, 0, 0, 0, 0x60000020)
+    return bytes(head) + body
+
+
+def exports(names, length, letter=b"A"):
+    """Names of exports that share one text of such letters."""
+    functions = RVA + 40
+    table, ordinals = functions + 4, functions + 4 + 4 * names
+    text = ordinals + 2 * names
+    body = bytearray(text - RVA + length + 8)
+    struct.pack_into("<IIHHIIIIIII", body, 0, 0, 0, 0, 0, text, 1, 1, names, functions, table, ordinals)
+    struct.pack_into("<I", body, 40, RVA)
+    struct.pack_into(f"<{names}I", body, table - RVA, *(text + i % 8 for i in range(names)))
+    body[text - RVA:text - RVA + length] = letter * length
+    return image(body, {EXPORT: (RVA, len(body))})
+
+
+def imports(libraries, names):
+    """Libraries that share one list, whose imports share one name."""
+    table = RVA + 20 * (libraries + 1)
+    table += -table % 8
+    hint = table + 8 * (names + 1)
+    body = bytearray(hint + 32 - RVA)
+    for i in range(libraries):
+        struct.pack_into("<IIIII", body, 20 * i, table, 0, 0, hint + 16, table)
+    struct.pack_into(f"<{names}Q", body, table - RVA, *[hint] * names)
+    body[hint + 2 - RVA:hint + 7 - RVA] = b"Sleep"
+    body[hint + 16 - RVA:hint + 21 - RVA] = b"k.dll"
+    return image(body, {IMPORT: (RVA, 20 * (libraries + 1))})
+
+
+def resources(*counts):
+    """A tree of three levels with so many entries, all of which lead to the same directory of the next level."""
+    starts = [sum(16 + 8 * it for it in counts[:i]) for i in range(4)]
+    body = bytearray(starts[3] + 16)
+    for level, count in enumerate(counts):
+        leads_to = starts[level + 1] | (1 << 31 if level < 2 else 0)
+        struct.pack_into("<IIHHHH", body, starts[level], 0, 0, 0, 0, 0, count)
+        for i in range(count):
+            struct.pack_into("<II", body, starts[level] + 16 + 8 * i, i + 1, leads_to)
+    struct.pack_into("<IIII", body, starts[3], RVA, 4, 0, 0)
+    return image(body, {RESOURCE: (RVA, len(body))})
+
+
+def forwarders(count, length):
+    """Exports without names that forward to one text, which is not UTF-8."""
+    body = bytearray(40 + 4 * count + length + 8)
+    text = RVA + 40 + 4 * count
+    struct.pack_into("<IIHHIIIIIII", body, 0, 0, 0, 0, 0, text, 1, count, 0, RVA + 40, 0, 0)
+    struct.pack_into(f"<{count}I", body, 40, *(text + i % 8 for i in range(count)))
+    body[40 + 4 * count:40 + 4 * count + length] = b"\xff" * length
+    return image(body, {EXPORT: (RVA, len(body))})
+
+
+def with_sections(data, count):
+    """The image with so many sections, all but the first without bytes, and the first as the last of them."""
+    head, own, body = data[:OFFSET], data[0x148:0x170], data[OFFSET:]
+    start = 0x148 + 40 * count
+    start += -start % 0x200
+    moved = bytearray(head[:0x148] + bytes(40 * (count - 1)) + own)
+    struct.pack_into("<H", moved, 0x46, count)
+    struct.pack_into("<I", moved, 0x148 + 40 * (count - 1) + 20, start)
+    return bytes(moved) + bytes(start - len(moved)) + body
+
+
+def long_names(count, length, letter):
+    """Sections whose names are one string of the COFF string table."""
+    data = bytearray(with_sections(image(bytes(16), {}), count))
+    for i in range(count):
+        data[0x148 + 40 * i:0x148 + 40 * i + 8] = b"/4\0\0\0\0\0\0"
+    struct.pack_into("<I", data, 0x40 + 12, len(data))
+    return bytes(data) + struct.pack("<I", length + 5) + letter * length + b"\0"
+
+
+def ordinals():
+    """Three exports without names, of which the second is unused."""
+    body = bytearray(64)
+    struct.pack_into("<IIHHIIIIIII", body, 0, 0, 0, 0, 0, RVA + 56, 5, 3, 0, RVA + 40, 0, 0)
+    struct.pack_into("<III4s", body, 40, RVA, 0, RVA + 4, b"")
+    body[56:62] = b"a.dll\0"
+    return image(body, {EXPORT: (RVA, 40)})
+
+
+def reversed_sections():
+    """Two sections, of which the second has the lower RVA."""
+    data = bytearray(resources(1, 1, 1))
+    data[0x46] = 2
+    struct.pack_into("<8sIIIIIIHHI", data, 0x170, b".low", 0x100, 0x800, 0, 0, 0, 0, 0, 0, 0xC0000080)
+    return bytes(data)
+
+
+def version_blocks(depth):
+    """A version block in a version block, so many times."""
+    block = b""
+    for _ in range(depth):
+        length = 12 + len(block)
+        block = struct.pack("<HHHHHH", min(length, 0xFFFC), 0, 0, ord("A"), 0, 0) + block
+    return block
+
+
+def main():
+    made = {"ordinals": ordinals(), "reversed": reversed_sections(), "languages": resources(1, 1, 300)}
+    for name, data in made.items():
+        with open(os.path.join(sys.argv[1], f"{name}.bin"), "wb") as file:
+            file.write(data)
+
+
+if __name__ == "__main__":
+    main()

@@ -1,0 +1,507 @@
+"""What no proof sees: buffers and their lives, errors, hostile images, the text of the README.
+
+The environment names PE_C_IMAGES, the folder of images that `cargo run --example made` of bindings/rust makes. What is
+expected of them stands in tools/bindings too, of the program in C."""
+import array
+import gc
+import hashlib
+import importlib.util
+import json
+import mmap
+import os
+import pickle
+import random
+import re
+import resource
+import struct
+import subprocess
+import sys
+import tempfile
+import threading
+import time
+import unittest
+
+import hostile
+import pe_c
+from pe_c import Kind
+
+HERE = os.path.dirname(os.path.abspath(__file__))
+IMAGES = os.environ["PE_C_IMAGES"]
+LISTS = ("sections", "imports", "exports", "delay_imports", "bound_imports", "debug_entries", "certificates", "resources",
+         "relocations", "functions", "arm64_functions")
+RECORDS = ("headers", "rich_header", "overlay", "export_table", "symbol_key", "pdb20", "vc_features",
+           "extended_dll_characteristics", "repro", "pogo", "tls", "load_config", "clr_header", "clr_metadata")
+
+
+def path_of(name):
+    return os.path.join(IMAGES, f"{name}.bin")
+
+
+def bytes_of(name):
+    with open(path_of(name), "rb") as file:
+        return file.read()
+
+
+def made(name):
+    return pe_c.open(path_of(name))
+
+
+def names():
+    return sorted(it.removesuffix(".bin") for it in os.listdir(IMAGES) if it.endswith(".bin"))
+
+
+def all_of(image):
+    """All that an image has, as text: what refuses a record is its error."""
+    found = []
+    for name in (*LISTS, *RECORDS):
+        try:
+            found.append(repr(pe_c._part.plain(getattr(image, name), [1 << 30])))
+        except pe_c.Error as error:
+            found.append(str(error.number))
+    return found
+
+
+class Values(unittest.TestCase):
+    """The images of the tests say what they were made of."""
+
+    def test_headers(self):
+        headers = made("debug").headers
+        self.assertEqual((headers.width, headers.base, headers.machine), (64, 0x180000000, 0x8664))
+        self.assertEqual(len(headers.directories), headers.number_of_directories)
+
+    def test_symbol_key(self):
+        key = made("debug").symbol_key
+        self.assertEqual((key.name, key.age), ("a.pdb", 1))
+        self.assertEqual(key.guid.hex().upper(), "F6727B49" "0A39" "FC44" "878E5A2D63B6CC4B".upper())
+
+    def test_old_debug(self):
+        image = made("old_debug")
+        self.assertIsNone(image.symbol_key)
+        self.assertEqual(image.pdb20.name, "b.pdb")
+        self.assertEqual([it.data_type for it in image.debug_entries], [2, 16])
+
+    def test_certificates(self):
+        rows = made("certificates").certificates
+        self.assertEqual([(it.length, it.revision, it.type, len(it.body)) for it in rows], [(9, 0x200, 2, 1), (8, 0x100, 1, 0)])
+
+    def test_version(self):
+        version, = made("resources").versions
+        self.assertEqual((version.fixed.file_version_ms, version.fixed.file_version_ls), (3 << 16 | 11, 3150 << 16 | 1013))
+        self.assertEqual(version.strings, {"040904b0": {"CompanyName": "Größe & Söhne \U0001F600", "ProductName": "made"}})
+
+    def test_unwinding(self):
+        function, records = made("functions").unwind(0x5018)
+        self.assertEqual(tuple(function), (0x5010, 0x5020, 0x1054))
+        self.assertEqual([(it.version, it.size_of_prolog, it.is_chained) for it in records], [(1, 5, True), (1, 8, False)])
+        self.assertEqual([(it.code_offset, it.operation, it.operand, it.from_frame, it.value) for it in records[0].codes],
+                         [(5, 3, 3, True, 40)])
+        self.assertEqual((records[1].handler, records[1].handler_kind), (0x1100, 1))
+        self.assertEqual(tuple(records[0].chained), (0x5000, 0x5010, 0x1030))
+        self.assertIsNone(made("functions").unwind(1))
+        self.assertIsNone(made("functions").unwind(1 << 32 | 0x5018))
+
+    def test_arm64(self):
+        image = made("arm64_functions")
+        self.assertEqual([tuple(it) for it in image.arm64_functions], [(0x5000, 0x03722011), (0x5010, 0x1010)])
+        packed, record = (image.arm64_unwind(it)[1] for it in (0x5000, 0x5010))
+        self.assertTrue(packed.is_packed)
+        self.assertEqual((record.handler, record.function_length, len(record.scopes)), (0x1100, 64, 1))
+
+    def test_a_long_section_name(self):
+        section, = made("long_section_name").sections
+        self.assertEqual((section.name, section.raw_name), (".debug_info", b"/4\0\0\0\0\0\0"))
+
+    def test_imports_and_their_hash(self):
+        library = made("x86_dll").imports[0]
+        self.assertTrue(library.name and library.imports)
+        whole, refused = made("x86_dll"), made("refused_import")
+        self.assertRegex(whole.imphash(), "^[0-9a-f]{32}$")
+        self.assertEqual(refused.imports.error.kind, Kind.IMPORT_NAME)
+        self.assertIsNone(refused.imphash(), "the hash of a part of a list is that of another image")
+        with self.assertRaises(pe_c.Error):
+            refused.imports.check()
+
+    def test_addresses(self):
+        image = made("debug")
+        section = image.sections[0]
+        self.assertEqual(image.offset_of(section.virtual_address), section.pointer_to_raw_data)
+        self.assertEqual(image.at(section.virtual_address, 4), image.data(section)[:4])
+        self.assertIsNone(image.offset_of(0xFFFFFFF0))
+        self.assertIsNone(image.offset_of(1 << 32 | section.virtual_address))
+        with self.assertRaises(pe_c.Error) as caught:
+            image.at(0xFFFFFFF0, 4)
+        self.assertEqual(caught.exception.kind, Kind.UNMAPPED)
+        with self.assertRaises(OverflowError):
+            image.offset_of(-1)
+
+    def test_entropy(self):
+        image = pe_c.Image(bytes_of("debug") + bytes(range(256)) * 64)
+        self.assertGreater(image.entropy(), image.entropy(image.sections[0]))
+        self.assertAlmostEqual(pe_c._part.entropy_of([7] * 256), 8.0)
+        self.assertEqual(pe_c._part.entropy_of([0, 9, 0]), 0.0)
+
+    def test_attaching(self):
+        data = bytes_of("debug") + bytes(-len(bytes_of("debug")) % 8)
+        image = pe_c.Image(data)
+        entry = (16).to_bytes(4, "little") + b"\x00\x02\x02\x00" + b"signed!!"
+        signed = pe_c.Image(image.attach(entry))
+        self.assertEqual([bytes(it.body) for it in signed.certificates], [b"signed!!"])
+        self.assertEqual(signed.digest(), image.digest())
+        self.assertEqual(signed.headers.checksum, signed.right_checksum().value)
+        self.assertEqual(len(signed.detach()), len(data))
+        with self.assertRaises(pe_c.Error) as caught:
+            image.attach(b"short")
+        self.assertEqual((caught.exception.kind, caught.exception.part), (Kind.SHORT, "attach"))
+
+    def test_the_rich_header(self):
+        image, data = made("rich_header"), bytes_of("rich_header")
+        end = data.index(b"Rich")
+        key = int.from_bytes(data[end + 4:end + 8], "little")
+        clear = [it ^ key for it, in struct.iter_unpack("<I", data[:end])]
+        start = clear.index(0x536E6144)
+        self.assertEqual(image.rich_header.key, key)
+        self.assertEqual([number for it in image.rich_header.entries for number in (it.product << 16 | it.build, it.objects)],
+                         clear[start + 4:])
+        self.assertEqual(image.rich_hash(), hashlib.md5(struct.pack(f"<{len(clear) - start}I", *clear[start:])).hexdigest())
+        self.assertIsNone(made("debug").rich_hash())
+
+    def test_the_digest(self):
+        data = bytes_of("debug") + b"odd"
+        headers = pe_c.Image(data).headers
+        checksum, entry = headers.checksum_offset, headers.certificate_entry_offset
+        covered = data[:checksum] + data[checksum + 4:entry] + data[entry + 8:] + bytes(-len(data) % 8)
+        self.assertEqual(pe_c.Image(data).digest("sha1"), hashlib.sha1(covered).hexdigest())
+
+    def test_an_unused_ordinal_is_no_export(self):
+        image = pe_c.Image(hostile.ordinals())
+        self.assertEqual([(it.ordinal, it.name) for it in image.exports], [(5, None), (7, None)])
+        self.assertEqual((image.export_table.name, image.export_table.number_of_functions), ("a.dll", 3))
+
+    def test_a_small_file_alignment_is_noted(self):
+        data = bytearray(hostile.imports(1, 1))
+        self.assertEqual(pe_c.Image(data).notes, ())
+        data[0x7C:0x80] = (32).to_bytes(4, "little")
+        self.assertEqual(pe_c.Image(data).headers.file_alignment, 32)
+        self.assertIn("32", pe_c.Image(data).notes[0])
+        self.assertEqual(pe_c.Image(data, pe_c.Mode.MAPPED).notes, ())
+
+    def test_texts_of_errors(self):
+        self.assertEqual(str(pe_c.Error(2, "truncated", "headers", "a.dll")), "a.dll: headers: truncated")
+        self.assertIs(Kind(12345), Kind.OTHER)
+        self.assertEqual(pickle.loads(pickle.dumps(pe_c.Error(2, "truncated", "headers"))).kind, Kind.SHORT)
+
+
+class Buffers(unittest.TestCase):
+    """Buffers that change, end or are let go while an image has them."""
+
+    def test_all_kinds_of_buffers(self):
+        data = bytes_of("exports")
+        wanted = all_of(pe_c.Image(data))
+        for kind in (bytearray, memoryview, lambda it: array.array("B", it)):
+            self.assertEqual(all_of(pe_c.Image(kind(data))), wanted)
+        with open(path_of("exports"), "rb") as file, mmap.mmap(file.fileno(), 0, access=mmap.ACCESS_READ) as mapped:
+            image = pe_c.Image(mapped)
+            self.assertEqual(all_of(image), wanted)
+            with self.assertRaises(BufferError):
+                mapped.close()
+            del image
+            gc.collect()
+
+    def test_a_bytearray_is_copied(self):
+        buffer = bytearray(bytes_of("exports"))
+        image = pe_c.Image(buffer)
+        buffer.clear()
+        self.assertEqual(all_of(image), all_of(made("exports")))
+
+    def test_without_a_copy_it_is_held(self):
+        buffer = bytearray(bytes_of("exports"))
+        image = pe_c.Image(buffer, copy=False)
+        with self.assertRaises(BufferError):
+            buffer.clear()
+        for i in range(0, len(buffer), 7):
+            buffer[i] ^= 0x5A
+        all_of(image)
+        image.close()
+        buffer.clear()
+
+    def test_bytes_are_not_copied(self):
+        data = bytes_of("exports")
+        self.assertIs(pe_c.Image(data).memory.obj, data)
+
+    def test_contents_outlive_the_image(self):
+        image = pe_c.Image(bytes(bytearray(bytes_of("resources"))))
+        contents, start = [it.content for it in image.resources], image.memory[:2]
+        wanted = [bytes(it) for it in contents]
+        image.close()
+        del image
+        gc.collect()
+        self.assertEqual([bytes(it) for it in contents], wanted)
+        with self.assertRaises(TypeError):
+            start[0] = 0
+
+    def test_a_closed_image_raises(self):
+        image = made("exports")
+        self.assertTrue(image.exports)
+        image.close()
+        image.close()
+        self.assertIn("closed", repr(image))
+        for name in (*LISTS, *RECORDS, "versions", "manifest", "memory", "warnings", "limited"):
+            with self.assertRaises(ValueError, msg=name):
+                getattr(image, name)
+        for call in (image.imphash, image.digest, image.entropy, image.right_checksum, image.to_dict, image.detach,
+                     lambda: image.unwind(1), lambda: image.offset_of(1), lambda: image.at(1, 1)):
+            with self.assertRaises(ValueError):
+                call()
+
+    def test_no_buffers(self):
+        for wrong in ("text", None, 5, [1]):
+            with self.assertRaises(TypeError):
+                pe_c.Image(wrong)
+        with self.assertRaises(BufferError):
+            pe_c.Image(memoryview(bytes_of("exports"))[::2])
+        with self.assertRaises(TypeError):
+            type(made("exports")._core)()
+
+    def test_a_truncated_file_is_no_signal(self):
+        with tempfile.TemporaryDirectory() as room:
+            path = os.path.join(room, "a.dll")
+            with open(path, "wb") as file:
+                file.write(bytes_of("exports"))
+            image = pe_c.open(path)
+            os.truncate(path, 16)
+            self.assertEqual(all_of(image), all_of(made("exports")))
+            with self.assertRaises(OSError):
+                pe_c.open(path, limit=8)
+        with self.assertRaises(OSError):
+            pe_c.open(path)
+
+    def test_closing_while_another_thread_reads(self):
+        image, found, started = pe_c.Image(bytes_of("exports") + bytes(50 << 20)), [], threading.Event()
+
+        def read():
+            started.set()
+            found.append(image.right_checksum())
+        thread = threading.Thread(target=read)
+        thread.start()
+        started.wait()
+        while thread.is_alive():
+            try:
+                image.close()
+                break
+            except BufferError:
+                time.sleep(0.001)
+        thread.join()
+        self.assertTrue(found or image.closed)
+
+    def test_closing_from_a_finalizer(self):
+        """The collector, which a new row may start, runs a finalizer that closes the image which is read."""
+        class Closes:
+            def __del__(self):
+                try:
+                    image.close()
+                except BufferError:
+                    refused.append(1)
+        refused, kept = [], gc.get_threshold()
+        try:
+            for i in range(1, 40):
+                image = pe_c.Image(hostile.exports(200, 20))
+                garbage = Closes()
+                garbage.itself = garbage
+                del garbage
+                gc.set_threshold(i)
+                try:
+                    image._core.exports()
+                except ValueError:
+                    pass
+                gc.set_threshold(*kept)
+        finally:
+            gc.set_threshold(*kept)
+        gc.collect()
+        if sys.version_info < (3, 12):
+            self.assertTrue(refused)
+
+    def test_a_fork_and_pickles(self):
+        image = made("exports")
+        wanted = all_of(image)
+        child = os.fork()
+        if child == 0:
+            os._exit(0 if all_of(image) == wanted else 1)
+        self.assertEqual(os.waitpid(child, 0)[1], 0)
+        copied = pickle.loads(pickle.dumps(image.exports))
+        self.assertEqual((copied, copied.error), (image.exports, None))
+
+    def test_subinterpreters(self):
+        if sys.version_info >= (3, 12):
+            self.skipTest("there hashlib alone crashes in them (3.12.1), or their module has another name (3.13)")
+        reading = f"import sys; sys.path[:] = {sys.path!r}; import pe_c; pe_c.open({path_of('exports')!r}).to_dict()"
+        code = (f"import _xxsubinterpreters as many\nfor i in range(3):\n    it = many.create()\n"
+                f"    many.run_string(it, {reading!r})\n    many.destroy(it)\n{reading}")
+        done = subprocess.run([sys.executable, "-c", code], capture_output=True)
+        self.assertEqual((done.returncode, done.stderr), (0, b""))
+
+    def test_memory_stays_flat(self):
+        def pages():
+            with open("/proc/self/statm") as file:
+                return int(file.read().split()[1])
+        for i in range(300):
+            if i == 100:
+                gc.collect()
+                before = pages()
+            for name in ("exports", "resources", "functions", "debug"):
+                made(name).to_dict()
+            with self.assertRaises(pe_c.Error):
+                pe_c.Image(b"MZ")
+        gc.collect()
+        self.assertLess(pages() - before, 300)
+
+
+@unittest.skipIf(importlib.util.find_spec("_testcapi") is None, "this Python has no _testcapi")
+class Allocations(unittest.TestCase):
+    """Each allocation of a call fails in turn: the call raises MemoryError, and nothing is lost or used after that."""
+
+    def fails_in_turn(self, call):
+        import _testcapi
+        for i in range(4000):
+            _testcapi.set_nomemory(i, i + 1)
+            try:
+                call()
+            except MemoryError:
+                continue
+            finally:
+                _testcapi.remove_mem_hooks()
+            # The allocation after the last of the call: it has run whole.
+            return i
+        self.fail("more than 4000 allocations")
+
+    def test_each_call(self):
+        for name in ("exports", "resources", "functions", "debug", "x86_dll", "delay_imports", "bound_imports", "clr", "tls",
+                     "relocations", "rich_header", "certificates"):
+            data = bytes_of(name)
+            self.fails_in_turn(lambda: pe_c._core.image(data, 1, True))
+            core, _ = pe_c._core.image(data, 1, True)
+            for call in (*LISTS, *RECORDS, "checksum", "digest_ranges", "detach"):
+                self.fails_in_turn(getattr(core, call))
+            self.fails_in_turn(lambda: core.histogram(0, 64))
+            for leaf in core.resources()[0] or ():
+                self.fails_in_turn(lambda: core.version_blocks(leaf.offset or 0, leaf.size))
+            for function in (core.functions()[0] or ())[:4]:
+                self.fails_in_turn(lambda: core.unwind_records(function.unwind))
+
+
+class Hostile(unittest.TestCase):
+    """No image crashes or hangs it, or takes much memory."""
+
+    # What makes an image, and the part that it limits.
+    LIMITED = {
+        "names that are the same text": (hostile.exports, (30_000, 400_000), "exports"),
+        "names that are the same bytes, and no text": (hostile.exports, (30_000, 400_000, b"A\xff"), "exports"),
+        "forwarders that are the same bytes, and no text": (hostile.forwarders, (30_000, 400_000), "exports"),
+        "libraries with the same list": (hostile.imports, (20_000, 20_000), "imports"),
+        "directories of resources that are the same": (hostile.resources, (5_000, 5_000, 5_000), "resources"),
+        "names of sections that are the same text": (hostile.long_names, (20_000, 200_000, b"A"), "sections"),
+        "names of sections that are the same bytes, and no text": (hostile.long_names, (20_000, 200_000, b"\xff"), "sections"),
+        "exports under 65,535 sections": (lambda *it: hostile.with_sections(hostile.exports(*it), 65_535), (60_000, 9), "exports"),
+        "imports under 65,535 sections": (lambda *it: hostile.with_sections(hostile.imports(*it), 65_535), (99, 2_000), "imports"),
+    }
+
+    def test_lists_that_are_many_times_the_same(self):
+        for name, (make, arguments, part) in self.LIMITED.items():
+            image = pe_c.Image(make(*arguments))
+            self.assertEqual(image.limited, (part,), name)
+            self.assertEqual(len(image.sections), image.headers.number_of_sections)
+            self.assertIsNone(image.imphash())
+            self.assertIsNone(image.exphash())
+
+    def test_how_many_rows_a_large_file_has(self):
+        image = pe_c.Image(hostile.imports(2_000, 2_000) + bytes(5 << 20))
+        self.assertTrue(image.imports.is_limited)
+        self.assertLess(sum(1 + len(it.imports) for it in image.imports), (1 << 18) + 1)
+
+    def test_hashes_and_entropies_are_bounded(self):
+        """Each of 65,535 sections, and each of 10,000 resources, is all of the file."""
+        data = bytearray(hostile.with_sections(hostile.resources(1, 100, 100), 65_535) + bytes(1 << 20))
+        for i in range(65_534):
+            data[0x148 + 40 * i + 16:0x148 + 40 * i + 24] = struct.pack("<II", len(data), 0)
+        start = time.process_time()
+        found = pe_c.Image(bytes(data)).to_dict()
+        self.assertLess(time.process_time() - start, 20)
+        self.assertLess(sum(it is not None for it in found["entropies"]), 10)
+
+    def test_version_blocks_in_each_other(self):
+        blocks = hostile.version_blocks(5_000)
+        image = pe_c.Image(bytes_of("debug") + blocks)
+        found, number, is_limited = image._core.version_blocks(len(bytes_of("debug")), len(blocks))
+        depth = 0
+        while found:
+            depth, found = depth + 1, found[0].children
+        self.assertEqual((depth, is_limited), (9, True))
+
+    def test_they_take_little_time_and_memory(self):
+        for name in self.LIMITED:
+            code = (f"import sys; sys.path[:] = {sys.path!r}\nimport test_pe_c, pe_c, re, time\n"
+                    f"make, arguments, _ = test_pe_c.Hostile.LIMITED[{name!r}]\nimage = pe_c.Image(make(*arguments))\n"
+                    f"start = time.process_time()\nimage.limited, image.warnings\n"
+                    "print(time.process_time() - start, re.search(r'VmHWM:\\s+(\\d+)', open('/proc/self/status').read())[1])")
+            done = subprocess.run([sys.executable, "-c", code], capture_output=True, text=True, timeout=60)
+            self.assertEqual(done.returncode, 0, done.stderr)
+            seconds, kilobytes = map(float, done.stdout.split())
+            self.assertLess(seconds, 2, name)
+            self.assertLess(kilobytes, 200 << 10, name)
+
+    def test_damaged_images(self):
+        chance, opened = random.Random(3), 0
+        for name in names():
+            for _ in range(40):
+                data = bytearray(bytes_of(name))
+                for _ in range(chance.randrange(1, 20)):
+                    data[chance.randrange(len(data))] = chance.choice((0, 1, 127, 128, 255))
+                cut = chance.randrange(len(data)) if chance.random() < 0.2 else len(data)
+                try:
+                    image = pe_c.Image(bytes(data[:cut]))
+                except pe_c.Error:
+                    continue
+                opened += 1
+                json.dumps(image.to_dict())
+                self.assertIsInstance(image._repr_html_(), str)
+                for it in image.functions[:8]:
+                    image.unwind(it.begin)
+        self.assertGreater(opened, 200)
+
+    def test_short_images(self):
+        data = bytes_of("small")
+        for length in range(0, len(data), 3):
+            try:
+                pe_c.Image(data[:length]).to_dict()
+            except pe_c.Error as error:
+                self.assertIn(error.kind, (Kind.SHORT, Kind.BAD_MAGIC))
+
+    def test_names_are_text_on_a_page(self):
+        data = bytes_of("debug").replace(b"a.pdb\0", b"<b>\x1b[\0")
+        image = pe_c.Image(data, path="<script>")
+        self.assertEqual(image.symbol_key.name, "<b>\x1b[")
+        self.assertNotIn("<script>", image._repr_html_())
+        self.assertEqual(pe_c._part.shown("<b>\x1b["), "&lt;b&gt;\\x1b[")
+
+
+class Readme(unittest.TestCase):
+    """Each sample of the README runs, on an image that has what it prints."""
+
+    def test_samples(self):
+        path = os.environ.get("PE_C_README", os.path.join(HERE, "..", "README.md"))
+        with open(path, encoding="utf-8") as file:
+            samples = re.findall(r"^```python\n(.*?)^```", file.read(), re.M | re.S)
+        self.assertGreater(len(samples), 3)
+        with tempfile.TemporaryDirectory() as room:
+            for name in ("x86_dll", "resources", "functions", "debug"):
+                with open(os.path.join(room, f"{name}.dll"), "wb") as file:
+                    file.write(bytes_of(name))
+            for sample in samples:
+                done = subprocess.run([sys.executable, "-c", f"import sys; sys.path[:] = {sys.path!r}\n{sample}"], cwd=room,
+                                      capture_output=True, text=True, timeout=60)
+                self.assertEqual((done.returncode, done.stderr), (0, ""), sample)
+                self.assertTrue(done.stdout, sample)
+
+
+if __name__ == "__main__":
+    resource.setrlimit(resource.RLIMIT_CORE, (0, 0))
+    unittest.main()

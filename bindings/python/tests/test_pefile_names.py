@@ -1,0 +1,182 @@
+"""Each public name of pefile is in pe_c.pefile, or in the table of what is not with why; and none is in both.
+
+The names are read from the source of pefile, where it is installed, and so are those of the fields of its
+structures."""
+import ast
+import importlib.util
+import os
+import re
+import unittest
+
+from pe_c import pefile as ours
+from pe_c._pefile_gaps import GAPS, NotInPeC
+
+SPEC = importlib.util.find_spec("pefile")
+IMAGES = os.environ["PE_C_IMAGES"]
+
+
+def source():
+    with open(SPEC.origin, encoding="utf-8") as file:
+        return file.read()
+
+
+def module_names(tree):
+    for it in tree.body:
+        targets = [it.target] if isinstance(it, ast.AnnAssign) else getattr(it, "targets", [])
+        yield from (name.id for name in targets if isinstance(name, ast.Name))
+        if isinstance(it, (ast.FunctionDef, ast.ClassDef)):
+            yield it.name
+
+
+def methods(tree):
+    """The methods of the classes that the module has."""
+    for it in tree.body:
+        if isinstance(it, ast.ClassDef) and it.name not in GAPS:
+            yield from (f"{it.name}.{one.name}" for one in it.body if isinstance(one, ast.FunctionDef))
+
+
+def fields(text):
+    """The fields of structures: ("NAME", ("I,Field,OtherName", ..))."""
+    for name, body in re.findall(r'__\w+_format__ = [\[(]\s*"(\w+)",\s*([\[(].*?[\])]),?\s*[\])]\n', text, re.S):
+        for it in re.findall(r'"[\w:]+,([\w,]+)"', body):
+            yield from (f"{name}.{one}" for one in it.split(","))
+
+
+# What an image has of each structure of pefile, among the images of the tests.
+STRUCTURES = {
+    "IMAGE_DOS_HEADER": ("small", lambda pe: pe.DOS_HEADER), "IMAGE_FILE_HEADER": ("small", lambda pe: pe.FILE_HEADER),
+    "IMAGE_OPTIONAL_HEADER": ("x86_dll", lambda pe: pe.OPTIONAL_HEADER),
+    "IMAGE_OPTIONAL_HEADER64": ("exports", lambda pe: pe.OPTIONAL_HEADER),
+    "IMAGE_NT_HEADERS": ("small", lambda pe: pe.NT_HEADERS), "IMAGE_SECTION_HEADER": ("exports", lambda pe: pe.sections[0]),
+    "IMAGE_DATA_DIRECTORY": ("exports", lambda pe: pe.OPTIONAL_HEADER.DATA_DIRECTORY[0]),
+    "IMAGE_IMPORT_DESCRIPTOR": ("x86_dll", lambda pe: pe.DIRECTORY_ENTRY_IMPORT[0].struct),
+    "IMAGE_DELAY_IMPORT_DESCRIPTOR": ("delay_imports", lambda pe: pe.DIRECTORY_ENTRY_DELAY_IMPORT[0].struct),
+    "IMAGE_EXPORT_DIRECTORY": ("exports", lambda pe: pe.DIRECTORY_ENTRY_EXPORT.struct),
+    "IMAGE_RESOURCE_DIRECTORY": ("resources", lambda pe: pe.DIRECTORY_ENTRY_RESOURCE.struct),
+    "IMAGE_RESOURCE_DIRECTORY_ENTRY": ("resources", lambda pe: pe.DIRECTORY_ENTRY_RESOURCE.entries[0].struct),
+    "IMAGE_RESOURCE_DATA_ENTRY": ("resources", lambda pe: pe.DIRECTORY_ENTRY_RESOURCE.entries[0].directory.entries[0].directory
+                                  .entries[0].data.struct),
+    "VS_VERSIONINFO": ("resources", lambda pe: pe.VS_VERSIONINFO[0]),
+    "VS_FIXEDFILEINFO": ("resources", lambda pe: pe.VS_FIXEDFILEINFO[0]),
+    "StringFileInfo": ("resources", lambda pe: pe.FileInfo[0][0]),
+    "StringTable": ("resources", lambda pe: pe.FileInfo[0][0].StringTable[0]),
+    "IMAGE_DEBUG_DIRECTORY": ("debug", lambda pe: pe.DIRECTORY_ENTRY_DEBUG[0].struct),
+    "CV_INFO_PDB70": ("debug", lambda pe: pe.DIRECTORY_ENTRY_DEBUG[0].entry),
+    "CV_INFO_PDB20": ("old_debug", lambda pe: pe.DIRECTORY_ENTRY_DEBUG[0].entry),
+    "IMAGE_BASE_RELOCATION": ("relocations", lambda pe: pe.DIRECTORY_ENTRY_BASERELOC[0].struct),
+    "IMAGE_TLS_DIRECTORY": ("tls", lambda pe: pe.DIRECTORY_ENTRY_TLS.struct),
+    "IMAGE_LOAD_CONFIG_DIRECTORY": ("load_config", lambda pe: pe.DIRECTORY_ENTRY_LOAD_CONFIG.struct),
+    "IMAGE_BOUND_IMPORT_DESCRIPTOR": ("bound_imports", lambda pe: pe.DIRECTORY_ENTRY_BOUND_IMPORT[0].struct),
+    "IMAGE_BOUND_FORWARDER_REF": ("bound_imports", lambda pe: pe.DIRECTORY_ENTRY_BOUND_IMPORT[0].entries[0].struct),
+    "RUNTIME_FUNCTION": ("functions", lambda pe: pe.DIRECTORY_ENTRY_EXCEPTION[0].struct),
+}
+
+
+def opened(name):
+    return ours.PE(os.path.join(IMAGES, f"{name}.bin"))
+
+
+class Gaps(unittest.TestCase):
+    """Without pefile: what the table names is missing, and says why."""
+
+    def test_a_missing_field_has_no_value(self):
+        header = opened("exports").OPTIONAL_HEADER
+        self.assertFalse(hasattr(header, "MajorLinkerVersion"))
+        with self.assertRaises(NotInPeC) as caught:
+            header.MajorLinkerVersion
+        self.assertEqual(caught.exception.reason, GAPS["IMAGE_OPTIONAL_HEADER.MajorLinkerVersion"])
+
+    def test_missing_methods_and_names(self):
+        pe = opened("exports")
+        for name in ("write", "dump_info", "relocate_image", "parse_imports"):
+            with self.assertRaises(NotInPeC):
+                getattr(pe, name)
+        with self.assertRaises(NotInPeC):
+            ours.Dump
+        with self.assertRaises(AttributeError):
+            ours.no_such_name
+        self.assertFalse(hasattr(pe, "DIRECTORY_ENTRY_TLS"))
+
+    def test_a_structure_of_a_caller(self):
+        pe, form = opened("exports"), ("PAIR", ("H,one", "I,two,other"))
+        made = pe.__unpack_data__(form, b"\1\0\2\0\0\0more", 64)
+        self.assertEqual((made.one, made.two, made.other, made.sizeof(), made.get_file_offset()), (1, 2, 2, 6, 64))
+        self.assertEqual(made.__pack__(), b"\1\0\2\0\0\0")
+        self.assertIsNone(pe.__unpack_data__(form, b"\1\0\2", 64))
+
+    def test_a_closed_image(self):
+        pe = opened("exports")
+        section = pe.sections[0]
+        pe.close()
+        pe.close()
+        with self.assertRaises(ValueError):
+            pe.DIRECTORY_ENTRY_EXPORT
+        for call in (section.get_data, section.get_hash_md5, section.get_entropy, pe.get_data, pe.trim, pe.get_overlay,
+                     pe.get_imphash, pe.generate_checksum, pe.get_warnings, lambda: pe.header, lambda: pe.__data__,
+                     lambda: pe.get_dword_at_rva(section.VirtualAddress)):
+            with self.assertRaises(ValueError):
+                call()
+
+    def test_refused(self):
+        for data in (b"", b"MZ", bytes(4096)):
+            with self.assertRaises(ours.PEFormatError):
+                ours.PE(data=data)
+        with self.assertRaises(ValueError):
+            ours.PE()
+        with self.assertRaises(OSError):
+            ours.PE("/no/such/file")
+
+
+@unittest.skipIf(SPEC is None, "Debian's python3-pefile is missing")
+class Names(unittest.TestCase):
+    def test_names_of_the_module(self):
+        found = list(module_names(ast.parse(source())))
+        self.assertGreater(len(found), 100)
+        for name in found:
+            self.assertTrue((name in vars(ours)) != (name in GAPS), name)
+
+    def test_methods(self):
+        found = [it for it in methods(ast.parse(source())) if not re.search(r"\._", it)]
+        self.assertGreater(len(found), 100)
+        for full in found:
+            owner, name = full.split(".")
+            self.assertTrue(hasattr(getattr(ours, owner), name) != (full in GAPS), full)
+
+    def test_fields(self):
+        found = list(fields(source()))
+        self.assertGreater(len(found), 200)
+        for full in found:
+            structure, field = full.split(".")
+            structure = structure.replace("HEADER64", "HEADER") if structure not in STRUCTURES else structure
+            gap = f"{structure.replace('HEADER64', 'HEADER')}.{field}"
+            if structure not in STRUCTURES:
+                self.assertTrue(gap in GAPS, full)
+                continue
+            image, place = STRUCTURES[structure]
+            with opened(image) as pe:
+                self.assertTrue((field in place(pe).__dict__) != (gap in GAPS), full)
+
+    def test_constants(self):
+        import pefile as theirs
+        for name in ("DIRECTORY_ENTRY", "IMAGE_CHARACTERISTICS", "SECTION_CHARACTERISTICS", "DEBUG_TYPE", "SUBSYSTEM_TYPE",
+                     "MACHINE_TYPE", "RELOCATION_TYPE", "DLL_CHARACTERISTICS", "UNWIND_INFO_FLAGS", "REGISTERS",
+                     "RESOURCE_TYPE", "LANG", "SUBLANG"):
+            self.assertEqual(getattr(ours, name), getattr(theirs, name), name)
+        for name in (it for it in dir(theirs) if it.startswith(("IMAGE_", "OPTIONAL_HEADER_", "UWOP_", "FILE_ALIGNMENT"))):
+            self.assertEqual(getattr(ours, name), getattr(theirs, name), name)
+        for one in range(0, 128):
+            for other in range(0, 8):
+                self.assertEqual(ours.get_sublang_name_for_lang(one, other), theirs.get_sublang_name_for_lang(one, other))
+
+    def test_ordinals(self):
+        import ordlookup
+        from pe_c._ordinals import ORDINALS
+
+        def text(it):
+            return it.decode() if isinstance(it, bytes) else it
+        self.assertEqual(ORDINALS, {text(dll): {number: text(name) for number, name in names.items()}
+                                    for dll, names in ordlookup.ords.items()})
+
+
+if __name__ == "__main__":
+    unittest.main()
