@@ -80,11 +80,11 @@ class Gaps(unittest.TestCase):
     """Without pefile: what the table names is missing, and says why."""
 
     def test_a_missing_field_has_no_value(self):
-        header = opened("exports").OPTIONAL_HEADER
-        self.assertFalse(hasattr(header, "MajorLinkerVersion"))
+        directory = opened("exports").DIRECTORY_ENTRY_EXPORT.struct
+        self.assertFalse(hasattr(directory, "TimeDateStamp"))
         with self.assertRaises(NotInPeC) as caught:
-            header.MajorLinkerVersion
-        self.assertEqual(caught.exception.reason, GAPS["IMAGE_OPTIONAL_HEADER.MajorLinkerVersion"])
+            directory.TimeDateStamp
+        self.assertEqual(caught.exception.reason, GAPS["IMAGE_EXPORT_DIRECTORY.TimeDateStamp"])
 
     def test_missing_methods_and_names(self):
         pe = opened("exports")

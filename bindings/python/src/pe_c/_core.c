@@ -400,6 +400,7 @@ METHOD(headers)
     return answer(row_image_info(self, &rows, &self->info), &rows);
 }
 
+ONE(all_headers, pe_c_headers_info, pe_c_headers(BYTES, self->info.mode, &item), ROW_OF(headers_info))
 ONE(rich_header, pe_c_rich_header_info, pe_c_rich_header(BYTES, &item), ROW_OF(rich_header_info))
 ONE(symbol_key, pe_c_key, pe_c_symbol_key(IMAGE, &item), ROW_OF(key))
 ONE(pdb20, pe_c_pdb20, pe_c_debug_pdb20(IMAGE, &item), ROW_OF(pdb20))
@@ -938,7 +939,7 @@ static PyObject *text_of(PyObject *Py_UNUSED(module), PyObject *argument)
 #define WITH_SOME(name) {#name, (PyCFunction)name, METH_VARARGS, NULL}
 static PyMethodDef methods[] = {
     {"sections", (PyCFunction)section_headers, METH_NOARGS, NULL}, {"close", (PyCFunction)close_image, METH_NOARGS, NULL},
-    WITHOUT(headers), WITHOUT(rich_header), WITHOUT(symbol_key), WITHOUT(pdb20), WITHOUT(vc_features), WITHOUT(repro),
+    WITHOUT(headers), WITHOUT(all_headers), WITHOUT(rich_header), WITHOUT(symbol_key), WITHOUT(pdb20), WITHOUT(vc_features), WITHOUT(repro),
     WITHOUT(extended_dll_characteristics), WITHOUT(pogo),
     WITHOUT(overlay), WITHOUT(tls), WITHOUT(load_config), WITHOUT(clr_header), WITHOUT(clr_metadata),
     WITHOUT(export_table),

@@ -8,7 +8,7 @@ import struct
 from typing import TYPE_CHECKING, Any, Callable, NamedTuple, TypeVar
 
 from . import _core
-from ._core import (Arm64Function, Arm64Packed, Arm64Record, BoundLibrary, Certificate, Checksum, ClrHeader, DebugEntry,
+from ._core import (AllHeaders, Arm64Function, Arm64Packed, Arm64Record, BoundLibrary, Certificate, Checksum, ClrHeader, DebugEntry,
                     DelayLibrary, Export, ExportTable, FixedVersion, Function, Headers, Library, LoadConfig, Metadata, Pdb20,
                     Pogo, RelocationBlock, Repro, Resource, RichHeader, Section, SymbolKey, Tls, UnwindRecord, VcFeatures,
                     VersionBlock)
@@ -155,6 +155,12 @@ class Image:
     def headers(self) -> Headers:
         """The headers. Without an optional header the numbers that it has are 0."""
         headers: Headers = self._one("headers")
+        return headers
+
+    @property
+    def all_headers(self) -> AllHeaders:
+        """All fields of the DOS, COFF and optional header, and the DOS stub. Without an optional header its numbers are 0."""
+        headers: AllHeaders = self._one("all_headers")
         return headers
 
     @property

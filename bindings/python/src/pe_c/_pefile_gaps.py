@@ -4,7 +4,6 @@ STRUCTURE.FIELD.
 Such a name is an attribute that is missing: hasattr() is False, and the error says which name it is and why."""
 from __future__ import annotations
 
-HEADERS = "the library for C has no call for this field of the headers"
 EXPORT = "the library for C has no call for the fields of the export directory"
 TREE = "the library for C lists resources, not their directories"
 LENGTHS = "the library for C returns version blocks without their lengths and offsets"
@@ -26,13 +25,6 @@ def _all(reason: str, names: str, of: str = "") -> dict[str, str]:
 
 
 GAPS: dict[str, str] = {
-    **_all(HEADERS, "e_cblp e_cp e_crlc e_cparhdr e_minalloc e_maxalloc e_ss e_sp e_csum e_ip e_cs e_lfarlc e_ovno e_res e_oemid "
-                    "e_oeminfo e_res2", "IMAGE_DOS_HEADER."),
-    **_all(HEADERS, "PointerToSymbolTable NumberOfSymbols", "IMAGE_FILE_HEADER."),
-    **_all(HEADERS, "MajorLinkerVersion MinorLinkerVersion SizeOfCode SizeOfInitializedData SizeOfUninitializedData BaseOfCode "
-                    "BaseOfData MajorOperatingSystemVersion MinorOperatingSystemVersion MajorImageVersion MinorImageVersion "
-                    "MajorSubsystemVersion MinorSubsystemVersion Reserved1 SizeOfStackReserve SizeOfStackCommit "
-                    "SizeOfHeapReserve SizeOfHeapCommit LoaderFlags NumberOfRvaAndSizes", "IMAGE_OPTIONAL_HEADER."),
     **_all(EXPORT, "Characteristics TimeDateStamp MajorVersion MinorVersion Name NumberOfNames AddressOfFunctions "
                    "AddressOfNames AddressOfNameOrdinals", "IMAGE_EXPORT_DIRECTORY."),
     **_all(EXPORT, "ordinal_offset address_offset name_offset forwarder_offset", "ExportData."),

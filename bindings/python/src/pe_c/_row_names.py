@@ -1,6 +1,7 @@
 """The rows, for those who name their types. Written by tools/make_python of pe.h."""
 from ._core import (
-    Directory as Directory, Headers as Headers, Section as Section, RichHeader as RichHeader, RichEntry as RichEntry,
+    Directory as Directory, Headers as Headers, Section as Section, DosHeader as DosHeader, CoffHeader as CoffHeader,
+    OptionalHeader as OptionalHeader, AllHeaders as AllHeaders, RichHeader as RichHeader, RichEntry as RichEntry,
     DebugEntry as DebugEntry, SymbolKey as SymbolKey, Pdb20 as Pdb20, VcFeatures as VcFeatures, Repro as Repro, Pogo
     as Pogo, PogoEntry as PogoEntry, Certificate as Certificate, Checksum as Checksum, Function as Function,
     UnwindRecord as UnwindRecord, UnwindCode as UnwindCode, Arm64Function as Arm64Function, Arm64Packed as

@@ -3,6 +3,10 @@
 static PyObject *row_directory(Image *self, Rows *rows, const pe_c_directory *it);
 static PyObject *row_image_info(Image *self, Rows *rows, const pe_c_image_info *it);
 static PyObject *row_section(Image *self, Rows *rows, const pe_c_section *it);
+static PyObject *row_dos_header(Image *self, Rows *rows, const pe_c_dos_header *it);
+static PyObject *row_coff_header(Image *self, Rows *rows, const pe_c_coff_header *it);
+static PyObject *row_optional_header(Image *self, Rows *rows, const pe_c_optional_header *it);
+static PyObject *row_headers_info(Image *self, Rows *rows, const pe_c_headers_info *it);
 static PyObject *row_rich_header_info(Image *self, Rows *rows, const pe_c_rich_header_info *it);
 static PyObject *row_rich_entry(Image *self, Rows *rows, const pe_c_rich_entry *it);
 static PyObject *row_debug_entry(Image *self, Rows *rows, const pe_c_debug_entry *it);
@@ -142,6 +146,184 @@ static PyObject *row_section(Image *self, Rows *rows, const pe_c_section *it)
         N(it->characteristics),
     };
     return filled(self, ROW_SECTION, items, 11);
+}
+
+static PyStructSequence_Field row_dos_header_fields[] = {
+    {"signature", "e_magic: 0x5A4D, \"MZ\""},
+    {"bytes_on_last_page", "e_cblp"},
+    {"pages_in_file", "e_cp: of 512 bytes"},
+    {"relocations", "e_crlc"},
+    {"size_of_header_in_paragraphs", "e_cparhdr: of 16 bytes"},
+    {"minimum_extra_paragraphs", "e_minalloc"},
+    {"maximum_extra_paragraphs", "e_maxalloc"},
+    {"initial_relative_ss", "e_ss"},
+    {"initial_sp", "e_sp"},
+    {"checksum", "e_csum"},
+    {"initial_ip", "e_ip"},
+    {"initial_relative_cs", "e_cs"},
+    {"relocations_offset", "e_lfarlc"},
+    {"overlay_number", "e_ovno"},
+    {"reserved", "e_res"},
+    {"oem_id", "e_oemid"},
+    {"oem_information", "e_oeminfo"},
+    {"reserved2", "e_res2"},
+    {"pe_pointer", "e_lfanew: file offset of the PE signature"},
+    {NULL, NULL}};
+
+static PyObject *row_dos_header(Image *self, Rows *rows, const pe_c_dos_header *it)
+{
+    if (!takes(rows, 0))
+        return NULL;
+    PyObject *items[] = {
+        N(it->signature),
+        N(it->bytes_on_last_page),
+        N(it->pages_in_file),
+        N(it->relocations),
+        N(it->size_of_header_in_paragraphs),
+        N(it->minimum_extra_paragraphs),
+        N(it->maximum_extra_paragraphs),
+        N(it->initial_relative_ss),
+        N(it->initial_sp),
+        N(it->checksum),
+        N(it->initial_ip),
+        N(it->initial_relative_cs),
+        N(it->relocations_offset),
+        N(it->overlay_number),
+        bytes_of((const uint8_t *)it->reserved, sizeof it->reserved),
+        N(it->oem_id),
+        N(it->oem_information),
+        bytes_of((const uint8_t *)it->reserved2, sizeof it->reserved2),
+        N(it->pe_pointer),
+    };
+    return filled(self, ROW_DOS_HEADER, items, 19);
+}
+
+static PyStructSequence_Field row_coff_header_fields[] = {
+    {"time_date_stamp", "seconds since 1970, or a hash in a reproducible build"},
+    {"pointer_to_symbol_table", "file offset of the COFF symbols, or 0"},
+    {"number_of_symbol_table", "their entries of 18 bytes, auxiliary records included"},
+    {"machine", "IMAGE_FILE_MACHINE_"},
+    {"number_of_sections", NULL},
+    {"size_of_optional_header", "bytes; 0 where there is no optional header"},
+    {"characteristics", "IMAGE_FILE_ flags"},
+    {NULL, NULL}};
+
+static PyObject *row_coff_header(Image *self, Rows *rows, const pe_c_coff_header *it)
+{
+    if (!takes(rows, 0))
+        return NULL;
+    PyObject *items[] = {
+        N(it->time_date_stamp),
+        N(it->pointer_to_symbol_table),
+        N(it->number_of_symbol_table),
+        N(it->machine),
+        N(it->number_of_sections),
+        N(it->size_of_optional_header),
+        N(it->characteristics),
+    };
+    return filled(self, ROW_COFF_HEADER, items, 7);
+}
+
+static PyStructSequence_Field row_optional_header_fields[] = {
+    {"image_base", "preferred virtual address of the image"},
+    {"size_of_stack_reserve", "bytes"},
+    {"size_of_stack_commit", "bytes"},
+    {"size_of_heap_reserve", "bytes"},
+    {"size_of_heap_commit", "bytes"},
+    {"size_of_code", "bytes"},
+    {"size_of_initialized_data", "bytes"},
+    {"size_of_uninitialized_data", "bytes"},
+    {"address_of_entry_point", "RVA, or 0"},
+    {"base_of_code", "RVA"},
+    {"base_of_data", "RVA; 0 in PE32+, which has no such field"},
+    {"section_alignment", "bytes"},
+    {"file_alignment", "bytes"},
+    {"win32_version_value", "reserved"},
+    {"size_of_image", "bytes in memory"},
+    {"size_of_headers", "bytes in the file, rounded up to the file alignment"},
+    {"check_sum", NULL},
+    {"loader_flags", "reserved"},
+    {"number_of_rva_and_sizes", "directories, as the header says"},
+    {"number_of_directories", "those of them that are kept, at most 16"},
+    {"magic", "0x10B in PE32, 0x20B in PE32+"},
+    {"major_operating_system_version", NULL},
+    {"minor_operating_system_version", NULL},
+    {"major_image_version", NULL},
+    {"minor_image_version", NULL},
+    {"major_subsystem_version", NULL},
+    {"minor_subsystem_version", NULL},
+    {"subsystem", "IMAGE_SUBSYSTEM_"},
+    {"dll_characteristics", "IMAGE_DLLCHARACTERISTICS_ flags"},
+    {"major_linker_version", NULL},
+    {"minor_linker_version", NULL},
+    {NULL, NULL}};
+
+static PyObject *row_optional_header(Image *self, Rows *rows, const pe_c_optional_header *it)
+{
+    if (!takes(rows, 0))
+        return NULL;
+    PyObject *items[] = {
+        N(it->image_base),
+        N(it->size_of_stack_reserve),
+        N(it->size_of_stack_commit),
+        N(it->size_of_heap_reserve),
+        N(it->size_of_heap_commit),
+        N(it->size_of_code),
+        N(it->size_of_initialized_data),
+        N(it->size_of_uninitialized_data),
+        N(it->address_of_entry_point),
+        N(it->base_of_code),
+        N(it->base_of_data),
+        N(it->section_alignment),
+        N(it->file_alignment),
+        N(it->win32_version_value),
+        N(it->size_of_image),
+        N(it->size_of_headers),
+        N(it->check_sum),
+        N(it->loader_flags),
+        N(it->number_of_rva_and_sizes),
+        N(it->number_of_directories),
+        N(it->magic),
+        N(it->major_operating_system_version),
+        N(it->minor_operating_system_version),
+        N(it->major_image_version),
+        N(it->minor_image_version),
+        N(it->major_subsystem_version),
+        N(it->minor_subsystem_version),
+        N(it->subsystem),
+        N(it->dll_characteristics),
+        N(it->major_linker_version),
+        N(it->minor_linker_version),
+    };
+    return filled(self, ROW_OPTIONAL_HEADER, items, 31);
+}
+
+static PyStructSequence_Field row_headers_info_fields[] = {
+    {"optional", NULL},
+    {"dos_stub", "between the DOS header and the PE signature; no bytes where these overlap"},
+    {"optional_offset", "of the optional header"},
+    {"directories_offset", "of the data directories, 8 bytes each"},
+    {"dos", NULL},
+    {"coff", NULL},
+    {"signature", "0x4550, \"PE\""},
+    {"directories", "by their indices; absent from number_of_directories on"},
+    {NULL, NULL}};
+
+static PyObject *row_headers_info(Image *self, Rows *rows, const pe_c_headers_info *it)
+{
+    if (!takes(rows, 0))
+        return NULL;
+    PyObject *items[] = {
+        row_optional_header(self, rows, &it->optional),
+        view_of(self, it->dos_stub),
+        N(it->optional_offset),
+        N(it->directories_offset),
+        row_dos_header(self, rows, &it->dos),
+        row_coff_header(self, rows, &it->coff),
+        N(it->signature),
+        directories_of(self, rows, it->directories, it->optional.number_of_directories),
+    };
+    return filled(self, ROW_HEADERS_INFO, items, 8);
 }
 
 static PyStructSequence_Field row_rich_header_info_fields[] = {
@@ -996,6 +1178,10 @@ static const PyStructSequence_Desc row_kinds[] = {
     [ROW_DIRECTORY] = {"pe_c._core.Directory", "A data directory. Both fields are 0 where it is absent.", row_directory_fields, 2},
     [ROW_IMAGE_INFO] = {"pe_c._core.Headers", "The headers of an image. Without an optional header the numbers that it has are 0, and its directories are absent.", row_image_info_fields, 20},
     [ROW_SECTION] = {"pe_c._core.Section", "IMAGE_SECTION_HEADER.", row_section_fields, 11},
+    [ROW_DOS_HEADER] = {"pe_c._core.DosHeader", "IMAGE_DOS_HEADER, in its layout. Windows reads the first field and the last alone.", row_dos_header_fields, 19},
+    [ROW_COFF_HEADER] = {"pe_c._core.CoffHeader", "IMAGE_FILE_HEADER.", row_coff_header_fields, 7},
+    [ROW_OPTIONAL_HEADER] = {"pe_c._core.OptionalHeader", "IMAGE_OPTIONAL_HEADER32 or IMAGE_OPTIONAL_HEADER64.", row_optional_header_fields, 31},
+    [ROW_HEADERS_INFO] = {"pe_c._core.AllHeaders", "Without an optional header its numbers and both offsets are 0, and all directories are absent.", row_headers_info_fields, 8},
     [ROW_RICH_HEADER_INFO] = {"pe_c._core.RichHeader", NULL, row_rich_header_info_fields, 4},
     [ROW_RICH_ENTRY] = {"pe_c._core.RichEntry", NULL, row_rich_entry_fields, 3},
     [ROW_DEBUG_ENTRY] = {"pe_c._core.DebugEntry", "IMAGE_DEBUG_DIRECTORY.", row_debug_entry_fields, 8},

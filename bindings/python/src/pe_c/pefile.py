@@ -336,6 +336,40 @@ class UnicodeStringWrapperPostProcessor(str):
         raise _missing("UnicodeStringWrapperPostProcessor", name)
 
 
+# ---- headers: the fields of rows by their names in pefile
+
+_DOS = {
+    "e_magic": "signature", "e_cblp": "bytes_on_last_page", "e_cp": "pages_in_file", "e_crlc": "relocations",
+    "e_cparhdr": "size_of_header_in_paragraphs", "e_minalloc": "minimum_extra_paragraphs",
+    "e_maxalloc": "maximum_extra_paragraphs", "e_ss": "initial_relative_ss", "e_sp": "initial_sp",
+    "e_csum": "checksum", "e_ip": "initial_ip", "e_cs": "initial_relative_cs", "e_lfarlc": "relocations_offset",
+    "e_ovno": "overlay_number", "e_res": "reserved", "e_oemid": "oem_id", "e_oeminfo": "oem_information",
+    "e_res2": "reserved2", "e_lfanew": "pe_pointer"}
+_COFF = {
+    "Machine": "machine", "NumberOfSections": "number_of_sections", "TimeDateStamp": "time_date_stamp",
+    "PointerToSymbolTable": "pointer_to_symbol_table", "NumberOfSymbols": "number_of_symbol_table",
+    "SizeOfOptionalHeader": "size_of_optional_header", "Characteristics": "characteristics"}
+_OPTIONAL = {
+    "Magic": "magic", "MajorLinkerVersion": "major_linker_version", "MinorLinkerVersion": "minor_linker_version",
+    "SizeOfCode": "size_of_code", "SizeOfInitializedData": "size_of_initialized_data",
+    "SizeOfUninitializedData": "size_of_uninitialized_data", "AddressOfEntryPoint": "address_of_entry_point",
+    "BaseOfCode": "base_of_code", "BaseOfData": "base_of_data", "ImageBase": "image_base",
+    "SectionAlignment": "section_alignment", "FileAlignment": "file_alignment",
+    "MajorOperatingSystemVersion": "major_operating_system_version",
+    "MinorOperatingSystemVersion": "minor_operating_system_version", "MajorImageVersion": "major_image_version",
+    "MinorImageVersion": "minor_image_version", "MajorSubsystemVersion": "major_subsystem_version",
+    "MinorSubsystemVersion": "minor_subsystem_version", "Reserved1": "win32_version_value",
+    "SizeOfImage": "size_of_image", "SizeOfHeaders": "size_of_headers", "CheckSum": "check_sum",
+    "Subsystem": "subsystem", "DllCharacteristics": "dll_characteristics",
+    "SizeOfStackReserve": "size_of_stack_reserve", "SizeOfStackCommit": "size_of_stack_commit",
+    "SizeOfHeapReserve": "size_of_heap_reserve", "SizeOfHeapCommit": "size_of_heap_commit",
+    "LoaderFlags": "loader_flags", "NumberOfRvaAndSizes": "number_of_rva_and_sizes"}
+
+
+def _fields(names: dict[str, str], row: Any) -> dict[str, Any]:
+    return {name: getattr(row, own) for name, own in names.items()}
+
+
 # ---- directories
 
 
@@ -607,33 +641,27 @@ class PE:
     # ---- headers
 
     def _read_headers(self) -> None:
-        it = self._image.headers
-        if it.width == 0:
+        it, offset = self._image.all_headers, self._image.headers.sections_offset
+        if not it.optional_offset:
             self.close()
             raise PEFormatError("No Optional Header found, invalid PE32 or PE32+ file.")
-        optional = it.checksum_offset - 64
-        nt = optional - 24
-        self.DOS_HEADER = Structure("IMAGE_DOS_HEADER", 0, e_magic=IMAGE_DOS_SIGNATURE, e_lfanew=nt)
-        self.FILE_HEADER = Structure("IMAGE_FILE_HEADER", nt + 4, Machine=it.machine, NumberOfSections=it.number_of_sections,
-                                     TimeDateStamp=it.time_date_stamp, SizeOfOptionalHeader=it.sections_offset - optional,
-                                     Characteristics=it.characteristics)
-        name, magic, size = (("IMAGE_OPTIONAL_HEADER64", OPTIONAL_HEADER_MAGIC_PE_PLUS, 112) if it.width == 64
-                             else ("IMAGE_OPTIONAL_HEADER", OPTIONAL_HEADER_MAGIC_PE, 96))
-        self.OPTIONAL_HEADER = Structure(name, optional, Magic=magic, AddressOfEntryPoint=it.entry, ImageBase=it.base,
-                                         SectionAlignment=it.section_alignment, FileAlignment=it.file_alignment,
-                                         SizeOfImage=it.size_of_image, SizeOfHeaders=it.size_of_headers, CheckSum=it.checksum,
-                                         Subsystem=it.subsystem, DllCharacteristics=it.dll_characteristics)
+        optional, nt = it.optional_offset, it.dos.pe_pointer
+        self.DOS_HEADER = Structure("IMAGE_DOS_HEADER", 0, **_fields(_DOS, it.dos))
+        self.FILE_HEADER = Structure("IMAGE_FILE_HEADER", nt + 4, **_fields(_COFF, it.coff))
+        is_64 = it.optional.magic == OPTIONAL_HEADER_MAGIC_PE_PLUS
+        fields = _fields({name: own for name, own in _OPTIONAL.items() if not is_64 or name != "BaseOfData"}, it.optional)
+        self.OPTIONAL_HEADER = Structure("IMAGE_OPTIONAL_HEADER64" if is_64 else "IMAGE_OPTIONAL_HEADER", optional, **fields)
         self.OPTIONAL_HEADER.DATA_DIRECTORY = [
-            Structure("IMAGE_DATA_DIRECTORY", optional + size + 8 * i, VirtualAddress=row.virtual_address, Size=row.size)
+            Structure("IMAGE_DATA_DIRECTORY", it.directories_offset + 8 * i, VirtualAddress=row.virtual_address, Size=row.size)
             for i, row in enumerate(it.directories)]
         for i, directory in enumerate(self.OPTIONAL_HEADER.DATA_DIRECTORY):
             directory.name = DIRECTORY_ENTRY[i]
-        self.NT_HEADERS = Structure("IMAGE_NT_HEADERS", nt, Signature=IMAGE_NT_SIGNATURE, FILE_HEADER=self.FILE_HEADER,
+        self.NT_HEADERS = Structure("IMAGE_NT_HEADERS", nt, Signature=it.signature, FILE_HEADER=self.FILE_HEADER,
                                     OPTIONAL_HEADER=self.OPTIONAL_HEADER)
-        self.PE_TYPE = magic
+        self.PE_TYPE = it.optional.magic
         rows = sorted(enumerate(self._image.sections), key=lambda pair: pair[1].virtual_address)
         following = [row.virtual_address for _, row in rows[1:]] + [None]
-        self.sections = [SectionStructure(self, row, it.sections_offset + 40 * i, after)
+        self.sections = [SectionStructure(self, row, offset + 40 * i, after)
                          for (i, row), after in zip(rows, following)]
 
     @property
