@@ -369,7 +369,7 @@ static PyStructSequence_Field row_debug_entry_fields[] = {
     {"time_date_stamp", "seconds since 1970, or a hash in a reproducible build"},
     {"major_version", "of the record's format"},
     {"minor_version", "of the record's format"},
-    {"data_type", "IMAGE_DEBUG_TYPE_CODEVIEW 2, _VC_FEATURE 12, _POGO 13, _REPRO 16, _EX_DLLCHARACTERISTICS 20, or another"},
+    {"data_type", "IMAGE_DEBUG_TYPE_CODEVIEW 2, _VC_FEATURE 12, _POGO 13, _REPRO 16, _EMBEDDEDPORTABLEPDB 17, _PDBCHECKSUM 19, _EX_DLLCHARACTERISTICS 20, or another"},
     {"size_of_data", "bytes of the record"},
     {"address_of_raw_data", "RVA of the record, or 0; in an image as loaded the library reads it there"},
     {"pointer_to_raw_data", "file offset of the record; in a file the library reads it there"},
