@@ -1,0 +1,141 @@
+"""The files that tools/make_targets makes of bindings/pe.h: a function each, from the header as it is read to the file's text."""
+
+import json
+import os
+
+from header import IMAGE, TOP, WIDTHS
+
+MADE = "/* tools/make_targets makes this file of bindings/pe.h. */\n"
+# Fields of 64 bits are BigInt in JavaScript, all others numbers.
+BIGINT = "uint64_t"
+
+
+def json_of(header):
+    return {
+        "version": header.version, "abi": header.abi,
+        "calls": {name: {"result": it.result,
+                         "parameters": [[p.name, p.type, "in" if p.is_const else "out"] if p.is_pointer else [p.name, p.type]
+                                        for p in it.parameters]} for name, it in header.calls.items()},
+        "records": {name: {"size": it.size, "align": it.align,
+                           "fields": [[f.name, f.type, f.offset, f.count] for f in it.fields]}
+                    for name, it in header.records.items()},
+        "constants": header.constants,
+    }
+
+
+def calls_h(header):
+    numbers = "".join(f"    number_of_{name},\n" for name in header.calls)
+    return (f"{MADE}#ifndef PE_C_CALLS_H\n#define PE_C_CALLS_H\n#define PE_C_ABI pe_c_abi_{header.abi}\n"
+            f"#define NUMBER_OF_ABI number_of_pe_c_abi_{header.abi}\nenum {{\n{numbers}    CALLS,\n    ABI = {header.abi}\n}};\n#endif\n")
+
+
+def names_h(header):
+    names = "".join(f'    "{name}",\n' for name in header.calls)
+    return f"{MADE}static const char *const names[] = {{\n{names}}};\n"
+
+
+def layouts_c(header):
+    lines = [f"_Static_assert(sizeof({name}) == {it.size} && _Alignof({name}) == {it.align}, \"{name}\");"
+             for name, it in header.records.items()]
+    lines += [f"_Static_assert(offsetof({name}, {f.name}) == {f.offset}"
+              f" && sizeof((({name} *)0)->{f.name}) == {width_of(f, header)}, \"{name}.{f.name}\");"
+              for name, it in header.records.items() for f in it.fields]
+    lines += ["_Static_assert(sizeof(size_t) == 8 && sizeof(void *) == 8, \"pointers and lengths have 64 bits\");"]
+    return f'{MADE}#include "pe.h"\n' + "\n".join(lines) + "\n"
+
+
+def width_of(field, header):
+    one = WIDTHS[field.type] if field.type in WIDTHS else header.records[field.type].size
+    return one * (field.count or 1)
+
+
+def pe_c_def(header):
+    return f"LIBRARY pe_c-{header.abi}.dll\nEXPORTS\n" + "".join(f"    {name}\n" for name in header.calls)
+
+
+def thunks_c(header):
+    parts = [f'{MADE}#include "pe.h"\n']
+    for name, call in header.calls.items():
+        parts.append(f"{call.declaration(f'sysv_{name}', '__attribute__((sysv_abi)) ')};\n"
+                     f"{call.declaration()}\n{{\n    return sysv_{name}({', '.join(call.names())});\n}}\n")
+    return "\n".join(parts)
+
+
+def checked_h(header):
+    lines = "".join(f"{call.declaration(f'checked_{name}')};\n" for name, call in header.calls.items())
+    return (f'{MADE}#include "pe.h"\n#define CHECKED_(call) checked_##call\n#define TARGET_CALL(call) CHECKED_(call)\n{lines}')
+
+
+def checked_c(header):
+    """Each argument is a number or a pointer, so all are passed as 64 bits each, also those of 32."""
+    parts = [f'{MADE}#include "checked.h"\n#include "windows/checked_call.h"\n']
+    for name, call in header.calls.items():
+        words = ", ".join(f"(uint64_t)(uintptr_t){it}" if parameter.is_pointer else it
+                          for it, parameter in zip(call.names(), call.parameters))
+        room = max(4, len(call.parameters))
+        parts.append(f"{call.declaration(f'checked_{name}')}\n{{\n    const uint64_t words[{room}] = {{{words or '0'}}};\n"
+                     f"    return ({call.result})checked_call((void (*)(void)){name}, {len(call.parameters)}, words,"
+                     f" \"{name}\");\n}}\n")
+    return "\n".join(parts)
+
+
+# ---- JavaScript
+
+
+def js_calls(header):
+    """Of each call its parameters, but for the file and the image, which the first number says: 2 the file, 5 the image too."""
+    found = {}
+    for name, call in header.calls.items():
+        names = call.names()
+        first = 5 if names[:5] == IMAGE else 2 if names[:2] == IMAGE[:2] else 0
+        rest = [[p.name, p.type, ("in" if p.is_const else "out") if p.is_pointer else ""] for p in call.parameters[first:]]
+        found[name] = [first, *rest]
+    return found
+
+
+def layouts_mjs(header):
+    records = {name: [it.size, [[f.name, f.type, f.offset, f.count] for f in it.fields]] for name, it in header.records.items()}
+    lines = [f"// tools/make_targets makes this file of bindings/pe.h.\nexport const version = {json.dumps(header.version)};",
+             f"export const abi = {header.abi};"]
+    for name, value in (("records", records), ("constants", header.constants), ("calls", js_calls(header))):
+        rows = "".join(f"  {json.dumps(key)}: {json.dumps(it)},\n" for key, it in value.items())
+        lines.append(f"export const {name} = {{\n{rows}}};")
+    return "\n".join(lines) + "\n"
+
+
+def type_name(record):
+    """The name of a record's type: that of pe_c_image_info is ImageInfo."""
+    return "".join(it.capitalize() for it in record.removeprefix("pe_c_").split("_"))
+
+
+def index_d_ts(header):
+    with open(os.path.join(TOP, "bindings", "js", "index.d.ts.in"), encoding="utf-8") as file:
+        parts = [file.read().rstrip("\n")]
+    for name, record in header.records.items():
+        fields = []
+        for it in record.fields:
+            kind = "bigint" if it.type == BIGINT else "number" if it.type in WIDTHS else type_name(it.type)
+            fields.append(f"  {it.name}: {kind}{'[]' if it.count else ''};\n")
+        parts.append(f"/** {name} of pe.h. */\nexport interface {type_name(name)} {{\n{''.join(fields)}}}")
+    names = "".join(f"  {name}: {type_name(name)};\n" for name in header.records)
+    parts.append(f"/** The records of pe.h by their names. */\nexport interface Records {{\n{names}}}")
+    numbers = "".join(f"  readonly {name}: {number};\n" for name, number in header.constants.items())
+    parts.append(f"/** The constants of pe.h. */\nexport declare const constants: {{\n{numbers}}};")
+    names = "".join(f"  | {json.dumps(it)}\n" for it in header.calls)
+    parts.append(f"/** The calls of pe.h. */\nexport type CallName =\n{names.rstrip()};")
+    return "\n\n".join(parts) + "\n"
+
+
+FILES = {"calls.h": calls_h, "names.h": names_h, "layouts.c": layouts_c, "pe_c.def": pe_c_def, "thunks.c": thunks_c,
+         "checked.h": checked_h, "checked.c": checked_c,
+         "renames": lambda header: "".join(f"{name} sysv_{name}\n" for name in header.calls),
+         "pe.json": lambda header: json.dumps(json_of(header), indent=1) + "\n",
+         "layouts.mjs": layouts_mjs, "index.d.ts": index_d_ts}
+
+
+def make(folder, header, names=tuple(FILES)):
+    """Writes files of these names into a folder."""
+    os.makedirs(folder, exist_ok=True)
+    for name in names:
+        with open(os.path.join(folder, name), "w", encoding="utf-8") as file:
+            file.write(FILES[name](header))
