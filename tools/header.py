@@ -75,6 +75,7 @@ class Header:
         self.records = self.read_records(text)
         self.calls = self.read_calls(text)
         self.constants = self.read_constants(text)
+        self.results = self.read_constants(re.search(r"\benum \{\s*PE_C_DONE.*?\}", text, re.S)[0])
         self.abi = next(int(name.removeprefix("pe_c_abi_")) for name in self.calls if name.startswith("pe_c_abi_"))
 
     @staticmethod

@@ -2,6 +2,7 @@
 
 import json
 import os
+import re
 
 from header import IMAGE, TOP, WIDTHS
 
@@ -82,30 +83,82 @@ def checked_c(header):
 # ---- JavaScript
 
 
-def js_calls(header):
-    """Of each call its parameters, but for the file and the image, which the first number says: 2 the file, 5 the image too."""
-    found = {}
-    for name, call in header.calls.items():
-        names = call.names()
-        first = 5 if names[:5] == IMAGE else 2 if names[:2] == IMAGE[:2] else 0
-        rest = [[p.name, p.type, ("in" if p.is_const else "out") if p.is_pointer else ""] for p in call.parameters[first:]]
-        found[name] = [first, *rest]
-    return found
+# What the JavaScript passes itself, and calls that it makes in ways of its own.
+PASSED = {"image", "sections", "count"}
+OWN_WAYS = re.compile(r"pe_c_(image|sections|text|abi_\d+)")
+
+
+def js_parameters(call):
+    """The parameters after the file, or the file and the image: their number, and of each its name, its type and its way: "in" or
+    "out" for a pointer, "" for a number. An array has true after that, and its length the way "length" and the array's name."""
+    names = call.names()
+    first = 5 if names[:5] == IMAGE else 2 if names[:2] == IMAGE[:2] else 0
+    rest = []
+    for it in call.parameters[first:]:
+        way = ("in" if it.is_const else "out") if it.is_pointer else ""
+        if it.type == "size_t" and not it.is_pointer and it.name not in PASSED:
+            rest[-1].append(True)
+            rest.append([it.name, it.type, "length", rest[-1][0]])
+        else:
+            rest.append([it.name, it.type, way])
+    return first, rest
 
 
 def layouts_mjs(header):
     records = {name: [it.size, [[f.name, f.type, f.offset, f.count] for f in it.fields]] for name, it in header.records.items()}
+    calls = {name: [js_parameters(it)[0], *js_parameters(it)[1]] for name, it in header.calls.items() if not OWN_WAYS.fullmatch(name)}
+    results = {str(number): name for name, number in header.results.items()}
     lines = [f"// tools/make_targets makes this file of bindings/pe.h.\nexport const version = {json.dumps(header.version)};",
              f"export const abi = {header.abi};"]
-    for name, value in (("records", records), ("constants", header.constants), ("calls", js_calls(header))):
+    for name, value in (("records", records), ("constants", header.constants), ("results", results), ("calls", calls)):
         rows = "".join(f"  {json.dumps(key)}: {json.dumps(it)},\n" for key, it in value.items())
         lines.append(f"export const {name} = {{\n{rows}}};")
     return "\n".join(lines) + "\n"
 
 
+def names_mjs(_header):
+    """The names of winnt.h, from those of the program pe."""
+    with open(os.path.join(TOP, "bindings", "pe", "src", "names.rs"), encoding="utf-8") as file:
+        text = file.read()
+    tables = []
+    for name, body in re.findall(r"^pub const (\w+): &Names =\s*&\[(.*?)\];", text, re.M | re.S):
+        rows = re.findall(r'\((0x[0-9A-Fa-f_]+|\d+), "([^"]*)"\)', body)
+        tables.append((name, {str(int(number.replace("_", ""), 0)): it for number, it in rows}))
+    for name, body in re.findall(r"^pub const (\w+): \[&str; \d+\] = \[(.*?)\];", text, re.M | re.S):
+        tables.append((name, re.findall(r'"([^"]*)"', body)))
+    return "// tools/make_targets makes this file of bindings/pe/src/names.rs.\n" + "".join(
+        f"export const {name} = {json.dumps(table)};\n" for name, table in tables)
+
+
 def type_name(record):
-    """The name of a record's type: that of pe_c_image_info is ImageInfo."""
-    return "".join(it.capitalize() for it in record.removeprefix("pe_c_").split("_"))
+    """The name of a record's type: that of pe_c_image_info is PeImageInfo."""
+    return "Pe" + "".join(it.capitalize() for it in record.removeprefix("pe_c_").split("_"))
+
+
+def kind_of(parameter):
+    """The type of a parameter or of what a call makes."""
+    if not parameter.is_pointer:
+        return "bigint | number" if parameter.type in ("uint64_t", "size_t") else "number"
+    return {"uint64_t": "bigint", "uint32_t": "number", "uint8_t": "Uint8Array"}.get(parameter.type) or type_name(parameter.type)
+
+
+def call_type(call):
+    """What a call of Image.call is given, and what it returns."""
+    first, rest = js_parameters(call)
+    own = {it.name: it for it in call.parameters}
+    given, made = [], []
+    for name, _, way, *array in rest:
+        if name in PASSED or way == "length":
+            continue
+        optional = "?" if array or way == "out" else ""
+        if way == "out" and not array and own[name].type in WIDTHS:
+            made.append(own[name])
+            continue
+        given.append(f"{name}{optional}: {kind_of(own[name])}{'[]' if array and own[name].type != 'uint8_t' else ''}")
+        made += [own[name]] if way == "out" and not array else []
+    several = f"{{ {'; '.join(f'{it.name}: {kind_of(it)}' for it in made)} }}"
+    result = several if len(made) > 1 else kind_of(made[0]) if made else "true"
+    return f"  {call.name}: {{ given: {{ {'; '.join(given)} }}; made: {result} }};\n"
 
 
 def index_d_ts(header):
@@ -121,8 +174,8 @@ def index_d_ts(header):
     parts.append(f"/** The records of pe.h by their names. */\nexport interface Records {{\n{names}}}")
     numbers = "".join(f"  readonly {name}: {number};\n" for name, number in header.constants.items())
     parts.append(f"/** The constants of pe.h. */\nexport declare const constants: {{\n{numbers}}};")
-    names = "".join(f"  | {json.dumps(it)}\n" for it in header.calls)
-    parts.append(f"/** The calls of pe.h. */\nexport type CallName =\n{names.rstrip()};")
+    parts.append("/** The calls of pe.h on an image: what each is given, and what it returns. */\nexport interface Calls {\n"
+                 + "".join(call_type(it) for name, it in header.calls.items() if not OWN_WAYS.fullmatch(name)) + "}")
     return "\n\n".join(parts) + "\n"
 
 
@@ -130,7 +183,7 @@ FILES = {"calls.h": calls_h, "names.h": names_h, "layouts.c": layouts_c, "pe_c.d
          "checked.h": checked_h, "checked.c": checked_c,
          "renames": lambda header: "".join(f"{name} sysv_{name}\n" for name in header.calls),
          "pe.json": lambda header: json.dumps(json_of(header), indent=1) + "\n",
-         "layouts.mjs": layouts_mjs, "index.d.ts": index_d_ts}
+         "layouts.mjs": layouts_mjs, "names.mjs": names_mjs, "index.d.ts": index_d_ts}
 
 
 def make(folder, header, names=tuple(FILES)):

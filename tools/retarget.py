@@ -8,7 +8,7 @@ nothing of a target but four things, which are changed as text, each a thing tha
     for Windows `uwtable` for each function, since without it one that cannot throw has no unwind table there, and a debugger, a
     crash reporter or __except cannot find the caller of a call that faults;
     for Windows "probe-stack", which elsewhere names a way to probe the stack and there a function to call: without it the
-    compiler calls the one that Windows has.
+    compiler calls ___chkstk_ms, which bindings/targets/windows/chkstk.S is.
 """
 
 import os
@@ -100,7 +100,7 @@ def retargeted(text, layout):
 def compiled(compiler, text, triple, out, flags=()):
     """Writes the object of the code for the target."""
     layout = compiler.layout(triple)
-    made = subprocess.run([compiler.tool("clang"), f"--target={triple}", "-x", "ir", "-c", "-O2", "-ffunction-sections",
+    made = subprocess.run([compiler.tool("clang"), f"--target={triple}", "-x", "ir", "-c", "-ffunction-sections",
                            "-fdata-sections", *flags, "-o", out, "-"], input=retargeted(text, layout).encode("utf-8", "surrogateescape"),
                           capture_output=True)
     if made.returncode != 0 or made.stderr:

@@ -90,32 +90,38 @@ def archive_of_kit(rt, out, words):
         os.replace(BUILT, kept)
     try:
         said = run([rt, "lib", *words], cwd=CRATE)
-        if "rt: pe_c proved" not in said and not re.search(r"^logic=proved ", said, re.M):
+        proofs = re.findall(r"^logic=proved .*", said, re.M)
+        if not proofs:
             raise Failed(f"no proof of pe_c: {said[-2000:]}")
         os.replace(BUILT, out)
     finally:
         if os.path.exists(kept):
             os.replace(kept, BUILT)
-    return [it for it in said.split("\n") if it.startswith("logic=proved ")][-1]
+    return proofs[-1]
 
 
 # ---- the library, of code
 
 
-def archive_of_code(target, text, out):
-    """Writes the archive of the target, of LLVM code."""
+def archive_of_code(target, text, out, level="-O2"):
+    """Writes the archive of the target, of LLVM code. The kit compiles what is proved at -O3."""
     compiler = Compiler(find_rt())
     folder = os.path.dirname(out)
     piece = os.path.join(folder, "calls.o")
-    flags = {"linux-arm64": ["-fPIC"], "wasm": ["-mbulk-memory"], "windows-x64": []}[target]
+    flags = [level, *{"linux-arm64": ["-fPIC"], "wasm": ["-mbulk-memory"], "windows-x64": []}[target]]
     if target == "wasm":
         # what the kit's linker exports
         text = edited(text, r"^(define .*@(pe_c_\w+)\(.*\) #\d+) \{", r'\1 "wasm-export-name"="\2" {')
     compiled(compiler, text, TRIPLES[target], piece, flags)
+    pieces = [piece]
+    if target == "windows-x64":
+        pieces.append(os.path.join(folder, "chkstk.o"))
+        run([compiler.tool("clang"), f"--target={TRIPLES[target]}", "-c", os.path.join(SOURCES, "windows", "chkstk.S"), "-o", pieces[1]])
     with contextlib.suppress(FileNotFoundError):
         os.remove(out)
-    run([compiler.tool("llvm-ar"), "rcsD", out, piece])
-    os.remove(piece)
+    run([compiler.tool("llvm-ar"), "rcsD", out, *pieces])
+    for it in pieces:
+        os.remove(it)
 
 
 # ---- the other files of a target
@@ -173,9 +179,9 @@ def finish_windows(folder):
 FINISH = {"linux-arm64": lambda folder: None, "wasm": finish_wasm, "windows-x64": finish_windows}
 
 
-def build(target, folder, code=None):
-    """Builds the files of a target into a folder: of proved crates, or of the text of LLVM code, which is not proved. Returns the
-    line that says what was proved, or "not proved"."""
+def build(target, folder, code=None, words=()):
+    """Builds the files of a target into a folder: of proved crates, by `rt lib` with these words more, or of the text of LLVM code,
+    which is not proved. Returns the line that says what was proved, or "not proved"."""
     lacking = missing(NEEDS[target])
     if lacking:
         raise Failed(f"{target}: programs of the Debian packages {', '.join(lacking)} are missing")
@@ -186,11 +192,11 @@ def build(target, folder, code=None):
         kept = os.path.join(folder, "module.bc")
         rt = find_rt()
         with kit_that_keeps(rt, kept) as own:
-            proof = archive_of_kit(own, os.path.join(folder, "linux.a"), ["--cpu", "x86-64"])
-        archive_of_code(target, Compiler(rt).text(kept), archive)
+            proof = archive_of_kit(own, os.path.join(folder, "linux.a"), ["--cpu", "x86-64", *words])
+        archive_of_code(target, Compiler(rt).text(kept), archive, "-O3")
         os.remove(kept)
     elif code is None:
-        proof = archive_of_kit(find_rt(), archive, ["--target", TRIPLES[target]])
+        proof = archive_of_kit(find_rt(), archive, ["--target", TRIPLES[target], *words])
     else:
         archive_of_code(target, code, archive)
     FINISH[target](folder)
