@@ -5,7 +5,8 @@
     windows-x64     libpe_c.a, pe_c-ABI.dll, libpe_c.dll.a, pe_c.lib and pe_c.def, of the LLVM code that the kit makes for Linux on
                     x86-64, changed as retarget.py says, since Windows is no target of the kit
 
-A folder of a target has these files."""
+A folder of a target has these files, and PROOF, which says what was proved; and for windows-x64 linux.a, the archive for Linux that
+the kit made of the same code."""
 
 import contextlib
 import os
@@ -24,12 +25,13 @@ CRATE = os.path.join(TOP, "crates", "pe_c")
 BUILT = os.path.join(CRATE, "out", "libpe_c.a")
 TRIPLES = {"linux-arm64": "aarch64-unknown-linux-gnu", "wasm": "wasm64-unknown-unknown", "windows-x64": "x86_64-pc-windows-gnu"}
 MINGW = "x86_64-w64-mingw32"
+# The program wine speaks of what is missing of 32 bits.
+WINE = shutil.which("wine64") or "/usr/lib/wine/wine64"
 # What each target needs to be built, and in which of Debian's packages that is.
 NEEDS = {
     "linux-arm64": {},
     "wasm": {"wasm-opt": "binaryen"},
-    "windows-x64": {f"{MINGW}-gcc": "gcc-mingw-w64-x86-64", f"{MINGW}-dlltool": "binutils-mingw-w64-x86-64",
-                    f"{MINGW}-windres": "binutils-mingw-w64-x86-64", "llvm-dlltool": "llvm"},
+    "windows-x64": {f"{MINGW}-gcc": "gcc-mingw-w64-x86-64", f"{MINGW}-windres": "binutils-mingw-w64-x86-64", "llvm-dlltool": "llvm"},
 }
 # What the module uses beside a memory of 64 bits; engines have had it since 2021.
 FEATURES = ["--enable-bulk-memory", "--enable-sign-ext", "--enable-mutable-globals", "--enable-nontrapping-float-to-int"]
@@ -155,8 +157,8 @@ def write_resource(path, header):
 def link_dll(folder, dll, objects):
     """Links a DLL that exports the calls of pe.h: reproducibly, without start-up code, for any base."""
     exports = os.path.join(folder, "pe_c.def")
-    run([f"{MINGW}-gcc", "-shared", "-s", "-nostartfiles", "-o", dll, *objects, exports, "-Wl,--no-insert-timestamp,--dynamicbase,"
-         "--nxcompat,--high-entropy-va", "-lmsvcrt"], cwd=folder)
+    run([f"{MINGW}-gcc", "-shared", "-s", "-nostartfiles", "-o", dll, *objects, exports, "-Wl,--no-insert-timestamp,--image-base,0x180000000,"
+         "--dynamicbase,--nxcompat,--high-entropy-va", "-lmsvcrt"], cwd=folder)
 
 
 def finish_windows(folder):
@@ -171,9 +173,9 @@ def finish_windows(folder):
         archive = ["-Wl,--whole-archive", os.path.join(folder, "libpe_c.a"), "-Wl,--no-whole-archive"]
         link_dll(folder, os.path.join(folder, dll), [*pieces, *archive])
     exports = os.path.join(folder, "pe_c.def")
-    run([f"{MINGW}-dlltool", "--deterministic-libraries", "-d", exports, "-D", dll, "-l", os.path.join(folder, "libpe_c.dll.a")],
-        cwd=folder)
-    run(["llvm-dlltool", "-m", "i386:x86-64", "-d", exports, "-D", dll, "-l", os.path.join(folder, "pe_c.lib")])
+    # short import libraries, which mingw's linker takes too; its own dlltool makes other bytes each time
+    for library in ("libpe_c.dll.a", "pe_c.lib"):
+        run(["llvm-dlltool", "-m", "i386:x86-64", "-d", exports, "-D", dll, "-l", os.path.join(folder, library)])
 
 
 FINISH = {"linux-arm64": lambda folder: None, "wasm": finish_wasm, "windows-x64": finish_windows}
@@ -185,6 +187,7 @@ def build(target, folder, code=None, words=()):
     lacking = missing(NEEDS[target])
     if lacking:
         raise Failed(f"{target}: programs of the Debian packages {', '.join(lacking)} are missing")
+    folder = os.path.realpath(folder)
     os.makedirs(folder, exist_ok=True)
     archive = os.path.join(folder, "libpe_c.a")
     proof = "not proved"
@@ -200,4 +203,6 @@ def build(target, folder, code=None, words=()):
     else:
         archive_of_code(target, code, archive)
     FINISH[target](folder)
+    with open(os.path.join(folder, "PROOF"), "w", encoding="utf-8") as file:
+        file.write(f"{proof}\n")
     return proof
