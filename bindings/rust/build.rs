@@ -1,5 +1,6 @@
 //! Finds libpe_c.a: in the folder that PE_C_FOLDER names; without that variable in crates/pe_c/out, where `rt lib` puts
-//! it, else where pkg-config finds pe_c. Refuses an archive of another ABI or version, and targets that it is not for.
+//! it, or in the folder there that `make -C bindings TARGET=..` builds for another target, else where pkg-config finds pe_c.
+//! Refuses an archive of another ABI or version, and targets that none is for.
 
 use std::path::{Path, PathBuf};
 use std::{env, fs, process};
@@ -36,13 +37,23 @@ fn archive_of(folder: &Path) -> PathBuf {
     folder.join("libpe_c.a")
 }
 
+/// The folder of a target's archive below crates/pe_c/out.
+fn folder_of(arch: &str, os: &str) -> Option<&'static str> {
+    match (arch, os) {
+        ("x86_64", "linux") => Some(""),
+        ("aarch64", "linux") => Some("linux-arm64"),
+        ("x86_64", "windows") => Some("windows-x64"),
+        _ => None,
+    }
+}
+
 /// Looks where an archive may be, in this order.
-fn found() -> Option<PathBuf> {
+fn found(folder: &str) -> Option<PathBuf> {
     if let Some(named) = env::var_os("PE_C_FOLDER") {
         return Some(PathBuf::from(named));
     }
     let here = env::var("CARGO_MANIFEST_DIR").expect("cargo names the crate's folder");
-    let built = Path::new(&here).join("../../crates/pe_c/out");
+    let built = Path::new(&here).join("../../crates/pe_c/out").join(folder);
     if archive_of(&built).is_file() {
         return Some(built);
     }
@@ -58,10 +69,11 @@ fn main() {
         println!("cargo:rerun-if-env-changed={name}");
     }
     let target = |part: &str| env::var(format!("CARGO_CFG_TARGET_{part}")).unwrap_or_default();
-    if (target("ARCH").as_str(), target("OS").as_str()) != ("x86_64", "linux") {
-        refuse("the archive is for Linux on x86-64");
-    }
-    let archive = found().map(|folder| archive_of(&folder));
+    let os = target("OS");
+    let Some(folder) = folder_of(&target("ARCH"), &os) else {
+        refuse("there are archives for Linux on x86-64 and ARM64 and for Windows on x64");
+    };
+    let archive = found(folder).map(|folder| archive_of(&folder));
     let Some(content) = archive.as_ref().and_then(|it| fs::read(it).ok()) else {
         refuse("there is no libpe_c.a: PE_C_FOLDER names its folder, or PKG_CONFIG_PATH that of pe_c.pc");
     };
@@ -71,5 +83,7 @@ fn main() {
     }
     println!("cargo:rerun-if-changed={}", archive.display());
     println!("cargo:rustc-link-search=native={}", archive.parent().expect("it is in a folder").display());
-    println!("cargo:rustc-link-lib=static=pe_c");
+    // An import library for MSVC may stand beside it, under the name that is looked for first.
+    let kind = if os == "windows" { "static:+verbatim=libpe_c.a" } else { "static=pe_c" };
+    println!("cargo:rustc-link-lib={kind}");
 }

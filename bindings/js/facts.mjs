@@ -1,0 +1,372 @@
+// What an image is, as the program pe says it in JSON (bindings/pe/docs/JSON.md): the same names, values and errors
+// of these parts, without hashes, entropy, what an overlay is, and all that needs more than the image. Numbers above
+// 2^53 are BigInt.
+import { PeError, constants } from './library.mjs';
+import * as names from './names.mjs';
+
+const utf8 = new TextDecoder('utf-8', { fatal: true });
+const CODE_AND_WRITABLE = 0xA0000000, PERMISSIONS = [[0x40000000, 'r'], [0x80000000, 'w'], [0x20000000, 'x']];
+const X86 = 0x14C, X64 = 0x8664;
+// What is shown in all is bounded by the file's length times this; each item counts as so many bytes.
+const READINGS = 16, ITEM = 8, LONG_NAMES = 96, LEAVES = 65536, TABLES = 4096;
+
+const number = (value) => (typeof value === 'bigint' && value <= Number.MAX_SAFE_INTEGER ? Number(value) : value);
+const hex = (bytes) => Array.from(bytes, (it) => it.toString(16).padStart(2, '0')).join('');
+const named = (value, table) => ({ number: value, name: table[value] ?? null });
+const flags = (value, table) => ({
+  number: value,
+  flags: Object.fromEntries(Object.entries(table).map(([flag, name]) => [name, (value & flag) !== 0])),
+});
+const refusal = (error) => ({ number: error.number, name: error.constant.replace('PE_C_', ''), text: error.message });
+const time = (stamp, isHash = false) => ({
+  time_date_stamp: stamp,
+  time: stamp === 0 || isHash ? null : new Date(stamp * 1000).toISOString().replace('.000', ''),
+});
+
+/** The text of some bytes, or their digits where they are not UTF-8. */
+function name(bytes) {
+  try {
+    return utf8.decode(bytes);
+  } catch {
+    return { hex: hex(bytes) };
+  }
+}
+const untilZero = (bytes) => (bytes.includes(0) ? bytes.slice(0, bytes.indexOf(0)) : bytes);
+const lower = (text) => (typeof text === 'string' ? text.toLowerCase() : null);
+
+/** A part that may be absent or refused: its value and its error. */
+function part(key, read) {
+  try {
+    return { [key]: read() ?? null, [`${key}_error`]: null };
+  } catch (error) {
+    if (!(error instanceof PeError)) throw error;
+    return { [key]: null, [`${key}_error`]: refusal(error) };
+  }
+}
+
+/** A list, up to its error: an item that is null ends it, since what is left is too much. */
+function list(key, items, of) {
+  const found = [], said = { [`${key}_error`]: null, [`${key}_is_limited`]: false };
+  try {
+    for (const item of items) {
+      const one = of(item);
+      if (one === null) {
+        said[`${key}_is_limited`] = true;
+        break;
+      }
+      found.push(one);
+    }
+  } catch (error) {
+    if (!(error instanceof PeError)) throw error;
+    said[`${key}_error`] = refusal(error);
+  }
+  return { [key]: found, ...said };
+}
+
+/** The same of a list that may be absent, or whose start may be refused: the call says which. */
+function listAfter(key, image, call, items, of) {
+  const none = { [key]: null, [`${key}_error`]: null, [`${key}_is_limited`]: false };
+  try {
+    return image.call(call) ? list(key, items(), of) : none;
+  } catch (error) {
+    if (!(error instanceof PeError)) throw error;
+    return { ...none, [`${key}_error`]: refusal(error) };
+  }
+}
+
+class Budget {
+  constructor(image) {
+    this.left = image.length * READINGS;
+    this.sections = image.sections.length;
+  }
+
+  takes(count) {
+    const left = this.left - count - this.sections;
+    if (left >= 0) this.left = left;
+    return left >= 0;
+  }
+}
+
+const attempt = (read) => {
+  try {
+    return read();
+  } catch (error) {
+    if (!(error instanceof PeError)) throw error;
+    return null;
+  }
+};
+
+// ---- headers, hardening, sections
+
+function headers(image, fileName) {
+  const { info } = image, isReproducible = Boolean(attempt(() => image.call('pe_c_debug_repro')));
+  const isMapped = (info.mode & constants.PE_C_MAPPED) !== 0;
+  const right = isMapped ? null : attempt(() => image.call('pe_c_checksum'))?.value ?? null;
+  return {
+    format: { 64: 'PE32+', 32: 'PE32' }[info.width] ?? null,
+    is_dll: (info.characteristics & 0x2000) !== 0,
+    machine: named(info.machine, names.MACHINES),
+    subsystem: named(info.subsystem, names.SUBSYSTEMS),
+    ...time(info.time_date_stamp, isReproducible),
+    is_reproducible: isReproducible,
+    entry_rva: info.entry,
+    image_base_va: number(info.base),
+    size_of_image: info.size_of_image,
+    size_of_headers: info.size_of_headers,
+    section_alignment: info.section_alignment,
+    file_alignment: info.file_alignment,
+    checksum: info.checksum,
+    right_checksum: right,
+    checksum_state: right === null ? null : info.checksum === 0 ? 'none' : info.checksum === right ? 'right' : 'wrong',
+    characteristics: flags(info.characteristics, names.CHARACTERISTICS),
+    dll_characteristics: flags(info.dll_characteristics, names.DLL_CHARACTERISTICS),
+    directories: info.directories.map((it, index) => directory(it, index)).filter(Boolean),
+  };
+}
+
+function directory({ virtual_address: start, size }, index) {
+  if (!start && !size) return null;
+  const isOffset = index === constants.PE_C_DIRECTORY_SECURITY;
+  return { index, name: names.DIRECTORIES[index], rva: isOffset ? null : start, file_offset: isOffset ? start : null, size };
+}
+
+function hardening(image) {
+  const { info } = image, has = (flag) => (info.dll_characteristics & flag) !== 0;
+  const config = attempt(() => image.call('pe_c_load_config'));
+  const extended = attempt(() => image.call('pe_c_debug_characteristics')) ?? 0;
+  const aslr = has(0x40) && (info.characteristics & 1) === 0;
+  return {
+    aslr,
+    high_entropy_aslr: info.width === 64 ? aslr && has(0x20) : null,
+    dep: has(0x100),
+    cfg: has(0x4000) && Boolean(config?.has_guard_flags) && (config.guard_flags & 0x100) !== 0,
+    cet: [X86, X64].includes(info.machine) ? (extended & 1) !== 0 : null,
+    safe_seh: info.machine === X86 && !has(0x400) ? Boolean(config?.se_handler_table && config.se_handler_count) : null,
+    force_integrity: has(0x80),
+    signed: list('certificates', image.certificates(), (it) => it).certificates.some((it) => it.type === 2),
+    no_writable_code: image.sections.every((it) => (it.characteristics & CODE_AND_WRITABLE) >>> 0 !== CODE_AND_WRITABLE),
+  };
+}
+
+function sections(image) {
+  const table = attempt(() => image.call('pe_c_string_table'));
+  return image.sections.map((section, i) => {
+    const own = untilZero(Uint8Array.from(section.name));
+    const long = table && i < LONG_NAMES ? attempt(() => image.call('pe_c_long_section_name', { table, section })) : null;
+    return {
+      name: name(own), long_name: long ? name(image.slice(long)) : null, rva: section.virtual_address,
+      virtual_size: section.virtual_size, file_offset: section.pointer_to_raw_data, file_size: section.size_of_raw_data,
+      permissions: PERMISSIONS.map(([flag, letter]) => ((section.characteristics & flag) !== 0 ? letter : '-')).join(''),
+      flags: section.characteristics,
+    };
+  });
+}
+
+// ---- imports and exports
+
+const hintOrOrdinal = (has, value) => (has ? { hint: value, ordinal: null } : { hint: null, ordinal: value });
+
+function functionsOf(image, library, items, budget, more) {
+  const own = Number(library.name.length);
+  return list('functions', items, (it) => budget.takes(ITEM + own + (it.has_name ? Number(it.name.length) : 0)) ? {
+    name: it.has_name ? name(image.slice(it.name)) : null, ...hintOrOrdinal(it.has_name, it.ordinal), ...more(it),
+  } : null);
+}
+
+function imports(image) {
+  const budget = new Budget(image);
+  return listAfter('imports', image, 'pe_c_import_libraries', () => image.list('libraries'), (library) => {
+    if (!budget.takes(ITEM + Number(library.name.length))) return null;
+    const own = name(image.slice(library.name));
+    return { name: own, name_lower: lower(own),
+      ...functionsOf(image, library, image.imports(library), budget, (it) => ({ slot_rva: number(it.rva) })) };
+  });
+}
+
+function delayImports(image) {
+  const budget = new Budget(image);
+  return listAfter('delay_imports', image, 'pe_c_delay_imports', () => image.list('delayImports'), (library) => {
+    if (!budget.takes(ITEM + Number(library.name.length))) return null;
+    const own = name(image.slice(library.name));
+    return { name: own, name_lower: lower(own), ...time(library.descriptor.time_date_stamp),
+      ...functionsOf(image, library, image.delayedFunctions(library), budget, () => ({})) };
+  });
+}
+
+function exports(image) {
+  return part('exports', () => {
+    const table = image.call('pe_c_export_addresses');
+    if (!table || !image.call('pe_c_export_tables')) return null;
+    let isLimited = false, budget = new Budget(image);
+    const byIndex = new Map();
+    for (const it of image.list('exports')) {
+      isLimited = !budget.takes(ITEM + Number(it.name.length));
+      if (isLimited) break;
+      byIndex.set(it.index, [...(byIndex.get(it.index) ?? []), name(image.slice(it.name))]);
+    }
+    budget = new Budget(image);
+    const entries = [];
+    let index = 0;
+    for (const it of image.exportAddresses()) {
+      const names_ = byIndex.get(index++) ?? [];
+      if (it.rva === 0) continue;
+      if (!budget.takes(ITEM + Number(it.forwarder.length))) {
+        isLimited = true;
+        break;
+      }
+      entries.push({ ordinal: number(it.ordinal), rva: it.rva, names: names_,
+        forwarder: it.is_forwarder ? name(image.slice(it.forwarder)) : null });
+    }
+    const own = table.has_name ? name(image.slice(table.name)) : null;
+    return { name: own, name_lower: lower(own), ordinal_base: table.ordinal_base, entries, is_limited: isLimited };
+  });
+}
+
+// ---- debug data
+
+const digits = (bytes) => hex(bytes).toUpperCase();
+
+function guid(bytes) {
+  const order = [3, 2, 1, 0, 5, 4, 7, 6, 8, 9, 10, 11, 12, 13, 14, 15].map((i) => bytes[i]);
+  return digits(order);
+}
+
+function debug(image) {
+  const isHash = Boolean(attempt(() => image.call('pe_c_debug_repro')));
+  const entry = (it) => ({ type: named(it.data_type, names.DEBUG_TYPES), size: it.size_of_data, rva: it.address_of_raw_data,
+    file_offset: it.pointer_to_raw_data, ...time(it.time_date_stamp, isHash) });
+  return {
+    ...listAfter('entries', image, 'pe_c_debug_entries', () => image.list('debugEntries'), entry),
+    ...part('pdb', () => {
+      const key = image.call('pe_c_symbol_key');
+      if (!key) return null;
+      const all = guid(key.guid), cut = [0, 8, 12, 16, 20, 32], parts = cut.slice(1).map((end, i) => all.slice(cut[i], end));
+      return { name: name(untilZero(image.slice(key.name))), guid: `{${parts.join('-')}}`, age: key.age,
+        key: `${all}${key.age.toString(16).toUpperCase()}` };
+    }),
+    ...part('repro', () => {
+      const record = image.call('pe_c_debug_repro');
+      return record && { hash_hex: record.has_hash ? hex(image.slice(record.hash)) : null };
+    }),
+    ...part('extended_dll_characteristics', () => {
+      const value = image.call('pe_c_debug_characteristics');
+      return value === null ? null : flags(value, names.EXTENDED_DLL_CHARACTERISTICS);
+    }),
+  };
+}
+
+function certificates(image) {
+  const said = list('certificates', image.certificates(), (it) => (
+    { size: it.length, revision: it.revision, type: named(it.type, names.CERTIFICATE_TYPES) }));
+  return said.certificates.length || said.certificates_error ? said : { ...said, certificates: null };
+}
+
+// ---- resources and version information
+
+const label = (image, it) => (it.has_name
+  ? { id: null, name: image.utf16(it.name, { isWhole: true }) } : { id: it.id, name: null });
+
+function resources(image) {
+  const budget = new Budget(image), length = (it) => (it.has_name ? Number(it.name.length) : 0);
+  let count = 0;
+  return listAfter('resources', image, 'pe_c_resource_leaves', () => image.list('resourceLeaves'), (leaf) => {
+    const isVersion = !leaf.resource_type.has_name && leaf.resource_type.id === 16;
+    const cost = length(leaf.resource_type) + length(leaf.name) + length(leaf.language) + (isVersion ? leaf.size : 0);
+    if (count++ >= LEAVES || !budget.takes(cost)) return null;
+    const type = label(image, leaf.resource_type);
+    return {
+      type: { ...type, name: type.name ?? names.RESOURCE_TYPES[type.id] ?? null }, name: label(image, leaf.name),
+      rva: leaf.rva, size: leaf.size, code_page: leaf.code_page,
+    };
+  });
+}
+
+const four = (high, low) => [high >>> 16, high & 0xFFFF, low >>> 16, low & 0xFFFF].join('.');
+
+function version(image) {
+  const NAMES = ['Comments', 'CompanyName', 'FileDescription', 'FileVersion', 'InternalName', 'LegalCopyright', 'LegalTrademarks',
+    'OriginalFilename', 'PrivateBuild', 'ProductName', 'ProductVersion', 'SpecialBuild'];
+  return {
+    ...part('fixed', () => {
+      const fixed = image.call('pe_c_fixed_version');
+      return fixed && { file_version: four(fixed.file_version_ms, fixed.file_version_ls),
+        product_version: four(fixed.product_version_ms, fixed.product_version_ls) };
+    }),
+    texts: Object.fromEntries(NAMES.map((text, i) => [text, attempt(() => image.call('pe_c_version_text', { name: i }))])
+      .filter(([, range]) => range).map(([text, range]) => [text, image.utf16(range)])),
+  };
+}
+
+// ---- the other directories
+
+function tls(image) {
+  return part('tls', () => {
+    const found = image.call('pe_c_tls');
+    return found && { start_va: number(found.start_address_of_raw_data), end_va: number(found.end_address_of_raw_data),
+      index_va: number(found.address_of_index), zero_fill: found.size_of_zero_fill, characteristics: found.characteristics,
+      ...tlsCallbacks(image, found) };
+  });
+}
+
+function tlsCallbacks(image, found) {
+  const none = { callbacks: null, callbacks_error: null, callbacks_is_limited: false };
+  try {
+    return image.call('pe_c_tls_callbacks', { tls: found }) ? list('callbacks', image.tlsCallbacks(), number) : none;
+  } catch (error) {
+    if (!(error instanceof PeError)) throw error;
+    return { ...none, callbacks_error: refusal(error) };
+  }
+}
+
+function relocations(image) {
+  return listAfter('relocations', image, 'pe_c_relocation_blocks', () => image.list('relocationBlocks'), (block) => {
+    const counts = new Map();
+    const said = list('kinds', image.relocations(block), (it) => {
+      counts.set(it.kind, (counts.get(it.kind) ?? 0) + 1);
+      return true;
+    });
+    const types = [...counts].sort((a, b) => a[0] - b[0])
+      .map(([kind, count]) => ({ type: named(kind, names.RELOCATION_TYPES), count }));
+    return { page_rva: block.page_rva, types, error: said.kinds_error };
+  });
+}
+
+function rich(image) {
+  return part('rich', () => {
+    const header = image.call('pe_c_rich_header');
+    return header && { key: header.key, checksum: header.checksum,
+      ...list('tools', image.richEntries(), ({ product, build, count }) => ({ product, build, count })) };
+  });
+}
+
+/** What a file is that is no image, by its first bytes. */
+export function kindOf(bytes) {
+  const starts = (text) => [...text].every((it, i) => bytes[i] === it.charCodeAt(0));
+  if (bytes.length === 0) return 'an empty file';
+  if (starts('\x7fELF')) return 'an ELF file';
+  if (starts('!<arch>\n')) return 'an archive of objects';
+  if (starts('PK\x03\x04')) return 'a ZIP archive';
+  return null;
+}
+
+/** The facts of an image that is open. */
+export function facts(image, fileName = '') {
+  return {
+    file: fileName, file_size: image.length, error: null,
+    headers: headers(image, fileName), hardening: hardening(image), sections: sections(image),
+    ...imports(image), ...exports(image), debug: debug(image), ...certificates(image), version: version(image), ...tls(image),
+    ...relocations(image), ...delayImports(image), ...rich(image), ...resources(image),
+  };
+}
+
+/** The facts of a file: of one that is refused, why. */
+export function factsOf(library, bytes, fileName, options) {
+  let image;
+  try {
+    image = library.open(bytes, options);
+  } catch (error) {
+    if (!(error instanceof PeError)) throw error;
+    return { file: fileName, file_size: bytes.length, error: refusal(error), file_kind: kindOf(bytes) };
+  }
+  return facts(image, fileName);
+}

@@ -1,0 +1,436 @@
+/* Makes every call of pe.h on a file, in each mode, and hashes each result and each record that a call wrote, so that
+ * the library for one target is compared with that for another by a number a file. Freestanding C11: it needs no C
+ * library, and runs in a WebAssembly module as on Linux.
+ *
+ * A call of pe.h that is not made here fails tools/try_targets. To add one, add a line CALL, or WALK for the next
+ * item of a list, where its arguments are known: that is all. calls.h, with number_of_NAME for each call of pe.h, is
+ * made by tools/make_targets. */
+#include "pe.h"
+#include "calls.h"
+#include "all_calls.h"
+
+/* How far lists are walked, so that a hostile file costs no more than a large one. */
+enum { ITEMS = 2000, LISTS = 300, FUNCTIONS = 48, INNER = 60, SECTIONS = 4096, RECORDS = 40 };
+/* The addresses of a made stack start here. */
+enum { STACK = 0x70000000, STACK_LENGTH = 1 << 16 };
+
+static struct totals *totals;
+static pe_c_section sections[SECTIONS];
+static uint8_t stack[STACK_LENGTH];
+static pe_c_memory_piece pieces[3];
+static uint64_t seed;
+
+/* A file in a mode. */
+struct file {
+    const uint8_t *bytes;
+    size_t length;
+    uint8_t *room;
+    size_t room_length;
+    pe_c_image_info image;
+    size_t count;
+};
+
+#define BYTES file->bytes, file->length
+#define IMAGE BYTES, &file->image, sections, file->count
+
+/* Makes a call that writes `out`. Where a target needs more around a call, TARGET_CALL is defined for it. */
+#ifndef TARGET_CALL
+#define TARGET_CALL(call) call
+#endif
+#define CALL(call, out, ...) note(number_of_##call, TARGET_CALL(call)(__VA_ARGS__), &(out), sizeof(out))
+#define IS_DONE(call, out, ...) (CALL(call, out, __VA_ARGS__) == PE_C_DONE)
+/* The body runs for each item of a walk, `most` at most. */
+#define WALK(most, call, out, ...) \
+    for (int of_##call = 0; of_##call < (most) && IS_DONE(call, out, __VA_ARGS__); of_##call++)
+
+static void add(uint64_t number)
+{
+    /* FNV-1a, of 64 bits at a time, with the high half mixed into the low */
+    uint64_t hash = (totals->hash ^ number) * 0x100000001B3u;
+    totals->hash = hash ^ hash >> 29;
+}
+
+static void add_bytes(const void *from, size_t length)
+{
+    const uint8_t *bytes = from;
+    size_t at = 0;
+    for (; at + 8 <= length; at += 8) {
+        uint64_t number = 0;
+        for (int i = 0; i < 8; i++)
+            number |= (uint64_t)bytes[at + i] << 8 * i;
+        add(number);
+    }
+    for (; at < length; at++)
+        add(bytes[at]);
+}
+
+static void count(int call, int is_done)
+{
+    totals->made[call]++;
+    totals->done[call] += is_done ? 1 : 0;
+}
+
+static uint32_t note(int call, uint32_t result, const void *out, size_t size)
+{
+    count(call, result == PE_C_DONE);
+    add(result);
+    add_bytes(out, size);
+    return result;
+}
+
+static uint64_t next_random(void)
+{
+    seed ^= seed << 13;
+    seed ^= seed >> 7;
+    seed ^= seed << 17;
+    return seed;
+}
+
+/* ---- x64 */
+
+/* A frame inside a function; way 0 is at its start. */
+static pe_c_frame made_frame(const struct file *file, const pe_c_function *function, int way)
+{
+    pe_c_frame frame = PE_C_EMPTY;
+    for (int i = 0; i < 16; i++)
+        frame.registers.general[i] = STACK + next_random() % 0x4000 * 8;
+    for (int i = 0; i < 32; i++)
+        frame.registers.xmm[i] = next_random();
+    frame.registers.general[4] = STACK + 0x100 * (uint64_t)way;
+    frame.stack_start = STACK;
+    frame.function = *function;
+    frame.rva = function->begin;
+    if (way)
+        frame.rva += (uint32_t)(next_random() % ((uint64_t)(uint32_t)(function->end - function->begin) + 1));
+    frame.registers.rip = file->image.base + frame.rva;
+    return frame;
+}
+
+static void step_x64(const struct file *file, const pe_c_function *function, int way)
+{
+    pe_c_frame frame = made_frame(file, function, way), other = frame;
+    uint64_t offset = 0;
+    size_t code_length = 0;
+    uint32_t interrupted = 7;
+    if (way % 2 && IS_DONE(pe_c_offset, offset, &file->image, sections, file->count, frame.rva, &offset)
+        && offset < file->length) {
+        code_length = (uint32_t)(function->end - frame.rva);
+        if (code_length > file->length - offset)
+            code_length = 0;
+    }
+    const uint8_t *code = code_length ? file->bytes + offset : 0;
+    CALL(pe_c_step, frame, IMAGE, code, code_length, stack, sizeof stack, &frame);
+    CALL(pe_c_step_pieces, other, IMAGE, code, code_length, stack, sizeof stack, pieces, 3, &other, &interrupted);
+    add(interrupted);
+    CALL(pe_c_leaf, frame, stack, sizeof stack, &frame);
+    CALL(pe_c_leaf_pieces, other, stack, sizeof stack, pieces, 3, &other);
+}
+
+static void record_x64(const struct file *file, pe_c_record *record)
+{
+    pe_c_code code = PE_C_EMPTY;
+    pe_c_range scopes = PE_C_EMPTY;
+    pe_c_scope scope = PE_C_EMPTY;
+    WALK(ITEMS, pe_c_next_code, code, BYTES, &record->codes, &code) {}
+    if (IS_DONE(pe_c_scope_table, scopes, BYTES, &record->handler_data, &scopes))
+        WALK(4, pe_c_next_scope, scope, BYTES, &scopes, &scope) {}
+}
+
+static void walk_x64(const struct file *file)
+{
+    pe_c_range table = PE_C_EMPTY;
+    if (!IS_DONE(pe_c_function_table, table, IMAGE, &table))
+        return;
+    uint64_t functions = table.length / 12, stride = functions / FUNCTIONS + 1;
+    for (uint64_t i = 0; i < functions; i += stride) {
+        pe_c_function function = PE_C_EMPTY, found = PE_C_EMPTY;
+        pe_c_plan plan = PE_C_EMPTY;
+        pe_c_record record = PE_C_EMPTY;
+        if (!IS_DONE(pe_c_function_at, function, BYTES, &table, i, &function))
+            continue;
+        CALL(pe_c_find_function, found, BYTES, &table, function.begin + (uint32_t)(next_random() % 64), &found);
+        CALL(pe_c_plan_from, plan, function.unwind, &plan);
+        WALK(RECORDS, pe_c_next_record, record, IMAGE, &table, &plan, &record)
+            record_x64(file, &record);
+        CALL(pe_c_unwind_record, record, IMAGE, &table, function.unwind, &record);
+        for (int way = 0; way < 4; way++)
+            step_x64(file, &function, way);
+    }
+}
+
+/* ---- ARM64 */
+
+static void step_arm64(const struct file *file, const pe_c_arm64_function *function, uint32_t size, int way)
+{
+    pe_c_arm64_frame frame = PE_C_EMPTY;
+    for (int i = 0; i < 31; i++)
+        frame.registers.general[i] = STACK + next_random() % 0x4000 * 8;
+    frame.registers.sp = STACK + 0x100 * (uint64_t)way;
+    frame.stack_start = STACK;
+    frame.function = *function;
+    frame.rva = function->begin + (size ? (uint32_t)(next_random() % size) & ~3u : 0);
+    frame.registers.pc = file->image.base + frame.rva;
+    pe_c_arm64_frame other = frame;
+    CALL(pe_c_step_arm64, frame, IMAGE, stack, sizeof stack, &frame);
+    CALL(pe_c_step_arm64_pieces, other, IMAGE, stack, sizeof stack, pieces, 3, &other);
+    CALL(pe_c_leaf_arm64, frame, &frame);
+}
+
+/* Returns the length of the function. */
+static uint32_t record_arm64(const struct file *file, const pe_c_arm64_function *function)
+{
+    pe_c_arm64_packed packed = PE_C_EMPTY;
+    pe_c_arm64_record record = PE_C_EMPTY;
+    pe_c_arm64_scope scope = PE_C_EMPTY;
+    pe_c_arm64_walk walk = PE_C_EMPTY;
+    pe_c_arm64_code code = PE_C_EMPTY;
+    CALL(pe_c_arm64_packed_fields, packed, function, &packed);
+    if (!IS_DONE(pe_c_arm64_unwind_record, record, IMAGE, function, &record))
+        return packed.function_length;
+    WALK(ITEMS, pe_c_next_arm64_scope, scope, BYTES, &record.scopes, &scope) {}
+    if (IS_DONE(pe_c_arm64_codes, walk, BYTES, &record.codes, 0, &walk))
+        WALK(ITEMS, pe_c_next_arm64_code, code, BYTES, &walk, &code) {}
+    return record.function_length;
+}
+
+static void walk_arm64(const struct file *file)
+{
+    pe_c_range table = PE_C_EMPTY;
+    if (!IS_DONE(pe_c_arm64_table, table, IMAGE, &table))
+        return;
+    uint64_t functions = table.length / 8, stride = functions / FUNCTIONS + 1;
+    for (uint64_t i = 0; i < functions; i += stride) {
+        pe_c_arm64_function function = PE_C_EMPTY, found = PE_C_EMPTY;
+        if (!IS_DONE(pe_c_arm64_function_at, function, BYTES, &table, i, &function))
+            continue;
+        CALL(pe_c_find_arm64_function, found, IMAGE, &table, function.begin + 4, &found);
+        uint32_t size = record_arm64(file, &function);
+        for (int way = 0; way < 4; way++)
+            step_arm64(file, &function, size, way);
+    }
+}
+
+/* ---- the parts of an image */
+
+static void debug_data(const struct file *file)
+{
+    pe_c_range range = PE_C_EMPTY;
+    pe_c_debug_entry entry = PE_C_EMPTY;
+    pe_c_key key = PE_C_EMPTY;
+    pe_c_pdb20 pdb = PE_C_EMPTY;
+    pe_c_vc_features features = PE_C_EMPTY;
+    uint32_t flags = 0;
+    pe_c_repro repro = PE_C_EMPTY;
+    pe_c_pogo pogo = PE_C_EMPTY;
+    pe_c_pogo_entry pogo_entry = PE_C_EMPTY;
+    if (IS_DONE(pe_c_debug_entries, range, IMAGE, &range))
+        WALK(ITEMS, pe_c_next_debug_entry, entry, BYTES, &range, &entry) {
+            pe_c_range record = {entry.pointer_to_raw_data, entry.size_of_data};
+            CALL(pe_c_codeview, key, BYTES, &record, &key);
+        }
+    CALL(pe_c_symbol_key, key, IMAGE, &key);
+    CALL(pe_c_debug_pdb20, pdb, IMAGE, &pdb);
+    CALL(pe_c_debug_vc_features, features, IMAGE, &features);
+    CALL(pe_c_debug_characteristics, flags, IMAGE, &flags);
+    CALL(pe_c_debug_repro, repro, IMAGE, &repro);
+    if (IS_DONE(pe_c_debug_pogo, pogo, IMAGE, &pogo))
+        WALK(ITEMS, pe_c_next_pogo_entry, pogo_entry, BYTES, &pogo.entries, &pogo_entry) {}
+}
+
+static void certificates(const struct file *file)
+{
+    static const uint8_t certificate[16] = {16, 0, 0, 0, 0, 2, 2, 0, 1, 2, 3, 4, 5, 6, 7, 8};
+    const pe_c_directory *directory = &file->image.directories[PE_C_DIRECTORY_SECURITY];
+    pe_c_range walk = {directory->virtual_address, directory->size};
+    pe_c_certificate entry = PE_C_EMPTY;
+    pe_c_digest digest = PE_C_EMPTY;
+    pe_c_checksum_field checksum = PE_C_EMPTY;
+    uint64_t length = 0;
+    WALK(ITEMS, pe_c_next_certificate, entry, BYTES, &walk, &entry) {}
+    CALL(pe_c_digest_ranges, digest, BYTES, &file->image, &digest);
+    CALL(pe_c_checksum, checksum, BYTES, &file->image, &checksum);
+    for (uint32_t placement = 0; placement < 2; placement++) {
+        CALL(pe_c_attached_length, length, BYTES, &file->image, certificate, sizeof certificate, placement, &length);
+        if (IS_DONE(pe_c_attach, length, BYTES, &file->image, certificate, sizeof certificate, placement, file->room,
+                    file->room_length, &length))
+            add_bytes(file->room, length);
+    }
+    CALL(pe_c_detached_length, length, BYTES, &file->image, &length);
+    if (IS_DONE(pe_c_detach, length, BYTES, &file->image, file->room, file->room_length, &length))
+        add_bytes(file->room, length);
+}
+
+static void exports(const struct file *file)
+{
+    pe_c_exports tables = PE_C_EMPTY;
+    pe_c_export entry = PE_C_EMPTY;
+    pe_c_address_table table = PE_C_EMPTY;
+    pe_c_exported exported = PE_C_EMPTY;
+    uint64_t index = 0;
+    if (IS_DONE(pe_c_export_tables, tables, IMAGE, &tables))
+        WALK(ITEMS, pe_c_next_export, entry, IMAGE, &tables, &entry) {}
+    if (IS_DONE(pe_c_export_addresses, table, IMAGE, &table))
+        WALK(ITEMS, pe_c_export_at, exported, IMAGE, &table, index, &exported)
+            index++;
+}
+
+static void imports(const struct file *file)
+{
+    pe_c_libraries libraries = PE_C_EMPTY;
+    pe_c_library library = PE_C_EMPTY;
+    pe_c_import import = PE_C_EMPTY;
+    pe_c_range walk = PE_C_EMPTY, table = PE_C_EMPTY;
+    pe_c_delay_import delayed = PE_C_EMPTY;
+    pe_c_delayed_function function = PE_C_EMPTY;
+    pe_c_bound_import bound = PE_C_EMPTY;
+    pe_c_bound_forwarder forwarder = PE_C_EMPTY;
+    if (IS_DONE(pe_c_import_libraries, libraries, IMAGE, &libraries))
+        WALK(LISTS, pe_c_next_library, library, IMAGE, &libraries, &library)
+            WALK(ITEMS, pe_c_next_import, import, IMAGE, &library.imports, &import) {}
+    if (IS_DONE(pe_c_delay_imports, walk, IMAGE, &walk))
+        WALK(LISTS, pe_c_next_delay_import, delayed, IMAGE, &walk, &delayed)
+            WALK(ITEMS, pe_c_next_delayed_function, function, IMAGE, &delayed.functions, &function) {}
+    if (!IS_DONE(pe_c_bound_imports, table, BYTES, &file->image, &table))
+        return;
+    walk = table;
+    WALK(LISTS, pe_c_next_bound_import, bound, BYTES, &table, &walk, &bound)
+        WALK(LISTS, pe_c_next_bound_forwarder, forwarder, BYTES, &table, &bound.forwarders, &forwarder) {}
+}
+
+/* A walk over blocks may go on after an error; each block's own blocks are walked too. */
+static void version_blocks(const struct file *file)
+{
+    pe_c_range walk = PE_C_EMPTY;
+    pe_c_version_block block = PE_C_EMPTY, inner = PE_C_EMPTY;
+    if (!IS_DONE(pe_c_version_blocks, walk, IMAGE, &walk))
+        return;
+    for (int i = 0; i < LISTS; i++) {
+        uint32_t result = CALL(pe_c_next_version_block, block, BYTES, &walk, &block);
+        if (result == PE_C_NOTHING)
+            return;
+        for (int k = 0; result == PE_C_DONE && k < LISTS; k++)
+            if (CALL(pe_c_next_version_block, inner, BYTES, &block.children, &inner) == PE_C_NOTHING)
+                break;
+    }
+}
+
+static void resources(const struct file *file)
+{
+    pe_c_range range = PE_C_EMPTY;
+    pe_c_version version = PE_C_EMPTY;
+    pe_c_resource_walk walk = PE_C_EMPTY;
+    pe_c_resource_leaf leaf = PE_C_EMPTY;
+    CALL(pe_c_fixed_version, version, IMAGE, &version);
+    for (uint32_t name = 0; name <= PE_C_SPECIAL_BUILD + 1; name++)
+        CALL(pe_c_version_text, range, IMAGE, name, &range);
+    CALL(pe_c_manifest, range, IMAGE, &range);
+    version_blocks(file);
+    if (!IS_DONE(pe_c_resource_leaves, walk, IMAGE, &walk))
+        return;
+    WALK(ITEMS, pe_c_next_resource_leaf, leaf, IMAGE, &walk, &leaf)
+        if (leaf.resource_type.id == 16) {
+            CALL(pe_c_fixed_version_in, version, BYTES, &leaf.content, &version);
+            for (uint32_t name = 0; name <= PE_C_SPECIAL_BUILD + 1; name++)
+                CALL(pe_c_version_text_in, range, BYTES, &leaf.content, name, &range);
+        }
+}
+
+static void directories(const struct file *file)
+{
+    pe_c_tls_directory tls = PE_C_EMPTY;
+    pe_c_range walk = PE_C_EMPTY;
+    uint64_t callback = 0;
+    pe_c_load_config_directory config = PE_C_EMPTY;
+    pe_c_relocation_block block = PE_C_EMPTY;
+    pe_c_relocation relocation = PE_C_EMPTY;
+    pe_c_cor20_header header = PE_C_EMPTY;
+    pe_c_metadata metadata = PE_C_EMPTY;
+    pe_c_metadata_stream stream = PE_C_EMPTY;
+    if (IS_DONE(pe_c_tls, tls, IMAGE, &tls) && IS_DONE(pe_c_tls_callbacks, walk, IMAGE, &tls, &walk))
+        WALK(ITEMS, pe_c_next_tls_callback, callback, BYTES, &file->image, &walk, &callback) {}
+    CALL(pe_c_load_config, config, IMAGE, &config);
+    if (IS_DONE(pe_c_relocation_blocks, walk, IMAGE, &walk))
+        WALK(ITEMS, pe_c_next_relocation_block, block, BYTES, &walk, &block)
+            WALK(INNER, pe_c_next_relocation, relocation, BYTES, block.page_rva, &block.entries, &relocation) {}
+    if (IS_DONE(pe_c_clr_header, header, IMAGE, &header)
+        && IS_DONE(pe_c_clr_metadata, metadata, IMAGE, &header, &metadata))
+        WALK(ITEMS, pe_c_next_metadata_stream, stream, BYTES, &metadata.streams, &stream) {}
+}
+
+static void headers(const struct file *file)
+{
+    pe_c_range range = PE_C_EMPTY, table = PE_C_EMPTY;
+    uint64_t offset = 0;
+    pe_c_rich_header_info rich = PE_C_EMPTY;
+    pe_c_rich_entry entry = PE_C_EMPTY;
+    CALL(pe_c_offset, offset, &file->image, sections, file->count, file->image.entry, &offset);
+    CALL(pe_c_overlay, range, IMAGE, &range);
+    if (IS_DONE(pe_c_string_table, table, BYTES, &file->image, &table))
+        for (size_t i = 0; i < file->count; i++)
+            CALL(pe_c_long_section_name, range, BYTES, &table, &sections[i], &range);
+    if (IS_DONE(pe_c_rich_header, rich, BYTES, &rich))
+        WALK(ITEMS, pe_c_next_rich_entry, entry, BYTES, rich.key, &rich.entries, &entry) {}
+}
+
+static void in_mode(struct file *file, uint32_t mode)
+{
+    if (!IS_DONE(pe_c_image, file->image, BYTES, mode, &file->image))
+        return;
+    file->count = file->image.number_of_sections;
+    if (file->count > SECTIONS || !IS_DONE(pe_c_sections, sections, BYTES, &file->image, sections, file->count))
+        return;
+    headers(file);
+    debug_data(file);
+    certificates(file);
+    walk_x64(file);
+    walk_arm64(file);
+    exports(file);
+    imports(file);
+    resources(file);
+    directories(file);
+}
+
+/* ---- all of it */
+
+static void make_stack(void)
+{
+    static const pe_c_memory_piece parts[3] = {{STACK, 0, 0x4004}, {STACK + 0x4004, 0x4004, 0x4000},
+                                               {STACK + 0x8004, 0x8004, 0x7FFC}};
+    for (int i = 0; i < 3; i++)
+        pieces[i] = parts[i];
+    for (size_t at = 0; at < sizeof stack; at += 8) {
+        uint64_t word = STACK + (next_random() & 0xFFF8);
+        for (int i = 0; i < 8; i++)
+            stack[at + i] = (uint8_t)(word >> 8 * i);
+    }
+}
+
+/* The texts of all results that there may be, and the number of the ABI. */
+static void texts(void)
+{
+    for (uint32_t number = 0; number < 420; number++) {
+        uint8_t text[128] = {0};
+        size_t length = TARGET_CALL(pe_c_text)(number, text, sizeof text);
+        count(number_of_pe_c_text, length > 0);
+        add(length);
+        add_bytes(text, sizeof text);
+    }
+    uint32_t abi = TARGET_CALL(PE_C_ABI)();
+    count(NUMBER_OF_ABI, abi == ABI);
+    add(abi);
+}
+
+void all_calls(const uint8_t *bytes, size_t length, uint8_t *room, size_t room_length, struct totals *out)
+{
+    struct file file = {bytes, length, room, room_length, PE_C_EMPTY, 0};
+    totals = out;
+    out->hash = 0xCBF29CE484222325u;
+    out->calls = CALLS;
+    seed = 0x9E3779B97F4A7C15u ^ length;
+    for (size_t i = 0; i < SECTIONS; i++)
+        sections[i] = (pe_c_section)PE_C_EMPTY;
+    make_stack();
+    texts();
+    for (uint32_t mode = 0; mode < 4; mode++)
+        in_mode(&file, mode);
+}

@@ -1,0 +1,52 @@
+"""Comparing what the JavaScript says of an image with what the program pe says in JSON."""
+
+import glob
+import json
+import os
+import re
+
+from targets import BINDINGS
+
+GOLDEN = os.path.join(BINDINGS, "pe", "tests", "golden")
+# An image of two bytes that no other program makes.
+NOT_MADE = {"short"}
+
+
+def golden():
+    """What pe prints in JSON of each image that the cargo crate's tests make, from the golden texts, which are read
+    and compared."""
+    found = {}
+    for path in sorted(glob.glob(os.path.join(GOLDEN, "*.txt"))):
+        name = os.path.basename(path).removesuffix(".txt")
+        with open(path, encoding="utf-8") as file:
+            said = re.search(rf"^\$ pe {name}\.bin --json\n(\{{.*)$", file.read(), re.M)
+        if name not in NOT_MADE:
+            found[name] = json.loads(said[1])
+    return found
+
+
+def differences(ours, theirs, at=""):
+    """Where a value is not that of pe, which may have more fields."""
+    if isinstance(ours, dict) and isinstance(theirs, dict):
+        return [it for name, value in ours.items() if name != "texts"
+                for it in (differences(value, theirs[name], f"{at}.{name}") if name in theirs else [f"{at}.{name} is not of pe"])]
+    if isinstance(ours, list) and isinstance(theirs, list) and len(ours) == len(theirs):
+        return [it for i, pair in enumerate(zip(ours, theirs)) for it in differences(*pair, f"{at}[{i}]")]
+    # a number above 2^53 is a text
+    return [] if ours == theirs or ours == str(theirs) else [f"{at}: {ours!r:.80}, there {theirs!r:.80}"]
+
+
+def texts_differ(ours, theirs):
+    """Where the strings of version information are of one language, those that have names of their own."""
+    languages = (theirs.get("version") or {}).get("languages") or []
+    strings = languages[0]["strings"] if len(languages) == 1 else None
+    texts = (ours.get("version") or {}).get("texts")
+    if strings is None or texts is None:
+        return []
+    return differences(texts, {name: strings.get(name) for name in texts}, ".version.texts")
+
+
+def unlike(ours, theirs):
+    """Where the facts of an image are not those of pe, whose file may have another name."""
+    left = {name: value for name, value in ours.items() if name not in ("file", "file_kind")}
+    return differences(left, theirs) + texts_differ(ours, theirs)

@@ -1,0 +1,132 @@
+"""What bindings/pe.h declares: its calls, its records with their layouts, its constants, its version and the number
+of its ABI.
+
+The header is C11 of a few plain forms, and a form that is not known is an error. All targets of the library are little-endian, with
+pointers of 64 bits, and a number is aligned to its width on each, so a record has one layout on all of them."""
+
+import dataclasses
+import os
+import re
+
+TOP = os.path.dirname(os.path.dirname(os.path.realpath(__file__)))
+PE_H = os.path.join(TOP, "bindings", "pe.h")
+WIDTHS = {"uint8_t": 1, "uint16_t": 2, "uint32_t": 4, "uint64_t": 8, "size_t": 8}
+# The five parameters that calls on an image start with.
+IMAGE = ("bytes", "length", "image", "sections", "count")
+
+
+@dataclasses.dataclass(frozen=True)
+class Field:
+    """A field of a record: its offset in bytes, and how many values an array has, or 0. A pointer is one to constant values."""
+    name: str
+    type: str
+    offset: int
+    count: int
+    is_pointer: bool = False
+
+
+@dataclasses.dataclass(frozen=True)
+class Record:
+    """A record. `about` is the comment above it."""
+    name: str
+    size: int
+    align: int
+    fields: tuple
+
+
+@dataclasses.dataclass(frozen=True)
+class Parameter:
+    """A parameter: a number, or a pointer to a type, which the call writes unless it is const."""
+    name: str
+    type: str
+    is_pointer: bool
+    is_const: bool
+
+    def text(self):
+        return f"{'const ' if self.is_const else ''}{self.type} {'*' if self.is_pointer else ''}{self.name}"
+
+
+@dataclasses.dataclass(frozen=True)
+class Call:
+    """A call: `name` is its whole name."""
+    name: str
+    result: str
+    parameters: tuple
+
+    def names(self):
+        return tuple(it.name for it in self.parameters)
+
+    def declaration(self, name=None, kind=""):
+        """Its declaration in C, under another name if one is given."""
+        words = ", ".join(it.text() for it in self.parameters) or "void"
+        return f"{kind}{self.result} {name or self.name}({words})"
+
+
+class Unknown(Exception):
+    """What of the header is in no form that is known."""
+
+
+class Header:
+    """The header, read."""
+
+    def __init__(self, path=PE_H):
+        with open(path, encoding="utf-8") as file:
+            whole = file.read()
+        text = re.sub(r"/\*.*?\*/", "", whole, flags=re.S)
+        self.version = re.search(r'^#define PE_C_VERSION "(.*)"$', text, re.M)[1]
+        self.records = self.read_records(text)
+        self.calls = self.read_calls(text)
+        self.constants = self.read_constants(text)
+        self.results = self.read_constants(re.search(r"\benum \{\s*PE_C_DONE.*?\}", text, re.S)[0])
+        self.abi = next(int(name.removeprefix("pe_c_abi_")) for name in self.calls if name.startswith("pe_c_abi_"))
+
+    @staticmethod
+    def read_records(text):
+        sizes = {name: int(size) for name, size in re.findall(r"^PE_C_SIZE\((\w+), (\d+)\);", text, re.M)}
+        records = {}
+        for body, name in re.findall(r"typedef struct \{(.*?)\}\s*(\w+);", text, re.S):
+            fields, end, most = [], 0, 1
+            for declared in filter(None, map(str.strip, body.split(";"))):
+                form = re.fullmatch(r"(const )?(\w+) (\*?)([^*]+)", declared)
+                if not form or bool(form[1]) != bool(form[3]) or form[2] not in WIDTHS and form[2] not in records:
+                    raise Unknown(f"{name}: the field {declared}")
+                kind, star, names = form.groups()[1:]
+                size, align = (8, 8) if star else (WIDTHS[kind],) * 2 if kind in WIDTHS else (records[kind].size, records[kind].align)
+                for one in names.split(","):
+                    field, count = re.fullmatch(r"\s*(\w+)(?:\[(\d+)\])?", one).groups()
+                    offset = -(-end // align) * align
+                    fields.append(Field(field, kind, offset, int(count or 0), bool(star)))
+                    end, most = offset + size * int(count or 1), max(most, align)
+            records[name] = Record(name, -(-end // most) * most, most, tuple(fields))
+        reckoned = {name: it.size for name, it in records.items()}
+        if reckoned != sizes:
+            raise Unknown(f"sizes of records: {sorted(set(reckoned.items()) ^ set(sizes.items()))}")
+        return records
+
+    @staticmethod
+    def read_calls(text):
+        calls = {}
+        for result, name, body in re.findall(r"^(\w+) (pe_c_\w+)\(([^)]*)\)(?:\s+PE_C_\w+\([\d, ]+\))?;", text, re.M):
+            parameters = []
+            for it in re.split(r"\s*,\s*", body.strip()) if body.strip() != "void" else []:
+                form = re.fullmatch(r"(const )?(\w+) (\*?)(\w+)", re.sub(r"\s+", " ", it))
+                if not form:
+                    raise Unknown(f"{name}: the parameter {it}")
+                is_const, kind, star, own = form.groups()
+                parameters.append(Parameter(own, kind, bool(star), bool(is_const)))
+            calls[name] = Call(name, result, tuple(parameters))
+        declared = set(re.findall(r"\b(pe_c_\w+)\(", text))
+        if declared != set(calls):
+            raise Unknown(f"the declarations of {sorted(declared ^ set(calls))}")
+        return calls
+
+    @staticmethod
+    def read_constants(text):
+        constants = {}
+        for body in re.findall(r"\benum \{(.*?)\}", text, re.S):
+            for it in filter(None, map(str.strip, body.split(","))):
+                form = re.fullmatch(r"(PE_C_\w+) = (\d+)", it)
+                if not form:
+                    raise Unknown(f"the constant {it}")
+                constants[form[1]] = int(form[2])
+        return constants

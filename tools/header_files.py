@@ -1,0 +1,199 @@
+"""The files that tools/make_targets makes of bindings/pe.h: a function each, from the header as it is read to the
+file's text."""
+
+import json
+import os
+import re
+
+from header import IMAGE, TOP, WIDTHS
+
+MADE = "/* tools/make_targets makes this file of bindings/pe.h. */\n"
+# Fields of 64 bits are BigInt in JavaScript, all others numbers.
+BIGINT = "uint64_t"
+
+
+def json_of(header):
+    return {
+        "version": header.version, "abi": header.abi,
+        "calls": {name: {"result": it.result,
+                         "parameters": [[p.name, p.type, "in" if p.is_const else "out"] if p.is_pointer else [p.name, p.type]
+                                        for p in it.parameters]} for name, it in header.calls.items()},
+        "records": {name: {"size": it.size, "align": it.align,
+                           "fields": [[f.name, f.type, f.offset, f.count] for f in it.fields]}
+                    for name, it in header.records.items()},
+        "constants": header.constants,
+    }
+
+
+def calls_h(header):
+    numbers = "".join(f"    number_of_{name},\n" for name in header.calls)
+    abi = f"#define PE_C_ABI pe_c_abi_{header.abi}\n#define NUMBER_OF_ABI number_of_pe_c_abi_{header.abi}\n"
+    return (f"{MADE}#ifndef PE_C_CALLS_H\n#define PE_C_CALLS_H\n{abi}enum {{\n{numbers}    CALLS,\n    ABI = {header.abi}\n}};\n"
+            "#endif\n")
+
+
+def names_h(header):
+    names = "".join(f'    "{name}",\n' for name in header.calls)
+    return f"{MADE}static const char *const names[] = {{\n{names}}};\n"
+
+
+def layouts_c(header):
+    lines = [f"_Static_assert(sizeof({name}) == {it.size} && _Alignof({name}) == {it.align}, \"{name}\");"
+             for name, it in header.records.items()]
+    lines += [f"_Static_assert(offsetof({name}, {f.name}) == {f.offset}"
+              f" && sizeof((({name} *)0)->{f.name}) == {width_of(f, header)}, \"{name}.{f.name}\");"
+              for name, it in header.records.items() for f in it.fields]
+    lines += ["_Static_assert(sizeof(size_t) == 8 && sizeof(void *) == 8, \"pointers and lengths have 64 bits\");"]
+    return f'{MADE}#include "pe.h"\n' + "\n".join(lines) + "\n"
+
+
+def width_of(field, header):
+    one = WIDTHS[field.type] if field.type in WIDTHS else header.records[field.type].size
+    return one * (field.count or 1)
+
+
+def pe_c_def(header):
+    return f"LIBRARY pe_c-{header.abi}.dll\nEXPORTS\n" + "".join(f"    {name}\n" for name in header.calls)
+
+
+def thunks_c(header):
+    parts = [f'{MADE}#include "pe.h"\n']
+    for name, call in header.calls.items():
+        parts.append(f"{call.declaration(f'sysv_{name}', '__attribute__((sysv_abi)) ')};\n"
+                     f"{call.declaration()}\n{{\n    return sysv_{name}({', '.join(call.names())});\n}}\n")
+    return "\n".join(parts)
+
+
+def checked_h(header):
+    lines = "".join(f"{call.declaration(f'checked_{name}')};\n" for name, call in header.calls.items())
+    macros = "#define CHECKED_(call) checked_##call\n#define TARGET_CALL(call) CHECKED_(call)\n"
+    return f'{MADE}#include "pe.h"\n{macros}{lines}'
+
+
+def checked_c(header):
+    """Each argument is a number or a pointer, so all are passed as 64 bits each, also those of 32."""
+    parts = [f'{MADE}#include "checked.h"\n#include "windows/checked_call.h"\n']
+    for name, call in header.calls.items():
+        words = ", ".join(f"(uint64_t)(uintptr_t){it}" if parameter.is_pointer else it
+                          for it, parameter in zip(call.names(), call.parameters))
+        room = max(4, len(call.parameters))
+        parts.append(f"{call.declaration(f'checked_{name}')}\n{{\n    const uint64_t words[{room}] = {{{words or '0'}}};\n"
+                     f"    return ({call.result})checked_call((void (*)(void)){name}, {len(call.parameters)}, words,"
+                     f" \"{name}\");\n}}\n")
+    return "\n".join(parts)
+
+
+# ---- JavaScript
+
+
+# What the JavaScript passes itself, and calls that it makes in ways of its own.
+PASSED = {"image", "sections", "count"}
+OWN_WAYS = re.compile(r"pe_c_(image|sections|text|abi_\d+)")
+
+
+def js_parameters(call):
+    """The parameters after the file, or the file and the image: their number, and of each its name, its type and its
+    way: "in" or "out" for a pointer, "" for a number. An array has true after that, and its length the way "length"
+    and the array's name."""
+    names = call.names()
+    first = 5 if names[:5] == IMAGE else 2 if names[:2] == IMAGE[:2] else 0
+    rest = []
+    for it in call.parameters[first:]:
+        way = ("in" if it.is_const else "out") if it.is_pointer else ""
+        if it.type == "size_t" and not it.is_pointer and it.name not in PASSED:
+            rest[-1].append(True)
+            rest.append([it.name, it.type, "length", rest[-1][0]])
+        else:
+            rest.append([it.name, it.type, way])
+    return first, rest
+
+
+def layouts_mjs(header):
+    records = {name: [it.size, [[f.name, f.type, f.offset, f.count] for f in it.fields]] for name, it in header.records.items()}
+    calls = {name: [first, *rest] for name, (first, rest) in
+             ((name, js_parameters(it)) for name, it in header.calls.items() if not OWN_WAYS.fullmatch(name))}
+    results = {str(number): name for name, number in header.results.items()}
+    lines = [f"// tools/make_targets makes this file of bindings/pe.h.\nexport const version = {json.dumps(header.version)};",
+             f"export const abi = {header.abi};"]
+    for name, value in (("records", records), ("constants", header.constants), ("results", results), ("calls", calls)):
+        rows = "".join(f"  {json.dumps(key)}: {json.dumps(it)},\n" for key, it in value.items())
+        lines.append(f"export const {name} = {{\n{rows}}};")
+    return "\n".join(lines) + "\n"
+
+
+def names_mjs(_header):
+    """The names of winnt.h, from those of the program pe."""
+    with open(os.path.join(TOP, "bindings", "pe", "src", "names.rs"), encoding="utf-8") as file:
+        text = file.read()
+    tables = []
+    for name, body in re.findall(r"^pub const (\w+): &Names =\s*&\[(.*?)\];", text, re.M | re.S):
+        rows = re.findall(r'\((0x[0-9A-Fa-f_]+|\d+), "([^"]*)"\)', body)
+        tables.append((name, {str(int(number.replace("_", ""), 0)): it for number, it in rows}))
+    for name, body in re.findall(r"^pub const (\w+): \[&str; \d+\] = \[(.*?)\];", text, re.M | re.S):
+        tables.append((name, re.findall(r'"([^"]*)"', body)))
+    return "// tools/make_targets makes this file of bindings/pe/src/names.rs.\n" + "".join(
+        f"export const {name} = {json.dumps(table)};\n" for name, table in tables)
+
+
+def type_name(record):
+    """The name of a record's type: that of pe_c_image_info is PeImageInfo."""
+    return "Pe" + "".join(it.capitalize() for it in record.removeprefix("pe_c_").split("_"))
+
+
+def kind_of(parameter):
+    """The type of a parameter or of what a call makes."""
+    if not parameter.is_pointer:
+        return "bigint | number" if parameter.type in ("uint64_t", "size_t") else "number"
+    return {"uint64_t": "bigint", "uint32_t": "number", "uint8_t": "Uint8Array"}.get(parameter.type) or type_name(parameter.type)
+
+
+def call_type(call):
+    """What a call of Image.call is given, and what it returns."""
+    first, rest = js_parameters(call)
+    own = {it.name: it for it in call.parameters}
+    given, made = [], []
+    for name, _, way, *array in rest:
+        if name in PASSED or way == "length":
+            continue
+        optional = "?" if array or way == "out" else ""
+        if way == "out" and not array and own[name].type in WIDTHS:
+            made.append(own[name])
+            continue
+        given.append(f"{name}{optional}: {kind_of(own[name])}{'[]' if array and own[name].type != 'uint8_t' else ''}")
+        made += [own[name]] if way == "out" and not array else []
+    several = f"{{ {'; '.join(f'{it.name}: {kind_of(it)}' for it in made)} }}"
+    result = several if len(made) > 1 else kind_of(made[0]) if made else "true"
+    return f"  {call.name}: {{ given: {{ {'; '.join(given)} }}; made: {result} }};\n"
+
+
+def index_d_ts(header):
+    with open(os.path.join(TOP, "bindings", "js", "index.d.ts.in"), encoding="utf-8") as file:
+        parts = [file.read().rstrip("\n")]
+    for name, record in header.records.items():
+        fields = []
+        for it in record.fields:
+            kind = "bigint" if it.type == BIGINT else "number" if it.type in WIDTHS else type_name(it.type)
+            fields.append(f"  {it.name}: {kind}{'[]' if it.count else ''};\n")
+        parts.append(f"/** {name} of pe.h. */\nexport interface {type_name(name)} {{\n{''.join(fields)}}}")
+    names = "".join(f"  {name}: {type_name(name)};\n" for name in header.records)
+    parts.append(f"/** The records of pe.h by their names. */\nexport interface Records {{\n{names}}}")
+    numbers = "".join(f"  readonly {name}: {number};\n" for name, number in header.constants.items())
+    parts.append(f"/** The constants of pe.h. */\nexport declare const constants: {{\n{numbers}}};")
+    parts.append("/** The calls of pe.h on an image: what each is given, and what it returns. */\nexport interface Calls {\n"
+                 + "".join(call_type(it) for name, it in header.calls.items() if not OWN_WAYS.fullmatch(name)) + "}")
+    return "\n\n".join(parts) + "\n"
+
+
+FILES = {"calls.h": calls_h, "names.h": names_h, "layouts.c": layouts_c, "pe_c.def": pe_c_def, "thunks.c": thunks_c,
+         "checked.h": checked_h, "checked.c": checked_c,
+         "renames": lambda header: "".join(f"{name} sysv_{name}\n" for name in header.calls),
+         "pe.json": lambda header: json.dumps(json_of(header), indent=1) + "\n",
+         "layouts.mjs": layouts_mjs, "names.mjs": names_mjs, "index.d.ts": index_d_ts}
+
+
+def make(folder, header, names=tuple(FILES)):
+    """Writes files of these names into a folder."""
+    os.makedirs(folder, exist_ok=True)
+    for name in names:
+        with open(os.path.join(folder, name), "w", encoding="utf-8") as file:
+            file.write(FILES[name](header))

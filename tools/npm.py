@@ -1,0 +1,46 @@
+"""The npm package pe-c: its files put together, and packed by npm, without a network."""
+
+import glob
+import os
+import shutil
+
+import header_files
+from header import TOP, Header
+from targets import BINDINGS, run
+
+SOURCES = os.path.join(BINDINGS, "js")
+# What of the sources is in the package; the rest makes it or tests it.
+FILES = ["index.mjs", "browser.mjs", "library.mjs", "facts.mjs", "facts.d.ts", "pe-js.mjs", "README.md"]
+
+
+def write_package(wasm, folder, build):
+    """Writes the files of the package: of the folder of modules that tools/build_target makes, and the text of the
+    file BUILD."""
+    os.makedirs(folder, exist_ok=True)
+    header = Header()
+    for name in FILES:
+        shutil.copyfile(os.path.join(SOURCES, name), os.path.join(folder, name))
+    for name in ("pe_c.wasm", "pe_c64.wasm"):
+        shutil.copyfile(os.path.join(wasm, name), os.path.join(folder, name))
+    shutil.copyfile(os.path.join(TOP, "LICENSE"), os.path.join(folder, "LICENSE"))
+    header_files.make(folder, header, ["layouts.mjs", "names.mjs", "index.d.ts"])
+    with open(os.path.join(SOURCES, "package.json.in"), encoding="utf-8") as file:
+        text = file.read().replace("@VERSION@", header.version)
+    for name, content in (("package.json", text), ("BUILD", build)):
+        with open(os.path.join(folder, name), "w", encoding="utf-8") as file:
+            file.write(content)
+    os.chmod(os.path.join(folder, "pe-js.mjs"), 0o755)
+
+
+def pack(folder, to):
+    """Packs it, and returns the path of the package."""
+    run(["npm", "pack", "--silent", "--ignore-scripts", "--pack-destination", to, folder], cwd=to)
+    return glob.glob(os.path.join(to, "pe-c-*.tgz"))[0]
+
+
+def install(package, folder):
+    """Installs a package into an empty folder, without a network."""
+    os.makedirs(folder)
+    with open(os.path.join(folder, "package.json"), "w", encoding="utf-8") as file:
+        file.write('{ "name": "user", "private": true, "type": "module" }\n')
+    run(["npm", "install", "--silent", "--offline", "--no-audit", "--no-fund", "--ignore-scripts", package], cwd=folder)

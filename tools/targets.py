@@ -1,0 +1,216 @@
+"""Building the library for targets other than Linux on x86-64: of proved crates by the kit, or of code that is not
+proved.
+
+    linux-arm64     libpe_c.a, by the kit, for aarch64-unknown-linux-gnu
+    wasm            pe_c64.wasm, by the kit, for wasm64-unknown-unknown; and pe_c.wasm, that with a memory of 32 bits,
+                    by binaryen
+    windows-x64     libpe_c.a, pe_c-ABI.dll, libpe_c.dll.a, pe_c.lib and pe_c.def, of the LLVM code that the kit makes
+                    for Linux on x86-64, changed as retarget.py says, since Windows is no target of the kit
+
+A folder of a target has these files, and PROOF, which says what was proved; and for windows-x64 linux.a, the archive
+for Linux that the kit made of the same code."""
+
+import contextlib
+import os
+import re
+import shutil
+import subprocess
+import tempfile
+
+import header_files
+from header import TOP, Header
+from retarget import Compiler, Unlike, compiled, edited
+
+BINDINGS = os.path.join(TOP, "bindings")
+SOURCES = os.path.join(BINDINGS, "targets")
+CRATE = os.path.join(TOP, "crates", "pe_c")
+BUILT = os.path.join(CRATE, "out", "libpe_c.a")
+TRIPLES = {"linux-arm64": "aarch64-unknown-linux-gnu", "wasm": "wasm64-unknown-unknown", "windows-x64": "x86_64-pc-windows-gnu"}
+MINGW = "x86_64-w64-mingw32"
+# The program wine speaks of what is missing of 32 bits.
+WINE = shutil.which("wine64") or "/usr/lib/wine/wine64"
+# What each target needs to be built, and in which of Debian's packages that is.
+NEEDS = {
+    "linux-arm64": {},
+    "wasm": {"wasm-opt": "binaryen"},
+    "windows-x64": {f"{MINGW}-gcc": "gcc-mingw-w64-x86-64", f"{MINGW}-windres": "binutils-mingw-w64-x86-64",
+                    "llvm-dlltool": "llvm"},
+}
+# What the module uses beside a memory of 64 bits; engines have had it since 2021.
+FEATURES = ["--enable-bulk-memory", "--enable-sign-ext", "--enable-mutable-globals", "--enable-nontrapping-float-to-int"]
+
+
+class Failed(Exception):
+    """Why something was not built, or not tried."""
+
+
+def missing(needs):
+    """The Debian packages of the programs that are not there."""
+    return sorted({package for program, package in needs.items() if not shutil.which(program)})
+
+
+def run(words, **more):
+    """The standard output of a command, or Failed."""
+    done = subprocess.run(words, stdin=subprocess.DEVNULL, stdout=subprocess.PIPE, stderr=subprocess.STDOUT, **more)
+    said = done.stdout.decode("utf-8", "replace")
+    if done.returncode != 0:
+        raise Failed(f"{' '.join(words)}: status {done.returncode}: {said.strip()[-2000:]}")
+    return said
+
+
+def find_rt():
+    """The kit's command."""
+    return run(["bash", "-c", '. tools/kit.sh && readlink -f -- "$RT"'], cwd=TOP).strip()
+
+
+# ---- the library, of proved crates
+
+
+@contextlib.contextmanager
+def kit_that_keeps(rt, code):
+    """A kit, made of links to another, whose compiler keeps a copy of the code that it compiles last. Yields its
+    command."""
+    kit = os.path.dirname(os.path.dirname(rt))
+    with tempfile.TemporaryDirectory() as room:
+        for part in ("", "bin", "toolchain", "toolchain/bin"):
+            os.makedirs(os.path.join(room, part), exist_ok=True)
+            for name in os.listdir(os.path.join(kit, part)):
+                target = os.path.join(room, part, name)
+                # the kit's command takes the folder that it stands in for the kit
+                if name.startswith("rt") and part == "bin":
+                    shutil.copy2(os.path.join(kit, part, name), target)
+                elif os.path.join(part, name) not in ("bin", "toolchain", "toolchain/bin", "toolchain/bin/clang"):
+                    os.symlink(os.path.join(kit, part, name), target)
+        script = os.path.join(room, "toolchain/bin/clang")
+        with open(script, "w", encoding="utf-8") as file:
+            file.write(f'#!/bin/sh\nfor word in "$@"; do\n  case $word in *.bc) cp -- "$word" "{code}" ;; esac\ndone\n'
+                       f'exec "{kit}/toolchain/bin/clang" "$@"\n')
+        os.chmod(script, 0o755)
+        yield os.path.join(room, "bin", "rt")
+
+
+def archive_of_kit(rt, out, words):
+    """Proves what has changed of the crates, and writes the archive by `rt lib`. The archive for Linux on x86-64
+    stays as it is."""
+    kept = f"{BUILT}.kept"
+    if os.path.exists(BUILT):
+        os.replace(BUILT, kept)
+    try:
+        said = run([rt, "lib", *words], cwd=CRATE)
+        proofs = re.findall(r"^logic=proved .*", said, re.M)
+        if not proofs:
+            raise Failed(f"no proof of pe_c: {said[-2000:]}")
+        os.replace(BUILT, out)
+    finally:
+        if os.path.exists(kept):
+            os.replace(kept, BUILT)
+    return proofs[-1]
+
+
+# ---- the library, of code
+
+
+def archive_of_code(target, text, out, level="-O2"):
+    """Writes the archive of the target, of LLVM code. The kit compiles what is proved at -O3."""
+    compiler = Compiler(find_rt())
+    folder = os.path.dirname(out)
+    piece = os.path.join(folder, "calls.o")
+    flags = [level, *{"linux-arm64": ["-fPIC"], "wasm": ["-mbulk-memory"], "windows-x64": []}[target]]
+    if target == "wasm":
+        # what the kit's linker exports
+        text = edited(text, r"^(define .*@(pe_c_\w+)\(.*\) #\d+) \{", r'\1 "wasm-export-name"="\2" {')
+    compiled(compiler, text, TRIPLES[target], piece, flags)
+    pieces = [piece]
+    if target == "windows-x64":
+        pieces.append(os.path.join(folder, "chkstk.o"))
+        source = os.path.join(SOURCES, "windows", "chkstk.S")
+        run([compiler.tool("clang"), f"--target={TRIPLES[target]}", "-c", source, "-o", pieces[1]])
+    with contextlib.suppress(FileNotFoundError):
+        os.remove(out)
+    run([compiler.tool("llvm-ar"), "rcsD", out, *pieces])
+    for it in pieces:
+        os.remove(it)
+
+
+# ---- the other files of a target
+
+
+def lowered(module, out):
+    """Writes the module with a memory of 32 bits in place of 64. Pointers and lengths stay numbers of 64 bits at its
+    calls."""
+    run(["wasm-opt", "--enable-memory64", *FEATURES, "--memory64-lowering", module, "-o", out])
+
+
+def finish_wasm(folder):
+    kit = os.path.dirname(os.path.dirname(find_rt()))
+    archive, module = (os.path.join(folder, it) for it in ("libpe_c.a", "pe_c64.wasm"))
+    run([os.path.join(kit, "bin", "rattle-link"), "--target", TRIPLES["wasm"], "--toolchain", os.path.join(kit, "toolchain"),
+         "-o", module, archive])
+    lowered(module, os.path.join(folder, "pe_c.wasm"))
+    os.remove(archive)
+
+
+def write_resource(path, header):
+    """The script of the DLL's version resource."""
+    with open(os.path.join(SOURCES, "windows", "pe_c.rc.in"), encoding="utf-8") as file:
+        text = file.read()
+    numbers = (header.version.split(".") + ["0"] * 4)[:4]
+    for name, value in (("VERSION", header.version), ("COMMAS", ",".join(numbers)), ("ABI", str(header.abi))):
+        text = text.replace(f"@{name}@", value)
+    with open(path, "w", encoding="utf-8") as file:
+        file.write(text)
+
+
+def link_dll(folder, dll, objects):
+    """Links a DLL that exports the calls of pe.h: reproducibly, without start-up code, for any base."""
+    exports = os.path.join(folder, "pe_c.def")
+    flags = "-Wl,--no-insert-timestamp,--image-base,0x180000000,--dynamicbase,--nxcompat,--high-entropy-va"
+    run([f"{MINGW}-gcc", "-shared", "-s", "-nostartfiles", "-o", dll, *objects, exports, flags, "-lmsvcrt"], cwd=folder)
+
+
+def finish_windows(folder):
+    header = Header()
+    header_files.make(folder, header, ["pe_c.def"])
+    dll = f"pe_c-{header.abi}.dll"
+    with tempfile.TemporaryDirectory() as room:
+        pieces = [os.path.join(room, it) for it in ("dll.o", "version.o")]
+        source = os.path.join(SOURCES, "windows", "dll.c")
+        run([f"{MINGW}-gcc", "-O2", "-Wall", "-Wextra", "-Werror", "-c", source, "-o", pieces[0]])
+        write_resource(os.path.join(room, "pe_c.rc"), header)
+        run([f"{MINGW}-windres", os.path.join(room, "pe_c.rc"), pieces[1]])
+        archive = ["-Wl,--whole-archive", os.path.join(folder, "libpe_c.a"), "-Wl,--no-whole-archive"]
+        link_dll(folder, os.path.join(folder, dll), [*pieces, *archive])
+    exports = os.path.join(folder, "pe_c.def")
+    # short import libraries, which mingw's linker takes too; its own dlltool makes other bytes each time
+    for library in ("libpe_c.dll.a", "pe_c.lib"):
+        run(["llvm-dlltool", "-m", "i386:x86-64", "-d", exports, "-D", dll, "-l", os.path.join(folder, library)])
+
+
+FINISH = {"linux-arm64": lambda folder: None, "wasm": finish_wasm, "windows-x64": finish_windows}
+
+
+def build(target, folder, code=None, words=()):
+    """Builds the files of a target into a folder: of proved crates, by `rt lib` with these words more, or of the text
+    of LLVM code, which is not proved. Returns the line that says what was proved, or "not proved"."""
+    lacking = missing(NEEDS[target])
+    if lacking:
+        raise Failed(f"{target}: programs of the Debian packages {', '.join(lacking)} are missing")
+    folder = os.path.realpath(folder)
+    os.makedirs(folder, exist_ok=True)
+    archive = os.path.join(folder, "libpe_c.a")
+    proof = "not proved"
+    if code is None and target == "windows-x64":
+        kept = os.path.join(folder, "module.bc")
+        rt = find_rt()
+        with kit_that_keeps(rt, kept) as own:
+            proof = archive_of_kit(own, os.path.join(folder, "linux.a"), ["--cpu", "x86-64", *words])
+        archive_of_code(target, Compiler(rt).text(kept), archive, "-O3")
+        os.remove(kept)
+    elif code is None:
+        proof = archive_of_kit(find_rt(), archive, ["--target", TRIPLES[target], *words])
+    else:
+        archive_of_code(target, code, archive)
+    FINISH[target](folder)
+    with open(os.path.join(folder, "PROOF"), "w", encoding="utf-8") as file:
+        file.write(f"{proof}\n")
+    return proof
