@@ -53,7 +53,7 @@ pub enum Topic {
     Certificates,
     /// The functions of x64 and ARM64, by their unwind data
     Functions,
-    /// Version information, and the length of the manifest
+    /// Version information, and what the manifest asks for
     Version,
     /// Thread-local storage, with the callbacks that run before the entry point
     Tls,
@@ -123,6 +123,20 @@ fn kind_of(bytes: &[u8]) -> Option<&'static str> {
 /// Whether two bytes are the number of a machine.
 fn is_machine(low: u8, high: u8) -> bool {
     name_of(u16::from_le_bytes([low, high]).into(), MACHINES).is_some()
+}
+
+/// What each line of JSON starts with, of a command that has no parts: whose file it is.
+#[derive(Clone, Debug, Serialize)]
+pub struct Origin {
+    json_version: u32,
+    pub file: String,
+    file_hex: Option<String>,
+}
+
+impl Origin {
+    pub fn of(path: &Path) -> Origin {
+        Origin { json_version: JSON_VERSION, file: path.to_string_lossy().into_owned(), file_hex: hex_of_path(path) }
+    }
 }
 
 /// The bytes of a path that is not UTF-8.

@@ -97,6 +97,13 @@ fn checksums_are_right_wrong_or_none() {
     assert_eq!(state(&bytes), "wrong");
     let (out, _, status) = run(&["checksum", &file]);
     assert_eq!((out.contains("a.dll: 0x0000111d, wrong: 0x0000"), status), (true, 0), "{out}");
+    let (out, _, status) = run(&["checksum", "--json", &file, &folder.file("b.dll", b"MZ")]);
+    let lines: Vec<Value> = out.lines().map(|line| serde_json::from_str(line).unwrap()).collect();
+    assert_eq!(
+        (&lines[0]["checksum"], &lines[0]["checksum_state"], &lines[0]["error"], status),
+        (&json!(0x111D), &json!("wrong"), &json!(null), 1)
+    );
+    assert_eq!((&lines[1]["right_checksum"], &lines[1]["error"]["name"]), (&json!(null), &json!("SHORT")));
     let fixed = folder.0.join("fixed.dll");
     let fixed = fixed.to_str().unwrap();
     assert_eq!(run(&["checksum", "--fix", fixed, &file]).2, 0);
@@ -400,6 +407,7 @@ fn what_may_never_end_is_not_read() {
     folder.file("a.exe", made::SMALL);
     let (out, error, status) = run(&["-r", "-v", folder.0.to_str().unwrap()]);
     assert_eq!((out.matches("PE32+ program").count(), status), (1, 0), "{error}");
+    assert!(error.ends_with("pe: 3 files skipped, no images\n"), "{error}");
     for name in ["pipe: skipped, it is no regular file", "ring: skipped, the link", "lost: skipped, the link"] {
         assert!(error.contains(name), "{error}");
     }
@@ -435,6 +443,9 @@ fn lines_fit_the_columns() {
             .output()
             .unwrap();
         let said = String::from_utf8(ran.stdout).unwrap();
+        let is_whole =
+            said.lines().filter(|it| it.contains(" r-x ")).all(|it| it.contains(" at 0x1000") && it.contains('.'));
+        assert!(is_whole, "{columns}: a section stands on one line\n{said}");
         let widest = said.lines().filter(|it| !it.contains("SHA-256")).map(|it| it.chars().count()).max().unwrap();
         assert!(widest <= columns.parse().unwrap(), "{columns}: {widest}\n{said}");
     }

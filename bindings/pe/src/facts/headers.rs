@@ -93,12 +93,16 @@ fn checksum_of(image: &Image<'_>) -> (Option<u32>, Option<&'static str>) {
         return (None, None);
     }
     let right = image.checksum().ok().map(|it| it.value);
-    let state = right.map(|right| match image.info().checksum {
+    (right, right.map(|right| checksum_state(image.info().checksum, right)))
+}
+
+/// `none` for 0, `right`, or `wrong`.
+pub fn checksum_state(own: u32, right: u32) -> &'static str {
+    match own {
         0 => "none",
         it if it == right => "right",
         _ => "wrong",
-    });
-    (right, state)
+    }
 }
 
 fn directories_of(image: &Image<'_>) -> Vec<Directory> {
