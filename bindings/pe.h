@@ -259,6 +259,100 @@ uint32_t pe_c_sections(const uint8_t *bytes, size_t length, const pe_c_image_inf
 uint32_t pe_c_offset(const pe_c_image_info *image, const pe_c_section *sections, size_t count, uint32_t rva,
                      uint64_t *out) PE_C_RESULT(1, 5);
 
+/* ---- all numbers of the headers
+ *
+ * pe_c_image reads of them what other calls take; this call reads all. Fields have the names of winnt.h, without abbreviations. */
+
+/* IMAGE_DOS_HEADER, in its layout. Windows reads the first field and the last alone. */
+typedef struct {
+    uint16_t signature;             /* e_magic: 0x5A4D, "MZ" */
+    uint16_t bytes_on_last_page;    /* e_cblp */
+    uint16_t pages_in_file;         /* e_cp: of 512 bytes */
+    uint16_t relocations;           /* e_crlc */
+    uint16_t size_of_header_in_paragraphs;  /* e_cparhdr: of 16 bytes */
+    uint16_t minimum_extra_paragraphs;  /* e_minalloc */
+    uint16_t maximum_extra_paragraphs;  /* e_maxalloc */
+    uint16_t initial_relative_ss;   /* e_ss */
+    uint16_t initial_sp;            /* e_sp */
+    uint16_t checksum;              /* e_csum */
+    uint16_t initial_ip;            /* e_ip */
+    uint16_t initial_relative_cs;   /* e_cs */
+    uint16_t relocations_offset;    /* e_lfarlc */
+    uint16_t overlay_number;        /* e_ovno */
+    uint16_t reserved[4];           /* e_res */
+    uint16_t oem_id;                /* e_oemid */
+    uint16_t oem_information;       /* e_oeminfo */
+    uint16_t reserved2[10];         /* e_res2 */
+    uint32_t pe_pointer;            /* e_lfanew: file offset of the PE signature */
+} pe_c_dos_header;
+
+/* IMAGE_FILE_HEADER. */
+typedef struct {
+    uint32_t time_date_stamp;       /* seconds since 1970, or a hash in a reproducible build */
+    uint32_t pointer_to_symbol_table;   /* file offset of the COFF symbols, or 0 */
+    uint32_t number_of_symbol_table;    /* their entries of 18 bytes, auxiliary records included */
+    uint16_t machine;               /* IMAGE_FILE_MACHINE_ */
+    uint16_t number_of_sections;
+    uint16_t size_of_optional_header;   /* bytes; 0 where there is no optional header */
+    uint16_t characteristics;       /* IMAGE_FILE_ flags */
+} pe_c_coff_header;
+
+/* IMAGE_OPTIONAL_HEADER32 or IMAGE_OPTIONAL_HEADER64. */
+typedef struct {
+    uint64_t image_base;            /* preferred virtual address of the image */
+    uint64_t size_of_stack_reserve; /* bytes */
+    uint64_t size_of_stack_commit;  /* bytes */
+    uint64_t size_of_heap_reserve;  /* bytes */
+    uint64_t size_of_heap_commit;   /* bytes */
+    uint32_t size_of_code;          /* bytes */
+    uint32_t size_of_initialized_data;  /* bytes */
+    uint32_t size_of_uninitialized_data;    /* bytes */
+    uint32_t address_of_entry_point;    /* RVA, or 0 */
+    uint32_t base_of_code;          /* RVA */
+    uint32_t base_of_data;          /* RVA; 0 in PE32+, which has no such field */
+    uint32_t section_alignment;     /* bytes */
+    uint32_t file_alignment;        /* bytes */
+    uint32_t win32_version_value;   /* reserved */
+    uint32_t size_of_image;         /* bytes in memory */
+    uint32_t size_of_headers;       /* bytes in the file, rounded up to the file alignment */
+    uint32_t check_sum;
+    uint32_t loader_flags;          /* reserved */
+    uint32_t number_of_rva_and_sizes;   /* directories, as the header says */
+    uint32_t number_of_directories; /* those of them that are kept, at most 16 */
+    uint16_t magic;                 /* 0x10B in PE32, 0x20B in PE32+ */
+    uint16_t major_operating_system_version;
+    uint16_t minor_operating_system_version;
+    uint16_t major_image_version;
+    uint16_t minor_image_version;
+    uint16_t major_subsystem_version;
+    uint16_t minor_subsystem_version;
+    uint16_t subsystem;             /* IMAGE_SUBSYSTEM_ */
+    uint16_t dll_characteristics;   /* IMAGE_DLLCHARACTERISTICS_ flags */
+    uint8_t major_linker_version;
+    uint8_t minor_linker_version;
+} pe_c_optional_header;
+
+/* Without an optional header its numbers and both offsets are 0, and all directories are absent. */
+typedef struct {
+    pe_c_optional_header optional;
+    pe_c_range dos_stub;            /* between the DOS header and the PE signature; no bytes where these overlap */
+    uint64_t optional_offset;       /* of the optional header */
+    uint64_t directories_offset;    /* of the data directories, 8 bytes each */
+    pe_c_dos_header dos;
+    pe_c_coff_header coff;
+    uint32_t signature;             /* 0x4550, "PE" */
+    pe_c_directory directories[16]; /* by their indices; absent from number_of_directories on */
+} pe_c_headers_info;
+
+PE_C_SIZE(pe_c_dos_header, 64);
+PE_C_SIZE(pe_c_coff_header, 20);
+PE_C_SIZE(pe_c_optional_header, 120);
+PE_C_SIZE(pe_c_headers_info, 368);
+
+/* Reads all numbers of the headers of an image, which are at the same offsets in a file and in memory.
+ * Errors are those of pe_c_image. */
+uint32_t pe_c_headers(const uint8_t *bytes, size_t length, uint32_t mode, pe_c_headers_info *out) PE_C_RESULT(4);
+
 /* ---- the overlay */
 
 /* Returns the range of the bytes after the headers and the raw data of all sections, which no loader reads: where installers

@@ -12,6 +12,7 @@ mod debug;
 mod debug_walks;
 mod delay_imports;
 mod exports;
+mod headers;
 mod image;
 mod imports;
 mod load_config;

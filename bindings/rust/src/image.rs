@@ -6,7 +6,7 @@
 //! library are made here and in `walk`.
 
 use crate::frames::MemoryList;
-use crate::sys::{self, Directory, ImageInfo, Section};
+use crate::sys::{self, Directory, Headers, ImageInfo, Section};
 use alloc::vec::Vec;
 use core::fmt;
 
@@ -426,6 +426,20 @@ impl<'a> Image<'a> {
     /// The headers.
     pub fn info(&self) -> &ImageInfo {
         &self.info
+    }
+
+    /// All numbers of the headers, by their names: of the DOS header, the COFF header and the optional header. [`Image::info`]
+    /// has those that most callers need, and reads nothing anew.
+    ///
+    /// # Errors
+    ///
+    /// None of a file: they are those of [`Image::parse_as`], which would have returned them.
+    pub fn headers(&self) -> Result<Headers, Error> {
+        let mut headers = Headers::default();
+        // SAFETY: as above.
+        let number =
+            unsafe { sys::pe_c_headers(self.bytes.as_ptr(), self.bytes.len(), self.info.mode, &mut headers) };
+        Error::of(number).map(|()| headers)
     }
 
     /// The section headers, in the order of the file.

@@ -9,7 +9,7 @@
 //!
 //! | part | methods | layout |
 //! |---|---|---|
-//! | headers, sections | [`info`](Image::info), [`sections`](Image::sections), [`offset`](Image::offset) | [PE Format] |
+//! | headers, sections | [`info`](Image::info), [`headers`](Image::headers), [`sections`](Image::sections), [`offset`](Image::offset) | [PE Format] |
 //! | debug data | [`symbol_key`](Image::symbol_key), [`debug_entries`](Image::debug_entries), [`pogo`](Image::pogo), .. | [debug section] |
 //! | certificates | [`certificates`](Image::certificates) | [certificate table] |
 //! | signing | [`digest_ranges`](Image::digest_ranges), [`checksum`](Image::checksum), [`attach`](Image::attach), [`detach`](Image::detach) | [image hash] |
@@ -127,8 +127,8 @@ pub use signing::{Checksum, DigestRanges, Placement};
 pub use stack_walk::{End, Frame, Frames, MachineRegisters, Module, WalkMemory, Way};
 pub use symbol_server::{Guid, SymbolPath};
 pub use sys::{
-    Arm64Function, Arm64Packed, Arm64Registers, Arm64Scope, DebugEntry, Directory, Function, ImageInfo, MemoryPiece,
-    Registers, Scope, Section, VcFeatures,
+    Arm64Function, Arm64Packed, Arm64Registers, Arm64Scope, CoffHeader, DebugEntry, Directory, DosHeader, Function,
+    Headers, ImageInfo, MemoryPiece, OptionalHeader, Registers, Scope, Section, VcFeatures,
 };
 pub use tls::{Tls, TlsCallbacks};
 pub use version::{FixedVersion, Text, VersionName};

@@ -112,6 +112,153 @@ Section, 40 {
     characteristics: u32,
 });
 record!(
+/// `IMAGE_DOS_HEADER`. Windows reads the first field and the last alone.
+DosHeader, 64 {
+    /// `e_magic`: 0x5A4D, "MZ".
+    signature: u16,
+    /// `e_cblp`.
+    bytes_on_last_page: u16,
+    /// `e_cp`: of 512 bytes.
+    pages_in_file: u16,
+    /// `e_crlc`: how many.
+    relocations: u16,
+    /// `e_cparhdr`: of 16 bytes.
+    size_of_header_in_paragraphs: u16,
+    /// `e_minalloc`.
+    minimum_extra_paragraphs: u16,
+    /// `e_maxalloc`.
+    maximum_extra_paragraphs: u16,
+    /// `e_ss`.
+    initial_relative_ss: u16,
+    /// `e_sp`.
+    initial_sp: u16,
+    /// `e_csum`.
+    checksum: u16,
+    /// `e_ip`.
+    initial_ip: u16,
+    /// `e_cs`.
+    initial_relative_cs: u16,
+    /// `e_lfarlc`: file offset of the relocations.
+    relocations_offset: u16,
+    /// `e_ovno`.
+    overlay_number: u16,
+    /// `e_res`.
+    reserved: [u16; 4],
+    /// `e_oemid`.
+    oem_id: u16,
+    /// `e_oeminfo`.
+    oem_information: u16,
+    /// `e_res2`.
+    reserved2: [u16; 10],
+    /// `e_lfanew`: file offset of the PE signature.
+    pe_pointer: u32,
+});
+record!(
+/// `IMAGE_FILE_HEADER`.
+CoffHeader, 20 {
+    /// Seconds since 1970, or a hash in a reproducible build.
+    time_date_stamp: u32,
+    /// File offset of the COFF symbols, or 0.
+    pointer_to_symbol_table: u32,
+    /// Their entries of 18 bytes, auxiliary records included.
+    number_of_symbol_table: u32,
+    /// `IMAGE_FILE_MACHINE_`.
+    machine: u16,
+    /// The number of section headers.
+    number_of_sections: u16,
+    /// In bytes; 0 where there is no optional header.
+    size_of_optional_header: u16,
+    /// `IMAGE_FILE_` flags.
+    characteristics: u16,
+});
+record!(
+/// `IMAGE_OPTIONAL_HEADER32` or `IMAGE_OPTIONAL_HEADER64`.
+OptionalHeader, 120 {
+    /// The preferred virtual address of the image.
+    image_base: u64,
+    /// Bytes of the stack to reserve.
+    size_of_stack_reserve: u64,
+    /// Bytes of the stack to commit.
+    size_of_stack_commit: u64,
+    /// Bytes of the heap to reserve.
+    size_of_heap_reserve: u64,
+    /// Bytes of the heap to commit.
+    size_of_heap_commit: u64,
+    /// In bytes, of all sections of code.
+    size_of_code: u32,
+    /// In bytes, of all sections of initialized data.
+    size_of_initialized_data: u32,
+    /// In bytes, of all sections of uninitialized data.
+    size_of_uninitialized_data: u32,
+    /// RVA, or 0.
+    address_of_entry_point: u32,
+    /// RVA.
+    base_of_code: u32,
+    /// RVA; 0 in PE32+, which has no such field.
+    base_of_data: u32,
+    /// In bytes.
+    section_alignment: u32,
+    /// In bytes.
+    file_alignment: u32,
+    /// Reserved.
+    win32_version_value: u32,
+    /// In bytes, of the image in memory.
+    size_of_image: u32,
+    /// In bytes, rounded up to the file alignment.
+    size_of_headers: u32,
+    /// `CheckSum`, as the file has it.
+    check_sum: u32,
+    /// Reserved.
+    loader_flags: u32,
+    /// Directories, as the header says.
+    number_of_rva_and_sizes: u32,
+    /// Those of them that are kept, at most 16.
+    number_of_directories: u32,
+    /// 0x10B in PE32, 0x20B in PE32+.
+    magic: u16,
+    /// The major version of the operating system that is required.
+    major_operating_system_version: u16,
+    /// The minor version of the operating system that is required.
+    minor_operating_system_version: u16,
+    /// The major version of the image.
+    major_image_version: u16,
+    /// The minor version of the image.
+    minor_image_version: u16,
+    /// The major version of the subsystem.
+    major_subsystem_version: u16,
+    /// The minor version of the subsystem.
+    minor_subsystem_version: u16,
+    /// `IMAGE_SUBSYSTEM_`.
+    subsystem: u16,
+    /// `IMAGE_DLLCHARACTERISTICS_` flags.
+    dll_characteristics: u16,
+    /// The major version of the linker.
+    major_linker_version: u8,
+    /// The minor version of the linker.
+    minor_linker_version: u8,
+});
+record!(
+/// All numbers of the headers of an image. Without an optional header its numbers and both offsets are 0, and all directories are
+/// absent.
+Headers, 368 {
+    /// The optional header.
+    optional: OptionalHeader,
+    /// Between the DOS header and the PE signature; no bytes where these overlap.
+    dos_stub: Range,
+    /// Offset of the optional header.
+    optional_offset: u64,
+    /// Offset of the data directories, 8 bytes each.
+    directories_offset: u64,
+    /// The DOS header.
+    dos: DosHeader,
+    /// The COFF header.
+    coff: CoffHeader,
+    /// 0x4550, "PE".
+    signature: u32,
+    /// By their indices, `IMAGE_DIRECTORY_ENTRY_` of winnt.h; absent from `number_of_directories` on.
+    directories: [Directory; 16],
+});
+record!(
 /// An entry of the debug directory, `IMAGE_DEBUG_DIRECTORY`.
 DebugEntry, 28 {
     /// Reserved.
@@ -1094,6 +1241,8 @@ extern "C" {
 calls_of_bytes! {
     /// Reads the headers of an image.
     pe_c_image(mode: u32) -> ImageInfo;
+    /// Reads all numbers of the headers of an image.
+    pe_c_headers(mode: u32) -> Headers;
     /// Returns the next entry of the debug directory.
     pe_c_next_debug_entry(walk: *mut Range) -> DebugEntry;
     /// Returns the symbol key of a CodeView record that stands alone.

@@ -25,11 +25,14 @@ abbrev pub all_directories : List DataDirectory → List DataDirectory
 all_directories kept =
     map (λ i. or_absent (present kept i)) (0 ∷ 1 ∷ 2 ∷ 3 ∷ 4 ∷ 5 ∷ 6 ∷ 7 ∷ 8 ∷ 9 ∷ 10 ∷ 11 ∷ 12 ∷ 13 ∷ 14 ∷ 15 ∷ [])
 
+-- the file offset of the data directories of an optional header at this offset
+abbrev pub directories_at : ℕ → OptionalHeaderView → ℕ
+directories_at start o = start + directories_offset (o.standard_fields.magic == 0x20B)
+
 -- the file offset of the certificate table's directory, the fifth, in an optional header at this offset, if that keeps
 -- it; else 0
 abbrev pub certificate_entry : ℕ → OptionalHeaderView → ℕ
-certificate_entry start o =
-    if nat_lt 4 (length o.data_directories) then start + directories_offset (o.standard_fields.magic == 0x20B) + 8 * 4 else 0
+certificate_entry start o = if nat_lt 4 (length o.data_directories) then directories_at start o + 8 * 4 else 0
 
 -- what the headers say before the optional header; zeros for what that says. With it goes the mode in which
 -- they were read

@@ -30,3 +30,4 @@ pub mod BoundImports
 pub mod SectionNames
 pub mod VersionBlocks
 pub mod Overlays
+pub mod Headers

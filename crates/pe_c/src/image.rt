@@ -10,7 +10,7 @@ ghost use Rattle.pe_core.specs.Refusals.{answer_of};
 ghost use Rattle.pe_core.specs.Records.{section_table};
 ghost use Rattle.pe_core.specs.Rows.{rows};
 ghost use Rattle.pe_c.specs.HandsOut.{HandsOut, HandsOutIf};
-ghost use Rattle.pe_c.specs.Images.{all_directories, certificate_entry, directory, or_absent, is_absent, image_info_of, image_at, map_of_image, with_optional, PutsSections};
+ghost use Rattle.pe_c.specs.Images.{all_directories, certificate_entry, directories_at, directory, or_absent, is_absent, image_info_of, image_at, map_of_image, with_optional, PutsSections};
 
 use crate::results::{DONE, NOTHING, ROOM, hand_out, number_of, options};
 use pe_core::{
@@ -90,7 +90,7 @@ pub const CLR_RUNTIME_HEADER: usize = 14;
 pub const BOUND_IMPORT_TABLE: usize = 11;
 
 /// Bytes from the PE signature to the optional header.
-const SIZE_BEFORE_OPTIONAL_HEADER: u64 = 24;
+pub const SIZE_BEFORE_OPTIONAL_HEADER: u64 = 24;
 
 /// Bytes from the optional header to its checksum.
 const CHECKSUM_IN_HEADER: u64 = 64;
@@ -104,7 +104,7 @@ const DIRECTORIES_IN_HEADER_64: u64 = 112;
 const CERTIFICATE_ENTRY: u64 = 32;
 
 /// A directory that is absent.
-const ABSENT: DataDirectory = DataDirectory {
+pub const ABSENT: DataDirectory = DataDirectory {
     virtual_address: 0,
     size: 0,
 };
@@ -136,7 +136,7 @@ pub fn directory(image: &Image, index: usize) -> DataDirectory
 }
 
 /// All sixteen directories: those that the header does not have are absent.
-fn directories_of(kept: &DataDirectories) -> [DataDirectory; 16]
+pub fn directories_of(kept: &DataDirectories) -> [DataDirectory; 16]
     ensures { result ≡ all_directories (kept_rows kept.now) }
 {
     [
@@ -159,6 +159,18 @@ fn directories_of(kept: &DataDirectories) -> [DataDirectory; 16]
     ]
 }
 
+/// The offset of the data directories in an optional header at an offset.
+pub fn directories_at(start: u64, optional: &OptionalHeader) -> u64
+    requires { start ≤ 2 ^ 33 }
+    ensures { result ≡ directories_at start (optional_header_view optional.now) }
+{
+    if optional.standard_fields.magic == MAGIC_64 {
+        start + DIRECTORIES_IN_HEADER_64
+    } else {
+        start + DIRECTORIES_IN_HEADER_32
+    }
+}
+
 /// The offset of the certificate table's entry in an optional header at an offset; 0 where it has no such entry.
 fn certificate_entry(start: u64, optional: &OptionalHeader) -> u64
     requires { start ≤ 2 ^ 33 }
@@ -167,12 +179,7 @@ fn certificate_entry(start: u64, optional: &OptionalHeader) -> u64
     if optional.data_directories.rows().len() <= 4 {
         return 0;
     }
-    let directories = if optional.standard_fields.magic == MAGIC_64 {
-        DIRECTORIES_IN_HEADER_64
-    } else {
-        DIRECTORIES_IN_HEADER_32
-    };
-    start + directories + CERTIFICATE_ENTRY
+    directories_at(start, optional) + CERTIFICATE_ENTRY
 }
 
 /// The offset of an RVA of an image.

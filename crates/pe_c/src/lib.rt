@@ -22,6 +22,7 @@ mod delay_imports;
 mod directories;
 mod export_addresses;
 mod exports;
+mod headers;
 mod image;
 mod imports;
 pub mod laws;

@@ -1,0 +1,327 @@
+//! All numbers of headers. The images have bytes that count up with their offset, so that a field at offset 0x48 of 4 bytes is
+//! 0x4B4A4948; the offsets of fields are those of winnt.h.
+
+use super::made::{HEADER_POINTER, MAPPED, PERMISSIVE, SHORT, STRICT};
+use crate::headers::{CoffFields, DosFields, Headers, OptionalFields, pe_c_headers};
+use crate::ranges::Range;
+use crate::results::DONE;
+use pe_core::DataDirectory;
+use pe_images::{
+    pointer_below_64, put, with_every_directory, with_every_directory_of_x86,
+};
+use std::test::Fail;
+
+const NOWHERE: DataDirectory = DataDirectory {
+    virtual_address: 9,
+    size: 9,
+};
+
+/// What headers are before a call that hands out others.
+fn untouched() -> Headers {
+    Headers {
+        optional: OptionalFields {
+            image_base: 9,
+            size_of_stack_reserve: 9,
+            size_of_stack_commit: 9,
+            size_of_heap_reserve: 9,
+            size_of_heap_commit: 9,
+            size_of_code: 9,
+            size_of_initialized_data: 9,
+            size_of_uninitialized_data: 9,
+            address_of_entry_point: 9,
+            base_of_code: 9,
+            base_of_data: 9,
+            section_alignment: 9,
+            file_alignment: 9,
+            win32_version_value: 9,
+            size_of_image: 9,
+            size_of_headers: 9,
+            check_sum: 9,
+            loader_flags: 9,
+            number_of_rva_and_sizes: 9,
+            number_of_directories: 9,
+            magic: 9,
+            major_operating_system_version: 9,
+            minor_operating_system_version: 9,
+            major_image_version: 9,
+            minor_image_version: 9,
+            major_subsystem_version: 9,
+            minor_subsystem_version: 9,
+            subsystem: 9,
+            dll_characteristics: 9,
+            major_linker_version: 9,
+            minor_linker_version: 9,
+        },
+        dos_stub: Range {
+            offset: 9,
+            length: 9,
+        },
+        optional_offset: 9,
+        directories_offset: 9,
+        dos: DosFields {
+            signature: 9,
+            bytes_on_last_page: 9,
+            pages_in_file: 9,
+            relocations: 9,
+            size_of_header_in_paragraphs: 9,
+            minimum_extra_paragraphs: 9,
+            maximum_extra_paragraphs: 9,
+            initial_relative_ss: 9,
+            initial_sp: 9,
+            checksum: 9,
+            initial_ip: 9,
+            initial_relative_cs: 9,
+            relocations_offset: 9,
+            overlay_number: 9,
+            reserved: [9; 4],
+            oem_id: 9,
+            oem_information: 9,
+            reserved2: [9; 10],
+            pe_pointer: 9,
+        },
+        coff: CoffFields {
+            time_date_stamp: 9,
+            pointer_to_symbol_table: 9,
+            number_of_symbol_table: 9,
+            machine: 9,
+            number_of_sections: 9,
+            size_of_optional_header: 9,
+            characteristics: 9,
+        },
+        signature: 9,
+        directories: [NOWHERE; 16],
+    }
+}
+
+/// The words of a DOS header before its last field, in their order.
+fn dos_words(dos: &DosFields) -> [u16; 30] {
+    let mut words = [0; 30];
+    let first = [
+        dos.signature,
+        dos.bytes_on_last_page,
+        dos.pages_in_file,
+        dos.relocations,
+        dos.size_of_header_in_paragraphs,
+        dos.minimum_extra_paragraphs,
+        dos.maximum_extra_paragraphs,
+        dos.initial_relative_ss,
+        dos.initial_sp,
+        dos.checksum,
+        dos.initial_ip,
+        dos.initial_relative_cs,
+        dos.relocations_offset,
+        dos.overlay_number,
+    ];
+    words[..14].copy_from_slice(&first);
+    words[14..18].copy_from_slice(&dos.reserved);
+    words[18] = dos.oem_id;
+    words[19] = dos.oem_information;
+    words[20..].copy_from_slice(&dos.reserved2);
+    words
+}
+
+fn coff_numbers(coff: &CoffFields) -> [u32; 7] {
+    [
+        u32::from(coff.machine),
+        u32::from(coff.number_of_sections),
+        coff.time_date_stamp,
+        coff.pointer_to_symbol_table,
+        coff.number_of_symbol_table,
+        u32::from(coff.size_of_optional_header),
+        u32::from(coff.characteristics),
+    ]
+}
+
+/// The numbers of an optional header in the order of winnt.h, without the magic number.
+fn optional_numbers(optional: &OptionalFields) -> [u64; 29] {
+    [
+        u64::from(optional.major_linker_version),
+        u64::from(optional.minor_linker_version),
+        u64::from(optional.size_of_code),
+        u64::from(optional.size_of_initialized_data),
+        u64::from(optional.size_of_uninitialized_data),
+        u64::from(optional.address_of_entry_point),
+        u64::from(optional.base_of_code),
+        u64::from(optional.base_of_data),
+        optional.image_base,
+        u64::from(optional.section_alignment),
+        u64::from(optional.file_alignment),
+        u64::from(optional.major_operating_system_version),
+        u64::from(optional.minor_operating_system_version),
+        u64::from(optional.major_image_version),
+        u64::from(optional.minor_image_version),
+        u64::from(optional.major_subsystem_version),
+        u64::from(optional.minor_subsystem_version),
+        u64::from(optional.win32_version_value),
+        u64::from(optional.size_of_image),
+        u64::from(optional.size_of_headers),
+        u64::from(optional.check_sum),
+        u64::from(optional.subsystem),
+        u64::from(optional.dll_characteristics),
+        optional.size_of_stack_reserve,
+        optional.size_of_stack_commit,
+        optional.size_of_heap_reserve,
+        optional.size_of_heap_commit,
+        u64::from(optional.loader_flags),
+        u64::from(optional.number_of_rva_and_sizes),
+    ]
+}
+
+/// Bytes that count up, but for the signatures, the offset of the PE signature, the machine, the number of sections and the
+/// size of the optional header. `end` is the offset of the number of directories.
+fn count_up(bytes: &mut [u8], end: usize) {
+    for (start, end) in [(2, 0x3C), (0x48, 0x54), (0x56, 0x58), (0x5A, end)] {
+        for i in start..end {
+            bytes[i] = i as u8;
+        }
+    }
+}
+
+/// The number of `size` bytes at an offset of bytes that count up.
+fn counted(offset: u64, size: u64) -> u64 {
+    let mut number = 0;
+    for i in 0..size {
+        number += (offset + i) << (8 * i);
+    }
+    number
+}
+
+/// What the fields of an optional header at 0x58 are, by the offsets and sizes in the header of what follows its magic number.
+fn counted_fields(fields: [(u64, u64); 28], directories: u64) -> [u64; 29] {
+    let mut numbers = [directories; 29];
+    for (number, (offset, size)) in numbers.iter_mut().zip(fields) {
+        *number = counted(0x58 + offset, size);
+    }
+    numbers
+}
+
+const FIELDS_OF_64: [(u64, u64); 28] = [
+    (2, 1),
+    (3, 1),
+    (4, 4),
+    (8, 4),
+    (12, 4),
+    (16, 4),
+    (20, 4),
+    (0, 0),
+    (24, 8),
+    (32, 4),
+    (36, 4),
+    (40, 2),
+    (42, 2),
+    (44, 2),
+    (46, 2),
+    (48, 2),
+    (50, 2),
+    (52, 4),
+    (56, 4),
+    (60, 4),
+    (64, 4),
+    (68, 2),
+    (70, 2),
+    (72, 8),
+    (80, 8),
+    (88, 8),
+    (96, 8),
+    (104, 4),
+];
+
+const FIELDS_OF_32: [(u64, u64); 28] = [
+    (2, 1),
+    (3, 1),
+    (4, 4),
+    (8, 4),
+    (12, 4),
+    (16, 4),
+    (20, 4),
+    (24, 4),
+    (28, 4),
+    (32, 4),
+    (36, 4),
+    (40, 2),
+    (42, 2),
+    (44, 2),
+    (46, 2),
+    (48, 2),
+    (50, 2),
+    (52, 4),
+    (56, 4),
+    (60, 4),
+    (64, 4),
+    (68, 2),
+    (70, 2),
+    (72, 4),
+    (76, 4),
+    (80, 4),
+    (84, 4),
+    (88, 4),
+];
+
+#[test]
+fn every_number_of_64_bits(rt: HostRuntime) -> Result<(), Fail> {
+    let mut bytes = with_every_directory(rt.alloc())?;
+    count_up(&mut bytes, 0xC4);
+    for mode in [STRICT, PERMISSIVE, MAPPED, u32::MAX] {
+        let mut out = untouched();
+        assert_eq!(rt; pe_c_headers(&bytes, mode, &mut out), DONE);
+        let words = dos_words(&out.dos);
+        assert_eq!(rt; (words[0], out.dos.pe_pointer, out.signature), (0x5A4D, 0x40, 0x4550));
+        for i in 1..30 {
+            assert_eq!(rt; u64::from(words[i]), counted(2 * i as u64, 2), "{i}");
+        }
+        let coff = [0x8664, 1, 0x4B4A_4948, 0x4F4E_4D4C, 0x5352_5150, 0xF0, 0x5756];
+        assert_eq!(rt; coff_numbers(&out.coff), coff);
+        assert_eq!(rt; out.optional.magic, 0x20B);
+        let wanted = counted_fields(FIELDS_OF_64, 16);
+        assert_eq!(rt; optional_numbers(&out.optional), wanted);
+        assert_eq!(rt; out.optional.number_of_directories, 16);
+        assert_eq!(rt; (out.dos_stub.offset, out.dos_stub.length), (0x40, 0));
+        assert_eq!(rt; (out.optional_offset, out.directories_offset), (0x58, 0xC8));
+        let row = out.directories[6];
+        assert_eq!(rt; (row.virtual_address, row.size), (0x1440, 0x54));
+    }
+    Ok(())
+}
+
+/// PE32 has a base of data before its image base, and 4 bytes where PE32+ has 8.
+#[test]
+fn every_number_of_32_bits(rt: HostRuntime) -> Result<(), Fail> {
+    let mut bytes = with_every_directory_of_x86(rt.alloc())?;
+    count_up(&mut bytes, 0xB4);
+    put(&mut bytes, &[(0xB4, &[5, 0, 0, 0x80])]);
+    let mut out = untouched();
+    assert_eq!(rt; pe_c_headers(&bytes, STRICT, &mut out), DONE);
+    assert_eq!(rt; out.optional.magic, 0x10B);
+    let wanted = counted_fields(FIELDS_OF_32, 0x8000_0005);
+    assert_eq!(rt; optional_numbers(&out.optional), wanted);
+    assert_eq!(rt; out.optional.number_of_directories, 16);
+    assert_eq!(rt; (out.optional_offset, out.directories_offset), (0x58, 0xB8));
+    put(&mut bytes, &[(0xB4, &[5, 0, 0, 0])]);
+    assert_eq!(rt; pe_c_headers(&bytes, STRICT, &mut out), DONE);
+    assert_eq!(rt; out.optional.number_of_directories, 5);
+    let rows = [out.directories[4], out.directories[5]];
+    assert_eq!(rt; rows[0].size != 0 && rows[1].size == 0, true);
+    Ok(())
+}
+
+/// A PE header at 0x30, without an optional header: it overlaps the DOS header, so there is no stub. One at 0x80 has a stub.
+#[test]
+fn headers_without_an_optional_header(rt: HostRuntime) -> Result<(), Fail> {
+    let bytes = pointer_below_64(rt.alloc())?;
+    let mut out = untouched();
+    assert_eq!(rt; pe_c_headers(&bytes, STRICT, &mut out), HEADER_POINTER);
+    assert_eq!(rt; optional_numbers(&out.optional), [9; 29]);
+    assert_eq!(rt; pe_c_headers(&bytes, PERMISSIVE, &mut out), DONE);
+    assert_eq!(rt; (out.dos.pe_pointer, out.dos_stub.length), (0x30, 0));
+    assert_eq!(rt; optional_numbers(&out.optional), [0; 29]);
+    assert_eq!(rt; (out.optional.magic, out.optional.number_of_directories), (0, 0));
+    assert_eq!(rt; (out.optional_offset, out.directories_offset), (0, 0));
+    let row = out.directories[15];
+    assert_eq!(rt; (row.virtual_address, row.size), (0, 0));
+    let mut later = pointer_below_64(rt.alloc())?;
+    put(&mut later, &[(0x3C, &[0x80]), (0x80, b"PE\0\0")]);
+    assert_eq!(rt; pe_c_headers(&later, STRICT, &mut out), DONE);
+    assert_eq!(rt; (out.dos_stub.offset, out.dos_stub.length), (0x40, 0x40));
+    assert_eq!(rt; pe_c_headers(&later[..0x90], STRICT, &mut out), SHORT);
+    Ok(())
+}
