@@ -1,6 +1,7 @@
 //! What the program says of an image, as records: JSON is made of them as they are, and text by `summary` and `show`. Each
 //! value comes from a call of the crate `pe_c`.
 
+pub mod all_headers;
 pub mod bound_imports;
 pub mod certificates;
 pub mod clr;

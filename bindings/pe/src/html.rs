@@ -137,6 +137,9 @@ fn parts(facts: &Facts, regions: &[Region], html: &mut Html) {
     table("regions", "Regions of the file", &map::table(regions), html);
     if let Some(headers) = &facts.headers {
         list("headers", "Headers", tables::headers(headers), html);
+        if let Some(all) = &headers.all {
+            table("dos", "DOS header", &tables::dos_header(all), html);
+        }
         table("directories", "Directories", &tables::directories(headers), html);
     }
     if let Some(hashes) = &facts.hashes {

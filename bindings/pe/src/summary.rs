@@ -50,6 +50,7 @@ pub fn kind_of(headers: &Headers) -> String {
 
 fn headers_of(headers: &Headers, page: &mut Page) {
     page.row("built", built(headers));
+    versions_of_headers(headers, page);
     page.row("entry point", format_args!("{:#x}, image base {:#x}", headers.entry_rva, headers.image_base_va));
     page.row("in memory", counted(headers.size_of_image as usize, "byte"));
     if let Some(content) = headers.overlay.as_ref().and_then(|it| it.content.as_ref()) {
@@ -59,6 +60,16 @@ fn headers_of(headers: &Headers, page: &mut Page) {
     }
     if let Some(text) = checksum_of(headers) {
         page.row("checksum", text);
+    }
+}
+
+/// The versions of the linker, and of what the image was made for, unless all are 0.
+fn versions_of_headers(headers: &Headers, page: &mut Page) {
+    let Some(optional) = headers.all.as_ref().and_then(|it| it.optional.as_ref()) else { return };
+    let (linker, system, subsystem) =
+        (&optional.linker_version, &optional.operating_system_version, &optional.subsystem_version);
+    if [linker, system, subsystem].iter().any(|it| *it != "0.0") {
+        page.row("versions", format_args!("linker {linker}, system {system}, subsystem {subsystem}"));
     }
 }
 

@@ -86,6 +86,81 @@ fn hardening_is_what_the_headers_say() {
     assert!(out.contains(&format!("\n  hardening     {line}\n")), "{out}");
 }
 
+/// The image of some exports with numbers in its headers, by the offsets of winnt.h: the DOS header from 2 on, the COFF header at
+/// 0x44, the optional header at 0x58.
+fn with_numbers_in_headers() -> Vec<u8> {
+    let mut bytes = made::with_exports();
+    (1..=29u16).for_each(|it| bytes[2 * usize::from(it)..][..2].copy_from_slice(&it.to_le_bytes()));
+    bytes[0x5A..0x5C].copy_from_slice(&[14, 29]);
+    let words: [(usize, u32); 8] = [
+        (0x5C, 101),
+        (0x60, 102),
+        (0x64, 103),
+        (0x6C, 0x1001),
+        (0x80, 10 | 1 << 16),
+        (0x84, 7 | 8 << 16),
+        (0x88, 6 | 2 << 16),
+        (0x8C, 9),
+    ];
+    words.iter().for_each(|(at, number)| bytes[*at..][..4].copy_from_slice(&number.to_le_bytes()));
+    for (at, number) in [(0xA0, 1u64 << 33), (0xA8, 201), (0xB0, 202), (0xB8, 203)] {
+        bytes[at..][..8].copy_from_slice(&number.to_le_bytes());
+    }
+    bytes[0xC0..0xC4].copy_from_slice(&5u32.to_le_bytes());
+    bytes
+}
+
+#[test]
+fn all_fields_of_the_headers_are_shown() {
+    let bytes = with_numbers_in_headers();
+    let headers = json_of("all-headers", &bytes)["headers"].clone();
+    assert_eq!(
+        headers["optional"],
+        json!({"magic": 0x20B, "linker_version": "14.29", "operating_system_version": "10.1", "image_version": "7.8",
+            "subsystem_version": "6.2", "size_of_code": 101, "size_of_initialized_data": 102, "size_of_uninitialized_data": 103,
+            "base_of_code_rva": 0x1001, "base_of_data_rva": null, "size_of_stack_reserve": 1u64 << 33,
+            "size_of_stack_commit": 201, "size_of_heap_reserve": 202, "size_of_heap_commit": 203, "win32_version_value": 9,
+            "loader_flags": 5, "number_of_rva_and_sizes": 16})
+    );
+    assert_eq!(
+        headers["coff"],
+        json!({"number_of_sections": 1, "symbol_table_file_offset": 0, "number_of_symbols": 0, "string_table_size": null,
+            "size_of_optional_header": 240})
+    );
+    let dos = &headers["dos"];
+    assert_eq!(
+        (&dos["bytes_on_last_page"], &dos["oem_id"], &dos["oem_information"]),
+        (&json!(1), &json!(18), &json!(19))
+    );
+    assert_eq!((&dos["reserved"], &dos["reserved2"][9]), (&json!([14, 15, 16, 17]), &json!(29)));
+    assert_eq!((&dos["pe_file_offset"], &dos["stub_size"]), (&json!(0x40), &json!(0)));
+    let folder = Folder::new("all-headers-text");
+    let (out, _, _) = run(&["show", &folder.file("a.exe", &bytes), "headers"]);
+    for line in [
+        "linker        version 14.29",
+        "versions      system 10.1, subsystem 6.2, image 7.8",
+        "code          101 bytes at 0x1001",
+        "data          102 bytes initialized, 103 uninitialized",
+        "stack         8589934592 bytes reserved, 201 committed",
+        "heap          202 bytes reserved, 203 committed",
+        "reserved      0x9, loader flags 0x5",
+        "counts        1 section, 16 directories, 240 bytes of optional header",
+        "e_oeminfo   OEM information                   19",
+    ] {
+        assert!(out.contains(&format!("\n  {line}\n")), "{line}\n{out}");
+    }
+    let x86 = json_of("all-headers-x86", &made::x86_dll())["headers"]["optional"].clone();
+    assert_eq!((&x86["magic"], x86["base_of_data_rva"].is_number()), (&json!(0x10B), true));
+    let (out, _, _) = run(&[&folder.file("a.exe", &bytes)]);
+    assert!(out.contains("\n  versions      linker 14.29, system 10.1, subsystem 6.2\n"), "{out}");
+    // An image without an optional header has none of its numbers.
+    let rich = json_of("all-headers-none", &made::with_rich_header())["headers"].clone();
+    assert_eq!(
+        (&rich["format"], &rich["optional"], &rich["coff"]["size_of_optional_header"]),
+        (&json!(null), &json!(null), &json!(0))
+    );
+}
+
 #[test]
 fn checksums_are_right_wrong_or_none() {
     let folder = Folder::new("checksum");
