@@ -501,6 +501,22 @@ impl Serialize for Stamp {
     }
 }
 
+/// From so many bytes on a thread costs less than a pass over the file.
+const LARGE: usize = 1 << 20;
+
+/// Works out two things that go over the bytes of an image, of a large one side by side.
+pub fn both<A: Send, B: Send>(
+    image: &Image<'_>,
+    one: impl FnOnce() -> A + Send,
+    other: impl FnOnce() -> B + Send,
+) -> (A, B) {
+    if image.bytes().len() < LARGE {
+        (one(), other())
+    } else {
+        rayon::join(one, other)
+    }
+}
+
 /// What is said of a file.
 #[derive(Debug, Serialize)]
 pub struct Facts<'a> {
@@ -592,11 +608,15 @@ impl<'a> Facts<'a> {
         let of_parts = wanted.has_hashes_of_parts;
         let has_checksum = of_parts || is_wanted(Topic::Hashes);
         let name = path.file_name().map(|name| name.to_string_lossy()).unwrap_or_default();
+        let of_headers = || is_wanted(Topic::Headers).then(|| headers::of(image, &name, has_checksum));
+        let of_sections = || is_wanted(Topic::Sections).then(|| sections::of(image, of_parts));
+        let of_hashes = || is_wanted(Topic::Hashes).then(|| hashes::of(image, of_parts));
+        let (hashes, (headers, sections)) = both(image, of_hashes, || both(image, of_headers, of_sections));
         Facts {
-            headers: is_wanted(Topic::Headers).then(|| headers::of(image, &name, has_checksum)),
+            headers,
             hardening: is_wanted(Topic::Hardening).then(|| hardening::of(image)),
-            hashes: is_wanted(Topic::Hashes).then(|| hashes::of(image, of_parts)),
-            sections: is_wanted(Topic::Sections).then(|| sections::of(image, of_parts)),
+            hashes,
+            sections,
             imports: is_wanted(Topic::Imports).then(|| imports::of(image)),
             exports: is_wanted(Topic::Exports).then(|| exports::of(image)),
             debug: is_wanted(Topic::Debug).then(|| debug::of(image)),

@@ -137,9 +137,6 @@ fn parts(facts: &Facts, regions: &[Region], html: &mut Html) {
     table("regions", "Regions of the file", &map::table(regions), html);
     if let Some(headers) = &facts.headers {
         list("headers", "Headers", tables::headers(headers), html);
-        if let Some(all) = &headers.all {
-            table("dos", "DOS header", &tables::dos_header(all), html);
-        }
         table("directories", "Directories", &tables::directories(headers), html);
     }
     if let Some(hashes) = &facts.hashes {
@@ -174,6 +171,9 @@ fn parts(facts: &Facts, regions: &[Region], html: &mut Html) {
     more_parts(facts, html);
     if let Some(functions) = facts.functions.as_ref().and_then(Part::present) {
         table("functions", "Functions", &tables::functions(functions), html);
+    }
+    if let Some(all) = facts.headers.as_ref().and_then(|it| it.all.as_ref()) {
+        table("dos", "DOS header", &tables::dos_header(all), html);
     }
 }
 
