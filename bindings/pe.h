@@ -4,8 +4,8 @@
  * The caller's obligations, for each call:
  *   - `bytes` points to the `length` bytes of the image, a file or memory, which are readable and which nothing writes
  *     during the call. It may be NULL if `length` is 0;
- *   - every other pointer is not NULL (an array of 0 entries may be), is aligned for its type, and points to
- *     initialised memory (`= PE_C_EMPTY`), also where the call only writes;
+ *   - every other pointer, also one in a view, is not NULL (an array of 0 entries may be), is aligned for its type, and points
+ *     to initialised memory (`= PE_C_EMPTY`), also where the call only writes;
  *   - what a call writes (`out`, a walk, `room`) overlaps no other argument.
  * There is no obligation on what the bytes or the fields of records contain: every value is legal. A wrong range gives an
  * error code, never undefined behaviour.
@@ -239,6 +239,17 @@ PE_C_SIZE(pe_c_directory, 8);
 PE_C_SIZE(pe_c_image_info, 208);
 PE_C_SIZE(pe_c_section, 40);
 
+/* An image as newer calls take it, in place of its parts: what pe_c_image and pe_c_sections returned of the bytes. */
+typedef struct {
+    const uint8_t *bytes;
+    size_t length;                  /* of the bytes */
+    const pe_c_image_info *image;   /* not NULL */
+    const pe_c_section *sections;
+    size_t count;                   /* of the sections */
+} pe_c_view;
+
+PE_C_SIZE(pe_c_view, 40);
+
 /* Reads the headers of an image, which are at the same offsets in a file and in memory.
  * Errors: PE_C_SHORT, PE_C_BAD_MAGIC of the DOS header; PE_C_HEADER_POINTER in strict mode; PE_C_SHORT, PE_C_BAD_MAGIC of
  * the PE signature; PE_C_SHORT of the COFF header; PE_C_SHORT, PE_C_BAD_MAGIC of the optional header; PE_C_SHORT of its
@@ -416,14 +427,8 @@ uint32_t pe_c_next_rich_entry(const uint8_t *bytes, size_t length, uint32_t key,
  * is: CodeView names the PDB file of the image, POGO the parts that the linker joined, Repro marks a reproducible build.
  * https://learn.microsoft.com/windows/win32/debug/pe-format#the-debug-section
  *
- * pe_c_debug_entries lists the entries and reads no record. Each of the six calls that return a record reads all debug
- * data, so what damages one record is an error of all six. A record is that of the first entry of its type. The six
- * calls return PE_C_NOTHING without a debug directory or such a record, and share their errors:
- *   - the directory: PE_C_UNMAPPED; PE_C_DEBUG_BOUNDS in strict mode;
- *   - PDB 7.0, then PDB 2.0: PE_C_DEBUG_SIZE in strict mode; PE_C_SHORT, PE_C_DEBUG_DATA;
- *   - VC features, then characteristics: PE_C_SHORT;
- *   - Repro: PE_C_SHORT, PE_C_DEBUG_DATA;
- *   - POGO: PE_C_SHORT, PE_C_POGO_SIZE, PE_C_DEBUG_DATA. */
+ * A record is read from one entry: the first of its type, or one that the caller has. No other entry is read, so what damages one
+ * record makes no difference to another. */
 
 /* IMAGE_DEBUG_DIRECTORY. */
 typedef struct {
@@ -431,7 +436,7 @@ typedef struct {
     uint32_t time_date_stamp;       /* seconds since 1970, or a hash in a reproducible build */
     uint16_t major_version, minor_version;  /* of the record's format */
     uint32_t data_type;             /* IMAGE_DEBUG_TYPE_CODEVIEW 2, _VC_FEATURE 12, _POGO 13, _REPRO 16,
-                                       _EX_DLLCHARACTERISTICS 20, or another */
+                                       _EMBEDDEDPORTABLEPDB 17, _PDBCHECKSUM 19, _EX_DLLCHARACTERISTICS 20, or another */
     uint32_t size_of_data;          /* bytes of the record */
     uint32_t address_of_raw_data;   /* RVA of the record, or 0; in an image as loaded the library reads it there */
     uint32_t pointer_to_raw_data;   /* file offset of the record; in a file the library reads it there */
@@ -483,6 +488,19 @@ typedef struct {
     uint32_t size;                  /* bytes of the part */
 } pe_c_pogo_entry;
 
+/* A portable PDB in the image itself, of .NET. */
+typedef struct {
+    pe_c_range compressed;          /* raw Deflate data */
+    uint32_t uncompressed_size;     /* bytes of the PDB, as the record states it */
+    uint32_t spare;                 /* 0 */
+} pe_c_embedded_pdb;
+
+/* A checksum of the PDB file, of .NET: of its bytes with zeros in place of the PDB's id. */
+typedef struct {
+    pe_c_range algorithm;           /* the name of the algorithm, as "SHA256", not NUL-terminated */
+    pe_c_range checksum;            /* the rest of the record */
+} pe_c_pdb_checksum;
+
 PE_C_SIZE(pe_c_debug_entry, 28);
 PE_C_SIZE(pe_c_key, 40);
 PE_C_SIZE(pe_c_pdb20, 32);
@@ -490,6 +508,8 @@ PE_C_SIZE(pe_c_vc_features, 20);
 PE_C_SIZE(pe_c_repro, 24);
 PE_C_SIZE(pe_c_pogo, 24);
 PE_C_SIZE(pe_c_pogo_entry, 24);
+PE_C_SIZE(pe_c_embedded_pdb, 24);
+PE_C_SIZE(pe_c_pdb_checksum, 32);
 
 /* Returns the entries of the debug directory as a walk for pe_c_next_debug_entry. PE_C_NOTHING without a directory.
  * Errors: PE_C_UNMAPPED; PE_C_DEBUG_BOUNDS in strict mode. */
@@ -500,6 +520,13 @@ uint32_t pe_c_debug_entries(const uint8_t *bytes, size_t length, const pe_c_imag
  * Errors: PE_C_SHORT where the walk is not inside the bytes, or its last entry is truncated. */
 uint32_t pe_c_next_debug_entry(const uint8_t *bytes, size_t length, pe_c_range *walk, pe_c_debug_entry *out)
     PE_C_RESULT(3, 4);
+
+/* Returns the first entry of a type. A truncated last entry is none. PE_C_NOTHING without a directory or such an entry.
+ * Errors: PE_C_UNMAPPED; PE_C_DEBUG_BOUNDS in strict mode. */
+uint32_t pe_c_first_debug_entry(const pe_c_view *view, uint32_t data_type, pe_c_debug_entry *out) PE_C_RESULT(1, 3);
+
+/* The next six read the record of the first entry of a type, and return PE_C_NOTHING also without such an entry. Errors: those
+ * of pe_c_first_debug_entry, then those of the call of the same record below, which takes an entry. */
 
 /* Returns the symbol key: the CodeView record, if it is one of PDB 7.0. */
 uint32_t pe_c_symbol_key(const uint8_t *bytes, size_t length, const pe_c_image_info *image,
@@ -529,6 +556,51 @@ uint32_t pe_c_debug_repro(const uint8_t *bytes, size_t length, const pe_c_image_
 /* Returns the POGO record. PE_C_NOTHING also for another signature. */
 uint32_t pe_c_debug_pogo(const uint8_t *bytes, size_t length, const pe_c_image_info *image,
                          const pe_c_section *sections, size_t count, pe_c_pogo *out) PE_C_RESULT(3, 6);
+
+/* The next eight read the record of an entry that the caller has, in a mode, whatever the entry's type is. */
+
+/* Returns the symbol key. PE_C_NOTHING where the record is not one of PDB 7.0.
+ * Errors: PE_C_DEBUG_SIZE where the entry's size is below 24, in strict mode, and PE_C_NOTHING in permissive mode; PE_C_SHORT of
+ * the first 24 bytes; PE_C_DEBUG_DATA of the name. */
+uint32_t pe_c_symbol_key_of(const uint8_t *bytes, size_t length, uint32_t mode, const pe_c_debug_entry *entry,
+                            pe_c_key *out) PE_C_RESULT(4, 5);
+
+/* Returns a CodeView record of PDB 2.0. PE_C_NOTHING where it is none.
+ * Errors: PE_C_DEBUG_SIZE where the entry's size is below 16, in strict mode, and PE_C_NOTHING in permissive mode; PE_C_SHORT of
+ * the first 16 bytes; PE_C_DEBUG_DATA of the name. */
+uint32_t pe_c_pdb20_of(const uint8_t *bytes, size_t length, uint32_t mode, const pe_c_debug_entry *entry,
+                       pe_c_pdb20 *out) PE_C_RESULT(4, 5);
+
+/* Returns the counts of VC features.
+ * Error: PE_C_SHORT. */
+uint32_t pe_c_vc_features_of(const uint8_t *bytes, size_t length, uint32_t mode, const pe_c_debug_entry *entry,
+                             pe_c_vc_features *out) PE_C_RESULT(4, 5);
+
+/* Returns the extended DLL characteristics.
+ * Error: PE_C_SHORT. */
+uint32_t pe_c_characteristics_of(const uint8_t *bytes, size_t length, uint32_t mode, const pe_c_debug_entry *entry,
+                                 uint32_t *out) PE_C_RESULT(4, 5);
+
+/* Returns a Repro record.
+ * Errors: PE_C_SHORT of the hash's length; PE_C_DEBUG_DATA of the hash. */
+uint32_t pe_c_repro_of(const uint8_t *bytes, size_t length, uint32_t mode, const pe_c_debug_entry *entry,
+                       pe_c_repro *out) PE_C_RESULT(4, 5);
+
+/* Returns a POGO record. PE_C_NOTHING for another signature.
+ * Errors: PE_C_SHORT of the signature; PE_C_POGO_SIZE where the entry's size is at most 4; PE_C_DEBUG_DATA of the entries. */
+uint32_t pe_c_pogo_of(const uint8_t *bytes, size_t length, uint32_t mode, const pe_c_debug_entry *entry,
+                      pe_c_pogo *out) PE_C_RESULT(4, 5);
+
+/* Returns the portable PDB in an image.
+ * Errors: PE_C_DEBUG_SIZE where the entry's size is below 8; PE_C_SHORT of the first 8 bytes; PE_C_BAD_MAGIC; PE_C_DEBUG_DATA of
+ * the compressed data. */
+uint32_t pe_c_embedded_pdb_of(const uint8_t *bytes, size_t length, uint32_t mode, const pe_c_debug_entry *entry,
+                              pe_c_embedded_pdb *out) PE_C_RESULT(4, 5);
+
+/* Returns the checksum of the PDB file.
+ * Errors: PE_C_DEBUG_DATA; PE_C_DEBUG_SIZE where no zero ends the name of the algorithm. */
+uint32_t pe_c_pdb_checksum_of(const uint8_t *bytes, size_t length, uint32_t mode, const pe_c_debug_entry *entry,
+                              pe_c_pdb_checksum *out) PE_C_RESULT(4, 5);
 
 /* Returns the next entry of a POGO record.
  * Errors: PE_C_SHORT where the walk is not inside the bytes, or fewer than 8 bytes are left; PE_C_POGO_NAME where the name

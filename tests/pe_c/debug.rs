@@ -1,18 +1,26 @@
 //! The debug directory's table, and the records that its entries lead to.
 
 use super::made::{
-    DEBUG_BOUNDS, DEBUG_DATA, DEBUG_SIZE, MAPPED, PERMISSIVE, POGO_SIZE, SHORT, STRICT, UNMAPPED,
-    UNTOUCHED, X64, directory, having, image, in_mode, lies, of_range, range, sections, untouched,
+    BAD_MAGIC, DEBUG_BOUNDS, DEBUG_DATA, DEBUG_SIZE, MAPPED, PERMISSIVE, POGO_SIZE, SHORT, STRICT,
+    UNMAPPED, UNTOUCHED, X64, directory, having, image, in_mode, lies, of_range, range, sections,
+    untouched,
 };
 use crate::debug::{
-    Pdb20, Pogo, Repro, SymbolKey, pe_c_codeview, pe_c_debug_characteristics, pe_c_debug_entries,
-    pe_c_debug_pdb20, pe_c_debug_pogo, pe_c_debug_repro, pe_c_debug_vc_features, pe_c_symbol_key,
+    pe_c_debug_characteristics, pe_c_debug_entries, pe_c_debug_pdb20, pe_c_debug_pogo,
+    pe_c_debug_repro, pe_c_debug_vc_features, pe_c_first_debug_entry, pe_c_symbol_key,
+};
+use crate::debug_records::{
+    EmbeddedPdb, Pdb20, PdbChecksum, Pogo, Repro, SymbolKey, pe_c_characteristics_of,
+    pe_c_codeview, pe_c_embedded_pdb_of, pe_c_pdb_checksum_of, pe_c_pdb20_of, pe_c_pogo_of,
+    pe_c_repro_of, pe_c_symbol_key_of, pe_c_vc_features_of,
 };
 use crate::image::Image;
 use crate::ranges::Range;
 use crate::results::{DONE, NOTHING};
+use crate::view::View;
+use pe_core::SectionTable;
 use pe_images::{image as bytes_of, put};
-use pe_records::VCFeatureInfo;
+use pe_records::{ImageDebugDirectory, VCFeatureInfo};
 use std::alloc::Global;
 use std::test::Fail;
 
@@ -312,21 +320,30 @@ fn older_records_of_debug_data(rt: HostRuntime) -> Result<(), Fail> {
     Ok(())
 }
 
-/// The same image in strict mode, where a CodeView record of 23 bytes is too small to be one of PDB 7.0; with 24 it is not.
+/// The same image in strict mode, where a CodeView record of 23 bytes is too small to be one of PDB 7.0, and is one of PDB 2.0;
+/// with 15 it is too small for both.
 #[test]
 fn older_records_in_strict_mode(rt: HostRuntime) -> Result<(), Fail> {
     let mut bytes = with_old_records(rt.alloc())?;
     let image = with_table(0x1010, TABLE_SIZE);
-    assert_eq!(rt;
-        reported_by(&bytes, &image, STRICT),
-        nothing_but(DEBUG_SIZE)
+    let want = Reported {
+        key: nothing_but(DEBUG_SIZE).key,
+        pdb20: (DONE, [0xB0, 7], [0x0403_0201, 0x0807_0605, 6, 0]),
+        repro: (DONE, [0, 0], [0, 0]),
+        ..nothing_but(NOTHING)
+    };
+    assert_eq!(rt; reported_by(&bytes, &image, STRICT), want);
+    put(&mut bytes, &[(0x20, &[15])]);
+    let (key, pdb20) = (
+        key_of(&bytes, &image, STRICT),
+        pdb20_of(&bytes, &image, STRICT),
     );
-    put(&mut bytes, &[(0x20, &[24])]);
-    let (answer, name, numbers) = pdb20_of(&bytes, &image, STRICT);
-    assert_eq!(rt;
-        (answer, name, numbers),
-        (DONE, [0xB0, 8], [0x0403_0201, 0x0807_0605, 6, 0])
+    assert_eq!(rt; (key.0, pdb20.0), (DEBUG_SIZE, DEBUG_SIZE));
+    let (key, pdb20) = (
+        key_of(&bytes, &image, PERMISSIVE),
+        pdb20_of(&bytes, &image, PERMISSIVE),
     );
+    assert_eq!(rt; (key.0, pdb20.0), (NOTHING, NOTHING));
     Ok(())
 }
 
@@ -373,43 +390,87 @@ fn no_debug_data(rt: HostRuntime) -> Result<(), Fail> {
     Ok(())
 }
 
-/// What refuses one record refuses all, and nothing goes out. A damage is a byte at an offset.
+/// Whose record is damaged: what it reports then, beside what the others report.
+fn with_damaged(number: u32, kind: u32) -> Reported {
+    let (refused, whole) = (nothing_but(number), reported_of_records());
+    match kind {
+        2 => Reported {
+            key: refused.key,
+            ..whole
+        },
+        12 => Reported {
+            features: refused.features,
+            ..whole
+        },
+        13 => Reported {
+            pogo: refused.pogo,
+            ..whole
+        },
+        16 => Reported {
+            repro: refused.repro,
+            ..whole
+        },
+        _ => Reported {
+            characteristics: refused.characteristics,
+            ..whole
+        },
+    }
+}
+
+/// What refuses one record refuses no other, and nothing goes out of it. A damage is a byte at an offset, of the record of a
+/// type.
 #[test]
-fn debug_data_that_are_refused(rt: HostRuntime) -> Result<(), Fail> {
+fn damaged_records_are_refused_alone(rt: HostRuntime) -> Result<(), Fail> {
     let image = with_table(0x1010, TABLE_SIZE);
-    for (offset, byte, strict, permissive) in [
-        // CodeView: 23 bytes; 0x1E bytes and 256 times 0x10; an offset after the end
-        (0x20, 23, DEBUG_SIZE, DONE),
-        (0x21, 0x10, DEBUG_DATA, DEBUG_DATA),
-        (0x29, 2, SHORT, SHORT),
+    for (offset, byte, kind, strict, permissive) in [
+        // CodeView: 23 bytes; 0x1E bytes and 256 times 0x10
+        (0x20, 23, 2, DEBUG_SIZE, NOTHING),
+        (0x21, 0x10, 2, DEBUG_DATA, DEBUG_DATA),
         // VC feature: an offset after the end
-        (0x45, 2, SHORT, SHORT),
+        (0x45, 2, 12, SHORT, SHORT),
         // POGO: 4 bytes; too many; an offset after the end
-        (0x58, 4, POGO_SIZE, POGO_SIZE),
-        (0x59, 1, DEBUG_DATA, DEBUG_DATA),
-        (0x61, 2, SHORT, SHORT),
+        (0x58, 4, 13, POGO_SIZE, POGO_SIZE),
+        (0x59, 1, 13, DEBUG_DATA, DEBUG_DATA),
+        (0x61, 2, 13, SHORT, SHORT),
         // Repro: a length that is too great; an offset after the end
-        (0x101, 1, DEBUG_DATA, DEBUG_DATA),
-        (0x7D, 2, SHORT, SHORT),
+        (0x101, 1, 16, DEBUG_DATA, DEBUG_DATA),
+        (0x7D, 2, 16, SHORT, SHORT),
         // further characteristics: an offset after the end
-        (0x99, 2, SHORT, SHORT),
+        (0x99, 2, 20, SHORT, SHORT),
     ] {
         let mut bytes = with_records(rt.alloc())?;
         put(&mut bytes, &[(offset, &[byte])]);
-        assert_eq!(rt;
-            reported_by(&bytes, &image, STRICT),
-            nothing_but(strict),
-            "at {offset:#x}"
-        );
-        if permissive != DONE {
-            let want = nothing_but(permissive);
+        for (mode, number) in [(STRICT, strict), (PERMISSIVE, permissive)] {
             assert_eq!(rt;
-                reported_by(&bytes, &image, PERMISSIVE),
-                want,
+                reported_by(&bytes, &image, mode),
+                with_damaged(number, kind),
                 "at {offset:#x}"
             );
         }
     }
+    Ok(())
+}
+
+/// Both CodeView records are read where the first entry leads, which may be at the end of all numbers.
+#[test]
+fn records_after_the_end(rt: HostRuntime) -> Result<(), Fail> {
+    let image = with_table(0x1010, TABLE_SIZE);
+    for (offset, byte) in [(0x29, &[2u8] as &[u8]), (0x28, &[0xFF; 4])] {
+        let mut bytes = with_records(rt.alloc())?;
+        put(&mut bytes, &[(offset, byte)]);
+        let want = Reported {
+            key: nothing_but(SHORT).key,
+            pdb20: nothing_but(SHORT).pdb20,
+            ..reported_of_records()
+        };
+        assert_eq!(rt; reported_by(&bytes, &image, STRICT), want);
+    }
+    Ok(())
+}
+
+/// A table that is not there is an error of each record, and permissive mode truncates one.
+#[test]
+fn tables_that_are_refused(rt: HostRuntime) -> Result<(), Fail> {
     let bytes = with_records(rt.alloc())?;
     assert_eq!(rt;
         reported_by(&bytes, &with_table(0x3000, 28), STRICT),
@@ -424,9 +485,205 @@ fn debug_data_that_are_refused(rt: HostRuntime) -> Result<(), Fail> {
         reported_by(&bytes, &long, PERMISSIVE),
         reported_of_records()
     );
-    // records that lie at the end of all numbers
-    let mut far = with_records(rt.alloc())?;
-    put(&mut far, &[(0x28, &[0xFF; 4])]);
-    assert_eq!(rt; reported_by(&far, &image, STRICT), nothing_but(SHORT));
+    Ok(())
+}
+
+// ---- entries
+
+const NO_ENTRY: ImageDebugDirectory = ImageDebugDirectory {
+    characteristics: 9,
+    time_date_stamp: 9,
+    major_version: 9,
+    minor_version: 9,
+    data_type: 9,
+    size_of_data: 9,
+    address_of_raw_data: 9,
+    pointer_to_raw_data: 9,
+};
+
+fn first_entry(bytes: &[u8], image: &Image, data_type: u32) -> (u32, ImageDebugDirectory) {
+    let sections: &[SectionTable] = &sections();
+    let view = View {
+        bytes,
+        image,
+        sections,
+    };
+    let mut out = NO_ENTRY;
+    (pe_c_first_debug_entry(&view, data_type, &mut out), out)
+}
+
+/// The first entry of each type, whole ones alone; a second one of a type is never read.
+#[test]
+fn first_entries_of_types(rt: HostRuntime) -> Result<(), Fail> {
+    let mut bytes = with_records(rt.alloc())?;
+    let image = with_table(0x1010, TABLE_SIZE);
+    for (data_type, size, offset) in [(2, 30, 0xA0), (12, 20, 0xC0), (20, 4, 0x110)] {
+        let want = ImageDebugDirectory {
+            characteristics: 0,
+            time_date_stamp: 0,
+            major_version: 0,
+            minor_version: 0,
+            data_type,
+            size_of_data: size,
+            address_of_raw_data: 0xFF,
+            pointer_to_raw_data: offset,
+        };
+        assert_eq!(rt; first_entry(&bytes, &image, data_type), (DONE, want));
+    }
+    assert_eq!(rt; first_entry(&bytes, &image, 17), (NOTHING, NO_ENTRY));
+    let short = with_table(0x1010, TABLE_SIZE - 1);
+    assert_eq!(rt; first_entry(&bytes, &short, 20), (NOTHING, NO_ENTRY));
+    let far = with_table(0x3000, 28);
+    assert_eq!(rt; first_entry(&bytes, &far, 2), (UNMAPPED, NO_ENTRY));
+    let long = with_table(0x1010, 0x131);
+    assert_eq!(rt; first_entry(&bytes, &long, 2), (DEBUG_BOUNDS, NO_ENTRY));
+    // the last entry is of CodeView too, and leads nowhere
+    put(&mut bytes, &[(0x8C, &[2]), (0x98, &[0xFF; 4])]);
+    let want = Reported {
+        characteristics: nothing_but(NOTHING).characteristics,
+        ..reported_of_records()
+    };
+    assert_eq!(rt; reported_by(&bytes, &image, STRICT), want);
+    Ok(())
+}
+
+/// The record of an entry that a caller has is that of the image, whatever its type says; and the table is not read.
+#[test]
+fn records_of_entries(rt: HostRuntime) -> Result<(), Fail> {
+    let mut bytes = with_records(rt.alloc())?;
+    let image = with_table(0x1010, TABLE_SIZE);
+    let mut entries = [NO_ENTRY; 5];
+    for (entry, data_type) in entries.iter_mut().zip([2, 12, 13, 16, 20]) {
+        *entry = first_entry(&bytes, &image, data_type).1;
+        entry.data_type = 99;
+    }
+    put(&mut bytes, &[(0x10, &[0xFF; 0x8C])]);
+    let whole = reported_of_records();
+    let mut key = SymbolKey {
+        guid: [7; 16],
+        age: 8,
+        spare: 9,
+        name: untouched(),
+    };
+    let number = pe_c_symbol_key_of(&bytes, STRICT, &entries[0], &mut key);
+    assert_eq!(rt;
+        (number, key.guid, [key.age, key.spare], of_range(key.name)),
+        whole.key
+    );
+    let mut features = NO_FEATURES;
+    let number = pe_c_vc_features_of(&bytes, STRICT, &entries[1], &mut features);
+    assert_eq!(rt; (number, features), whole.features);
+    let mut pogo = Pogo {
+        entries: untouched(),
+        signature: 5,
+        spare: 6,
+    };
+    let number = pe_c_pogo_of(&bytes, STRICT, &entries[2], &mut pogo);
+    assert_eq!(rt;
+        (number, of_range(pogo.entries), [pogo.signature, pogo.spare]),
+        whole.pogo
+    );
+    let mut repro = Repro {
+        hash: untouched(),
+        has_hash: 5,
+        spare: 6,
+    };
+    let number = pe_c_repro_of(&bytes, STRICT, &entries[3], &mut repro);
+    assert_eq!(rt;
+        (number, of_range(repro.hash), [repro.has_hash, repro.spare]),
+        whole.repro
+    );
+    let mut flags = 9;
+    let number = pe_c_characteristics_of(&bytes, STRICT, &entries[4], &mut flags);
+    assert_eq!(rt; (number, flags), whole.characteristics);
+    // in an image as loaded the record stands at its RVA
+    entries[4].address_of_raw_data = 0x111;
+    assert_eq!(rt;
+        pe_c_characteristics_of(&bytes, MAPPED, &entries[4], &mut flags),
+        DONE
+    );
+    assert_eq!(rt; flags, 0x0004_0302);
+    let mut old = Pdb20 {
+        name: untouched(),
+        offset: 5,
+        signature: 6,
+        age: 7,
+        spare: 8,
+    };
+    let number = pe_c_pdb20_of(&bytes, STRICT, &entries[0], &mut old);
+    assert_eq!(rt;
+        (number, old.offset, of_range(old.name)),
+        (NOTHING, 5, UNTOUCHED)
+    );
+    put(&mut bytes, &[(0xA0, b"NB10")]);
+    let number = pe_c_pdb20_of(&bytes, STRICT, &entries[0], &mut old);
+    let want = (DONE, 0x1312_1110, [0xB0, 14]);
+    assert_eq!(rt; (number, old.offset, of_range(old.name)), want);
+    Ok(())
+}
+
+/// An entry whose record stands at an offset and has so many bytes.
+fn entry(offset: u32, size: u32) -> ImageDebugDirectory {
+    ImageDebugDirectory {
+        size_of_data: size,
+        pointer_to_raw_data: offset,
+        ..NO_ENTRY
+    }
+}
+
+/// An embedded PDB of 5 bytes at offset 3, and what refuses it. Both modes refuse the same.
+#[test]
+fn embedded_pdbs(rt: HostRuntime) -> Result<(), Fail> {
+    let bytes = bytes_of(rt.alloc(), 16, &[(3, b"MPDB\x01\x02\0\0zipped")])?;
+    let read = |mode, entry| {
+        let mut out = EmbeddedPdb {
+            compressed: untouched(),
+            uncompressed_size: 5,
+            spare: 6,
+        };
+        let number = pe_c_embedded_pdb_of(&bytes, mode, &entry, &mut out);
+        (number, of_range(out.compressed), out.uncompressed_size)
+    };
+    for mode in [STRICT, PERMISSIVE] {
+        assert_eq!(rt; read(mode, entry(3, 13)), (DONE, [11, 5], 0x201));
+        assert_eq!(rt; read(mode, entry(3, 8)), (DONE, [11, 0], 0x201));
+        for (entry, number) in [
+            (entry(3, 7), DEBUG_SIZE),
+            (entry(9, 8), SHORT),
+            (entry(u32::MAX, 8), SHORT),
+            (entry(4, 8), BAD_MAGIC),
+            (entry(3, 14), DEBUG_DATA),
+        ] {
+            assert_eq!(rt; read(mode, entry), (number, UNTOUCHED, 5));
+        }
+    }
+    Ok(())
+}
+
+/// A checksum of 3 bytes after the name of its algorithm, and what refuses it. Both modes refuse the same.
+#[test]
+fn checksums_of_pdbs(rt: HostRuntime) -> Result<(), Fail> {
+    let bytes = bytes_of(rt.alloc(), 16, &[(3, b"SHA256\0\xAA\0\xBB")])?;
+    let read = |mode, entry| {
+        let mut out = PdbChecksum {
+            algorithm: untouched(),
+            checksum: untouched(),
+        };
+        let number = pe_c_pdb_checksum_of(&bytes, mode, &entry, &mut out);
+        (number, of_range(out.algorithm), of_range(out.checksum))
+    };
+    for mode in [STRICT, PERMISSIVE] {
+        assert_eq!(rt; read(mode, entry(3, 10)), (DONE, [3, 6], [10, 3]));
+        assert_eq!(rt; read(mode, entry(3, 7)), (DONE, [3, 6], [10, 0]));
+        assert_eq!(rt; read(mode, entry(9, 1)), (DONE, [9, 0], [10, 0]));
+        for (entry, number) in [
+            (entry(3, 6), DEBUG_SIZE),
+            (entry(3, 0), DEBUG_SIZE),
+            (entry(3, 14), DEBUG_DATA),
+            (entry(u32::MAX, u32::MAX), DEBUG_DATA),
+        ] {
+            assert_eq!(rt; read(mode, entry), (number, UNTOUCHED, UNTOUCHED));
+        }
+    }
     Ok(())
 }

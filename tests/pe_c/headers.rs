@@ -6,9 +6,7 @@ use crate::headers::{CoffFields, DosFields, Headers, OptionalFields, pe_c_header
 use crate::ranges::Range;
 use crate::results::DONE;
 use pe_core::DataDirectory;
-use pe_images::{
-    pointer_below_64, put, with_every_directory, with_every_directory_of_x86,
-};
+use pe_images::{pointer_below_64, put, with_every_directory, with_every_directory_of_x86};
 use std::test::Fail;
 
 const NOWHERE: DataDirectory = DataDirectory {
@@ -265,11 +263,22 @@ fn every_number_of_64_bits(rt: HostRuntime) -> Result<(), Fail> {
         let mut out = untouched();
         assert_eq!(rt; pe_c_headers(&bytes, mode, &mut out), DONE);
         let words = dos_words(&out.dos);
-        assert_eq!(rt; (words[0], out.dos.pe_pointer, out.signature), (0x5A4D, 0x40, 0x4550));
+        assert_eq!(rt;
+            (words[0], out.dos.pe_pointer, out.signature),
+            (0x5A4D, 0x40, 0x4550)
+        );
         for i in 1..30 {
             assert_eq!(rt; u64::from(words[i]), counted(2 * i as u64, 2), "{i}");
         }
-        let coff = [0x8664, 1, 0x4B4A_4948, 0x4F4E_4D4C, 0x5352_5150, 0xF0, 0x5756];
+        let coff = [
+            0x8664,
+            1,
+            0x4B4A_4948,
+            0x4F4E_4D4C,
+            0x5352_5150,
+            0xF0,
+            0x5756,
+        ];
         assert_eq!(rt; coff_numbers(&out.coff), coff);
         assert_eq!(rt; out.optional.magic, 0x20B);
         let wanted = counted_fields(FIELDS_OF_64, 16);
@@ -314,7 +323,10 @@ fn headers_without_an_optional_header(rt: HostRuntime) -> Result<(), Fail> {
     assert_eq!(rt; pe_c_headers(&bytes, PERMISSIVE, &mut out), DONE);
     assert_eq!(rt; (out.dos.pe_pointer, out.dos_stub.length), (0x30, 0));
     assert_eq!(rt; optional_numbers(&out.optional), [0; 29]);
-    assert_eq!(rt; (out.optional.magic, out.optional.number_of_directories), (0, 0));
+    assert_eq!(rt;
+        (out.optional.magic, out.optional.number_of_directories),
+        (0, 0)
+    );
     assert_eq!(rt; (out.optional_offset, out.directories_offset), (0, 0));
     let row = out.directories[15];
     assert_eq!(rt; (row.virtual_address, row.size), (0, 0));

@@ -209,6 +209,28 @@ fn read_by_lies(bytes: &[u8], random: &mut Random, seen: &mut Seen) {
         let mut fields = sys::Arm64Packed::default();
         sys::pe_c_arm64_packed_fields(&sys::Arm64Function { begin: few, unwind: few.rotate_left(7) }, &mut fields);
     }
+    let view = sys::View { bytes: start, length, image: &image, sections: sections.as_ptr(), count: sections.len() };
+    let mut entry = sys::DebugEntry::default();
+    // SAFETY: as above, and the view is of what is lent.
+    unsafe { sys::pe_c_first_debug_entry(&view, few % 24, &mut entry) };
+    for entry in [
+        entry,
+        sys::DebugEntry {
+            size_of_data: random.edge(number) as u32,
+            address_of_raw_data: random.edge(number) as u32,
+            pointer_to_raw_data: random.edge(number) as u32,
+            ..entry
+        },
+    ] {
+        call!(pe_c_symbol_key_of(few, &entry), Key);
+        call!(pe_c_pdb20_of(few, &entry), Pdb20);
+        call!(pe_c_vc_features_of(few, &entry), VcFeatures);
+        call!(pe_c_repro_of(few, &entry), Repro);
+        call!(pe_c_pogo_of(few, &entry), Pogo);
+        call!(pe_c_embedded_pdb_of(few, &entry), EmbeddedPdb);
+        call!(pe_c_pdb_checksum_of(few, &entry), PdbChecksum);
+    }
+    call!(pe_c_headers(few), Headers);
     walk!(pe_c_next_debug_entry(range), DebugEntry);
     walk!(pe_c_next_pogo_entry(range), PogoEntry);
     walk!(pe_c_next_certificate(range), Certificate);

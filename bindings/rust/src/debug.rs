@@ -3,7 +3,7 @@
 //! [Microsoft's page](https://learn.microsoft.com/windows/win32/debug/pe-format#the-debug-section).
 //! Symbolizers take the symbol key, and fetch the PDB from a symbol server by it.
 
-use crate::image::{bytes_of, up_to_zero, Error, Image};
+use crate::image::{bytes_of, returned, up_to_zero, Error, Image};
 use crate::symbol_server::Guid;
 use crate::sys::{self, DebugEntry, VcFeatures};
 use crate::walk::{ask_of_bytes, items, Walk};
@@ -174,17 +174,71 @@ items! {
     PogoEntries<'a>(sys::Range): PogoEntry<'a>, sys::pe_c_next_pogo_entry, pogo_entry_of
 }
 
+/// A portable PDB in the image itself, as compilers of .NET write it.
+#[derive(Clone, Copy, Debug, PartialEq, Eq)]
+pub struct EmbeddedPdb<'a> {
+    /// In bytes, of the PDB, as the record states it.
+    pub uncompressed_size: u32,
+    /// The PDB, compressed: raw Deflate data.
+    pub compressed: &'a [u8],
+}
+
+/// A checksum of the PDB file, as compilers of .NET write it: of its bytes with zeros in place of the PDB's id.
+#[derive(Clone, Copy, Debug, PartialEq, Eq)]
+pub struct PdbChecksum<'a> {
+    /// The name of the algorithm, as `SHA256`.
+    pub algorithm: &'a [u8],
+    /// The checksum.
+    pub checksum: &'a [u8],
+}
+
+fn key_of(key: sys::Key, bytes: &[u8]) -> Result<SymbolKey<'_>, Error> {
+    Ok(SymbolKey { guid: Guid(key.guid), age: key.age, name_bytes: bytes_of(key.name, bytes)? })
+}
+
+fn pdb20_of(record: sys::Pdb20, bytes: &[u8]) -> Result<Pdb20<'_>, Error> {
+    let sys::Pdb20 { offset, signature, age, name, .. } = record;
+    Ok(Pdb20 { offset, signature, age, name_bytes: bytes_of(name, bytes)? })
+}
+
+fn repro_of(record: sys::Repro, bytes: &[u8]) -> Result<Repro<'_>, Error> {
+    if record.has_hash == 0 {
+        return Ok(Repro::TimeStamp);
+    }
+    Ok(Repro::Hash(bytes_of(record.hash, bytes)?))
+}
+
+fn pogo_of(record: sys::Pogo, bytes: &[u8]) -> Result<Pogo<'_>, Error> {
+    let entry_bytes = bytes_of(record.entries, bytes)?;
+    Ok(Pogo { signature: record.signature, entry_bytes, entries: Walk::new(bytes, record.entries) })
+}
+
+fn embedded_of(record: sys::EmbeddedPdb, bytes: &[u8]) -> Result<EmbeddedPdb<'_>, Error> {
+    let compressed = bytes_of(record.compressed, bytes)?;
+    Ok(EmbeddedPdb { uncompressed_size: record.uncompressed_size, compressed })
+}
+
+fn checksum_of(record: sys::PdbChecksum, bytes: &[u8]) -> Result<PdbChecksum<'_>, Error> {
+    Ok(PdbChecksum { algorithm: bytes_of(record.algorithm, bytes)?, checksum: bytes_of(record.checksum, bytes)? })
+}
+
+/// A call that reads the record of an entry, in a mode.
+type OfEntry<T> = unsafe extern "C" fn(*const u8, usize, u32, *const DebugEntry, *mut T) -> u32;
+
 /// # Debug data
 ///
-/// [`debug_entries`](Self::debug_entries) lists the entries and reads no record. Each of the six methods that return a
-/// record reads all debug data, so what damages one record is an error of all six. A record is that of the first entry of
-/// its type. The six return `None` without a debug directory or such a record, and share their errors:
+/// [`debug_entries`](Self::debug_entries) lists the entries and reads no record. A record is read from one entry: the first of
+/// its type, or by the methods whose names end with `_of` one that the caller has, whatever its type is. No other entry is
+/// read, so what damages one record makes no difference to another. Methods return `None` without a debug directory or such an
+/// entry, or where the entry has another record of its type. Their errors are first those of
+/// [`debug_entry`](Self::debug_entry), and then those of the record, also of an entry:
 ///
-/// - the directory: [`Error::UNMAPPED`]; in strict mode [`Error::DEBUG_BOUNDS`];
-/// - PDB 7.0, then PDB 2.0: in strict mode [`Error::DEBUG_SIZE`]; [`Error::SHORT`], [`Error::DEBUG_DATA`];
-/// - VC features, then characteristics: [`Error::SHORT`];
+/// - PDB 7.0 and PDB 2.0: in strict mode [`Error::DEBUG_SIZE`]; [`Error::SHORT`], [`Error::DEBUG_DATA`];
+/// - VC features and characteristics: [`Error::SHORT`];
 /// - Repro: [`Error::SHORT`], [`Error::DEBUG_DATA`];
-/// - POGO: [`Error::SHORT`], [`Error::POGO_SIZE`], [`Error::DEBUG_DATA`].
+/// - POGO: [`Error::SHORT`], [`Error::POGO_SIZE`], [`Error::DEBUG_DATA`];
+/// - the embedded PDB: [`Error::DEBUG_SIZE`], [`Error::SHORT`], [`Error::BAD_MAGIC`], [`Error::DEBUG_DATA`];
+/// - the checksum of the PDB: [`Error::DEBUG_DATA`], [`Error::DEBUG_SIZE`].
 impl<'a> Image<'a> {
     /// The entries of the debug directory, or `None` without a directory.
     ///
@@ -196,17 +250,46 @@ impl<'a> Image<'a> {
         Ok(entries.map(|entries| DebugEntries(Walk::new(self.bytes(), entries))))
     }
 
+    /// The first entry of a type, `IMAGE_DEBUG_TYPE_` of winnt.h. A truncated last entry is none.
+    ///
+    /// # Errors
+    ///
+    /// [`Error::UNMAPPED`]; in strict mode [`Error::DEBUG_BOUNDS`].
+    pub fn debug_entry(&self, data_type: u32) -> Result<Option<DebugEntry>, Error> {
+        let view = self.view();
+        let mut entry = DebugEntry::default();
+        // SAFETY: the view is of what `self` lends for the call, which writes the entry alone.
+        let number = unsafe { sys::pe_c_first_debug_entry(&view, data_type, &mut entry) };
+        returned(number, entry)
+    }
+
+    /// What a call reads of the record of an entry.
+    fn of_entry<T: Default>(&self, call: OfEntry<T>, entry: &DebugEntry) -> Result<Option<T>, Error> {
+        let mut out = T::default();
+        let bytes = self.bytes();
+        // SAFETY: the bytes and the entry are lent for the call, which writes `out` alone.
+        let number = unsafe { call(bytes.as_ptr(), bytes.len(), self.info().mode, entry, &mut out) };
+        returned(number, out)
+    }
+
     /// The key by which a symbol server files the image's PDB: the CodeView record, if it is one of PDB 7.0.
     ///
     /// # Errors
     ///
     /// Those of [debug data](#debug-data).
     pub fn symbol_key(&self) -> Result<Option<SymbolKey<'a>>, Error> {
-        let Some(key) = self.ask(sys::pe_c_symbol_key)? else {
-            return Ok(None);
-        };
-        let name_bytes = bytes_of(key.name, self.bytes())?;
-        Ok(Some(SymbolKey { guid: Guid(key.guid), age: key.age, name_bytes }))
+        let key = self.ask(sys::pe_c_symbol_key)?;
+        key.map(|key| key_of(key, self.bytes())).transpose()
+    }
+
+    /// The same of the record of an entry.
+    ///
+    /// # Errors
+    ///
+    /// Those of [debug data](#debug-data).
+    pub fn symbol_key_of(&self, entry: &DebugEntry) -> Result<Option<SymbolKey<'a>>, Error> {
+        let key = self.of_entry(sys::pe_c_symbol_key_of, entry)?;
+        key.map(|key| key_of(key, self.bytes())).transpose()
     }
 
     /// The CodeView record, if it is one of PDB 2.0.
@@ -215,12 +298,18 @@ impl<'a> Image<'a> {
     ///
     /// Those of [debug data](#debug-data).
     pub fn pdb20(&self) -> Result<Option<Pdb20<'a>>, Error> {
-        let Some(record) = self.ask(sys::pe_c_debug_pdb20)? else {
-            return Ok(None);
-        };
-        let name_bytes = bytes_of(record.name, self.bytes())?;
-        let sys::Pdb20 { offset, signature, age, .. } = record;
-        Ok(Some(Pdb20 { offset, signature, age, name_bytes }))
+        let record = self.ask(sys::pe_c_debug_pdb20)?;
+        record.map(|record| pdb20_of(record, self.bytes())).transpose()
+    }
+
+    /// The same of the record of an entry.
+    ///
+    /// # Errors
+    ///
+    /// Those of [debug data](#debug-data).
+    pub fn pdb20_of(&self, entry: &DebugEntry) -> Result<Option<Pdb20<'a>>, Error> {
+        let record = self.of_entry(sys::pe_c_pdb20_of, entry)?;
+        record.map(|record| pdb20_of(record, self.bytes())).transpose()
     }
 
     /// The record of VC features.
@@ -232,6 +321,15 @@ impl<'a> Image<'a> {
         self.ask(sys::pe_c_debug_vc_features)
     }
 
+    /// The same of the record of an entry.
+    ///
+    /// # Errors
+    ///
+    /// Those of [debug data](#debug-data).
+    pub fn vc_features_of(&self, entry: &DebugEntry) -> Result<Option<VcFeatures>, Error> {
+        self.of_entry(sys::pe_c_vc_features_of, entry)
+    }
+
     /// The extended DLL characteristics: `IMAGE_DLLCHARACTERISTICS_EX_` flags.
     ///
     /// # Errors
@@ -241,19 +339,33 @@ impl<'a> Image<'a> {
         self.ask(sys::pe_c_debug_characteristics)
     }
 
+    /// The same of the record of an entry.
+    ///
+    /// # Errors
+    ///
+    /// Those of [debug data](#debug-data).
+    pub fn debug_characteristics_of(&self, entry: &DebugEntry) -> Result<Option<u32>, Error> {
+        self.of_entry(sys::pe_c_characteristics_of, entry)
+    }
+
     /// The Repro record.
     ///
     /// # Errors
     ///
     /// Those of [debug data](#debug-data).
     pub fn repro(&self) -> Result<Option<Repro<'a>>, Error> {
-        let Some(record) = self.ask(sys::pe_c_debug_repro)? else {
-            return Ok(None);
-        };
-        if record.has_hash == 0 {
-            return Ok(Some(Repro::TimeStamp));
-        }
-        Ok(Some(Repro::Hash(bytes_of(record.hash, self.bytes())?)))
+        let record = self.ask(sys::pe_c_debug_repro)?;
+        record.map(|record| repro_of(record, self.bytes())).transpose()
+    }
+
+    /// The same of the record of an entry.
+    ///
+    /// # Errors
+    ///
+    /// Those of [debug data](#debug-data).
+    pub fn repro_of(&self, entry: &DebugEntry) -> Result<Option<Repro<'a>>, Error> {
+        let record = self.of_entry(sys::pe_c_repro_of, entry)?;
+        record.map(|record| repro_of(record, self.bytes())).transpose()
     }
 
     /// The POGO record, if it has one of the two signatures.
@@ -262,10 +374,37 @@ impl<'a> Image<'a> {
     ///
     /// Those of [debug data](#debug-data).
     pub fn pogo(&self) -> Result<Option<Pogo<'a>>, Error> {
-        let Some(record) = self.ask(sys::pe_c_debug_pogo)? else {
-            return Ok(None);
-        };
-        let entry_bytes = bytes_of(record.entries, self.bytes())?;
-        Ok(Some(Pogo { signature: record.signature, entry_bytes, entries: Walk::new(self.bytes(), record.entries) }))
+        let record = self.ask(sys::pe_c_debug_pogo)?;
+        record.map(|record| pogo_of(record, self.bytes())).transpose()
+    }
+
+    /// The same of the record of an entry.
+    ///
+    /// # Errors
+    ///
+    /// Those of [debug data](#debug-data).
+    pub fn pogo_of(&self, entry: &DebugEntry) -> Result<Option<Pogo<'a>>, Error> {
+        let record = self.of_entry(sys::pe_c_pogo_of, entry)?;
+        record.map(|record| pogo_of(record, self.bytes())).transpose()
+    }
+
+    /// The portable PDB in the record of an entry, whose type is `IMAGE_DEBUG_TYPE_EMBEDDEDPORTABLEPDB`, 17.
+    ///
+    /// # Errors
+    ///
+    /// Those of [debug data](#debug-data).
+    pub fn embedded_pdb_of(&self, entry: &DebugEntry) -> Result<Option<EmbeddedPdb<'a>>, Error> {
+        let record = self.of_entry(sys::pe_c_embedded_pdb_of, entry)?;
+        record.map(|record| embedded_of(record, self.bytes())).transpose()
+    }
+
+    /// The checksum of the PDB in the record of an entry, whose type is `IMAGE_DEBUG_TYPE_PDBCHECKSUM`, 19.
+    ///
+    /// # Errors
+    ///
+    /// Those of [debug data](#debug-data).
+    pub fn pdb_checksum_of(&self, entry: &DebugEntry) -> Result<Option<PdbChecksum<'a>>, Error> {
+        let record = self.of_entry(sys::pe_c_pdb_checksum_of, entry)?;
+        record.map(|record| checksum_of(record, self.bytes())).transpose()
     }
 }

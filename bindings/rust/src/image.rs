@@ -460,6 +460,17 @@ impl<'a> Image<'a> {
         (number == sys::DONE).then_some(offset)
     }
 
+    /// The image as newer calls take it. It is for calls that end before `self` changes or ends.
+    pub(crate) fn view(&self) -> sys::View {
+        sys::View {
+            bytes: self.bytes.as_ptr(),
+            length: self.bytes.len(),
+            image: &self.info,
+            sections: self.sections.as_ptr(),
+            count: self.sections.len(),
+        }
+    }
+
     /// Makes a call that takes the image.
     pub(crate) fn ask<T: Default>(&self, call: Call<T>) -> Result<Option<T>, Error> {
         let mut out = T::default();

@@ -47,8 +47,8 @@
 //!
 //! - An `Image` borrows the bytes of the file or module. Names, bodies and texts are slices of these bytes: they outlive the
 //!   `Image`.
-//! - A directory that is absent is `Ok(None)`; a damaged one is an [`Error`]. An error in one directory does not affect another,
-//!   but the six records of debug data are read together: an error in one of them is returned for each.
+//! - A directory that is absent is `Ok(None)`; a damaged one is an [`Error`]. An error in one part, a directory or a debug
+//!   record, does not affect another; of debug records that is proved over all bytes.
 //! - Every list is an iterator. After an `Err` item it returns `None`; [`VersionBlocks`] alone may go on after one.
 //! - No bytes, registers or memory make a call panic or loop forever. Only [`Image::parse`] and a clone of an
 //!   [`Image`], both for the section headers, [`Image::attach`], [`Image::detach`] and [`Text::to_string_lossy`] allocate.
@@ -113,7 +113,7 @@ pub use arm64::{
 pub use bound_imports::{BoundForwarder, BoundForwarders, BoundImport, BoundImports};
 pub use certificates::{Certificate, Certificates};
 pub use clr::{Clr, Metadata, MetadataStream, MetadataStreams};
-pub use debug::{DebugEntries, Pdb20, Pogo, PogoEntries, PogoEntry, Repro, SymbolKey};
+pub use debug::{DebugEntries, EmbeddedPdb, Pdb20, PdbChecksum, Pogo, PogoEntries, PogoEntry, Repro, SymbolKey};
 pub use delay_imports::{DelayImport, DelayImports, DelayedFunction, DelayedFunctions};
 pub use exports::{AddressTable, Export, Exported, Exports};
 pub use frames::{MemoryList, Stack, StepError};

@@ -111,6 +111,22 @@ Section, 40 {
     /// `IMAGE_SCN_` flags.
     characteristics: u32,
 });
+/// An image as newer calls take it, in place of its parts.
+#[repr(C)]
+#[derive(Clone, Copy, Debug)]
+pub struct View {
+    /// The bytes of the image.
+    pub bytes: *const u8,
+    /// Their number.
+    pub length: usize,
+    /// Its headers, which say how it is read.
+    pub image: *const ImageInfo,
+    /// Its section headers.
+    pub sections: *const Section,
+    /// Their number.
+    pub count: usize,
+}
+
 record!(
 /// `IMAGE_DOS_HEADER`. Windows reads the first field and the last alone.
 DosHeader, 64 {
@@ -337,6 +353,24 @@ Pogo, 24 {
     signature: u32,
     /// 0.
     spare: u32,
+});
+record!(
+/// A portable PDB in the image itself. See [`EmbeddedPdb`](crate::EmbeddedPdb).
+EmbeddedPdb, 24 {
+    /// Raw Deflate data.
+    compressed: Range,
+    /// In bytes, of the PDB, as the record states it.
+    uncompressed_size: u32,
+    /// 0.
+    spare: u32,
+});
+record!(
+/// A checksum of the PDB file. See [`PdbChecksum`](crate::PdbChecksum).
+PdbChecksum, 32 {
+    /// The name of the algorithm, not NUL-terminated.
+    algorithm: Range,
+    /// The rest of the record.
+    checksum: Range,
 });
 record!(
 /// An entry of a POGO record.
@@ -1154,6 +1188,8 @@ extern "C" {
     /// Returns the file offset of an RVA; in an image as loaded the RVA itself.
     pub fn pe_c_offset(image: *const ImageInfo, sections: *const Section, count: usize, rva: u32, out: *mut u64)
         -> u32;
+    /// Returns the first entry of a type in the debug directory.
+    pub fn pe_c_first_debug_entry(view: *const View, data_type: u32, out: *mut DebugEntry) -> u32;
     /// Starts the plan of a function, by its unwind RVA.
     pub fn pe_c_plan_from(unwind: u32, out: *mut Plan) -> u32;
     /// Finds the registers of an x64 function's caller, and writes them over those of the frame.
@@ -1247,6 +1283,22 @@ calls_of_bytes! {
     pe_c_next_debug_entry(walk: *mut Range) -> DebugEntry;
     /// Returns the symbol key of a CodeView record that stands alone.
     pe_c_codeview(record: *const Range) -> Key;
+    /// Returns the symbol key of an entry.
+    pe_c_symbol_key_of(mode: u32, entry: *const DebugEntry) -> Key;
+    /// Returns the CodeView record of PDB 2.0 of an entry.
+    pe_c_pdb20_of(mode: u32, entry: *const DebugEntry) -> Pdb20;
+    /// Returns the counts of VC features of an entry.
+    pe_c_vc_features_of(mode: u32, entry: *const DebugEntry) -> VcFeatures;
+    /// Returns the extended DLL characteristics of an entry.
+    pe_c_characteristics_of(mode: u32, entry: *const DebugEntry) -> u32;
+    /// Returns the Repro record of an entry.
+    pe_c_repro_of(mode: u32, entry: *const DebugEntry) -> Repro;
+    /// Returns the POGO record of an entry.
+    pe_c_pogo_of(mode: u32, entry: *const DebugEntry) -> Pogo;
+    /// Returns the portable PDB of an entry.
+    pe_c_embedded_pdb_of(mode: u32, entry: *const DebugEntry) -> EmbeddedPdb;
+    /// Returns the checksum of the PDB of an entry.
+    pe_c_pdb_checksum_of(mode: u32, entry: *const DebugEntry) -> PdbChecksum;
     /// Returns the next entry of a POGO record.
     pe_c_next_pogo_entry(walk: *mut Range) -> PogoEntry;
     /// Returns the next certificate of the certificate table.

@@ -33,6 +33,25 @@ fn headers_and_sections_are_read() {
     assert_eq!(section.characteristics, 0x4000_0040);
 }
 
+/// The numbers of headers that `info` has too, and some that it lacks, at their offsets in winnt.h.
+#[test]
+fn every_number_of_headers_is_read() {
+    let mut bytes = SMALL.to_vec();
+    bytes[0x18..0x1A].copy_from_slice(&0x40u16.to_le_bytes());
+    bytes[0x5A] = 14;
+    bytes[0xA0..0xA8].copy_from_slice(&0x10_0000u64.to_le_bytes());
+    let image = strict(&bytes);
+    let (info, headers) = (image.info(), image.headers().unwrap());
+    assert_eq!((headers.dos.signature, headers.dos.relocations_offset, headers.dos.pe_pointer), (0x5A4D, 0x40, 0x40));
+    assert_eq!((headers.signature, headers.coff.machine, headers.coff.size_of_optional_header), (0x4550, X64, 0xF0));
+    let optional = &headers.optional;
+    assert_eq!((optional.magic, optional.major_linker_version, optional.size_of_stack_reserve), (0x20B, 14, 0x10_0000));
+    assert_eq!((optional.image_base, optional.file_alignment), (info.base, info.file_alignment));
+    assert_eq!((optional.number_of_rva_and_sizes, optional.number_of_directories), (16, 16));
+    assert_eq!((headers.optional_offset, headers.directories_offset, headers.dos_stub.length), (0x58, 0xC8, 0));
+    assert_eq!(headers.directories, info.directories);
+}
+
 #[test]
 fn addresses_have_offsets_where_a_section_covers_them() {
     let image = strict(SMALL);
@@ -83,7 +102,7 @@ fn records_that_stand_alone_have_keys() {
     // the size of the POGO record, whose entry is the third, is damaged
     let entries = strict(&bytes).info().directory(DirectoryIndex::Debug).unwrap().virtual_address;
     bytes[offset(entries) as usize + 2 * 28 + 16] = 4;
-    assert_eq!(strict(&bytes).symbol_key(), Err(Error::POGO_SIZE));
+    assert_eq!((strict(&bytes).symbol_key(), strict(&bytes).pogo().err()), (Ok(Some(key)), Some(Error::POGO_SIZE)));
     assert_eq!(SymbolKey::of_record(&bytes[OFFSET as usize..][..30]), Ok(Some(key)));
     assert_eq!(SymbolKey::of_record(&record[..24]).unwrap().unwrap().name_bytes, b"");
     assert_eq!(SymbolKey::of_record(&record[..23]), Err(Error::DEBUG_SIZE));
@@ -203,6 +222,27 @@ fn debug_records_are_read() {
     assert_eq!(parts, [(0x1000, 16, b".text$mn".as_slice()), (0x2000, 8, b".bss".as_slice())]);
 }
 
+/// Each record is read from the entry of its type too, and as one of any other type where its bytes are one.
+#[test]
+fn records_of_debug_entries_are_read() {
+    let bytes = with_debug();
+    let image = strict(&bytes);
+    let of_type = |data_type| image.debug_entry(data_type).unwrap().unwrap();
+    let codeview = of_type(2);
+    assert_eq!(image.debug_entries().unwrap().unwrap().next(), Some(Ok(codeview)));
+    assert_eq!(image.symbol_key_of(&codeview), image.symbol_key());
+    assert_eq!(image.pdb20_of(&codeview), Ok(None));
+    assert_eq!(image.vc_features_of(&of_type(12)), image.vc_features());
+    assert_eq!(image.pogo_of(&of_type(13)).unwrap().unwrap().entry_bytes.len(), 36);
+    assert_eq!(image.repro_of(&of_type(16)), image.repro());
+    assert_eq!(image.debug_characteristics_of(&of_type(20)), Ok(Some(0x41)));
+    assert_eq!(image.debug_entry(17), Ok(None));
+    assert_eq!(image.embedded_pdb_of(&codeview), Err(Error::BAD_MAGIC));
+    // the record of CodeView up to the zero in its age, as the name of an algorithm
+    let checksum = image.pdb_checksum_of(&codeview).unwrap().unwrap();
+    assert_eq!((checksum.algorithm.len(), checksum.checksum.len()), (21, 8));
+}
+
 #[test]
 fn older_debug_records_are_read() {
     let bytes = with_old_debug();
@@ -225,7 +265,7 @@ fn damaged_debug_data_are_refused() {
     bytes[table + 16..table + 20].copy_from_slice(&0x10_0000u32.to_le_bytes());
     let image = strict(&bytes);
     assert_eq!(image.symbol_key(), Err(Error::DEBUG_DATA));
-    assert_eq!(image.repro(), Err(Error::DEBUG_DATA));
+    assert_eq!(image.repro(), Ok(Some(Repro::Hash(b"hash"))));
     // a directory that ends past the end of the file is truncated in permissive mode
     let mut long = SMALL.to_vec();
     long[0xFC..0x100].copy_from_slice(&0x1000u32.to_le_bytes());

@@ -14,8 +14,7 @@ use Rattle.pe_core.specs.declared.export_addresses.ExportAddress.{ExportAddress}
 use Rattle.pe_core.specs.declared.export.ExportDirectoryTable.{ExportDirectoryTable}
 use Rattle.pe_c.specs.ExportAddresses.{address_table, addresses_in, exported_with, exported_at, text_range}
 use Rattle.pe_c.specs.Exports.{export_reported, index_at, reported_entry}
-use Rattle.pe_c.specs.Parts.{IsPart}
-use Rattle.pe_c.specs.Ranges.{IsRange, bytes_at, or_no_bytes}
+use Rattle.pe_c.specs.Ranges.{IsPart, IsRange, bytes_at, or_no_bytes}
 use Rattle.pe_c.specs.declared.export_addresses.AddressTable.{AddressTable}
 use Rattle.pe_c.specs.declared.export_addresses.Exported.{Exported}
 use Rattle.pe_c.specs.declared.exports.Export.{Export}

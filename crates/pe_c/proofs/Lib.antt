@@ -34,3 +34,5 @@ pub mod VersionsReported
 pub mod Ways
 pub mod LeafRuns
 pub mod VersionBlockParts
+pub mod DebugAlone
+pub mod DebugParts

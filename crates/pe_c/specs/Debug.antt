@@ -1,17 +1,21 @@
 -- What calls return of debug data.
 use Rattle.std.specs.Prelude.{ℕ, ◌+◌, List, length, min, Option, Some, None, Result, Ok, if◌then◌else◌}
-use Rattle.std.specs.Option.{option_map, option_and_then}
+use Rattle.std.specs.Option.{option_map}
 use Rattle.pe_core.specs.Options.{default_options}
 use Rattle.pe_core.specs.Refusals.{Refusal, ◌>>=◌}
 use Rattle.pe_core.specs.declared.section_table.SectionTable.{SectionTable}
-use Rattle.pe_records.specs.DebugDirectory.{directory_range, first_of_type}
-use Rattle.pe_records.specs.DebugRecords.{DebugFields, Stamp, Buffer, debug_data, pdb70_of, record_offset}
+use Rattle.pe_records.specs.DebugDirectory.{directory_range, directory_table, first_of_type}
+use Rattle.pe_records.specs.DebugRecords.{Stamp, Buffer, record_offset}
 use Rattle.pe_records.specs.DebugRecords as records
+use Rattle.pe_records.specs.ManagedDebug as managed
 use Rattle.pe_records.specs.declared.debug.ImageDebugDirectory.{ImageDebugDirectory}
-use Rattle.pe_c.specs.declared.debug.SymbolKey.{SymbolKey}
-use Rattle.pe_c.specs.declared.debug.Pdb20.{Pdb20}
-use Rattle.pe_c.specs.declared.debug.Repro.{Repro}
-use Rattle.pe_c.specs.declared.debug.Pogo.{Pogo}
+use Rattle.pe_records.specs.declared.debug.records.VCFeatureInfo.{VCFeatureInfo}
+use Rattle.pe_c.specs.declared.debug_records.EmbeddedPdb.{EmbeddedPdb}
+use Rattle.pe_c.specs.declared.debug_records.PdbChecksum.{PdbChecksum}
+use Rattle.pe_c.specs.declared.debug_records.SymbolKey.{SymbolKey}
+use Rattle.pe_c.specs.declared.debug_records.Pdb20.{Pdb20}
+use Rattle.pe_c.specs.declared.debug_records.Repro.{Repro}
+use Rattle.pe_c.specs.declared.debug_records.Pogo.{Pogo}
 use Rattle.pe_c.specs.declared.image.Image.{Image}
 use Rattle.pe_c.specs.declared.ranges.Range.{Range}
 use Rattle.pe_c.specs.Images.{debug_directory, is_absent}
@@ -24,24 +28,74 @@ debug_entries_range b image sections mode =
     if is_absent (debug_directory image) then Ok None
     else directory_range (options_of mode) b (debug_directory image) sections image.file_alignment >>= λ r. Ok (Some (range_of r))
 
--- the debug data of an image, if it has any; or what refuses it
-unfoldable pub image_debug : List ℕ → Image → List SectionTable → ℕ → Result (Option DebugFields) Refusal
-image_debug b image sections mode =
+-- the first entry of a type in the debug directory of an image, if there are both; or what refuses the table of entries
+unfoldable pub first_entry : List ℕ → Image → List SectionTable → ℕ → Result (Option ImageDebugDirectory) Refusal
+first_entry b image sections kind =
     if is_absent (debug_directory image) then Ok None
-    else debug_data (options_of mode) b (debug_directory image) sections image.file_alignment 0 >>= λ d. Ok (Some d)
+    else directory_table (options_of image.mode) b (debug_directory image) sections image.file_alignment >>= λ t. Ok (first_of_type 0 kind t)
 
--- a result that is read in a mode from debug data, if there is any and it has one
-abbrev pub reported_of : {Y : Type 0} → (ℕ → DebugFields → Option Y) → List ℕ → Image → List SectionTable → ℕ → Result (Option Y) Refusal
-reported_of reported b image sections mode = image_debug b image sections mode >>= λ d. Ok (option_and_then (reported mode) d)
+-- what is read of the first entry of a type, and of no other
+abbrev pub read_first : {Y : Type 0} → (List ℕ → ℕ → ImageDebugDirectory → Result (Option Y) Refusal) → ℕ → List ℕ → Image → List SectionTable → Result (Option Y) Refusal
+read_first read kind b image sections = first_entry b image sections kind >>= records.of_entry (read b image.mode)
 
--- the range of a part that follows n bytes of the record of the first entry of this type
-abbrev pub part_after : ℕ → DebugFields → ℕ → ℕ → List ℕ → Option Range
-part_after mode d kind n part =
-    option_map (λ e. record { offset = record_offset (resolves mode) e + n; length = length part }) (first_of_type d.fixup kind d.table)
+-- ---- the records of an entry, read in a mode
 
--- the record of PDB 7.0; its name follows 24 bytes
-abbrev pub key_of : ℕ → DebugFields → Option SymbolKey
-key_of mode d = option_and_then (λ r. option_map (λ name. record { guid = r.signature; age = r.age; spare = 0; name = name }) (part_after mode d 2 24 r.filename)) d.pdb70
+-- the range of a part that follows n bytes of the record of an entry
+abbrev pub part_after : ℕ → ImageDebugDirectory → ℕ → List ℕ → Range
+part_after mode e n part = record { offset = record_offset (resolves mode) e + n; length = length part }
+
+-- PDB 7.0; the name follows 24 bytes
+abbrev pub flat_key : ℕ → ImageDebugDirectory → records.Pdb70 → SymbolKey
+flat_key mode e r = record { guid = r.signature; age = r.age; spare = 0; name = part_after mode e 24 r.filename }
+
+abbrev pub key_of : List ℕ → ℕ → ImageDebugDirectory → Result (Option SymbolKey) Refusal
+key_of b mode e = records.pdb70_of (options_of mode) b e >>= λ r. Ok (option_map (flat_key mode e) r)
+
+-- PDB 2.0; the name follows 16 bytes
+abbrev pub flat_pdb20 : ℕ → ImageDebugDirectory → records.Pdb20 → Pdb20
+flat_pdb20 mode e r = record { name = part_after mode e 16 r.filename; offset = r.codeview_offset; signature = r.signature; age = r.age; spare = 0 }
+
+abbrev pub pdb20_of : List ℕ → ℕ → ImageDebugDirectory → Result (Option Pdb20) Refusal
+pdb20_of b mode e = records.pdb20_of (options_of mode) b e >>= λ r. Ok (option_map (flat_pdb20 mode e) r)
+
+-- VC features
+abbrev pub features_of : List ℕ → ℕ → ImageDebugDirectory → Result (Option VCFeatureInfo) Refusal
+features_of b mode e = records.features_of (options_of mode) b e >>= λ r. Ok (Some r)
+
+-- extended DLL characteristics
+abbrev pub characteristics_of : List ℕ → ℕ → ImageDebugDirectory → Result (Option ℕ) Refusal
+characteristics_of b mode e = records.characteristics_of (options_of mode) b e >>= λ r. Ok (Some r.characteristics_ex)
+
+-- Repro; the hash follows 4 bytes
+abbrev pub flat_repro : ℕ → ImageDebugDirectory → records.Repro → Repro
+flat_repro mode e (Stamp stamp) = record { hash = no_bytes; has_hash = 0; spare = 0 }
+flat_repro mode e (Buffer count bytes) = record { hash = part_after mode e 4 bytes; has_hash = 1; spare = 0 }
+
+abbrev pub repro_of : List ℕ → ℕ → ImageDebugDirectory → Result (Option Repro) Refusal
+repro_of b mode e = records.repro_of (options_of mode) b e >>= λ r. Ok (Some (flat_repro mode e r))
+
+-- POGO; the entries follow 4 bytes
+abbrev pub flat_pogo : ℕ → ImageDebugDirectory → records.Pogo → Pogo
+flat_pogo mode e r = record { entries = part_after mode e 4 r.bytes; signature = r.signature; spare = 0 }
+
+abbrev pub pogo_of : List ℕ → ℕ → ImageDebugDirectory → Result (Option Pogo) Refusal
+pogo_of b mode e = records.pogo_of (options_of mode) b e >>= λ r. Ok (option_map (flat_pogo mode e) r)
+
+-- the embedded PDB; the compressed data follow 8 bytes
+abbrev pub flat_embedded : ℕ → ImageDebugDirectory → managed.Embedded → EmbeddedPdb
+flat_embedded mode e r = record { compressed = part_after mode e 8 r.compressed; uncompressed_size = r.uncompressed_size; spare = 0 }
+
+abbrev pub embedded_of : List ℕ → ℕ → ImageDebugDirectory → Result (Option EmbeddedPdb) Refusal
+embedded_of b mode e = managed.embedded_of (options_of mode) b e >>= λ r. Ok (Some (flat_embedded mode e r))
+
+-- the checksum of the PDB, which follows the name of the algorithm and a zero
+abbrev pub flat_checksum : ℕ → ImageDebugDirectory → managed.Checksum → PdbChecksum
+flat_checksum mode e r = record { algorithm = part_after mode e 0 r.algorithm; checksum = part_after mode e (length r.algorithm + 1) r.checksum }
+
+abbrev pub checksum_of : List ℕ → ℕ → ImageDebugDirectory → Result (Option PdbChecksum) Refusal
+checksum_of b mode e = managed.checksum_of (options_of mode) b e >>= λ r. Ok (Some (flat_checksum mode e r))
+
+-- ---- a CodeView record that stands alone
 
 -- an entry whose record starts at offset 0 and has n bytes
 abbrev pub entry_of : ℕ → ImageDebugDirectory
@@ -62,26 +116,4 @@ key_at r k = record { guid = k.signature; age = k.age; spare = 0; name = record 
 
 -- the key of the record at a range, which has less than 2^32 bytes; none where it is not one of PDB 7.0
 abbrev pub codeview_at : List ℕ → Range → Result (Option SymbolKey) Refusal
-codeview_at b r = bytes_at b r >>= λ d. pdb70_of default_options d (entry_of (min (length d) 4294967295)) >>= λ k. Ok (option_map (key_at r) k)
-
--- the record of PDB 2.0; its name follows 16 bytes
-abbrev pub pdb20_field : ℕ → DebugFields → Option Pdb20
-pdb20_field mode d =
-    option_and_then (λ r. option_map (λ name. record { name = name; offset = r.codeview_offset; signature = r.signature; age = r.age; spare = 0 }) (part_after mode d 2 16 r.filename))
-    d.pdb20
-
--- the extended DLL characteristics
-abbrev pub characteristics_field : DebugFields → Option ℕ
-characteristics_field d = option_map (λ r. r.characteristics_ex) d.characteristics
-
--- a Repro record; its hash follows 4 bytes
-abbrev pub repro_by : ℕ → DebugFields → records.Repro → Option Repro
-repro_by mode d (Stamp stamp) = Some (record { hash = no_bytes; has_hash = 0; spare = 0 })
-repro_by mode d (Buffer count bytes) = option_map (λ hash. record { hash = hash; has_hash = 1; spare = 0 }) (part_after mode d 16 4 bytes)
-
-abbrev pub repro_field : ℕ → DebugFields → Option Repro
-repro_field mode d = option_and_then (repro_by mode d) d.repro
-
--- the record of POGO; its entries follow 4 bytes
-abbrev pub pogo_field : ℕ → DebugFields → Option Pogo
-pogo_field mode d = option_and_then (λ r. option_map (λ entries. record { entries = entries; signature = r.signature; spare = 0 }) (part_after mode d 13 4 r.bytes)) d.pogo
+codeview_at b r = bytes_at b r >>= λ d. records.pdb70_of default_options d (entry_of (min (length d) 4294967295)) >>= λ k. Ok (option_map (key_at r) k)

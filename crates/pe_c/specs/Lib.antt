@@ -31,3 +31,4 @@ pub mod SectionNames
 pub mod VersionBlocks
 pub mod Overlays
 pub mod Headers
+pub mod DebugLaws

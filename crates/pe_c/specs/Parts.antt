@@ -1,40 +1,18 @@
 -- The ranges of results are the parts of what they were read from.
 use Rattle.std.specs.Prelude.{◌≡◌, ℕ, List, [], ◌∷◌, ◌++◌, map, Option, Some, None, Ok, Err}
 use Rattle.std.specs.List.{AllZip}
-use Rattle.std.specs.Option.{IsSome}
 use Rattle.pe_core.specs.Exports.{ExportDataView, ExportView}
 use Rattle.pe_core.specs.Imports.{ImportRecordView, ImportView, imports}
 use Rattle.pe_core.specs.Refusals.{Refusal, ◌>>=◌}
 use Rattle.pe_core.specs.declared.import.ImportDirectoryEntry.{ImportDirectoryEntry}
-use Rattle.pe_core.specs.declared.section_table.SectionTable.{SectionTable}
-use Rattle.pe_records.specs.DebugRecords.{DebugFields}
 use Rattle.pe_c.specs.declared.exports.Export.{Export}
 use Rattle.pe_c.specs.declared.exports.Exports.{Exports}
-use Rattle.pe_c.specs.declared.image.Image.{Image}
 use Rattle.pe_c.specs.declared.imports.Import.{Import}
 use Rattle.pe_c.specs.declared.imports.Library.{Library}
-use Rattle.pe_c.specs.declared.ranges.Range.{Range}
-use Rattle.pe_c.specs.Debug.{image_debug, reported_of}
 use Rattle.pe_c.specs.Exports.{or_zero, one_if_some}
 use Rattle.pe_c.specs.Imports.{StepsImports}
-use Rattle.pe_c.specs.Ranges.{IsRange, no_bytes}
+use Rattle.pe_c.specs.Ranges.{IsPart, IsRange}
 use Rattle.pe_c.specs.Runs.{ReturnsItems}
-
--- the range of a part, empty without the part
-abbrev pub IsPart : List ℕ → Range → Option (List ℕ) → Type 0
-IsPart b r None = r ≡ no_bytes
-IsPart b r (Some part) = IsRange b r part
-
--- a result that is read from debug data has the range of this part of the data
-abbrev pub ReportsPart : {Y : Type 0} → (ℕ → DebugFields → Option Y) → (Y → Range) → (DebugFields → Option (List ℕ)) → Type 0
-ReportsPart {Y} reported range_of part_of =
-    (b : List ℕ) (image : Image) (sections : List SectionTable) (mode : ℕ) (y : Y) → reported_of reported b image sections mode ≡ Ok (Some y) →
-    (d : DebugFields) × (image_debug b image sections mode ≡ Ok (Some d)) × (reported mode d ≡ Some y) × IsPart b (range_of y) (part_of d)
-
--- where debug data has a record, there is a result
-abbrev pub ReportsRecord : {X Y : Type 0} → (ℕ → DebugFields → Option Y) → (DebugFields → Option X) → Type 0
-ReportsRecord reported record_of =
-    (b : List ℕ) (image : Image) (sections : List SectionTable) (mode : ℕ) (d : DebugFields) → image_debug b image sections mode ≡ Ok (Some d) → IsSome (record_of d) → IsSome (reported mode d)
 
 -- a walk at its start has the tables of these export data
 pub record HasTables (b : List ℕ) (w : Exports) (d : ExportDataView) : Type 0 where

@@ -39,3 +39,8 @@ bytes_at b r = record_at b r.offset r.length (range b r.offset r.length)
 pub record IsRange (b : List ℕ) (r : Range) (bytes : List ℕ) : Type 0 where
   pub inside : r.offset + r.length ≤ length b
   pub same : range b r.offset r.length ≡ bytes
+
+-- the range of a part, empty without the part
+abbrev pub IsPart : List ℕ → Range → Option (List ℕ) → Type 0
+IsPart b r None = r ≡ no_bytes
+IsPart b r (Some part) = IsRange b r part

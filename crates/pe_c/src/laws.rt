@@ -1,22 +1,22 @@
 //! Laws over the definitions of `specs/`. Each is the contract of a function that does nothing, so that a caller's
 //! proof can cite it by calling the function.
 
+pub mod debug;
 pub mod directories;
 pub mod version_blocks;
 pub mod walks;
 
 ghost use Rattle.pe_c.specs.Arm64.{StepsArm64Codes, arm64_function_in, arm64_walk_at, flat_arm64_item, flat_info, flat_scope_at, left_of_stream};
 ghost use Rattle.pe_c.specs.Certificates.{StepsCertificates, ReportsCertificate, listed};
-ghost use Rattle.pe_c.specs.Debug.{key_of, pdb20_field, pogo_field, repro_field};
 ghost use Rattle.pe_c.specs.DebugWalks.{StepsPogoEntries, entries_reported};
 ghost use Rattle.pe_c.specs.ExportAddresses.{address_table, addresses_in, exported_with, exported_at};
 ghost use Rattle.pe_c.specs.Exports.{StepsExports, count_of, tables_or_short, reported_entry, reported_from, walk_over, with_tables};
 ghost use Rattle.pe_c.specs.Images.{import_directory, map_of_image};
 ghost use Rattle.pe_c.specs.Imports.{StepsLibraries, libraries_at};
-ghost use Rattle.pe_c.specs.Parts.{HasTables, ImportsInTurn, IsPart, ReportsExport, ReportsLibrary, ReportsPart, ReportsRecord};
+ghost use Rattle.pe_c.specs.Parts.{HasTables, ImportsInTurn, ReportsExport, ReportsLibrary};
 ghost use Rattle.pe_c.specs.Modes.{options_of};
 ghost use Rattle.pe_c.specs.Plans.{HandsOutAfter, ReturnsInTurn, ReportsUnwindRecord, ending_of, plan_from};
-ghost use Rattle.pe_c.specs.Ranges.{IsRange, bytes_at};
+ghost use Rattle.pe_c.specs.Ranges.{IsPart, IsRange, bytes_at};
 ghost use Rattle.pe_c.specs.ResourceLeaves.{IsNameOf, name_reported};
 ghost use Rattle.pe_c.specs.RichHeaders.{rich_entry_at};
 ghost use Rattle.pe_c.specs.Runs.{ReturnsItems};
@@ -49,7 +49,6 @@ ghost use Rattle.pe_core.specs.declared.section_table.SectionTable.{SectionTable
 ghost use Rattle.pe_plan.specs.Plans.{PlansFrom};
 ghost use Rattle.pe_records.specs.Certificates.{CertificateView, certificate_at};
 ghost use Rattle.pe_records.specs.DebugDirectory.{debug_entry_at};
-ghost use Rattle.pe_records.specs.Parts.{hash_of};
 ghost use Rattle.pe_records.specs.Pogo.{Entries, Entry};
 ghost use Rattle.pe_resource.specs.Leaves.{name_units};
 ghost use Rattle.pe_resource.specs.declared.entry.ResourceEntry.{ResourceEntry};
@@ -130,26 +129,6 @@ pub fn plans_end()
     ensures { (b : List ℕ) (links : Result Table Refusal) (unwind : ℕ)
         (given : List UnwindRecord) (p : Plan) → AreBytes b → unwind < 2 ^ 32 →
         ReturnsInTurn b links (plan_from unwind) given p → length given ≤ 3 * 2 ^ 32 }
-{}
-
-/// The ranges that calls return for debug data lie in the bytes, and are the file names, the hash and the POGO entries
-/// that the debug data has.
-#[tactic(auto, using(crate::proofs::Parts::key_reports, crate::proofs::Parts::pdb20_reports, crate::proofs::Parts::repro_reports, crate::proofs::Parts::pogo_reports))]
-pub fn ranges_of_debug_data_are_their_parts()
-    ensures key { ReportsPart key_of (λ k. k.name) (λ d. option_map (λ r. r.filename) d.pdb70) }
-    ensures pdb20 { ReportsPart pdb20_field (λ r. r.name)
-        (λ d. option_map (λ r. r.filename) d.pdb20) }
-    ensures repro { ReportsPart repro_field (λ r. r.hash) (λ d. hash_of d.repro) }
-    ensures pogo { ReportsPart pogo_field (λ r. r.entries) (λ d. option_map (λ r. r.bytes) d.pogo) }
-{}
-
-/// Each record that the debug data has is returned.
-#[tactic(auto, using(crate::proofs::Parts::key_is_reported, crate::proofs::Parts::pdb20_is_reported, crate::proofs::Parts::repro_is_reported, crate::proofs::Parts::pogo_is_reported))]
-pub fn records_of_debug_data_are_reported()
-    ensures key { ReportsRecord key_of (λ d. d.pdb70) }
-    ensures pdb20 { ReportsRecord pdb20_field (λ d. d.pdb20) }
-    ensures repro { ReportsRecord repro_field (λ d. d.repro) }
-    ensures pogo { ReportsRecord pogo_field (λ d. d.pogo) }
 {}
 
 /// The functions of a table by their indices, from 0 on, are its whole entries in their order, and there are no others.

@@ -1,11 +1,13 @@
 -- The parts of records stand where their definitions take them from.
-use Rattle.std.proofs.Common.{◌≡◌, ℕ, ◌+◌, ◌-◌, ◌≤◌, List, length, Option, Some, None, Result, Ok, Err, refl, ap, sym, subst, inl, inr}
-use Rattle.std.specs.Prelude.{nat_lt, ◌==◌, ◌||◌}
+use Rattle.std.proofs.Common.{◌≡◌, ℕ, ◌+◌, ◌-◌, ◌<◌, ◌≤◌, Bool, true, false, List, [], ◌∷◌, length, take, drop, Option, Some, None, Result, Ok, Err, refl, ap, sym, subst, inl, inr, arith}
+use Rattle.std.proofs.lemmas.List.{places, same_lists}
+use Rattle.std.proofs.lemmas.List.Quantifiers.{position-Some}
+use Rattle.std.specs.Prelude.{nat_le, nat_lt, position, IfSome, ◌==◌, ◌||◌}
 use Rattle.std.specs.Option.{option_map}
 use Rattle.pe_core.proofs.Ranges.{length_range, inside_if_held}
 use Rattle.pe_core.proofs.Steps.{given, same_inside}
 use Rattle.pe_core.specs.Bytes.{holds, le, range}
-use Rattle.pe_core.specs.Refusals.{Refusal, Short, DebugData, PogoSize, ◌>>=◌}
+use Rattle.pe_core.specs.Refusals.{Refusal, BadMagic, DebugSize, Short, DebugData, PogoSize, outcome, ◌>>=◌}
 use Rattle.pe_core.specs.declared.data_directories.DataDirectory.{DataDirectory}
 use Rattle.pe_core.specs.declared.options.ParseMode.{ParseMode}
 use Rattle.pe_core.specs.declared.options.ParseOptions.{ParseOptions}
@@ -15,6 +17,7 @@ use Rattle.pe_records.specs.Certificates.{CertificateView, certificate_at}
 use Rattle.pe_records.specs.DebugDirectory.{first_of_type, directory_table}
 use Rattle.pe_records.specs.DebugRecords.{DebugFields, Pdb70, Pdb20, Pogo, Repro, Stamp, Buffer, pdb70_at, pdb70_record, pdb20_at, pdb20_record, pogo_record, repro_record, pdb70_of, pdb20_of, features_of, characteristics_of, repro_of, pogo_of, of_entry, some_of_entry, record_offset, records, debug_data}
 use Rattle.pe_core.specs.Offsets.{StandAt}
+use Rattle.pe_records.specs.ManagedDebug.{Checksum, Embedded, checksum_after, checksum_in, checksum_of, checksum_record, embedded_of, embedded_record}
 use Rattle.pe_records.specs.Parts.{StandsAfter, DebugPartsStand, hash_of}
 use Rattle.pe_records.proofs.CertificatesReadAgain.{Read, read}
 use Rattle.pe_records.proofs.SpelledDebug.{passed, passed_pogo, passed_repro}
@@ -82,6 +85,101 @@ hash_after o b entry None e = tt
 hash_after o b entry (Some (Stamp stamp)) e = tt
 hash_after o b None (Some (Buffer count bytes)) e = absurd cc
 hash_after o b (Some entry) (Some (Buffer count bytes)) e = hash_given o b entry (repro_of o b entry) (Buffer count bytes) refl e
+
+-- ---- the parts of the record of an entry
+
+pub name_of_pdb70 : (o : ParseOptions) (b : List ℕ) (e : ImageDebugDirectory) (r : Option Pdb70) → pdb70_of o b e ≡ Ok r → StandsAfter o b 24 (Some e) (option_map (λ r. r.filename) r)
+name_of_pdb70 o b e r given = after o b 24 (λ r. r.filename) (pdb70_of o b) (λ x. name70 o.parse_mode b (record_offset o.resolve_rva x) x.size_of_data) (Some e) r given
+
+pub name_of_pdb20 : (o : ParseOptions) (b : List ℕ) (e : ImageDebugDirectory) (r : Option Pdb20) → pdb20_of o b e ≡ Ok r → StandsAfter o b 16 (Some e) (option_map (λ r. r.filename) r)
+name_of_pdb20 o b e r given = after o b 16 (λ r. r.filename) (pdb20_of o b) (λ x. name20 o.parse_mode b (record_offset o.resolve_rva x) x.size_of_data) (Some e) r given
+
+pub entries_of_pogo : (o : ParseOptions) (b : List ℕ) (e : ImageDebugDirectory) (r : Option Pogo) → pogo_of o b e ≡ Ok r → StandsAfter o b 4 (Some e) (option_map (λ r. r.bytes) r)
+entries_of_pogo o b e r given = after o b 4 (λ r. r.bytes) (pogo_of o b) (λ x. pogo_entries b (record_offset o.resolve_rva x) x.size_of_data) (Some e) r given
+
+pub hash_of_repro : (o : ParseOptions) (b : List ℕ) (e : ImageDebugDirectory) (r : Repro) → repro_of o b e ≡ Ok r → StandsAfter o b 4 (Some e) (hash_of (Some r))
+hash_of_repro o b e r given = hash_after o b (Some e) (Some r) (ap (λ x. x >>= λ y. Ok (Some y)) given)
+
+all_passed : {X : Type 0} (first second third last : Bool) (i j k l : Refusal) (v x : X) →
+    outcome ((first, i) ∷ (second, j) ∷ (third, k) ∷ (last, l) ∷ []) v ≡ Ok x → (last ≡ true) × (v ≡ x)
+all_passed true true true true i j k l v x e = (refl, cc)
+all_passed true true true false i j k l v x e = absurd cc
+all_passed true true false last i j k l v x e = absurd cc
+all_passed true false third last i j k l v x e = absurd cc
+all_passed false second third last i j k l v x e = absurd cc
+
+embedded_stands : (b : List ℕ) (p size : ℕ) (r : Embedded) → embedded_record b p size ≡ Ok r → StandAt b (p + 8) r.compressed
+unfolding embedded_record
+embedded_stands b p size r e =
+    let v : Embedded = record { uncompressed_size = le b (p + 4) 4; compressed = range b (p + 8) (size - 8) } in
+    let tests = all_passed (nat_le 8 size) (holds b p 8) (le b p 4 == 0x4244504D) (holds b (p + 8) (size - 8)) DebugSize Short BadMagic DebugData v r e in
+    stand b (p + 8) (size - 8) r.compressed (inside_if_held b (p + 8) (size - 8) tests.0) (ap (λ (x : Embedded). x.compressed) tests.1)
+
+pub compressed_of_embedded : (o : ParseOptions) (b : List ℕ) (e : ImageDebugDirectory) (r : Embedded) → embedded_of o b e ≡ Ok r → StandsAfter o b 8 (Some e) (Some r.compressed)
+compressed_of_embedded o b e r given = embedded_stands b (record_offset o.resolve_rva e) e.size_of_data r given
+
+-- the first n bytes of those that stand at an offset, and those after one more
+beginning : (b : List ℕ) (p size n : ℕ) → p + size ≤ length b → n < size → StandAt b (p + 0) (take n (range b p size))
+beginning b p size n h lt = record { inside = grind (arith, places); here = same_lists _ _ (grind (arith, places)) (λ j d below. grind (arith, places)) }
+
+ending : (b : List ℕ) (p size n : ℕ) → p + size ≤ length b → n < size → StandAt b (p + (length (take n (range b p size)) + 1)) (drop (n + 1) (range b p size))
+ending b p size n h lt = record { inside = grind (arith, places); here = same_lists _ _ (grind (arith, places)) (λ j d below. grind (arith, places)) }
+
+abbrev ChecksumStands : List ℕ → ℕ → Checksum → Type 0
+ChecksumStands b p r = StandAt b (p + 0) r.algorithm × StandAt b (p + (length r.algorithm + 1)) r.checksum
+
+checksum_by : (b : List ℕ) (p size : ℕ) (end : Option ℕ) (r : Checksum) → p + size ≤ length b → IfSome end (λ n. n < size) → checksum_after (range b p size) end ≡ Ok r → ChecksumStands b p r
+checksum_by b p size None r h below e = absurd cc
+checksum_by b p size (Some n) r h below e =
+    let is : record { algorithm = take n (range b p size); checksum = drop (n + 1) (range b p size) } ≡ r = cc in
+    subst (ChecksumStands b p) is (beginning b p size n h below, ending b p size n h below)
+
+below_all : (x : List ℕ) (size : ℕ) (end : Option ℕ) → length x ≡ size → position (λ c. c == 0) x ≡ end → IfSome end (λ n. n < size)
+below_all x size None e is = tt
+below_all x size (Some n) e is = subst (λ m. n < m) e (position-Some (λ c. c == 0) x n 0 is).0
+
+checksum_stands : (b : List ℕ) (p size : ℕ) (held : Bool) (r : Checksum) → holds b p size ≡ held → (outcome ((held, DebugData) ∷ []) (range b p size) >>= checksum_in) ≡ Ok r → ChecksumStands b p r
+checksum_stands b p size true r h e =
+    let inside : p + size ≤ length b = inside_if_held b p size h in
+    checksum_by b p size (position (λ c. c == 0) (range b p size)) r inside (below_all (range b p size) size (position (λ c. c == 0) (range b p size)) (length_range b p size inside) refl) e
+checksum_stands b p size false r h e = absurd cc
+
+parts_of_sum : (b : List ℕ) (p size : ℕ) (r : Checksum) → checksum_record b p size ≡ Ok r → ChecksumStands b p r
+unfolding checksum_record
+parts_of_sum b p size r e = checksum_stands b p size (holds b p size) r refl e
+
+pub parts_of_checksum : (o : ParseOptions) (b : List ℕ) (e : ImageDebugDirectory) (r : Checksum) → checksum_of o b e ≡ Ok r →
+    StandsAfter o b 0 (Some e) (Some r.algorithm) × StandsAfter o b (length r.algorithm + 1) (Some e) (Some r.checksum)
+parts_of_checksum o b e r given = parts_of_sum b (record_offset o.resolve_rva e) e.size_of_data r given
+
+-- ---- all records of a table
+
+-- the six records of a table are those of its first entries
+pub record RecordsOf (o : ParseOptions) (b : List ℕ) (fixup : ℕ) (t : List ℕ) (d : DebugFields) : Type 0 where
+  pub pdb70 : of_entry (pdb70_of o b) (first_of_type fixup 2 t) ≡ Ok d.pdb70
+  pub pdb20 : of_entry (pdb20_of o b) (first_of_type fixup 2 t) ≡ Ok d.pdb20
+  pub features : some_of_entry (features_of o b) (first_of_type fixup 12 t) ≡ Ok d.features
+  pub characteristics : some_of_entry (characteristics_of o b) (first_of_type fixup 20 t) ≡ Ok d.characteristics
+  pub repro : some_of_entry (repro_of o b) (first_of_type fixup 16 t) ≡ Ok d.repro
+  pub pogo : of_entry (pogo_of o b) (first_of_type fixup 13 t) ≡ Ok d.pogo
+
+pub records_are : (o : ParseOptions) (b : List ℕ) (fixup : ℕ) (t : List ℕ) (d : DebugFields) → records o b fixup t ≡ Ok d → RecordsOf o b fixup t d
+unfolding records
+records_are o b fixup t d e =
+    let pdb70 = given (of_entry (pdb70_of o b) (first_of_type fixup 2 t)) _ d e in
+    let pdb20 = given (of_entry (pdb20_of o b) (first_of_type fixup 2 t)) _ d pdb70.2 in
+    let features = given (some_of_entry (features_of o b) (first_of_type fixup 12 t)) _ d pdb20.2 in
+    let characteristics = given (some_of_entry (characteristics_of o b) (first_of_type fixup 20 t)) _ d features.2 in
+    let repro = given (some_of_entry (repro_of o b) (first_of_type fixup 16 t)) _ d characteristics.2 in
+    let pogo = given (of_entry (pogo_of o b) (first_of_type fixup 13 t)) _ d repro.2 in
+    subst (RecordsOf o b fixup t) (same_inside _ d pogo.2) (record {
+      pdb70 = pdb70.1;
+      pdb20 = pdb20.1;
+      features = features.1;
+      characteristics = characteristics.1;
+      repro = repro.1;
+      pogo = pogo.1;
+    })
 
 parts_of_records : (o : ParseOptions) (b : List ℕ) (fixup : ℕ) (t : List ℕ) (d : DebugFields) → records o b fixup t ≡ Ok d → DebugPartsStand o b d
 unfolding records

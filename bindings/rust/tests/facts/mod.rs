@@ -39,6 +39,12 @@ fn push_debug(lines: &mut Vec<String>, image: &Image) {
     lines.push(format!("repro {:?}", image.repro()));
     let parts = image.pogo().map(|pogo| pogo.map(|pogo| (pogo.signature, pogo.entries().collect::<Vec<_>>())));
     lines.push(format!("pogo {parts:?}"));
+    for data_type in [17, 19] {
+        let Ok(Some(entry)) = image.debug_entry(data_type) else {
+            continue;
+        };
+        lines.push(format!("managed {:?} {:?}", image.embedded_pdb_of(&entry), image.pdb_checksum_of(&entry)));
+    }
 }
 
 fn of_record(record: Result<UnwindRecord, Error>) -> String {

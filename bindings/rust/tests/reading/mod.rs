@@ -53,10 +53,42 @@ impl Seen {
     }
 }
 
+/// Reads the record of an entry as one of each type.
+fn read_debug_entry(image: &Image, entry: &pe_c::DebugEntry, seen: &mut Seen) {
+    if let Some(key) = seen.keep(image.symbol_key_of(entry)) {
+        seen.touch(key.name_bytes);
+    }
+    if let Some(record) = seen.keep(image.pdb20_of(entry)) {
+        seen.touch(record.name_bytes);
+    }
+    seen.keep(image.vc_features_of(entry));
+    seen.keep(image.debug_characteristics_of(entry));
+    if let Some(pe_c::Repro::Hash(hash)) = seen.keep(image.repro_of(entry)) {
+        seen.touch(hash);
+    }
+    if let Some(pogo) = seen.keep(image.pogo_of(entry)) {
+        seen.touch(pogo.entry_bytes);
+    }
+    if let Some(pdb) = seen.keep(image.embedded_pdb_of(entry)) {
+        seen.touch(pdb.compressed);
+    }
+    if let Some(sum) = seen.keep(image.pdb_checksum_of(entry)) {
+        seen.touch(sum.algorithm);
+        seen.touch(sum.checksum);
+    }
+}
+
 fn read_debug(image: &Image, seen: &mut Seen) {
     if let Some(entries) = seen.keep(image.debug_entries()) {
         for entry in entries {
-            seen.item(entry);
+            if let Some(entry) = seen.item(entry) {
+                read_debug_entry(image, &entry, seen);
+            }
+        }
+    }
+    for data_type in [2, 12, 13, 16, 17, 19, 20] {
+        if let Some(entry) = seen.keep(image.debug_entry(data_type)) {
+            assert_eq!(entry.data_type, data_type);
         }
     }
     if let Some(key) = seen.keep(image.symbol_key()) {
@@ -417,6 +449,10 @@ pub fn read_all(bytes: &[u8], mode: Mode, layout: Layout, most: usize) -> Seen {
         std::hint::black_box(section.name().len());
     }
     std::hint::black_box(image.offset(image.info().entry));
+    let headers = image.headers().expect("the headers were read");
+    assert_eq!(headers.directories, image.info().directories);
+    let stub = headers.dos_stub;
+    seen.touch(&bytes[stub.offset as usize..][..stub.length as usize]);
     read_debug(&image, &mut seen);
     read_certificates(&image, &mut seen);
     if seen.most > 8 {
