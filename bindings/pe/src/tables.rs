@@ -250,6 +250,13 @@ pub fn debug_records(debug: &Debug) -> Vec<Row> {
     if let Some(repro) = debug.repro.present() {
         rows.push(("Repro", repro.hash_hex.clone().unwrap_or("the time stamps are a hash".to_string())));
     }
+    if let Some(embedded) = debug.embedded_pdb.present() {
+        let sizes = format!("{}, {} compressed", counted(embedded.size as usize, "byte"), embedded.compressed_size);
+        rows.push(("embedded PDB", sizes));
+    }
+    if let Some(checksum) = debug.pdb_checksum.present() {
+        rows.push(("PDB checksum", format!("{} {}", checksum.algorithm, checksum.checksum_hex)));
+    }
     rows
 }
 

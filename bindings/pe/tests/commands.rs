@@ -86,6 +86,50 @@ fn hardening_is_what_the_headers_say() {
     assert!(out.contains(&format!("\n  hardening     {line}\n")), "{out}");
 }
 
+/// An image with a debug record of each of these types.
+fn with_debug_records(records: &[(u32, &[u8])]) -> Vec<u8> {
+    let mut made = made::Made::new(made::X64);
+    let mut directory = Vec::new();
+    for (kind, bytes) in records {
+        let rva = made.put(bytes);
+        directory.extend([0, 0, 0, *kind, bytes.len() as u32, rva, rva - made::ADDRESS + made::OFFSET]);
+    }
+    let start = made.put_words(&directory);
+    made.directory(made::DEBUG, start, 28 * records.len() as u32);
+    made.image()
+}
+
+#[test]
+fn debug_records_are_read_by_themselves() {
+    let embedded = [b"MPDB".as_slice(), &1000u32.to_le_bytes(), &[1, 2, 3]].concat();
+    let checksum = [b"SHA256\0".as_slice(), &[0xAB; 32]].concat();
+    let bytes = with_debug_records(&[(17, &embedded), (19, &checksum)]);
+    let debug = json_of("debug-net", &bytes)["debug"].clone();
+    assert_eq!(
+        (&debug["embedded_pdb"], &debug["embedded_pdb_error"]),
+        (&json!({"size": 1000, "compressed_size": 3}), &json!(null))
+    );
+    assert_eq!(debug["pdb_checksum"], json!({"algorithm": "SHA256", "checksum_hex": "ab".repeat(32)}));
+    let folder = Folder::new("debug-net-text");
+    let (out, _, _) = run(&["show", &folder.file("a.dll", &bytes), "debug"]);
+    for line in
+        ["embedded PDB  1000 bytes, 3 compressed".to_string(), format!("PDB checksum  SHA256 {}", "ab".repeat(32))]
+    {
+        assert!(out.contains(&format!("\n  {line}\n")), "{line}\n{out}");
+    }
+    // What is wrong with one record makes no difference to another.
+    let file = folder.file("b.dll", &with_debug_records(&[(17, b"NPDB\0\0\0\0"), (19, &checksum)]));
+    let (out, _, status) = run(&["--json", &file]);
+    let debug = serde_json::from_str::<Value>(&out).unwrap()["debug"].clone();
+    assert_eq!(
+        (debug["embedded_pdb_error"]["name"].as_str(), &debug["embedded_pdb"], status),
+        (Some("BAD_MAGIC"), &json!(null), 1)
+    );
+    assert_eq!((&debug["pdb_checksum"]["algorithm"], &debug["pdb_checksum_error"]), (&json!("SHA256"), &json!(null)));
+    let (out, _, _) = run(&[&file]);
+    assert_eq!(out.matches("  warning       debug data: ").count(), 1, "{out}");
+}
+
 /// The image of some exports with numbers in its headers, by the offsets of winnt.h: the DOS header from 2 on, the COFF header at
 /// 0x44, the optional header at 0x58.
 fn with_numbers_in_headers() -> Vec<u8> {
