@@ -25,6 +25,12 @@ fn hashes_are_those_of_other_programs() {
     assert_eq!(imports["hashes"]["imphash"], sum_of("md5sum", b"kernel32.sleep,kernel32.ord17,a.f"));
     assert_eq!(imports["hashes"]["sha256_hex"], sum_of("sha256sum", &made::with_imports()));
     assert_eq!(imports["hashes"]["rich_hash"], Value::Null);
+    // A directory without a DLL, as that of ntdll.dll.
+    let mut made = made::Made::new(made::X64);
+    let directory = made.put_words(&[0; 5]);
+    made.directory(made::IMPORTS, directory, 20);
+    let none = json_of("imphash-none", &made.image());
+    assert_eq!((&none["imports"], &none["hashes"]["imphash"]), (&json!([]), &json!(null)));
     let section = &made::with_imports()[0x400..];
     assert_eq!(imports["sections"][0]["sha256_hex"], sum_of("sha256sum", section));
     let bytes = made::with_rich_header();

@@ -61,7 +61,7 @@ fn imphash_of(image: &Image<'_>) -> Option<String> {
             is_first = false;
         }
     }
-    Some(hex_of(&hash.finalize()))
+    (!is_first).then(|| hex_of(&hash.finalize()))
 }
 
 /// `DanS` and three numbers that are 0, and the entries: each a product and a build in one number, and a count.
