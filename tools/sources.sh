@@ -2,12 +2,16 @@
 # Sourced by tools/program.sh, which sets `root`, `kept` and `me`, where the sources are to be read, and by what builds and
 # keeps a program of them.
 
-# Sets `crates` to those of the repository that the program, or `top_crate`, stands on, itself among them, in the order of
-# crates.txt, and `lines` to their lines.
+# Sets `crates` to those of the repository that the program, or the crates that `top_crate` names, stand on, these among them, in
+# the order of crates.txt, and `lines` to their lines.
 find_crates() {
-  local -A below=() seen=(["${top_crate:-peinfo}"]=1)
-  local -a todo=("${top_crate:-peinfo}") order=() words
+  local -A below=() seen=()
+  local -a todo=() order=() words
   local name list word at=0
+  for name in ${top_crate:-peinfo}; do
+    seen[$name]=1
+    todo+=("$name")
+  done
   while IFS=: read -r name list; do
     case $name in '' | '#'*) continue ;; esac
     name=${name%% *}
@@ -46,7 +50,7 @@ find_places() {
 # Prints the sign of the sources in a folder: a checksum of their names and contents and of the crates' lines.
 sign_of() {
   local sum place
-  local -a there=()
+  local -a there=() places
   find_places
   for place in "${places[@]}"; do
     if [ -e "$1/$place" ]; then
@@ -78,6 +82,14 @@ is_touched_after() {
   local touched
   touched=$(CDPATH='' cd -- "$root" && find -L crates.txt "${places[@]}" -newerct "@$1" -print -quit 2>/dev/null) || :
   [ -n "$touched" ]
+}
+
+# Sets `archive_sign` to the sign of the sources of the library for C in a folder.
+find_archive_sign() {
+  local top_crate=pe_c lines
+  local -a crates more_places=()
+  find_crates
+  archive_sign=$(sign_of "$1")
 }
 
 # Makes the folder of the builds, and waits until no other build holds the lock of that name.
@@ -115,10 +127,11 @@ copy_sources() {
   printf '%s' "$lines" >"$to/crates.txt"
 }
 
-# Keeps a program as KIND-SIGN, and sets `program` to it. It is moved into place whole, and the one before it goes.
+# Keeps a file as KIND-SIGN, and sets `program` to it. It is moved into place whole, and the one before it goes. The sign is that
+# of the program, unless a third argument names another.
 keep() {
-  local from=$1 kind=$2 old
-  program=$kept/$kind-$sign
+  local from=$1 kind=$2 own=${3:-$sign} old
+  program=$kept/$kind-$own
   cp -- "$from" "$kept/new-$kind.$$"
   chmod 755 -- "$kept/new-$kind.$$"
   mv -f -- "$kept/new-$kind.$$" "$program"

@@ -2,7 +2,7 @@
 
 use crate::extract::{ExtractedPart, Which};
 use crate::facts::Topic;
-use clap::{Args, Parser, Subcommand};
+use clap::{Args, Parser, Subcommand, ValueEnum};
 use clap_complete::Shell;
 use pe_c::{Layout, Mode};
 use std::path::{Path, PathBuf};
@@ -52,6 +52,8 @@ pub struct Arguments {
     #[command(flatten)]
     pub reading: Reading,
     #[command(flatten)]
+    pub hashing: Hashing,
+    #[command(flatten)]
     pub output: Output,
     #[command(subcommand)]
     pub command: Option<Command>,
@@ -63,10 +65,17 @@ pub struct Files {
     /// The images, or - for standard input.
     #[arg(required = true, value_name = "FILE")]
     pub files: Vec<PathBuf>,
-    /// Take each FILE that is a folder as all files below it. Files that are no images are skipped, and counted.
+    #[command(flatten)]
+    pub walk: Walk,
+}
+
+/// What is done with folders.
+#[derive(Args, Clone, Copy, Debug, Default)]
+pub struct Walk {
+    /// Take each FILE that is a folder as all files below it. What is no image is skipped, and counted.
     #[arg(short, long)]
     pub recursive: bool,
-    /// Name the files that are skipped.
+    /// Name what is skipped.
     #[arg(short, long)]
     pub verbose: bool,
 }
@@ -74,7 +83,12 @@ pub struct Files {
 impl Files {
     /// A file that is named by itself.
     pub fn one(file: &Path) -> Files {
-        Files { files: vec![file.to_path_buf()], recursive: false, verbose: false }
+        Files { files: vec![file.to_path_buf()], walk: Walk::default() }
+    }
+
+    /// Whether there may be more than one.
+    pub fn is_several(&self) -> bool {
+        self.walk.recursive || self.files.len() > 1
     }
 }
 
@@ -87,6 +101,11 @@ pub struct Reading {
     /// FILE is a module as it was in memory, not a file: RVAs are offsets.
     #[arg(long)]
     pub mapped: bool,
+}
+
+/// What is worked out of the bytes of a whole file.
+#[derive(Args, Clone, Copy, Debug)]
+pub struct Hashing {
     /// Leave out hashes and checksums, which take most of the time.
     #[arg(long)]
     pub no_hashes: bool,
@@ -116,26 +135,42 @@ impl Reading {
             Layout::File
         }
     }
+}
 
-    pub fn has_hashes(&self) -> bool {
+impl Hashing {
+    pub fn has_hashes(self) -> bool {
         !self.no_hashes
     }
 }
 
+/// The parts, for the help of `show`.
+fn parts_help() -> String {
+    let parts = Topic::value_variants().iter().filter_map(ValueEnum::to_possible_value);
+    let lines = parts.map(|it| {
+        let help = it.get_help().map(|help| help.to_string()).unwrap_or_default();
+        format!("  {:14}{help}", it.get_name()).trim_end().to_string()
+    });
+    format!("Parts, in any case:\n{}", lines.collect::<Vec<_>>().join("\n"))
+}
+
 #[derive(Debug, Subcommand)]
 pub enum Command {
-    /// Show parts of an image, whole.
+    /// Show parts of images, whole.
+    #[command(override_usage = "pe show [OPTIONS] <FILE>... [PART]...", after_help = parts_help())]
     Show {
-        /// The image.
-        file: PathBuf,
-        /// The parts; all of them where none is named.
-        #[arg(value_enum, value_name = "PART", ignore_case = true)]
-        topics: Vec<Topic>,
-        /// The table of the one PART as CSV (RFC 4180).
+        /// The images, or - for standard input, and after them the parts, or all where none is named. A file whose name is that
+        /// of a part is written with its folder, as ./imports.
+        #[arg(required = true, value_name = "FILE")]
+        words: Vec<PathBuf>,
+        /// The table of the one PART as CSV (RFC 4180). Of several files it has a column with their names.
         #[arg(long, conflicts_with = "json")]
         csv: bool,
         #[command(flatten)]
+        walk: Walk,
+        #[command(flatten)]
         reading: Reading,
+        #[command(flatten)]
+        hashing: Hashing,
         #[command(flatten)]
         output: Output,
     },
@@ -162,18 +197,21 @@ pub enum Command {
         #[command(flatten)]
         reading: Reading,
         #[command(flatten)]
+        hashing: Hashing,
+        #[command(flatten)]
         output: Output,
     },
     /// Show how the function that covers an RVA is unwound, or how all functions are.
+    #[command(override_usage = "pe unwind [OPTIONS] <FILE>... <RVA>\n       pe unwind [OPTIONS] --all <FILE>...")]
     Unwind {
-        /// The image.
-        file: PathBuf,
-        /// In hexadecimal, with or without 0x.
-        #[arg(value_parser = hexadecimal, required_unless_present = "all")]
-        rva: Option<u32>,
+        /// The images, or - for standard input; and last the RVA, in hexadecimal, with or without 0x, unless --all is there.
+        #[arg(required = true, value_name = "FILE")]
+        words: Vec<PathBuf>,
         /// All functions, in the order of their table.
-        #[arg(long, conflicts_with = "rva")]
+        #[arg(long)]
         all: bool,
+        #[command(flatten)]
+        walk: Walk,
         #[command(flatten)]
         reading: Reading,
         #[command(flatten)]
@@ -185,6 +223,8 @@ pub enum Command {
         files: Files,
         #[command(flatten)]
         reading: Reading,
+        #[command(flatten)]
+        hashing: Hashing,
         #[command(flatten)]
         output: Output,
     },
@@ -237,15 +277,17 @@ pub enum Command {
         #[command(flatten)]
         reading: Reading,
     },
-    /// Show the checksum of an image and the right one, or write the image with the right one.
+    /// Show the checksums of images and the right ones, or write an image with the right one.
     Checksum {
-        /// The image.
-        file: PathBuf,
-        /// Write the image with the right checksum to a file, which must not exist, or to standard output (-).
-        #[arg(long, value_name = "OUT")]
+        #[command(flatten)]
+        files: Files,
+        /// Write the one image with the right checksum to a file, which must not exist, or to standard output (-).
+        #[arg(long, value_name = "OUT", conflicts_with = "json")]
         fix: Option<PathBuf>,
         #[command(flatten)]
         reading: Reading,
+        #[command(flatten)]
+        output: Output,
     },
     /// Write a page of HTML that shows an image to a file, which must not exist.
     Report {
@@ -256,6 +298,8 @@ pub enum Command {
         to: PathBuf,
         #[command(flatten)]
         reading: Reading,
+        #[command(flatten)]
+        hashing: Hashing,
     },
     /// Write the completions of a shell to standard output.
     Completions {
@@ -266,6 +310,50 @@ pub enum Command {
     Man,
 }
 
-fn hexadecimal(text: &str) -> Result<u32, std::num::ParseIntError> {
-    u32::from_str_radix(text.strip_prefix("0x").unwrap_or(text), 16)
+/// The words of `show`: files, and the parts that come after them. The first is a file.
+pub fn files_and_parts(words: &[PathBuf], walk: Walk) -> (Files, Vec<Topic>) {
+    let named = words.iter().skip(1).rev().map_while(|it| Topic::from_str(it.to_str()?, true).ok());
+    let mut topics: Vec<Topic> = named.collect();
+    topics.reverse();
+    (Files { files: words[..words.len() - topics.len()].to_vec(), walk }, topics)
+}
+
+/// The words of `unwind` without `--all`: files, and an RVA last.
+pub fn files_and_rva(words: &[PathBuf], walk: Walk) -> Option<(Files, u32)> {
+    let (last, files) = words.split_last().filter(|(_, files)| !files.is_empty())?;
+    let digits = last.to_str()?;
+    let rva = u32::from_str_radix(digits.strip_prefix("0x").unwrap_or(digits), 16).ok()?;
+    Some((Files { files: files.to_vec(), walk }, rva))
+}
+
+#[cfg(test)]
+mod tests {
+    use super::*;
+
+    fn paths(words: &[&str]) -> Vec<PathBuf> {
+        words.iter().map(PathBuf::from).collect()
+    }
+
+    #[test]
+    fn parts_come_after_files() {
+        let split = |words: &[&str]| {
+            let (files, topics) = files_and_parts(&paths(words), Walk::default());
+            (files.files, topics)
+        };
+        assert_eq!(split(&["a"]), (paths(&["a"]), vec![]));
+        assert_eq!(split(&["a", "b", "TLS", "rich"]), (paths(&["a", "b"]), vec![Topic::Tls, Topic::Rich]));
+        assert_eq!(split(&["imports"]), (paths(&["imports"]), vec![]));
+        assert_eq!(split(&["imports", "tls", "b"]), (paths(&["imports", "tls", "b"]), vec![]));
+        assert_eq!(split(&["imports", "./tls", "tls"]), (paths(&["imports", "./tls"]), vec![Topic::Tls]));
+    }
+
+    #[test]
+    fn an_rva_comes_last() {
+        let split = |words: &[&str]| files_and_rva(&paths(words), Walk::default()).map(|it| (it.0.files, it.1));
+        assert_eq!(split(&["a", "0x1f"]), Some((paths(&["a"]), 0x1F)));
+        assert_eq!(split(&["a", "b", "10"]), Some((paths(&["a", "b"]), 0x10)));
+        for words in [["10"].as_slice(), &["a", "xyz"], &["a", "0x0x1"], &["a", "100000000"], &["a", "-1"]] {
+            assert_eq!(split(words), None, "{words:?}");
+        }
+    }
 }

@@ -1,6 +1,7 @@
 //! The table of a part as CSV: a line of heads, and one for each row (<https://www.rfc-editor.org/rfc/rfc4180>). Texts of an image
 //! are escaped as on a terminal.
 
+use crate::escape::escaped;
 use crate::facts::{Facts, Part, Topic};
 use crate::tables::{self, Row, Table};
 
@@ -38,19 +39,27 @@ fn table_of(facts: &Facts, topic: Topic) -> Option<Table> {
     }
 }
 
-/// Writing to memory does not fail.
-fn written(table: &Table) -> Option<Vec<u8>> {
+/// Writing to memory does not fail, and all texts are UTF-8.
+fn written<'a>(records: impl Iterator<Item = Vec<&'a str>>) -> String {
     let mut writer = csv::Writer::from_writer(Vec::new());
-    writer.write_record(table.columns.iter().map(|it| it.head)).ok()?;
-    for row in &table.rows {
-        writer.write_record(row).ok()?;
+    for record in records {
+        let _ = writer.write_record(record);
     }
-    writer.into_inner().ok()
+    writer.into_inner().ok().and_then(|it| String::from_utf8(it).ok()).unwrap_or_default()
 }
 
-/// The part as CSV. Empty where the image lacks it.
-pub fn text(facts: &Facts, topic: Topic) -> String {
-    let bytes = table_of(facts, topic).and_then(|it| written(&it)).unwrap_or_default();
-    // All texts are UTF-8.
-    String::from_utf8(bytes).unwrap_or_default()
+/// The heads of the columns, and the rows.
+pub struct Lines {
+    pub head: String,
+    pub rows: String,
+}
+
+/// The part as CSV, with a first column of the file where that is wanted. Empty where the image lacks the part.
+pub fn lines(facts: &Facts, topic: Topic, has_file: bool) -> Lines {
+    let Some(table) = table_of(facts, topic) else { return Lines { head: String::new(), rows: String::new() } };
+    let file = escaped(&facts.file);
+    let first = |text| has_file.then_some(text).into_iter();
+    let heads = first("file").chain(table.columns.iter().map(|it| it.head)).collect();
+    let rows = table.rows.iter().map(|row| first(file.as_str()).chain(row.iter().map(String::as_str)).collect());
+    Lines { head: written([heads].into_iter()), rows: written(rows) }
 }

@@ -22,7 +22,9 @@ pub struct Difference {
 pub struct Differences {
     pub json_version: u32,
     pub before: String,
+    pub before_hex: Option<String>,
     pub after: String,
+    pub after_hex: Option<String>,
     pub differences: Vec<Difference>,
 }
 
@@ -162,7 +164,9 @@ pub fn of(before: &Facts, after: &Facts) -> Differences {
     Differences {
         json_version: before.json_version,
         before: before.file.clone(),
+        before_hex: before.file_hex.clone(),
         after: after.file.clone(),
+        after_hex: after.file_hex.clone(),
         differences,
     }
 }

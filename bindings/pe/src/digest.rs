@@ -2,50 +2,41 @@
 
 use crate::escape::escaped;
 use crate::facts::hashes::authenticode_of;
-use crate::facts::Refusal;
+use crate::facts::{Origin, Refusal};
 use crate::files::Report;
 use crate::Status;
 use pe_c::{Error, Image};
 use serde::Serialize;
 use std::path::Path;
 
+/// What is said of a file. Numbers and digest are null where it is refused, or its headers have no room for a signature.
 #[derive(Debug, Serialize)]
-pub struct Digest {
-    file: String,
-    sha256_hex: String,
+struct Digest {
+    #[serde(flatten)]
+    origin: Origin,
+    sha256_hex: Option<String>,
     /// What the header says, and what it has to say.
-    checksum: u32,
-    right_checksum: u32,
-}
-
-/// What is said of a file that is refused, or whose headers have no room for a signature.
-#[derive(Serialize)]
-struct Refused<'a> {
-    file: &'a str,
-    error: Refusal,
-}
-
-fn digest_of(path: &Path, image: &Image<'_>) -> Result<Digest, Error> {
-    Ok(Digest {
-        file: path.to_string_lossy().into_owned(),
-        sha256_hex: authenticode_of(image)?,
-        checksum: image.info().checksum,
-        right_checksum: image.checksum()?.value,
-    })
+    checksum: Option<u32>,
+    right_checksum: Option<u32>,
+    error: Option<Refusal>,
 }
 
 /// The digest as `sha256sum` shows one, or as JSON. As text a refusal goes to standard error.
 pub fn report(path: &Path, image: Result<Image<'_>, Error>, is_json: bool) -> Report {
-    let file = path.to_string_lossy();
-    match image.and_then(|image| digest_of(path, &image)) {
-        Ok(digest) if is_json => Report::of(crate::json(&digest), Status::Done),
-        Ok(digest) => Report::of(format!("{}  {}\n", digest.sha256_hex, escaped(&file)), Status::Done),
+    let found = image.and_then(|image| Ok((authenticode_of(&image)?, image.info().checksum, image.checksum()?.value)));
+    let origin = Origin::of(path);
+    match found {
+        Ok((digest, ..)) if !is_json => Report::of(format!("{digest}  {}\n", escaped(&origin.file)), Status::Done),
+        Ok((digest, own, right)) => {
+            let sha256_hex = Some(digest);
+            let said = Digest { origin, sha256_hex, checksum: Some(own), right_checksum: Some(right), error: None };
+            Report::of(crate::json(&said), Status::Done)
+        }
         Err(error) if is_json => {
-            Report::of(crate::json(&Refused { file: &file, error: error.into() }), Status::Refused)
+            let error = Some(error.into());
+            let said = Digest { origin, sha256_hex: None, checksum: None, right_checksum: None, error };
+            Report::of(crate::json(&said), Status::Refused)
         }
-        Err(error) => {
-            eprintln!("pe: {}: {}", escaped(&file), Refusal::from(error));
-            Report::of("", Status::Refused)
-        }
+        Err(error) => Report::refused(path, Refusal::from(error)),
     }
 }

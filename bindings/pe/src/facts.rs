@@ -1,6 +1,7 @@
 //! What the program says of an image, as records: JSON is made of them as they are, and text by `summary` and `show`. Each
 //! value comes from a call of the crate `pe_c`.
 
+pub mod all_headers;
 pub mod bound_imports;
 pub mod certificates;
 pub mod clr;
@@ -53,7 +54,7 @@ pub enum Topic {
     Certificates,
     /// The functions of x64 and ARM64, by their unwind data
     Functions,
-    /// Version information, and the length of the manifest
+    /// Version information, and what the manifest asks for
     Version,
     /// Thread-local storage, with the callbacks that run before the entry point
     Tls,
@@ -123,6 +124,20 @@ fn kind_of(bytes: &[u8]) -> Option<&'static str> {
 /// Whether two bytes are the number of a machine.
 fn is_machine(low: u8, high: u8) -> bool {
     name_of(u16::from_le_bytes([low, high]).into(), MACHINES).is_some()
+}
+
+/// What each line of JSON starts with, of a command that has no parts: whose file it is.
+#[derive(Clone, Debug, Serialize)]
+pub struct Origin {
+    json_version: u32,
+    pub file: String,
+    file_hex: Option<String>,
+}
+
+impl Origin {
+    pub fn of(path: &Path) -> Origin {
+        Origin { json_version: JSON_VERSION, file: path.to_string_lossy().into_owned(), file_hex: hex_of_path(path) }
+    }
 }
 
 /// The bytes of a path that is not UTF-8.
@@ -486,6 +501,22 @@ impl Serialize for Stamp {
     }
 }
 
+/// From so many bytes on a thread costs less than a pass over the file.
+const LARGE: usize = 1 << 20;
+
+/// Works out two things that go over the bytes of an image, of a large one side by side.
+pub fn both<A: Send, B: Send>(
+    image: &Image<'_>,
+    one: impl FnOnce() -> A + Send,
+    other: impl FnOnce() -> B + Send,
+) -> (A, B) {
+    if image.bytes().len() < LARGE {
+        (one(), other())
+    } else {
+        rayon::join(one, other)
+    }
+}
+
 /// What is said of a file.
 #[derive(Debug, Serialize)]
 pub struct Facts<'a> {
@@ -577,11 +608,15 @@ impl<'a> Facts<'a> {
         let of_parts = wanted.has_hashes_of_parts;
         let has_checksum = of_parts || is_wanted(Topic::Hashes);
         let name = path.file_name().map(|name| name.to_string_lossy()).unwrap_or_default();
+        let of_headers = || is_wanted(Topic::Headers).then(|| headers::of(image, &name, has_checksum));
+        let of_sections = || is_wanted(Topic::Sections).then(|| sections::of(image, of_parts));
+        let of_hashes = || is_wanted(Topic::Hashes).then(|| hashes::of(image, of_parts));
+        let (hashes, (headers, sections)) = both(image, of_hashes, || both(image, of_headers, of_sections));
         Facts {
-            headers: is_wanted(Topic::Headers).then(|| headers::of(image, &name, has_checksum)),
+            headers,
             hardening: is_wanted(Topic::Hardening).then(|| hardening::of(image)),
-            hashes: is_wanted(Topic::Hashes).then(|| hashes::of(image, of_parts)),
-            sections: is_wanted(Topic::Sections).then(|| sections::of(image, of_parts)),
+            hashes,
+            sections,
             imports: is_wanted(Topic::Imports).then(|| imports::of(image)),
             exports: is_wanted(Topic::Exports).then(|| exports::of(image)),
             debug: is_wanted(Topic::Debug).then(|| debug::of(image)),

@@ -8,6 +8,8 @@ use clap::CommandFactory;
 use indicatif::{ProgressBar, ProgressStyle};
 use pe_c::{Error, Image, Mode};
 use rayon::prelude::*;
+use std::cell::Cell;
+use std::fmt::Display;
 use std::fs::{self, File, OpenOptions};
 use std::io::{self, IsTerminal, Read, Write};
 use std::path::{Path, PathBuf};
@@ -20,6 +22,8 @@ const START: u64 = 4096;
 
 /// What is said of a file.
 pub struct Report {
+    /// A line that stands once, before the first text that has one.
+    pub head: String,
     pub text: Vec<u8>,
     /// Lines for standard error.
     pub complaints: String,
@@ -29,8 +33,14 @@ pub struct Report {
 }
 
 impl Report {
+    /// Of a file that is refused, why, on standard error.
+    pub fn refused(path: &Path, why: impl Display) -> Report {
+        let complaints = format!("pe: {}: {why}\n", crate::escape::escaped(&path.to_string_lossy()));
+        Report { complaints, ..Report::of("", Status::Refused) }
+    }
+
     pub fn of(text: impl Into<Vec<u8>>, status: Status) -> Report {
-        Report { text: text.into(), complaints: String::new(), status, is_image: true }
+        Report { head: String::new(), text: text.into(), complaints: String::new(), status, is_image: true }
     }
 }
 
@@ -63,9 +73,24 @@ struct Found {
 /// The files below a folder, each folder's in the order of their names. Links to folders are not followed, and links
 /// that lead nowhere or in a circle, pipes and the like are left out. A folder that cannot be read is an item by itself, so that
 /// reading it tells why.
-struct Below {
+struct Below<'a> {
     waiting: Vec<PathBuf>,
+    skipped: &'a Skipped,
+}
+
+/// How much was skipped, and whether each is named.
+struct Skipped {
+    count: Cell<usize>,
     is_verbose: bool,
+}
+
+impl Skipped {
+    fn put(&self, path: &Path, why: &str) {
+        self.count.set(self.count.get() + 1);
+        if self.is_verbose {
+            eprintln!("pe: {}: skipped, {why}", crate::escape::escaped(&path.to_string_lossy()));
+        }
+    }
 }
 
 /// Whether a link leads nowhere, or in a circle.
@@ -73,13 +98,7 @@ fn is_lost(error: &io::Error) -> bool {
     error.kind() == io::ErrorKind::NotFound || error.raw_os_error() == Some(libc::ELOOP)
 }
 
-fn say_skipped(path: &Path, why: &str, is_verbose: bool) {
-    if is_verbose {
-        eprintln!("pe: {}: skipped, {why}", crate::escape::escaped(&path.to_string_lossy()));
-    }
-}
-
-impl Iterator for Below {
+impl Iterator for Below<'_> {
     type Item = PathBuf;
 
     fn next(&mut self) -> Option<PathBuf> {
@@ -87,11 +106,11 @@ impl Iterator for Below {
             if !fs::symlink_metadata(&path).is_ok_and(|it| it.is_dir()) {
                 match fs::metadata(&path) {
                     Ok(it) if !it.is_file() => {
-                        say_skipped(&path, "it is no regular file", self.is_verbose);
+                        self.skipped.put(&path, "it is no regular file");
                         continue;
                     }
                     Err(error) if is_lost(&error) => {
-                        say_skipped(&path, "the link leads to no file", self.is_verbose);
+                        self.skipped.put(&path, "the link leads to no file");
                         continue;
                     }
                     _ => return Some(path),
@@ -110,11 +129,11 @@ fn paths_in(folder: &Path) -> io::Result<Vec<PathBuf>> {
     fs::read_dir(folder)?.map(|entry| entry.map(|entry| entry.path())).collect()
 }
 
-fn found(named: &Files) -> impl Iterator<Item = Found> + '_ {
+fn found<'a>(named: &'a Files, skipped: &'a Skipped) -> impl Iterator<Item = Found> + 'a {
     named.files.iter().flat_map(move |path| {
-        let is_below = named.recursive && path.is_dir();
+        let is_below = named.walk.recursive && path.is_dir();
         let waiting = if is_below { vec![path.clone()] } else { Vec::new() };
-        let files = Below { waiting, is_verbose: named.verbose };
+        let files = Below { waiting, skipped };
         let own = (!is_below).then(|| path.clone());
         own.into_iter().chain(files).map(move |path| Found { path, is_below })
     })
@@ -184,9 +203,10 @@ fn content(found: &Found) -> io::Result<Option<Vec<u8>>> {
 
 /// Writes what `report` says of each file, in their order. Returns the worst status.
 pub fn each(named: &Files, out: &mut dyn Write, report: impl Fn(&Path, &[u8]) -> Report + Sync) -> io::Result<Status> {
-    let (mut worst, mut skipped) = (Status::Done, 0);
-    let mut files = found(named).peekable();
-    let bar = progress(named.recursive);
+    let (mut worst, mut has_head) = (Status::Done, false);
+    let skipped = Skipped { count: Cell::new(0), is_verbose: named.walk.verbose };
+    let mut files = found(named, &skipped).peekable();
+    let bar = progress(named.walk.recursive);
     while files.peek().is_some() {
         let some: Vec<Found> = files.by_ref().take(AT_ONCE).collect();
         let of = |found: &Found| Ok(content(found)?.map(|bytes| report(&found.path, &bytes)));
@@ -194,28 +214,34 @@ pub fn each(named: &Files, out: &mut dyn Write, report: impl Fn(&Path, &[u8]) ->
         let reports: Vec<io::Result<Option<Report>>> =
             if let [one] = some.as_slice() { vec![of(one)] } else { some.par_iter().map(of).collect() };
         for (found, report) in some.iter().zip(reports) {
-            match write(found, report, out)? {
+            match write(found, report, &mut has_head, out)? {
                 Some(status) => worst = worst.max(status),
-                None => {
-                    skipped += 1;
-                    say_skipped(&found.path, "it is no image", named.verbose);
-                }
+                None => skipped.put(&found.path, "it is no image"),
             }
         }
         bar.inc(some.len() as u64);
     }
     bar.finish_and_clear();
-    if skipped > 0 {
-        eprintln!("pe: {} skipped, no images", crate::facts::counted(skipped, "file"));
+    if skipped.count.get() > 0 {
+        eprintln!("pe: {} skipped, no images", crate::facts::counted(skipped.count.get(), "file"));
     }
     Ok(worst)
 }
 
 /// Writes what is said of a file. `None` where it is skipped.
-fn write(found: &Found, report: io::Result<Option<Report>>, out: &mut dyn Write) -> io::Result<Option<Status>> {
+fn write(
+    found: &Found,
+    report: io::Result<Option<Report>>,
+    has_head: &mut bool,
+    out: &mut dyn Write,
+) -> io::Result<Option<Status>> {
     match report {
         Ok(Some(report)) if report.is_image || !found.is_below => {
             eprint!("{}", report.complaints);
+            if !report.head.is_empty() && !*has_head {
+                out.write_all(report.head.as_bytes())?;
+                *has_head = true;
+            }
             out.write_all(&report.text).map(|()| Some(report.status))
         }
         Ok(_) => Ok(None),
@@ -227,8 +253,11 @@ fn write(found: &Found, report: io::Result<Option<Report>>, out: &mut dyn Write)
     }
 }
 
-/// Which command was meant by the name of a file that is not there.
+/// What was meant by a folder, or by the name of a file that is not there.
 fn hint(name: &str, error: &io::Error) -> String {
+    if error.raw_os_error() == Some(libc::EISDIR) {
+        return "; -r reads the files below it".to_string();
+    }
     if error.kind() != io::ErrorKind::NotFound {
         return String::new();
     }
@@ -237,8 +266,8 @@ fn hint(name: &str, error: &io::Error) -> String {
     meant.map_or(String::new(), |it| format!("; is the command `{it}` meant?"))
 }
 
-/// Whether a word is the start of a command, or has one letter more, less or other.
-fn is_like(word: &str, command: &str) -> bool {
+/// Whether a word is the start of a name, or has one letter more, less or other.
+pub fn is_like(word: &str, command: &str) -> bool {
     let (word, command) = (word.as_bytes(), command.as_bytes());
     let same = word.iter().zip(command).take_while(|(a, b)| a == b).count();
     let rest = |it: &[u8], from: usize| it.get(from..).unwrap_or_default().to_vec();

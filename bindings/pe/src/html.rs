@@ -13,9 +13,9 @@ use crate::facts::{count_of, Facts, Part, Wanted};
 use crate::files::{self, Report};
 use crate::summary::kind_of;
 use crate::tables::{self, Row, Table};
-use crate::{Reading, Status};
+use crate::Status;
 use markup::Html;
-use pe_c::Image;
+use pe_c::{Error, Image};
 use sha2::{Digest as _, Sha256};
 use std::path::Path;
 
@@ -30,10 +30,10 @@ const OPEN_ROWS: usize = 40;
 const WARNINGS: usize = 100;
 
 /// Writes the page of a file. One of a file that is no image says why.
-pub fn write_to(path: &Path, bytes: &[u8], reading: &Reading, to: &Path) -> Report {
-    let image = Image::parse_as(bytes, reading.mode(), reading.layout());
+pub fn write_to(file: (&Path, &[u8]), image: Result<Image<'_>, Error>, wanted: &Wanted, to: &Path) -> Report {
+    let (path, bytes) = file;
     let facts = match &image {
-        Ok(image) => Facts::of(path, image, &Wanted::parts(&[], reading.has_hashes())),
+        Ok(image) => Facts::of(path, image, wanted),
         Err(error) => Facts::refused(path, bytes, *error),
     };
     let page = page_of(&facts, image.as_ref().ok());
@@ -171,6 +171,9 @@ fn parts(facts: &Facts, regions: &[Region], html: &mut Html) {
     more_parts(facts, html);
     if let Some(functions) = facts.functions.as_ref().and_then(Part::present) {
         table("functions", "Functions", &tables::functions(functions), html);
+    }
+    if let Some(all) = facts.headers.as_ref().and_then(|it| it.all.as_ref()) {
+        table("dos", "DOS header", &tables::dos_header(all), html);
     }
 }
 

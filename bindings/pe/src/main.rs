@@ -21,9 +21,9 @@ mod summary;
 mod tables;
 mod unwind;
 
-use arguments::{Arguments, Command, Files, Reading};
+use arguments::{Arguments, Command, Files, Hashing, Output, Reading};
 use clap::error::ErrorKind;
-use clap::{CommandFactory, Parser};
+use clap::{CommandFactory, Parser, ValueEnum};
 use facts::{Facts, Topic, Wanted};
 use files::Report;
 use page::Style;
@@ -65,39 +65,64 @@ fn run(arguments: &Arguments, out: &mut dyn Write) -> io::Result<Status> {
     }
 }
 
+/// How images are read and shown.
+#[derive(Clone, Copy)]
+struct How<'a> {
+    reading: &'a Reading,
+    has_hashes: bool,
+    is_json: bool,
+}
+
+impl<'a> How<'a> {
+    fn of(reading: &'a Reading, hashing: &Hashing, output: &Output) -> How<'a> {
+        How { reading, has_hashes: hashing.has_hashes(), is_json: output.json }
+    }
+
+    /// What is shown has no hashes.
+    fn without_hashes(reading: &'a Reading, output: &Output) -> How<'a> {
+        How { reading, has_hashes: false, is_json: output.json }
+    }
+}
+
 /// `pe FILE..`: summaries, or the parts that `--parts` names.
 fn summarise(arguments: &Arguments, out: &mut dyn Write) -> io::Result<Status> {
-    let Arguments { files, parts, reading, output, .. } = arguments;
-    let has_hashes = reading.has_hashes();
+    let Arguments { files, parts, reading, hashing, output, .. } = arguments;
     if parts.is_empty() && !output.json {
-        let wanted = Wanted::summary(has_hashes);
+        let wanted = Wanted::summary(hashing.has_hashes());
         let text = |facts: &Facts, style| summary::text(facts, style).into();
         return files::each(files, out, |path, bytes| shown(path, bytes, reading, &wanted, text));
     }
-    shown_whole(files, parts, (reading, output.json), out)
+    shown_whole(files, parts, How::of(reading, hashing, output), out)
 }
 
 /// Parts whole, as text or JSON.
-fn shown_whole(files: &Files, topics: &[Topic], how: (&Reading, bool), out: &mut dyn Write) -> io::Result<Status> {
-    let (reading, is_json) = how;
-    let wanted = Wanted::parts(topics, reading.has_hashes());
-    let text = |facts: &Facts, style| if is_json { json(facts) } else { show::text(facts, style, topics) };
+fn shown_whole(files: &Files, topics: &[Topic], how: How, out: &mut dyn Write) -> io::Result<Status> {
+    let wanted = Wanted::parts(topics, how.has_hashes);
+    let text = |facts: &Facts, style| if how.is_json { json(facts) } else { show::text(facts, style, topics) };
     let said = |facts: &Facts, style| text(facts, style).into();
-    files::each(files, out, |path, bytes| shown(path, bytes, reading, &wanted, said))
+    files::each(files, out, |path, bytes| shown(path, bytes, how.reading, &wanted, said))
 }
 
 fn run_command(command: &Command, out: &mut dyn Write) -> io::Result<Status> {
     match command {
-        Command::Show { file, topics, csv: true, reading, .. } => show_csv(file, topics, reading, out),
-        Command::Show { file, topics, reading, output, .. } => {
-            shown_whole(&Files::one(file), topics, (reading, output.json), out)
+        Command::Show { words, csv, walk, reading, hashing, output } => {
+            let (files, topics) = arguments::files_and_parts(words, *walk);
+            refuse_unknown_parts(&files);
+            let how = How::of(reading, hashing, output);
+            if *csv {
+                show_csv(&files, &topics, how, out)
+            } else {
+                shown_whole(&files, &topics, how, out)
+            }
         }
-        Command::Find { word, files, reading, output } => find_word(word, files, (reading, output.json), out),
-        Command::Diff { before, after, reading, output } => {
-            compare([before.as_path(), after.as_path()], (reading, output.json), out)
+        Command::Find { word, files, reading, output } => {
+            find_word(word, files, How::without_hashes(reading, output), out)
         }
-        Command::Key { files, reading, output } => {
-            let wanted = Wanted::parts(&[Topic::Headers, Topic::Debug], reading.has_hashes());
+        Command::Diff { before, after, reading, hashing, output } => {
+            compare([before.as_path(), after.as_path()], How::of(reading, hashing, output), out)
+        }
+        Command::Key { files, reading, hashing, output } => {
+            let wanted = Wanted::parts(&[Topic::Headers, Topic::Debug], output.json && hashing.has_hashes());
             let text = |facts: &Facts, style| match output.json {
                 true => json(facts).into(),
                 false => Said::apart(show::keys(facts, style), facts),
@@ -106,10 +131,20 @@ fn run_command(command: &Command, out: &mut dyn Write) -> io::Result<Status> {
         }
         Command::Digest { files, reading, output } => {
             refuse_mapped(reading, "a digest");
-            files::each(files, out, |path, bytes| digest::report(path, parsed(bytes, reading), output.json))
+            files::each(files, out, |path, bytes| {
+                of_image(bytes, reading, |image| digest::report(path, image, output.json))
+            })
         }
-        Command::Unwind { file, rva, reading, output, .. } => {
-            files::each(&Files::one(file), out, |_, bytes| unwind::report(parsed(bytes, reading), *rva, output.json))
+        Command::Unwind { words, all, walk, reading, output } => {
+            let is_last_a_file = words.last().is_some_and(|it| it.symlink_metadata().is_ok());
+            let (files, rva) = match arguments::files_and_rva(words, *walk) {
+                Some(_) if *all && !is_last_a_file => misused("--all is in place of an RVA"),
+                _ if *all => (Files { files: words.clone(), walk: *walk }, None),
+                Some((files, rva)) => (files, Some(rva)),
+                None => misused("an RVA in hexadecimal has to come after the files, or --all before them"),
+            };
+            let asked = unwind::Asked { rva, is_json: output.json, is_named: files.is_several() };
+            files::each(&files, out, |path, bytes| of_image(bytes, reading, |image| unwind::report(path, image, asked)))
         }
         Command::Completions { shell } => {
             clap_complete::generate(*shell, &mut Arguments::command(), "pe", out);
@@ -117,6 +152,19 @@ fn run_command(command: &Command, out: &mut dyn Write) -> io::Result<Status> {
         }
         Command::Man => out.write_all(man::page().as_bytes()).map(|()| Status::Done),
         _ => write_file(command, out),
+    }
+}
+
+/// Ends where the last of the files is none, and its name is nearly that of a part.
+fn refuse_unknown_parts(files: &Files) {
+    let last = files.files.iter().skip(1).last().filter(|it| it.symlink_metadata().is_err());
+    let name = last.and_then(|it| it.to_str()).unwrap_or_default().to_lowercase();
+    if let Some(topic) = Topic::value_variants().iter().find(|it| files::is_like(&name, &it.name())) {
+        misused(&format!(
+            "{} is neither a file nor a part; is the part `{}` meant?",
+            escape::escaped(&name),
+            topic.name()
+        ));
     }
 }
 
@@ -137,14 +185,21 @@ fn write_file(command: &Command, out: &mut dyn Write) -> io::Result<Status> {
             refuse_mapped(reading, "a certificate");
             files::each(&Files::one(file), out, |path, bytes| sign::detach(path, parsed(bytes, reading), to))
         }
-        Command::Checksum { file, fix, reading } => {
+        Command::Checksum { files, fix, reading, output } => {
             refuse_mapped(reading, "a checksum");
-            files::each(&Files::one(file), out, |path, bytes| {
-                sign::checksum(path, parsed(bytes, reading), fix.as_deref())
+            if fix.is_some() && files.is_several() {
+                misused("--fix takes one file, since it writes one");
+            }
+            files::each(files, out, |path, bytes| match fix {
+                Some(to) => sign::fix(path, parsed(bytes, reading), to),
+                None => of_image(bytes, reading, |image| sign::checksum(path, image, output.json)),
             })
         }
-        Command::Report { file, to, reading } => {
-            files::each(&Files::one(file), out, |path, bytes| html::write_to(path, bytes, reading, to))
+        Command::Report { file, to, reading, hashing } => {
+            let wanted = Wanted::parts(&[], hashing.has_hashes());
+            files::each(&Files::one(file), out, |path, bytes| {
+                html::write_to((path, bytes), parsed(bytes, reading), &wanted, to)
+            })
         }
         _ => Ok(Status::Done),
     }
@@ -161,26 +216,27 @@ fn misused(message: &str) -> ! {
     Arguments::command().error(ErrorKind::ArgumentConflict, message).exit()
 }
 
-fn show_csv(file: &Path, topics: &[Topic], reading: &Reading, out: &mut dyn Write) -> io::Result<Status> {
+fn show_csv(files: &Files, topics: &[Topic], how: How, out: &mut dyn Write) -> io::Result<Status> {
     let [topic] = topics else { misused("--csv needs one PART, since a table has one kind of rows") };
-    let wanted = Wanted::parts(topics, reading.has_hashes());
-    let text = |facts: &Facts, _| Said::apart(csv::text(facts, *topic), facts);
-    files::each(&Files::one(file), out, |path, bytes| shown(path, bytes, reading, &wanted, text))
+    let wanted = Wanted::parts(topics, how.has_hashes);
+    let text = |facts: &Facts, _| {
+        let csv::Lines { head, rows } = csv::lines(facts, *topic, files.is_several());
+        Said { head, ..Said::apart(rows, facts) }
+    };
+    files::each(files, out, |path, bytes| shown(path, bytes, how.reading, &wanted, text))
 }
 
-fn find_word(word: &str, files: &Files, how: (&Reading, bool), out: &mut dyn Write) -> io::Result<Status> {
-    let (reading, is_json) = how;
-    let wanted = Wanted::parts(&[Topic::Imports, Topic::DelayImports, Topic::Exports], false);
-    let text = |facts: &Facts, _| match is_json {
+fn find_word(word: &str, files: &Files, how: How, out: &mut dyn Write) -> io::Result<Status> {
+    let wanted = Wanted::parts(&[Topic::Imports, Topic::DelayImports, Topic::Exports], how.has_hashes);
+    let text = |facts: &Facts, _| match how.is_json {
         true => json(&find::matches_of(facts, word)).into(),
         false => Said::apart(find::matches_of(facts, word).text(), facts),
     };
-    files::each(files, out, |path, bytes| shown(path, bytes, reading, &wanted, text))
+    files::each(files, out, |path, bytes| shown(path, bytes, how.reading, &wanted, text))
 }
 
 /// What differs between two files. The status is 1 where something does, or where one is refused.
-fn compare(paths: [&Path; 2], how: (&Reading, bool), out: &mut dyn Write) -> io::Result<Status> {
-    let (reading, is_json) = how;
+fn compare(paths: [&Path; 2], how: How, out: &mut dyn Write) -> io::Result<Status> {
     let mut contents = Vec::new();
     for path in paths {
         match files::whole(path) {
@@ -191,8 +247,8 @@ fn compare(paths: [&Path; 2], how: (&Reading, bool), out: &mut dyn Write) -> io:
             }
         }
     }
-    let images: Vec<_> = contents.iter().map(|bytes| parsed(bytes, reading)).collect();
-    let wanted = Wanted::parts(&[], reading.has_hashes());
+    let images: Vec<_> = contents.iter().map(|bytes| parsed(bytes, how.reading)).collect();
+    let wanted = Wanted::parts(&[], how.has_hashes);
     let mut facts = Vec::new();
     for ((path, bytes), image) in paths.iter().zip(&contents).zip(&images) {
         facts.push(match image {
@@ -206,12 +262,14 @@ fn compare(paths: [&Path; 2], how: (&Reading, bool), out: &mut dyn Write) -> io:
         return Ok(Status::Refused);
     }
     let found = diff::of(before, after);
-    out.write_all(if is_json { json(&found) } else { found.text() }.as_bytes())?;
+    out.write_all(if how.is_json { json(&found) } else { found.text() }.as_bytes())?;
     Ok(if found.differences.is_empty() { Status::Done } else { Status::Refused })
 }
 
 /// What a command says of an image: its text, and lines for standard error.
 struct Said {
+    /// A line that stands once, before the first text.
+    head: String,
     text: String,
     complaints: String,
 }
@@ -219,13 +277,13 @@ struct Said {
 impl Said {
     /// A text that does not have what is refused.
     fn apart(text: String, facts: &Facts) -> Said {
-        Said { text, complaints: show::complaints(facts) }
+        Said { head: String::new(), text, complaints: show::complaints(facts) }
     }
 }
 
 impl From<String> for Said {
     fn from(text: String) -> Said {
-        Said { text, complaints: String::new() }
+        Said { head: String::new(), text, complaints: String::new() }
     }
 }
 
@@ -240,11 +298,23 @@ fn shown(
     let image = parsed(bytes, reading);
     let (facts, is_image) = match &image {
         Ok(image) => (Facts::of(path, image, wanted), true),
-        Err(error) => (Facts::refused(path, bytes, *error), ![Error::BAD_MAGIC, Error::SHORT].contains(error)),
+        Err(error) => (Facts::refused(path, bytes, *error), !is_no_image(*error)),
     };
     let status = if facts.is_refused() { Status::Refused } else { Status::Done };
-    let Said { text, complaints } = text(&facts, Style::of_stdout());
-    Report { text: text.into_bytes(), complaints, status, is_image }
+    let Said { head, text, complaints } = text(&facts, Style::of_stdout());
+    Report { head, text: text.into_bytes(), complaints, status, is_image }
+}
+
+/// Whether what is refused so lacks the signatures of an image.
+fn is_no_image(error: Error) -> bool {
+    [Error::BAD_MAGIC, Error::SHORT].contains(&error)
+}
+
+/// What a command without parts says of an image.
+fn of_image<'a>(bytes: &'a [u8], reading: &Reading, report: impl FnOnce(Result<Image<'a>, Error>) -> Report) -> Report {
+    let image = parsed(bytes, reading);
+    let is_image = image.as_ref().err().map_or(true, |error| !is_no_image(*error));
+    Report { is_image, ..report(image) }
 }
 
 /// A line of JSON.

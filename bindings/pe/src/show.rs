@@ -94,6 +94,10 @@ fn more(is_limited: bool, page: &mut Page) {
 fn headers_of(headers: &Headers, page: &mut Page) {
     page.heading("Headers");
     rows(tables::headers(headers), page);
+    if let Some(all) = &headers.all {
+        page.heading("DOS header");
+        page.table(&tables::dos_header(all));
+    }
     page.heading("Directories");
     page.table(&tables::directories(headers));
 }

@@ -1,10 +1,12 @@
 //! Images with a certificate, without certificates, or with another checksum, as new files. What is written is the library's.
 
 use crate::escape::escaped;
-use crate::facts::Refusal;
+use crate::facts::headers::checksum_state;
+use crate::facts::{Origin, Refusal};
 use crate::files::{self, Report};
 use crate::Status;
 use pe_c::{Error, Image, Placement};
+use serde::Serialize;
 use std::borrow::Cow;
 use std::path::Path;
 
@@ -30,10 +32,7 @@ fn entry_of(given: &[u8]) -> Cow<'_, [u8]> {
 fn deliver(made: Result<Vec<u8>, Error>, of: &Path, to: &Path) -> Report {
     match made {
         Ok(file) => files::deliver(&file, to, Status::Done),
-        Err(error) => {
-            eprintln!("pe: {}: {}", escaped(&of.to_string_lossy()), Refusal::from(error));
-            Report::of("", Status::Refused)
-        }
+        Err(error) => Report::refused(of, Refusal::from(error)),
     }
 }
 
@@ -66,25 +65,47 @@ fn fixed(image: &Image<'_>) -> Result<Vec<u8>, Error> {
     Ok(bytes)
 }
 
-/// The checksum and the right one, or the image with that, as a new file.
-pub fn checksum(path: &Path, image: Result<Image<'_>, Error>, fix: Option<&Path>) -> Report {
-    if let Some(to) = fix {
-        return deliver(image.and_then(|it| fixed(&it)), path, to);
-    }
-    let name = escaped(&path.to_string_lossy());
-    match image.and_then(|it| Ok((it.info().checksum, it.checksum()?.value))) {
+/// The image with the right checksum, as a new file.
+pub fn fix(path: &Path, image: Result<Image<'_>, Error>, to: &Path) -> Report {
+    deliver(image.and_then(|it| fixed(&it)), path, to)
+}
+
+/// The checksum of an image and the right one, which are null where it is refused.
+#[derive(Debug, Serialize)]
+struct Checksum {
+    #[serde(flatten)]
+    origin: Origin,
+    checksum: Option<u32>,
+    right_checksum: Option<u32>,
+    /// As the headers have it.
+    checksum_state: Option<&'static str>,
+    error: Option<Refusal>,
+}
+
+/// The checksum and the right one, as text or JSON.
+pub fn checksum(path: &Path, image: Result<Image<'_>, Error>, is_json: bool) -> Report {
+    let found = image.and_then(|it| Ok((it.info().checksum, it.checksum()?.value)));
+    let origin = Origin::of(path);
+    match found {
+        Ok((own, right)) if is_json => {
+            let (checksum, right_checksum, checksum_state) = (Some(own), Some(right), Some(checksum_state(own, right)));
+            let said = Checksum { origin, checksum, right_checksum, checksum_state, error: None };
+            Report::of(crate::json(&said), Status::Done)
+        }
         Ok((own, right)) => {
-            let state = match own {
-                0 => format!("none, {right:#010x} is right"),
-                it if it == right => format!("{it:#010x}, right"),
-                it => format!("{it:#010x}, wrong: {right:#010x} is right"),
+            let state = match checksum_state(own, right) {
+                "none" => format!("none, {right:#010x} is right"),
+                "right" => format!("{own:#010x}, right"),
+                _ => format!("{own:#010x}, wrong: {right:#010x} is right"),
             };
-            Report::of(format!("{name}: {state}\n"), Status::Done)
+            Report::of(format!("{}: {state}\n", escaped(&origin.file)), Status::Done)
         }
-        Err(error) => {
-            eprintln!("pe: {name}: {}", Refusal::from(error));
-            Report::of("", Status::Refused)
+        Err(error) if is_json => {
+            let error = Some(error.into());
+            let said = Checksum { origin, checksum: None, right_checksum: None, checksum_state: None, error };
+            Report::of(crate::json(&said), Status::Refused)
         }
+        Err(error) => Report::refused(path, Refusal::from(error)),
     }
 }
 

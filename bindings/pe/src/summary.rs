@@ -50,6 +50,7 @@ pub fn kind_of(headers: &Headers) -> String {
 
 fn headers_of(headers: &Headers, page: &mut Page) {
     page.row("built", built(headers));
+    versions_of_headers(headers, page);
     page.row("entry point", format_args!("{:#x}, image base {:#x}", headers.entry_rva, headers.image_base_va));
     page.row("in memory", counted(headers.size_of_image as usize, "byte"));
     if let Some(content) = headers.overlay.as_ref().and_then(|it| it.content.as_ref()) {
@@ -59,6 +60,16 @@ fn headers_of(headers: &Headers, page: &mut Page) {
     }
     if let Some(text) = checksum_of(headers) {
         page.row("checksum", text);
+    }
+}
+
+/// The versions of the linker, and of what the image was made for, unless all are 0.
+fn versions_of_headers(headers: &Headers, page: &mut Page) {
+    let Some(optional) = headers.all.as_ref().and_then(|it| it.optional.as_ref()) else { return };
+    let (linker, system, subsystem) =
+        (&optional.linker_version, &optional.operating_system_version, &optional.subsystem_version);
+    if [linker, system, subsystem].iter().any(|it| *it != "0.0") {
+        page.row("versions", format_args!("linker {linker}, system {system}, subsystem {subsystem}"));
     }
 }
 
@@ -104,24 +115,29 @@ fn bar_of(entropy: f64) -> String {
     "█".repeat(full) + &"░".repeat(STEPS as usize - full.min(STEPS as usize))
 }
 
+/// A line for each section, with as much as there is room for.
 fn sections_of(sections: &[Section], page: &mut Page) {
     let width = sections.iter().map(|it| it.shown_name().to_string().chars().count()).max().unwrap_or(0).clamp(8, NAME);
     for (index, section) in sections.iter().enumerate() {
         let label = if index == 0 { "sections" } else { "" };
         let (Section { permissions, rva, virtual_size, .. }, name) = (section, section.shown_name());
+        let entropy = |of: &dyn Fn(f64) -> String| section.entropy.map_or(String::new(), of);
         let start = format!("{name:width$} {permissions} {virtual_size:>9} bytes at {rva:<#10x}");
-        let entropy = |bar: &str| section.entropy.map_or(String::new(), |it| format!(" {bar}{it:.2} bits a byte"));
-        let line = start.clone() + &entropy(&section.entropy.map_or(String::new(), |it| bar_of(it) + " "));
-        if line.chars().count() <= page.room() {
-            page.row(label, line);
-        } else {
-            page.row(label, start.trim_end().to_string() + &entropy(""));
-        }
+        let lines = [
+            start.clone() + &entropy(&|it| format!(" {} {it:.2} bits a byte", bar_of(it))),
+            start.trim_end().to_string() + &entropy(&|it| format!(" {it:.2} bits a byte")),
+            format!("{name} {permissions} {virtual_size} at {rva:#x}") + &entropy(&|it| format!(" {it:.2}")),
+        ];
+        let [.., shortest] = &lines;
+        page.row(label, lines.iter().find(|it| it.chars().count() <= page.room()).unwrap_or(shortest));
     }
 }
 
 /// Names of DLLs, each with a count, and how many more there are.
 fn listed(counts: impl ExactSizeIterator<Item = (String, String)>, is_limited: bool) -> String {
+    if counts.len() == 0 && !is_limited {
+        return "of no DLL".to_string();
+    }
     let more = match counts.len().saturating_sub(LIBRARIES) {
         0 if is_limited => " and more".to_string(),
         0 => String::new(),

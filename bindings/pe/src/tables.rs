@@ -1,5 +1,6 @@
 //! The parts of an image as rows and tables of text. `show` lays them out as text, and `html` on its page.
 
+use crate::facts::all_headers::{AllHeaders, Coff};
 use crate::facts::bound_imports::{self, Bound};
 use crate::facts::certificates::Certificate;
 use crate::facts::clr::{Clr, Metadata};
@@ -72,9 +73,72 @@ pub fn headers(headers: &Headers) -> Vec<Row> {
         ("flags", headers.characteristics.set().join(", ")),
         ("DLL flags", headers.dll_characteristics.set().join(", ")),
     ];
+    rows.extend(headers.all.iter().flat_map(more_headers));
     rows.extend(headers.overlay.iter().map(|it| ("overlay", it.to_string())));
     rows.retain(|(_, value)| !value.is_empty());
     rows
+}
+
+/// The rows of the optional header that few look at, and how many sections and symbols there are.
+fn more_headers(all: &AllHeaders) -> Vec<Row> {
+    let mut rows = Vec::new();
+    if let Some(it) = &all.optional {
+        let versions = [&it.operating_system_version, &it.subsystem_version, &it.image_version];
+        let base = it.base_of_data_rva.map_or(String::new(), |rva| format!(", at {rva:#x}"));
+        let data = counted(it.size_of_initialized_data as usize, "byte");
+        rows.extend([
+            ("linker", format!("version {}", it.linker_version)),
+            ("versions", format!("system {}, subsystem {}, image {}", versions[0], versions[1], versions[2])),
+            ("code", format!("{} at {:#x}", counted(it.size_of_code as usize, "byte"), it.base_of_code_rva)),
+            ("data", format!("{data} initialized, {} uninitialized{base}", it.size_of_uninitialized_data)),
+            ("stack", format!("{} bytes reserved, {} committed", it.size_of_stack_reserve, it.size_of_stack_commit)),
+            ("heap", format!("{} bytes reserved, {} committed", it.size_of_heap_reserve, it.size_of_heap_commit)),
+        ]);
+        if (it.win32_version_value, it.loader_flags) != (0, 0) {
+            rows.push(("reserved", format!("{:#x}, loader flags {:#x}", it.win32_version_value, it.loader_flags)));
+        }
+    }
+    let Coff { number_of_sections, size_of_optional_header, .. } = &all.coff;
+    let directories = all.optional.as_ref().map_or(0, |it| it.number_of_rva_and_sizes);
+    let counts = format!("{}, {directories} directories", counted((*number_of_sections).into(), "section"));
+    rows.push(("counts", format!("{counts}, {size_of_optional_header} bytes of optional header")));
+    rows.extend(symbols(&all.coff));
+    rows
+}
+
+/// Where the COFF symbols are, or nothing without any.
+fn symbols(coff: &Coff) -> Option<Row> {
+    let strings = coff.string_table_size.map_or(String::new(), |it| format!(", {it} bytes of strings"));
+    let Coff { symbol_table_file_offset: offset, number_of_symbols: count, .. } = coff;
+    ((*offset, *count) != (0, 0)).then(|| ("COFF symbols", format!("{count} at file offset {offset:#x}{strings}")))
+}
+
+/// The name in winnt.h, what it is, and the number of each field of the DOS header.
+pub fn dos_header(all: &AllHeaders) -> Table {
+    let (dos, joined) = (&all.dos, |numbers: &[u16]| numbers.iter().map(u16::to_string).collect::<Vec<_>>().join(" "));
+    let rows = [
+        ("e_cblp", "bytes on the last page", dos.bytes_on_last_page.to_string()),
+        ("e_cp", "pages of 512 bytes", dos.pages_in_file.to_string()),
+        ("e_crlc", "relocations", dos.relocations.to_string()),
+        ("e_cparhdr", "size of the header in paragraphs", dos.size_of_header_in_paragraphs.to_string()),
+        ("e_minalloc", "paragraphs that are needed", dos.minimum_extra_paragraphs.to_string()),
+        ("e_maxalloc", "paragraphs that are wanted", dos.maximum_extra_paragraphs.to_string()),
+        ("e_ss", "initial SS, relative", dos.initial_relative_ss.to_string()),
+        ("e_sp", "initial SP", dos.initial_sp.to_string()),
+        ("e_csum", "checksum", dos.checksum.to_string()),
+        ("e_ip", "initial IP", dos.initial_ip.to_string()),
+        ("e_cs", "initial CS, relative", dos.initial_relative_cs.to_string()),
+        ("e_lfarlc", "file offset of the relocations", format!("{:#x}", dos.relocations_file_offset)),
+        ("e_ovno", "overlay number", dos.overlay_number.to_string()),
+        ("e_res", "reserved", joined(&dos.reserved)),
+        ("e_oemid", "OEM identifier", dos.oem_id.to_string()),
+        ("e_oeminfo", "OEM information", dos.oem_information.to_string()),
+        ("e_res2", "reserved", joined(&dos.reserved2)),
+        ("e_lfanew", "file offset of the PE signature", format!("{:#x}", dos.pe_file_offset)),
+        ("", "bytes of the stub", dos.stub_size.to_string()),
+    ];
+    let rows = rows.into_iter().map(|(name, what, value)| vec![name.to_string(), what.to_string(), value]);
+    Table::new(&[text("field"), text("what it is"), number("value")], rows)
 }
 
 pub fn hardening(hardening: &Hardening) -> Vec<Row> {
@@ -185,6 +249,13 @@ pub fn debug_records(debug: &Debug) -> Vec<Row> {
     }
     if let Some(repro) = debug.repro.present() {
         rows.push(("Repro", repro.hash_hex.clone().unwrap_or("the time stamps are a hash".to_string())));
+    }
+    if let Some(embedded) = debug.embedded_pdb.present() {
+        let sizes = format!("{}, {} compressed", counted(embedded.size as usize, "byte"), embedded.compressed_size);
+        rows.push(("embedded PDB", sizes));
+    }
+    if let Some(checksum) = debug.pdb_checksum.present() {
+        rows.push(("PDB checksum", format!("{} {}", checksum.algorithm, checksum.checksum_hex)));
     }
     rows
 }

@@ -4,19 +4,32 @@
 
 mod arm64;
 
-use crate::facts::{Budget, List, Refusal, ENTRY, JSON_VERSION};
+use crate::escape::escaped;
+use crate::facts::{Budget, List, Origin, Refusal, ENTRY};
 use crate::files::Report;
 use crate::Status;
 use pe_c::{Code, Error, Function, Functions, Handler, Image, Offset, Operation, Register, UnwindRecord};
 use serde::Serialize;
+use std::path::Path;
 
 /// How many records of a chain are shown. Linkers chain two or three; in a hostile file as many as it has room for.
 const RECORDS: usize = 256;
 
+/// What is asked of each image.
+#[derive(Clone, Copy, Debug)]
+pub struct Asked {
+    /// Of one function, or all.
+    pub rva: Option<u32>,
+    pub is_json: bool,
+    /// Whether the text says which image it is of.
+    pub is_named: bool,
+}
+
 /// What is said of the functions that were asked for.
 #[derive(Debug, Serialize)]
 struct Answer {
-    json_version: u32,
+    #[serde(flatten)]
+    origin: Origin,
     /// `x64`, `ARM64`, or null without functions of these.
     machine: Option<&'static str>,
     /// The RVA that was asked for, or null for all functions.
@@ -194,9 +207,9 @@ impl Unwound {
 }
 
 impl Answer {
-    fn of(rva: Option<u32>, machine: Option<&'static str>) -> Answer {
-        let json_version = JSON_VERSION;
-        Answer { json_version, machine, rva, functions: Vec::new(), functions_is_limited: false, error: None }
+    fn of(path: &Path, rva: Option<u32>) -> Answer {
+        let origin = Origin::of(path);
+        Answer { origin, machine: None, rva, functions: Vec::new(), functions_is_limited: false, error: None }
     }
 
     /// Takes functions as long as they are few enough.
@@ -228,40 +241,39 @@ impl Answer {
     }
 }
 
-/// The functions of an image that cover an RVA, or all of them.
-fn answer_of(image: &Image<'_>, rva: Option<u32>) -> Result<Answer, Error> {
+/// Puts the functions of an image that cover an RVA, or all of them, into the answer.
+fn put(image: &Image<'_>, answer: &mut Answer) -> Result<(), Error> {
     let mut budget = Budget::of(image);
     if let Some(functions) = image.functions()? {
-        let mut answer = Answer::of(rva, Some("x64"));
+        answer.machine = Some("x64");
         let mut unwound = |it| unwinding_of(&functions, it, &mut budget).map(Unwound::X64);
-        match rva {
+        match answer.rva {
             Some(rva) => answer.take(functions.find(rva)?.into_iter().map(&mut unwound)),
             None => answer.take(functions.iter().map(&mut unwound)),
         }
-        return Ok(answer);
+        return Ok(());
     }
-    let Some(functions) = image.arm64_functions()? else { return Ok(Answer::of(rva, None)) };
-    let mut answer = Answer::of(rva, Some("ARM64"));
+    let Some(functions) = image.arm64_functions()? else { return Ok(()) };
+    answer.machine = Some("ARM64");
     let mut unwound = |it| arm64::unwinding_of(&functions, it, &mut budget).map(Unwound::Arm64);
-    match rva {
+    match answer.rva {
         Some(rva) => answer.take(functions.find(rva)?.into_iter().map(&mut unwound)),
         None => answer.take(functions.iter().map(&mut unwound)),
     }
-    Ok(answer)
+    Ok(())
 }
 
 /// The text or the JSON of how functions are unwound. As text a refusal goes to standard error.
-pub fn report(image: Result<Image<'_>, Error>, rva: Option<u32>, is_json: bool) -> Report {
-    let found = image.and_then(|image| answer_of(&image, rva));
-    let answer = found.unwrap_or_else(|error| Answer { error: Some(error.into()), ..Answer::of(rva, None) });
+pub fn report(path: &Path, image: Result<Image<'_>, Error>, asked: Asked) -> Report {
+    let mut answer = Answer::of(path, asked.rva);
+    if let Err(error) = image.and_then(|image| put(&image, &mut answer)) {
+        answer = Answer { error: Some(error.into()), ..Answer::of(path, asked.rva) };
+    }
     let status = if answer.is_refused() { Status::Refused } else { Status::Done };
-    let text = match &answer.error {
-        _ if is_json => crate::json(&answer),
-        Some(refusal) => {
-            eprintln!("pe: {refusal}");
-            String::new()
-        }
-        None => answer.text(),
-    };
-    Report::of(text, status)
+    match &answer.error {
+        _ if asked.is_json => Report::of(crate::json(&answer), status),
+        Some(refusal) => Report::refused(path, refusal),
+        None if asked.is_named => Report::of(format!("{}\n{}", escaped(&answer.origin.file), answer.text()), status),
+        None => Report::of(answer.text(), status),
+    }
 }

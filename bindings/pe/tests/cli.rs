@@ -310,6 +310,8 @@ fn statuses() {
     assert_eq!(run(&[&short, &none]).2, 3);
     assert_eq!(run(&["unwind", &image, "xyz"]).2, 2);
     assert_eq!(run(&["unwind", &image, "0x0x1"]).2, 2);
+    let (_, error_text, status) = run(&[folder.0.to_str().unwrap()]);
+    assert_eq!((error_text.ends_with("; -r reads the files below it\n"), status), (true, 3), "{error_text}");
     let (out, error_text, status) = run(&["digest", "--mapped", &image]);
     assert_eq!((out.as_str(), error_text.contains("a digest covers a file"), status), ("", true, 2));
     assert_eq!(run(&[]).2, 2);
@@ -325,14 +327,96 @@ fn each_file_has_a_line_of_json() {
     let error = json!({"number": 2, "name": "SHORT", "text": "truncated"});
     let (out, _, status) = run(&["digest", "--json", &short, &image]);
     let lines: Vec<Value> = out.lines().map(|line| serde_json::from_str(line).unwrap()).collect();
-    assert_eq!((lines.len(), &lines[0], status), (2, &json!({"file": short, "error": error}), 1));
-    assert_eq!(lines[1]["file"], image);
+    let refused = json!({"json_version": 2, "file": short, "file_hex": null, "sha256_hex": null, "checksum": null,
+        "right_checksum": null, "error": error});
+    assert_eq!((lines.len(), &lines[0], status), (2, &refused, 1));
+    assert_eq!((&lines[1]["file"], &lines[1]["error"]), (&json!(image), &json!(null)));
     let (out, error_text, status) = run(&["digest", &short]);
     assert_eq!((out.as_str(), error_text.ends_with("b.exe: truncated (SHORT)\n"), status), ("", true, 1));
     let (out, _, status) = run(&["unwind", "--json", &short, "0"]);
     assert_eq!((&serde_json::from_str::<Value>(&out).unwrap()["error"], status), (&error, 1));
     let (out, error_text, status) = run(&["unwind", &short, "0"]);
-    assert_eq!((out.as_str(), error_text.as_str(), status), ("", "pe: truncated (SHORT)\n", 1));
+    assert_eq!((out.as_str(), error_text.ends_with("b.exe: truncated (SHORT)\n"), status), ("", true, 1));
+}
+
+#[test]
+fn commands_take_several_files() {
+    let folder = Folder::new("several");
+    let (one, two) = (folder.file("1.exe", &made::with_functions()), folder.file("2.exe", &made::with_exports()));
+    folder.file("note.txt", b"no image");
+    let all = folder.0.to_str().unwrap();
+    // `show`: parts come after the files, in any case.
+    let (out, _, status) = run(&["show", &one, &two, "TLS", "headers"]);
+    let heads: Vec<&str> = out.lines().filter(|it| it.ends_with(".exe")).collect();
+    assert_eq!(
+        (heads, out.matches("\n  tls           none\n").count(), status),
+        (vec![one.as_str(), &two], 2, 0),
+        "{out}"
+    );
+    assert_eq!(run(&["show", "-r", all, "TLS", "headers"]).0, out);
+    let (lines, _, status) = run(&["show", "--json", "-r", all, "exports"]);
+    let lines: Vec<Value> = lines.lines().map(|line| serde_json::from_str(line).unwrap()).collect();
+    let names = |it: &Value| it["exports"]["entries"].as_array().map(Vec::len);
+    assert_eq!((lines.iter().map(names).collect::<Vec<_>>(), status), (vec![None, Some(3)], 0));
+    // A word that is neither a file nor a part, but nearly one.
+    let (out, error, status) = run(&["show", &one, "import"]);
+    assert_eq!(
+        (out.as_str(), error.contains("`import` is neither") || error.contains("is the part `imports` meant?"), status),
+        ("", true, 2),
+        "{error}"
+    );
+    assert_eq!(run(&["show", &one, "none.exe"]).2, 3);
+    // CSV: the heads stand once, and each row says whose it is.
+    let (out, _, status) = run(&["show", "--csv", &one, &two, "exports"]);
+    let rows = format!("file,ordinal,RVA,name,forwarder\n{two},5,0x1004,second,\n{two},6,0x90000,first,\n{two},8,0x1060,,to NTDLL.RtlFree\n");
+    assert_eq!((out, status), (rows, 0));
+    let (out, _, _) = run(&["show", "--csv", &two, &two, "sections"]);
+    assert_eq!(out.matches("file,name,").count(), 1, "{out}");
+    // `unwind`: an RVA comes last.
+    let (out, _, status) = run(&["unwind", &one, &two, "5012"]);
+    let texts =
+        [format!("{one}\nfunction 0x5010 to 0x5020\n"), format!("{two}\nthe image has no functions of x64 or ARM64\n")];
+    assert_eq!((texts.iter().all(|it| out.contains(it.as_str())), status), (true, 0), "{out}");
+    let (lines, _, _) = run(&["unwind", "--json", "--all", "-r", all]);
+    let lines: Vec<Value> = lines.lines().map(|line| serde_json::from_str(line).unwrap()).collect();
+    assert_eq!((&lines[0]["file"], &lines[1]["machine"], lines.len()), (&json!(one), &json!(null), 2));
+    assert_eq!(run(&["digest", "-r", all]).0.lines().count(), 2);
+    for words in [["unwind", &one].as_slice(), &["unwind", "5012"], &["unwind", &one, &two]] {
+        assert_eq!(run(words).2, 2, "{words:?}");
+    }
+    // `checksum`, but for one that writes a file.
+    let (out, error, status) = run(&["checksum", "-r", all]);
+    let line = |it: &str| format!("{it}: none, ");
+    assert_eq!(
+        (out.lines().zip([&one, &two]).filter(|it| it.0.starts_with(&line(it.1))).count(), status),
+        (2, 0),
+        "{out}"
+    );
+    assert_eq!(error, "pe: 1 file skipped, no images\n");
+    assert_eq!(run(&["checksum", "--fix", "-", &one, &two]).2, 2);
+    assert_eq!(run(&["checksum", "--fix", "-", "--json", &one]).2, 2);
+}
+
+#[test]
+fn options_stand_where_they_do_something() {
+    let folder = Folder::new("options");
+    let file = folder.file("a.exe", made::SMALL);
+    let commands: [&[&str]; 6] = [
+        &["find", "x", &file],
+        &["unwind", "--all", &file],
+        &["digest", &file],
+        &["extract", &file, "manifest", "-"],
+        &["detach", &file, "-"],
+        &["checksum", &file],
+    ];
+    for command in commands {
+        assert_eq!(run(&[command, &["--no-hashes"]].concat()).2, 2, "{command:?}");
+    }
+    for command in
+        [["show", file.as_str()].as_slice(), &["key", &file], &["diff", &file, &file], &["report", &file, "-"]]
+    {
+        assert_eq!(run(&[command, &["--no-hashes"]].concat()).2, 0, "{command:?}");
+    }
 }
 
 #[test]

@@ -25,6 +25,12 @@ fn hashes_are_those_of_other_programs() {
     assert_eq!(imports["hashes"]["imphash"], sum_of("md5sum", b"kernel32.sleep,kernel32.ord17,a.f"));
     assert_eq!(imports["hashes"]["sha256_hex"], sum_of("sha256sum", &made::with_imports()));
     assert_eq!(imports["hashes"]["rich_hash"], Value::Null);
+    // A directory without a DLL, as that of ntdll.dll.
+    let mut made = made::Made::new(made::X64);
+    let directory = made.put_words(&[0; 5]);
+    made.directory(made::IMPORTS, directory, 20);
+    let none = json_of("imphash-none", &made.image());
+    assert_eq!((&none["imports"], &none["hashes"]["imphash"]), (&json!([]), &json!(null)));
     let section = &made::with_imports()[0x400..];
     assert_eq!(imports["sections"][0]["sha256_hex"], sum_of("sha256sum", section));
     let bytes = made::with_rich_header();
@@ -86,6 +92,125 @@ fn hardening_is_what_the_headers_say() {
     assert!(out.contains(&format!("\n  hardening     {line}\n")), "{out}");
 }
 
+/// An image with a debug record of each of these types.
+fn with_debug_records(records: &[(u32, &[u8])]) -> Vec<u8> {
+    let mut made = made::Made::new(made::X64);
+    let mut directory = Vec::new();
+    for (kind, bytes) in records {
+        let rva = made.put(bytes);
+        directory.extend([0, 0, 0, *kind, bytes.len() as u32, rva, rva - made::ADDRESS + made::OFFSET]);
+    }
+    let start = made.put_words(&directory);
+    made.directory(made::DEBUG, start, 28 * records.len() as u32);
+    made.image()
+}
+
+#[test]
+fn debug_records_are_read_by_themselves() {
+    let embedded = [b"MPDB".as_slice(), &1000u32.to_le_bytes(), &[1, 2, 3]].concat();
+    let checksum = [b"SHA256\0".as_slice(), &[0xAB; 32]].concat();
+    let bytes = with_debug_records(&[(17, &embedded), (19, &checksum)]);
+    let debug = json_of("debug-net", &bytes)["debug"].clone();
+    assert_eq!(
+        (&debug["embedded_pdb"], &debug["embedded_pdb_error"]),
+        (&json!({"size": 1000, "compressed_size": 3}), &json!(null))
+    );
+    assert_eq!(debug["pdb_checksum"], json!({"algorithm": "SHA256", "checksum_hex": "ab".repeat(32)}));
+    let folder = Folder::new("debug-net-text");
+    let (out, _, _) = run(&["show", &folder.file("a.dll", &bytes), "debug"]);
+    for line in
+        ["embedded PDB  1000 bytes, 3 compressed".to_string(), format!("PDB checksum  SHA256 {}", "ab".repeat(32))]
+    {
+        assert!(out.contains(&format!("\n  {line}\n")), "{line}\n{out}");
+    }
+    // What is wrong with one record makes no difference to another.
+    let file = folder.file("b.dll", &with_debug_records(&[(17, b"NPDB\0\0\0\0"), (19, &checksum)]));
+    let (out, _, status) = run(&["--json", &file]);
+    let debug = serde_json::from_str::<Value>(&out).unwrap()["debug"].clone();
+    assert_eq!(
+        (debug["embedded_pdb_error"]["name"].as_str(), &debug["embedded_pdb"], status),
+        (Some("BAD_MAGIC"), &json!(null), 1)
+    );
+    assert_eq!((&debug["pdb_checksum"]["algorithm"], &debug["pdb_checksum_error"]), (&json!("SHA256"), &json!(null)));
+    let (out, _, _) = run(&[&file]);
+    assert_eq!(out.matches("  warning       debug data: ").count(), 1, "{out}");
+}
+
+/// The image of some exports with numbers in its headers, by the offsets of winnt.h: the DOS header from 2 on, the COFF header at
+/// 0x44, the optional header at 0x58.
+fn with_numbers_in_headers() -> Vec<u8> {
+    let mut bytes = made::with_exports();
+    (1..=29u16).for_each(|it| bytes[2 * usize::from(it)..][..2].copy_from_slice(&it.to_le_bytes()));
+    bytes[0x5A..0x5C].copy_from_slice(&[14, 29]);
+    let words: [(usize, u32); 8] = [
+        (0x5C, 101),
+        (0x60, 102),
+        (0x64, 103),
+        (0x6C, 0x1001),
+        (0x80, 10 | 1 << 16),
+        (0x84, 7 | 8 << 16),
+        (0x88, 6 | 2 << 16),
+        (0x8C, 9),
+    ];
+    words.iter().for_each(|(at, number)| bytes[*at..][..4].copy_from_slice(&number.to_le_bytes()));
+    for (at, number) in [(0xA0, 1u64 << 33), (0xA8, 201), (0xB0, 202), (0xB8, 203)] {
+        bytes[at..][..8].copy_from_slice(&number.to_le_bytes());
+    }
+    bytes[0xC0..0xC4].copy_from_slice(&5u32.to_le_bytes());
+    bytes
+}
+
+#[test]
+fn all_fields_of_the_headers_are_shown() {
+    let bytes = with_numbers_in_headers();
+    let headers = json_of("all-headers", &bytes)["headers"].clone();
+    assert_eq!(
+        headers["optional"],
+        json!({"magic": 0x20B, "linker_version": "14.29", "operating_system_version": "10.1", "image_version": "7.8",
+            "subsystem_version": "6.2", "size_of_code": 101, "size_of_initialized_data": 102, "size_of_uninitialized_data": 103,
+            "base_of_code_rva": 0x1001, "base_of_data_rva": null, "size_of_stack_reserve": 1u64 << 33,
+            "size_of_stack_commit": 201, "size_of_heap_reserve": 202, "size_of_heap_commit": 203, "win32_version_value": 9,
+            "loader_flags": 5, "number_of_rva_and_sizes": 16})
+    );
+    assert_eq!(
+        headers["coff"],
+        json!({"number_of_sections": 1, "symbol_table_file_offset": 0, "number_of_symbols": 0, "string_table_size": null,
+            "size_of_optional_header": 240})
+    );
+    let dos = &headers["dos"];
+    assert_eq!(
+        (&dos["bytes_on_last_page"], &dos["oem_id"], &dos["oem_information"]),
+        (&json!(1), &json!(18), &json!(19))
+    );
+    assert_eq!((&dos["reserved"], &dos["reserved2"][9]), (&json!([14, 15, 16, 17]), &json!(29)));
+    assert_eq!((&dos["pe_file_offset"], &dos["stub_size"]), (&json!(0x40), &json!(0)));
+    let folder = Folder::new("all-headers-text");
+    let (out, _, _) = run(&["show", &folder.file("a.exe", &bytes), "headers"]);
+    for line in [
+        "linker        version 14.29",
+        "versions      system 10.1, subsystem 6.2, image 7.8",
+        "code          101 bytes at 0x1001",
+        "data          102 bytes initialized, 103 uninitialized",
+        "stack         8589934592 bytes reserved, 201 committed",
+        "heap          202 bytes reserved, 203 committed",
+        "reserved      0x9, loader flags 0x5",
+        "counts        1 section, 16 directories, 240 bytes of optional header",
+        "e_oeminfo   OEM information                   19",
+    ] {
+        assert!(out.contains(&format!("\n  {line}\n")), "{line}\n{out}");
+    }
+    let x86 = json_of("all-headers-x86", &made::x86_dll())["headers"]["optional"].clone();
+    assert_eq!((&x86["magic"], x86["base_of_data_rva"].is_number()), (&json!(0x10B), true));
+    let (out, _, _) = run(&[&folder.file("a.exe", &bytes)]);
+    assert!(out.contains("\n  versions      linker 14.29, system 10.1, subsystem 6.2\n"), "{out}");
+    // An image without an optional header has none of its numbers.
+    let rich = json_of("all-headers-none", &made::with_rich_header())["headers"].clone();
+    assert_eq!(
+        (&rich["format"], &rich["optional"], &rich["coff"]["size_of_optional_header"]),
+        (&json!(null), &json!(null), &json!(0))
+    );
+}
+
 #[test]
 fn checksums_are_right_wrong_or_none() {
     let folder = Folder::new("checksum");
@@ -97,6 +222,13 @@ fn checksums_are_right_wrong_or_none() {
     assert_eq!(state(&bytes), "wrong");
     let (out, _, status) = run(&["checksum", &file]);
     assert_eq!((out.contains("a.dll: 0x0000111d, wrong: 0x0000"), status), (true, 0), "{out}");
+    let (out, _, status) = run(&["checksum", "--json", &file, &folder.file("b.dll", b"MZ")]);
+    let lines: Vec<Value> = out.lines().map(|line| serde_json::from_str(line).unwrap()).collect();
+    assert_eq!(
+        (&lines[0]["checksum"], &lines[0]["checksum_state"], &lines[0]["error"], status),
+        (&json!(0x111D), &json!("wrong"), &json!(null), 1)
+    );
+    assert_eq!((&lines[1]["right_checksum"], &lines[1]["error"]["name"]), (&json!(null), &json!("SHORT")));
     let fixed = folder.0.join("fixed.dll");
     let fixed = fixed.to_str().unwrap();
     assert_eq!(run(&["checksum", "--fix", fixed, &file]).2, 0);
@@ -400,6 +532,7 @@ fn what_may_never_end_is_not_read() {
     folder.file("a.exe", made::SMALL);
     let (out, error, status) = run(&["-r", "-v", folder.0.to_str().unwrap()]);
     assert_eq!((out.matches("PE32+ program").count(), status), (1, 0), "{error}");
+    assert!(error.ends_with("pe: 3 files skipped, no images\n"), "{error}");
     for name in ["pipe: skipped, it is no regular file", "ring: skipped, the link", "lost: skipped, the link"] {
         assert!(error.contains(name), "{error}");
     }
@@ -435,6 +568,9 @@ fn lines_fit_the_columns() {
             .output()
             .unwrap();
         let said = String::from_utf8(ran.stdout).unwrap();
+        let is_whole =
+            said.lines().filter(|it| it.contains(" r-x ")).all(|it| it.contains(" at 0x1000") && it.contains('.'));
+        assert!(is_whole, "{columns}: a section stands on one line\n{said}");
         let widest = said.lines().filter(|it| !it.contains("SHA-256")).map(|it| it.chars().count()).max().unwrap();
         assert!(widest <= columns.parse().unwrap(), "{columns}: {widest}\n{said}");
     }

@@ -254,7 +254,7 @@ const MADE: &[(&str, &[&str])] = &[
             "\nImports from USER32.dll\n  MessageBoxA\n  #5\n",
             "  1        0x1004  DllMain\n",
             "\n  image         x86_dll.bin/5F5E10003000/x86_dll.bin\n",
-            "\"checksum\":4381,\"right_checksum\":4381}",
+            "\"checksum\":4381,\"right_checksum\":4381,\"checksum_state\":\"right\",\"error\":null}",
             "\"hint\":7,\"ordinal\":null,\"slot_rva\":8352},{\"name\":null,\"hint\":null,\"ordinal\":5,\"slot_rva\":8356}",
             "\"flags\":3221225536",
         ],
@@ -294,7 +294,7 @@ fn session_of(folder: &Folder, name: &str, part: &str, rvas: &[&str]) -> String 
     let file = format!("{name}.bin");
     let mut commands = vec![vec![file.as_str()], vec!["show", &file, "all"], vec!["show", &file, part]];
     commands.extend(rvas.iter().map(|rva| vec!["unwind", &file, rva]));
-    commands.extend([vec!["key", &file], vec!["digest", &file]]);
+    commands.extend([vec!["key", &file], vec!["digest", &file], vec!["checksum", &file]]);
     let as_json: Vec<Vec<&str>> = commands.iter().map(|words| [words.as_slice(), &["--json"]].concat()).collect();
     commands.iter().chain(&as_json).map(|words| step_of(folder, words)).collect()
 }

@@ -1,8 +1,8 @@
-//! Debug data: the entries of the directory, and the records of six types.
+//! Debug data: the entries of the directory, and of the records that have a reader the first of each type.
 
 use super::{entry, field, hex_of, Flags, List, Name, Named, Part, Refusal, Stamp};
 use crate::names::{DEBUG_TYPES, EXTENDED_DLL_CHARACTERISTICS};
-use pe_c::{Image, Repro};
+use pe_c::{Error, Image, Repro};
 use serde::Serialize;
 
 #[derive(Clone, Debug, Serialize)]
@@ -23,6 +23,10 @@ pub struct Debug<'a> {
     pub vc_features: Part<VcFeatures>,
     #[serde(flatten)]
     pub extended: Part<Extended>,
+    #[serde(flatten)]
+    pub embedded_pdb: Part<EmbeddedPdb>,
+    #[serde(flatten)]
+    pub pdb_checksum: Part<PdbChecksum<'a>>,
 }
 
 /// `IMAGE_DLLCHARACTERISTICS_EX_` flags.
@@ -38,6 +42,8 @@ field!(ReproRecord, "repro");
 field!(Pogo<'_>, "pogo");
 field!(VcFeatures, "vc_features");
 field!(Extended, "extended_dll_characteristics");
+field!(EmbeddedPdb, "embedded_pdb");
+field!(PdbChecksum<'_>, "pdb_checksum");
 
 #[derive(Clone, Debug, Serialize)]
 pub struct Entry {
@@ -99,13 +105,48 @@ pub struct VcFeatures {
     pub guard_n: u32,
 }
 
+/// A portable PDB in the image, as compilers of .NET write it.
+#[derive(Clone, Debug, Serialize)]
+pub struct EmbeddedPdb {
+    /// Bytes, as the record says.
+    pub size: u32,
+    /// Bytes of Deflate data in the image.
+    pub compressed_size: usize,
+}
+
+/// A checksum of the PDB file, with zeros in place of its id.
+#[derive(Clone, Debug, Serialize)]
+pub struct PdbChecksum<'a> {
+    pub algorithm: Name<'a>,
+    pub checksum_hex: String,
+}
+
 impl Debug<'_> {
-    /// The directory's refusal, or else that of the records, which all six share.
+    /// The directory's refusal, or else those of the records, each of which is read by itself.
     pub fn refusals(&self) -> Vec<&Refusal> {
-        let entries = self.entries.refusal().or(self.entries.present().and_then(|it| it.error.as_ref()));
-        entries.or(self.pdb.refusal()).into_iter().collect()
+        if let Some(refusal) = self.entries.list_refusal() {
+            return vec![refusal];
+        }
+        let records = [
+            self.pdb.refusal(),
+            self.pdb20.refusal(),
+            self.repro.refusal(),
+            self.pogo.refusal().or(self.pogo.present().and_then(|it| it.parts.list_refusal())),
+            self.vc_features.refusal(),
+            self.extended.refusal(),
+            self.embedded_pdb.refusal(),
+            self.pdb_checksum.refusal(),
+        ];
+        let mut found: Vec<&Refusal> = records.into_iter().flatten().collect();
+        // PDB 7.0 and 2.0 are one record.
+        found.dedup();
+        found
     }
 }
+
+/// `IMAGE_DEBUG_TYPE_` of these two.
+const EMBEDDED_PDB: u32 = 17;
+const PDB_CHECKSUM: u32 = 19;
 
 /// `LTCG`, the other signature of POGO records is `PGU`.
 const LTCG: u32 = 0x4C54_4347;
@@ -128,7 +169,21 @@ pub fn of<'a>(image: &'a Image<'_>) -> Debug<'a> {
         pogo: image.pogo().map(|it| it.map(pogo_of)).into(),
         vc_features: image.vc_features().map(|it| it.map(features_of)).into(),
         extended: image.debug_characteristics().map(|it| it.map(extended_of)).into(),
+        embedded_pdb: embedded_of(image).into(),
+        pdb_checksum: checksum_of(image).into(),
     }
+}
+
+fn embedded_of(image: &Image<'_>) -> Result<Option<EmbeddedPdb>, Error> {
+    let Some(entry) = image.debug_entry(EMBEDDED_PDB)? else { return Ok(None) };
+    let found = image.embedded_pdb_of(&entry)?;
+    Ok(found.map(|it| EmbeddedPdb { size: it.uncompressed_size, compressed_size: it.compressed.len() }))
+}
+
+fn checksum_of<'a>(image: &'a Image<'_>) -> Result<Option<PdbChecksum<'a>>, Error> {
+    let Some(entry) = image.debug_entry(PDB_CHECKSUM)? else { return Ok(None) };
+    let found = image.pdb_checksum_of(&entry)?;
+    Ok(found.map(|it| PdbChecksum { algorithm: Name(it.algorithm), checksum_hex: hex_of(it.checksum) }))
 }
 
 fn extended_of(flags: u32) -> Extended {

@@ -1,6 +1,6 @@
 //! Hashes by which images are known. These are the program's own: of the image the library says what they cover.
 
-use super::{hex_of, ordinals};
+use super::{both, hex_of, ordinals};
 use md5::Md5;
 use pe_c::{Image, Import, Layout};
 use serde::Serialize;
@@ -61,7 +61,7 @@ fn imphash_of(image: &Image<'_>) -> Option<String> {
             is_first = false;
         }
     }
-    Some(hex_of(&hash.finalize()))
+    (!is_first).then(|| hex_of(&hash.finalize()))
 }
 
 /// `DanS` and three numbers that are 0, and the entries: each a product and a build in one number, and a count.
@@ -89,13 +89,10 @@ pub fn authenticode_of(image: &Image<'_>) -> Result<String, pe_c::Error> {
 
 /// The hashes, and the Authenticode digest where it is wanted.
 pub fn of(image: &Image<'_>, has_digest: bool) -> Hashes {
-    let is_file = image.layout() == Layout::File;
-    Hashes {
-        sha256_hex: sha256_of(image.bytes()),
-        imphash: imphash_of(image),
-        rich_hash: rich_hash_of(image),
-        authenticode_sha256_hex: if is_file && has_digest { authenticode_of(image).ok() } else { None },
-    }
+    let has_digest = has_digest && image.layout() == Layout::File;
+    let digest = || if has_digest { authenticode_of(image).ok() } else { None };
+    let (sha256_hex, authenticode_sha256_hex) = both(image, || sha256_of(image.bytes()), digest);
+    Hashes { sha256_hex, imphash: imphash_of(image), rich_hash: rich_hash_of(image), authenticode_sha256_hex }
 }
 
 #[cfg(test)]

@@ -1,5 +1,6 @@
 //! The headers: the COFF header, the optional header, and the 16 data directories.
 
+use super::all_headers::{self, AllHeaders};
 use super::overlay::{self, Overlay};
 use super::{Flags, Named, Stamp};
 use crate::names::{CHARACTERISTICS, DIRECTORIES, DLL_CHARACTERISTICS, MACHINES, SUBSYSTEMS};
@@ -35,6 +36,9 @@ pub struct Headers {
     pub checksum_state: Option<&'static str>,
     pub characteristics: Flags,
     pub dll_characteristics: Flags,
+    /// The other numbers of the headers.
+    #[serde(flatten)]
+    pub all: Option<AllHeaders>,
     pub directories: Vec<Directory>,
     /// `None` where nothing follows the headers and the raw data of the sections.
     pub overlay: Option<Overlay>,
@@ -80,6 +84,7 @@ pub fn of(image: &Image<'_>, file_name: &str, has_hashes: bool) -> Headers {
         checksum_state,
         characteristics: Flags::of(info.characteristics.into(), CHARACTERISTICS),
         dll_characteristics: Flags::of(info.dll_characteristics.into(), DLL_CHARACTERISTICS),
+        all: all_headers::of(image),
         directories: directories_of(image),
         overlay: overlay::of(image),
         symbol_server_path: info.symbol_path(file_name).map(|path| path.to_string()),
@@ -93,12 +98,16 @@ fn checksum_of(image: &Image<'_>) -> (Option<u32>, Option<&'static str>) {
         return (None, None);
     }
     let right = image.checksum().ok().map(|it| it.value);
-    let state = right.map(|right| match image.info().checksum {
+    (right, right.map(|right| checksum_state(image.info().checksum, right)))
+}
+
+/// `none` for 0, `right`, or `wrong`.
+pub fn checksum_state(own: u32, right: u32) -> &'static str {
+    match own {
         0 => "none",
         it if it == right => "right",
         _ => "wrong",
-    });
-    (right, state)
+    }
 }
 
 fn directories_of(image: &Image<'_>) -> Vec<Directory> {
