@@ -23,7 +23,7 @@ const LENGTH: usize = 0x605;
 const RESOURCES: [u8; 4] = [0x58, 1, 0, 0];
 
 /// The checksum of the image that has them.
-const CHECKSUM: [u8; 4] = [0x19, 0x19, 0, 0];
+const CHECKSUM: [u8; 4] = [0x19, 0x49, 0, 0];
 
 fn header_of(bytes: &[u8]) -> Result<Header<'_>, pe_core::Error> {
     Header::parse_with_opts(bytes, &ParseOptions::default())
@@ -37,6 +37,7 @@ fn old_image(alloc: Global) -> Result<Vec<u8>, Fail> {
         &mut bytes,
         &[
             (0x7E, &[2, 0]),
+            (0xC8, &[0, 0x30]),
             (0x110, &[0, 0x20, 0, 0, 0x10, 0, 0, 0]),
             (
                 0x180,
@@ -170,6 +171,7 @@ fn numbers_in_refusals(rt: HostRuntime) -> Result<(), Fail> {
         (0x191, &[4][..], "Overlap(0)"),
         (0x18D, &[0x20][..], "Overlap(1)"),
         (0x195, &[0][..], "Overlap(0)"),
+        (0xC8, &[0x57, 0x21][..], "NoRoom { needed: 344, room: 512 }"),
     ] {
         let bytes = with_part(old_image(rt.alloc())?, offset, part);
         let shown = refused(rt.alloc(), &bytes, &leaves)?;
@@ -205,7 +207,7 @@ fn texts_of_refusals(rt: HostRuntime) -> Result<(), Fail> {
                 needed: 656,
                 room: 512,
             },
-            "resources have 0x290 bytes, and the data of the resource section 0x200",
+            "resources of 0x290 bytes do not fit into the 0x200 bytes of their section's data, or into the image in memory",
         ),
     ] {
         let shown = format!(in rt.alloc(); "{error}")?;

@@ -111,14 +111,15 @@ pub record SectionIs (b : List ℕ) (h : HeaderView) (alignment i n : ℕ) : Typ
   pub apart : sections_apart b h alignment i ≡ true
   pub room : n ≤ (section_header b h i).size_of_raw_data
 
-pub section_is_free : (b : List ℕ) (h : HeaderView) (alignment i n : ℕ) (p q : Place) → outcome (section_tests b h alignment i n) p ≡ Ok q → SectionIs b h alignment i n
-section_is_free b h alignment i n p q e =
+pub section_is_free : (b : List ℕ) (h : HeaderView) (t : Target) (i n : ℕ) (p q : Place) → outcome (section_tests b h t i n) p ≡ Ok q → SectionIs b h t.file_alignment i n
+section_is_free b h t i n p q e =
     let s : SectionTable = section_header b h i in
     let one = passed (has_data b h s) _ _ q e in
     let two = passed (is_alone s h.optional_header) _ _ q one.1 in
     let three = passed (symbols_apart h s) _ _ q two.1 in
-    let four = passed (sections_apart b h alignment i) _ _ q three.1 in
-    let five = passed (nat_le n s.size_of_raw_data) _ _ q four.1 in
+    let four = passed (sections_apart b h t.file_alignment i) _ _ q three.1 in
+    let five = passed (nat_le n s.size_of_raw_data && nat_le (s.virtual_address + n) t.size_of_image) _ _ q four.1 in
+    let room : nat_le n s.size_of_raw_data ≡ true = first_of (nat_le n s.size_of_raw_data) (nat_le (s.virtual_address + n) t.size_of_image) five.0 in
     let after : nat_le (headers_end h) s.pointer_to_raw_data ≡ true = first_of (nat_le (headers_end h) s.pointer_to_raw_data) _ one.0 in
     let rest = second_of (nat_le (headers_end h) s.pointer_to_raw_data) _ one.0 in
     let inside : nat_le (raw_end s) (length b) ≡ true = second_of (s.pointer_to_raw_data % 512 == 0) _ rest in
@@ -127,7 +128,7 @@ section_is_free b h alignment i n p q e =
       sector = first_of (s.pointer_to_raw_data % 512 == 0) _ rest;
       inside = grind (arith, nat_tests, inside);
       apart = four.0;
-      room = grind (arith, nat_tests, five.0);
+      room = grind (arith, nat_tests, room);
     }
 
 -- ---- all of them
@@ -157,8 +158,8 @@ placed b h xs p e =
       leaves = made_at t.0.rva n.0 xs n.1.0;
       headers = headers_lie b h t.0 u.0 u.1.0;
       section = index_is b h t.0.rva i.0 i.1.0;
-      free = section_is_free b h t.0.file_alignment i.0 n.0 (place_at b h t.0 n.0 i.0) p i.1.1;
-      value = value_is (section_tests b h t.0.file_alignment i.0 n.0) (place_at b h t.0 n.0 i.0) p i.1.1;
+      free = section_is_free b h t.0 i.0 n.0 (place_at b h t.0 n.0 i.0) p i.1.1;
+      value = value_is (section_tests b h t.0 i.0 n.0) (place_at b h t.0 n.0 i.0) p i.1.1;
     }
 
 wide : (w : Bool) → 96 ≤ directories_offset w

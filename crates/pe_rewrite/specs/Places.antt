@@ -28,13 +28,14 @@ abbrev pub is_absent : DataDirectory → Bool
 is_absent d = d.virtual_address == 0 && d.size == 0
 
 -- what is known of the resources by the optional header of an image with this PE pointer: the file offset of the entry of
--- their directory, which is the third, their RVA, and both alignments
+-- their directory, which is the third, their RVA, both alignments, and the size of the image in memory
 abbrev pub target_by : ℕ → OptionalHeaderView → Target
 target_by pointer o = record {
   entry = pointer + 24 + directories_offset (o.standard_fields.magic == 0x20B) + 16;
   rva = (directory_at o 2).virtual_address;
   section_alignment = o.windows_fields.section_alignment;
   file_alignment = o.windows_fields.file_alignment;
+  size_of_image = o.windows_fields.size_of_image;
 }
 
 -- there is a resource directory, and no certificates, whose directory is the fifth
@@ -123,15 +124,15 @@ is_apart b h alignment i k = k == i || data_apart alignment h (section_header b 
 abbrev pub sections_apart : List ℕ → HeaderView → ℕ → ℕ → Bool
 sections_apart b h alignment i = list_all (is_apart b h alignment i) (each (λ k. k) h.coff_header.number_of_sections)
 
--- the section with index i can be written over, and n bytes fit into its data
-abbrev pub section_tests : List ℕ → HeaderView → ℕ → ℕ → ℕ → List (Bool × RewriteRefusal)
-section_tests b h alignment i n =
+-- the section with index i can be written over, and n bytes fit into its data and into the image in memory
+abbrev pub section_tests : List ℕ → HeaderView → Target → ℕ → ℕ → List (Bool × RewriteRefusal)
+section_tests b h t i n =
     let s = section_header b h i in
     (has_data b h s, Section)
     ∷ (is_alone s h.optional_header, SharedSection)
     ∷ (symbols_apart h s, Symbols)
-    ∷ (sections_apart b h alignment i, Overlap)
-    ∷ (nat_le n s.size_of_raw_data, NoRoom) ∷ []
+    ∷ (sections_apart b h t.file_alignment i, Overlap)
+    ∷ (nat_le n s.size_of_raw_data && nat_le (s.virtual_address + n) t.size_of_image, NoRoom) ∷ []
 
 -- ---- the place
 
@@ -155,4 +156,4 @@ place_of b h xs =
     length_at t.rva xs >>= λ n.
     outcome {Y = Unit {0}} (header_tests b h t) tt >>= λ u.
     index_of b h t.rva >>= λ i.
-    outcome (section_tests b h t.file_alignment i n) (place_at b h t n i)
+    outcome (section_tests b h t i n) (place_at b h t n i)

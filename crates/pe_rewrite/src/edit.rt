@@ -44,8 +44,8 @@ pub fn edited_len(
 /// - `SharedSection` if the entry point or another directory lies in the section;
 /// - `Symbols` if COFF symbols lie in its data; `Overlap` if another section shares bytes or pages with it, or bytes with the
 ///   headers;
-/// - `NoRoom` if the resources have more bytes than the section's data; `Image` with `WriteFit` if the image does not fit into
-///   `out`.
+/// - `NoRoom` if the resources have more bytes than the section's data, or end after the image in memory, by its `SizeOfImage`;
+///   `Image` with `WriteFit` if the image does not fit into `out`.
 pub fn write_edited(
     bytes: &[u8],
     header: &Header<'_>,

@@ -43,8 +43,8 @@ pub enum RewriteError {
     /// The index of a section that shares bytes of the file or RVAs with the resource section or the headers.
     #[error("section {0} shares bytes of the file or RVAs with the resource section or the headers")]
     Overlap(usize),
-    /// The resources do not fit into the data of the resource section.
-    #[error("resources have {needed:#x} bytes, and the data of the resource section {room:#x}")]
+    /// The resources do not fit into the data of the resource section, or end after the image in memory, by `SizeOfImage`.
+    #[error("resources of {needed:#x} bytes do not fit into the {room:#x} bytes of their section's data, or into the image in memory")]
     NoRoom {
         /// The size of the resources in bytes.
         needed: usize,

@@ -45,6 +45,7 @@ pub struct Target {
     rva: u32,
     section_alignment: u32,
     file_alignment: u32,
+    size_of_image: u32,
 }
 
 /// The place of the resources.
@@ -106,6 +107,7 @@ fn target_before(pointer: u32, optional_header: &OptionalHeader) -> Result<Targe
         rva: rows[RESOURCE_TABLE].virtual_address,
         section_alignment: optional_header.windows_fields.section_alignment,
         file_alignment: optional_header.windows_fields.file_alignment,
+        size_of_image: optional_header.windows_fields.size_of_image,
     })
 }
 
@@ -322,7 +324,7 @@ fn place_at(
     requires below { index < header.now.coff_header.number_of_sections }
     requires some { 0 < target.file_alignment }
     ensures { RewriteReturns result (outcome
-        (section_tests bytes.now (header_view header.now) target.file_alignment index size)
+        (section_tests bytes.now (header_view header.now) target index size)
         (place_at bytes.now (header_view header.now) target size index)) }
 {
     let section = section_header(bytes, header, index);
@@ -336,7 +338,9 @@ fn place_at(
         return Err(RewriteError::Symbols(header.coff_header.pointer_to_symbol_table));
     }
     require_apart(bytes, header, target.file_alignment, index)?;
-    if size > section.size_of_raw_data as usize {
+    if size > section.size_of_raw_data as usize
+        || section.virtual_address as usize + size > target.size_of_image as usize
+    {
         return Err(RewriteError::NoRoom {
             needed: size,
             room: section.size_of_raw_data,
