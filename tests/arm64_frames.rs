@@ -3,7 +3,9 @@
 
 use crate::frames::bytes_of;
 use pe_core::{Error, Reason};
-use pe_frame::{Arm64Registers, FrameError, Stack, leaf_arm64, step_arm64, step_arm64_packed};
+use pe_frame::{
+    Arm64Registers, FrameError, Stack, leaf_arm64, step_arm64, step_arm64_packed, step_out_arm64,
+};
 use pe_unwind::{Arm64RuntimeFunction, Arm64UnwindInfo};
 use std::alloc::{AllocError, Global};
 use std::fmt::{Debug, Display};
@@ -325,24 +327,15 @@ fn refuses_what_it_cannot_undo(rt: HostRuntime) -> Result<(), Fail> {
         start: ENTRY - 16,
         bytes: &[0; 16],
     };
-    let rows: [(&[u8], &str); 14] = [
-        // E8h to ECh: frames of the operating system's own
+    let rows: [(&[u8], &str); 15] = [
+        // E8h and EBh: a trap frame, and a context of ARM64EC
         (
             &[0xE8, 0xE4, 0xE3, 0xE3],
             "Arm64Code(CustomStack(TrapFrame))",
         ),
         (
-            &[0xE9, 0xE4, 0xE3, 0xE3],
-            "Arm64Code(CustomStack(MachineFrame))",
-        ),
-        (&[0xEA, 0xE4, 0xE3, 0xE3], "Arm64Code(CustomStack(Context))"),
-        (
             &[0xEB, 0xE4, 0xE3, 0xE3],
             "Arm64Code(CustomStack(EcContext))",
-        ),
-        (
-            &[0xEC, 0xE4, 0xE3, 0xE3],
-            "Arm64Code(CustomStack(ClearUnwoundToCall))",
         ),
         // reserved, alloc_z, save_any_reg, save_zreg
         (
@@ -350,10 +343,25 @@ fn refuses_what_it_cannot_undo(rt: HostRuntime) -> Result<(), Fail> {
             "Arm64Code(Reserved { opcode: 237, value: 0, data_len: 0 })",
         ),
         (&[0xDF, 0x01, 0xE4, 0xE3], "Arm64Code(AllocZ { count: 1 })"),
+        // preindexed, and of registers that there are not
         (
-            &[0xE7, 0x00, 0x00, 0xE4],
-            "Arm64Code(SaveAnyReg { kind: 0, pair: false, preindexed: false, reg: 0, offset_bytes: 0 })",
+            &[0xE7, 0x33, 0x01, 0xE4],
+            "Arm64Code(SaveAnyReg { kind: 0, pair: false, preindexed: true, reg: 19, offset_bytes: 16 })",
         ),
+        (
+            &[0xE7, 0x1F, 0x00, 0xE4],
+            "Arm64Code(SaveAnyReg { kind: 0, pair: false, preindexed: false, reg: 31, offset_bytes: 0 })",
+        ),
+        (
+            &[0xE7, 0x5E, 0x00, 0xE4],
+            "Arm64Code(SaveAnyReg { kind: 0, pair: true, preindexed: false, reg: 30, offset_bytes: 0 })",
+        ),
+        (
+            &[0xE7, 0x5F, 0x80, 0xE4],
+            "Arm64Code(SaveAnyReg { kind: 2, pair: true, preindexed: false, reg: 31, offset_bytes: 0 })",
+        ),
+        // save_next before a pair of any registers
+        (&[0xE6, 0xE7, 0x53, 0x00], "Arm64Code(SaveNext)"),
         (
             &[0xE7, 0x00, 0xC0, 0xE4],
             "Arm64Code(SaveZReg { r: 0, o: 0 })",
@@ -382,6 +390,164 @@ fn refuses_what_it_cannot_undo(rt: HostRuntime) -> Result<(), Fail> {
             shown(rt.alloc(), &result.err())?.as_str(),
             format!(in rt.alloc(); "Some({expected})")?.as_str()
         );
+    }
+    Ok(())
+}
+
+/// `save_any_reg`, by the forms of Microsoft's page: the registers of each slot, x0 to x30 by their numbers and d8 to d15 by 108 to
+/// 115, and how far above the stack pointer it is.
+#[test]
+fn undoes_stores_of_any_register(rt: HostRuntime) -> Result<(), Fail> {
+    let rows: [(&[u8], &[(usize, usize)]); 10] = [
+        // str x19,[sp,#8]; stp x19,x20,[sp,#16]; str x0,[sp,#504]
+        (&[0xE7, 0x13, 0x01, 0xE4], &[(19, 8)]),
+        (&[0xE7, 0x53, 0x01, 0xE4], &[(19, 16), (20, 24)]),
+        (&[0xE7, 0x00, 0x3F, 0xE4], &[(0, 504)]),
+        // str d8,[sp,#8]; stp d14,d15,[sp,#32]; stp d7,d8,[sp,#16]; stp d15,d16,[sp,#16]
+        (&[0xE7, 0x08, 0x41, 0xE4], &[(108, 8)]),
+        (&[0xE7, 0x4E, 0x42, 0xE4], &[(114, 32), (115, 40)]),
+        (&[0xE7, 0x47, 0x41, 0xE4], &[(108, 24)]),
+        (&[0xE7, 0x4F, 0x41, 0xE4], &[(115, 16)]),
+        // str q9,[sp,#16]; stp q8,q9,[sp,#32]; stp q0,q1,[sp,#0]
+        (&[0xE7, 0x09, 0x81, 0xE4], &[(109, 16)]),
+        (&[0xE7, 0x48, 0x82, 0xE4], &[(108, 32), (109, 48)]),
+        (&[0xE7, 0x40, 0x80, 0xE4], &[]),
+    ];
+    let mut words = [0; 64];
+    for (i, word) in words.iter_mut().enumerate() {
+        *word = 0xCC00 + 8 * i as u64;
+    }
+    let bytes = bytes_of(rt.alloc(), &words)?;
+    let stack = Stack {
+        start: ENTRY,
+        bytes: &bytes,
+    };
+    for (codes, slots) in rows {
+        let record = record_of(rt.alloc(), codes)?;
+        let mut expected = of_caller();
+        for (register, offset) in slots {
+            let value = 0xCC00 + *offset as u64;
+            if *register < 31 {
+                expected.general[*register] = value;
+            } else {
+                expected.float[*register - 108] = value;
+            }
+        }
+        assert_eq!(rt;
+            step_at(&record, 0x40, changed(ENTRY, &[]), &stack)?,
+            expected
+        );
+    }
+    Ok(())
+}
+
+/// The same, and whether no call left the caller.
+fn step_out_at(
+    record: &[u8],
+    offset: u32,
+    registers: Arm64Registers,
+    stack: &Stack<'_>,
+) -> Result<(Arm64Registers, bool), FrameError> {
+    let info = Arm64UnwindInfo::parse(record, 0).map_err(FrameError::Codes)?;
+    step_out_arm64(&info, 0x1000, 0x1000 + offset, registers, stack)
+}
+
+/// A `CONTEXT` record of winnt.h: `X` from 8 on, `Sp` at 100h, `Pc` at 108h, `V` from 110h on.
+fn context_of(alloc: Global, registers: &Arm64Registers) -> Result<Vec<u8>, AllocError> {
+    let mut words = [0xDD; 0x390 / 8];
+    words[1..32].copy_from_slice(&registers.general);
+    words[0x100 / 8] = registers.sp;
+    words[0x108 / 8] = registers.pc;
+    for (i, value) in registers.float.iter().enumerate() {
+        words[0x110 / 8 + 2 * (8 + i)] = *value;
+    }
+    bytes_of(alloc, &words)
+}
+
+/// In a machine frame are the stack pointer and the instruction pointer, wherever they lead.
+#[test]
+fn undoes_machine_frames(rt: HostRuntime) -> Result<(), Fail> {
+    let bytes = bytes_of(rt.alloc(), &[1, 2, 0x1230, 0x4567])?;
+    let stack = Stack {
+        start: ENTRY,
+        bytes: &bytes,
+    };
+    // one that is the whole prolog, and one above 16 bytes of stack
+    for (codes, sp) in [
+        ([0xE9, 0xE4, 0xE3, 0xE3], ENTRY + 16),
+        ([0x01, 0xE9, 0xE4, 0xE3], ENTRY),
+    ] {
+        let record = record_of(rt.alloc(), &codes)?;
+        let registers = changed(sp, &[(LR, 7)]);
+        let mut expected = registers;
+        (expected.sp, expected.pc) = (0x1230, 0x4567);
+        assert_eq!(rt;
+            step_out_at(&record, 0x40, registers, &stack)?,
+            (expected, true)
+        );
+        assert_eq!(rt; step_at(&record, 0x40, registers, &stack)?, expected);
+    }
+    let record = record_of(rt.alloc(), &[0xE9, 0xE4, 0xE3, 0xE3])?;
+    let missing = step_out_at(&record, 0x40, changed(ENTRY + 24, &[]), &stack);
+    assert!(rt; matches!(missing, Err(FrameError::Memory(address)) if address == ENTRY + 32));
+    Ok(())
+}
+
+#[test]
+fn undoes_contexts(rt: HostRuntime) -> Result<(), Fail> {
+    let mut expected = of_caller();
+    (expected.sp, expected.pc) = (0x9870, 0x7FF6_0000_1234);
+    let bytes = context_of(rt.alloc(), &expected)?;
+    let stack = Stack {
+        start: ENTRY - 0x390,
+        bytes: &bytes,
+    };
+    let record = record_of(rt.alloc(), &[0xEA, 0xE4, 0xE3, 0xE3])?;
+    let registers = after_body(ENTRY - 0x390, 3);
+    assert_eq!(rt;
+        step_out_at(&record, 0x40, registers, &stack)?,
+        (expected, true)
+    );
+    // Nothing but the pointers is read above d15, which is read first.
+    let short = Stack {
+        start: ENTRY - 0x390,
+        bytes: &bytes[..0x208],
+    };
+    assert_eq!(rt;
+        step_out_at(&record, 0x40, registers, &short)?,
+        (expected, true)
+    );
+    let shorter = Stack {
+        start: ENTRY - 0x390,
+        bytes: &bytes[..0x207],
+    };
+    let missing = step_out_at(&record, 0x40, registers, &shorter);
+    assert!(rt; matches!(missing, Err(FrameError::Memory(address)) if address == ENTRY - 0x190));
+    Ok(())
+}
+
+/// The record of a function that MSVC links into each program for ARM64, which takes the cookie of the stack back: called from
+/// an epilog, it frees 16 bytes, and returns into the epilog.
+const POPS_COOKIE: [u8; 16] = [
+    0x0B, 0x00, 0x40, 0x10, 0x06, 0x00, 0x40, 0x00, 0xE4, 0x01, 0xEC, 0xE4, 0xE4, 0, 0, 0,
+];
+
+#[test]
+fn says_that_no_call_left_the_caller(rt: HostRuntime) -> Result<(), Fail> {
+    let stack = Stack {
+        start: ENTRY,
+        bytes: &[],
+    };
+    // before its epilog, at `add sp,sp,#16`, at `ret`
+    for (offset, sp, is_interrupt) in [
+        (0x00, ENTRY, false),
+        (0x14, ENTRY, false),
+        (0x18, ENTRY - 16, true),
+        (0x1C, ENTRY, true),
+        (0x20, ENTRY, false),
+    ] {
+        let found = step_out_at(&POPS_COOKIE, offset, changed(sp, &[]), &stack)?;
+        assert_eq!(rt; found, (of_caller(), is_interrupt));
     }
     Ok(())
 }

@@ -10,6 +10,8 @@ mod arm64_functions;
 #[cfg(test)]
 mod arm64_records;
 #[cfg(test)]
+mod arm64_walks;
+#[cfg(test)]
 mod attaching;
 #[cfg(test)]
 mod bytes;

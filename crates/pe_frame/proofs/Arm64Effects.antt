@@ -1,13 +1,14 @@
 -- Undoing codes is reverting the effects of what their instructions did.
 use Rattle.pe_core.specs.Refusals.{◌>>=◌}
 use Rattle.pe_core.proofs.Steps.{then_then}
-use Rattle.std.proofs.Common.{◌≡◌, ℕ, zero, suc, List, [], ◌∷◌, ◌++◌, drop, Option, Some, None, Result, Ok, refl, ap, sym, ◌∙◌, option_map, option_and_then}
-use Rattle.pe_frame.proofs.Tails.{then_same}
+use Rattle.std.proofs.Common.{◌≡◌, ℕ, zero, suc, List, [], ◌∷◌, ◌++◌, drop, Option, Some, None, Result, Ok, Err, refl, ap, sym, ◌∙◌, option_map, option_and_then}
+use Rattle.pe_frame.proofs.Tails.{then_ok, then_same}
 use Rattle.pe_unwind.specs.declared.arm64.codes.Arm64UnwindCode.{Arm64UnwindCode}
 use Rattle.pe_frame.specs.declared.arm64.operation.Arm64Operation.{Arm64Operation}
+use Rattle.pe_frame.specs.declared.arm64.operation.Arm64Register.{Arm64Register}
 use Rattle.pe_frame.specs.declared.arm64.registers.Arm64Registers.{Arm64Registers}
 use Rattle.pe_frame.specs.declared.error.FrameError.{FrameError}
-use Rattle.pe_frame.specs.Arm64Operations.{Arm64Effect, effects_of, operation_in, operations, all_effects}
+use Rattle.pe_frame.specs.Arm64Operations.{Arm64Effect, Store, store_some, effects_of, operation_in, operations, all_effects}
 use Rattle.pe_frame.specs.Arm64Undoing.{reverted, reverted_all, undone_as, undone_codes}
 use Rattle.pe_frame.specs.Arm64Machine.{Arm64Machine, IsArm64Prolog}
 
@@ -69,3 +70,15 @@ first_reverted m e before g u x y is ok rest = rest ∙ sym (ap (λ (r : Result 
 -- an operation, by its effects
 pub effects_are : (m : ℕ → Option ℕ) (o p : Arm64Operation) (g : Arm64Registers) (x : Result Arm64Registers FrameError) → o ≡ p → x ≡ reverted_all m (effects_of p) g → x ≡ reverted_all m (effects_of o) g
 effects_are m o p g x is h = h ∙ ap (λ (q : Arm64Operation). reverted_all m (effects_of q) g) (sym is)
+
+-- one store alone
+pub one_store : (m : ℕ → Option ℕ) (r : Arm64Register) (o : ℕ) (g : Arm64Registers) → reverted m (Store r o) g ≡ reverted_all m (store_some (Some r) o) g
+one_store m r o g = sym (then_ok (reverted m (Store r o) g))
+
+-- the effects of two parts, by what reverting each returns
+pub both_reverted : (m : ℕ → Option ℕ) (a b : List Arm64Effect) (g u : Arm64Registers) (x y : Result Arm64Registers FrameError) → x ≡ reverted_all m a g → x ≡ Ok u → y ≡ reverted_all m b u → y ≡ reverted_all m (a ++ b) g
+both_reverted m a b g u x y is ok rest =
+    rest ∙ sym (reverted-append m a b g ∙ ap (λ (r : Result Arm64Registers FrameError). r >>= reverted_all m b) (sym is ∙ ok))
+
+pub first_refused : (m : ℕ → Option ℕ) (a b : List Arm64Effect) (g : Arm64Registers) (e : FrameError) (x : Result Arm64Registers FrameError) → x ≡ reverted_all m a g → x ≡ Err e → Err e ≡ reverted_all m (a ++ b) g
+first_refused m a b g e x is err = sym (reverted-append m a b g ∙ ap (λ (r : Result Arm64Registers FrameError). r >>= reverted_all m b) (sym is ∙ err))

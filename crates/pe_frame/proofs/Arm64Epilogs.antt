@@ -16,7 +16,7 @@ use Rattle.pe_frame.proofs.Arm64Streams.{step_by_codes}
 use Rattle.pe_frame.proofs.Arm64Effects.{reverted-append, undone-effects, operations-drop, prolog-drop}
 use Rattle.pe_frame.proofs.Arm64Runs.{Holds, entered, count, holds, known, sinks}
 use Rattle.pe_frame.proofs.Arm64Reverted.{keeps_le, lowered_ok, stored_ok, framed_ok, keeps_at_store, keeps_exact, keeps_lowered, keeps_stored, keeps_signed}
-use Rattle.pe_frame.proofs.Arm64Frames.{entry_of, returned_ok}
+use Rattle.pe_frame.proofs.Arm64Frames.{alone_known, returned_ok, reverted_entry}
 
 ok_same : (g u : Arm64Registers) → ◌≡◌ {A = Result Arm64Registers FrameError} (Ok g) (Ok u) → g ≡ u
 ok_same g u e = cc
@@ -84,7 +84,7 @@ epilog_caller m i p place run g now x left frame done step =
     let a = all_effects (take run p.operations) in
     let b = all_effects (drop run p.operations) in
     let both : es ≡ a ++ b = parts p run in
-    let e = entry_of p (prolog_length p.codes) m g frame in
+    let e = reverted_entry p (prolog_length p.codes) m g frame in
     let prolog = prolog-drop (prolog_length p.codes - prolog_length p.codes) p.operations s frame.prolog in
     let word = known m (run_arm64 es s).memory es s frame.body.memory (holds es s prolog) in
     let low : now.sp ≤ s.sp =
@@ -96,7 +96,8 @@ epilog_caller m i p place run g now x left frame done step =
     let undone : undone_codes m (drop run p.codes) now ≡ Ok e.entry = undone-effects m (drop run p.codes) (drop run p.operations) now (operations-drop run p.codes p.operations frame.known) ∙ rest in
     let back : returned_arm64 now.sp e.entry ≡ Ok (put_pc e.entry (link_register e.entry)) = returned_ok now.sp e.entry (omega (arith, low, e.stack)) in
     let is : x ≡ Ok (put_pc e.entry (link_register e.entry)) =
-    step_by_codes m i (drop run p.codes) place now x left step ∙ (ap (λ (u : Result Arm64Registers FrameError). u >>= returned_arm64 now.sp) undone ∙ back) in (
+    step_by_codes m i (drop run p.codes) place now x left step
+    ∙ (alone_known m (drop run p.codes) (drop run p.operations) now (operations-drop run p.codes p.operations frame.known) ∙ ap (λ (u : Result Arm64Registers FrameError). u >>= returned_arm64 now.sp) undone ∙ back) in (
       put_pc e.entry (link_register e.entry),
       is,
       record { stack = e.stack; returns = e.link; link = e.link; registers = e.registers; floats = e.floats },

@@ -1,19 +1,26 @@
 -- Frames of a running ARM64 program are undone.
 use Rattle.pe_core.specs.Refusals.{◌>>=◌}
-use Rattle.std.proofs.Common.{◌≡◌, ℕ, ◌-◌, ◌≤◌, true, leb, List, drop, Option, Result, Ok, refl, ap, sym, ◌∙◌, arith}
+use Rattle.std.proofs.Common.{◌≡◌, ℕ, ◌-◌, ◌≤◌, true, false, leb, All, List, [], ◌∷◌, drop, Option, Some, Result, Ok, Err, refl, ap, sym, ◌∙◌, arith}
 use Rattle.std.proofs.lemmas.Bool.Decides.{nat_tests}
+use Rattle.std.proofs.lemmas.List.Elements.{All-head, All-tail}
+use Rattle.pe_unwind.specs.declared.arm64.codes.Arm64UnwindCode.TheVariants.{CustomStack}
+use Rattle.pe_frame.specs.declared.arm64.entry.Arm64Entry.{Arm64Entry}
+use Rattle.pe_frame.specs.declared.arm64.operation.Arm64Operation.{Arm64Operation}
+use Rattle.pe_frame.specs.Arm64Operations.{operation_in, operations}
+use Rattle.pe_frame.specs.Steps.{registers_alone}
+use Rattle.pe_frame.proofs.StepsOut.{alone}
 use Rattle.pe_unwind.specs.declared.arm64.codes.Arm64UnwindCode.{Arm64UnwindCode}
 use Rattle.pe_unwind.specs.Arm64Record.{Arm64InfoView}
 use Rattle.pe_frame.specs.declared.arm64.registers.Arm64Registers.{Arm64Registers}
 use Rattle.pe_frame.specs.declared.error.FrameError.{FrameError}
-use Rattle.pe_frame.specs.Arm64Undoing.{link_register, put_pc, undone_codes, returned_arm64, caller_by}
+use Rattle.pe_frame.specs.Arm64Undoing.{link_register, put_pc, undone_codes, returned_arm64, left_arm64, entry_by, entry_of, caller_by, caller_out}
 use Rattle.pe_frame.specs.Arm64Steps.{prolog_length, ran_arm64, Leaves, StepsArm64}
 use Rattle.pe_frame.specs.Arm64Packed.{packed_left, is_canonical, stepped_packed}
 use Rattle.pe_frame.specs.Arm64Machine.{run_arm64, points_frame, IsArm64Caller}
 use Rattle.pe_frame.specs.Arm64Frames.{Arm64Part, effects_at, IsArm64Frame}
 use Rattle.pe_frame.proofs.Arm64Streams.{step_by_codes}
-use Rattle.pe_frame.proofs.Arm64Effects.{undone-effects, operations-drop, prolog-drop}
-use Rattle.pe_frame.proofs.Arm64Packed.{canonical_step}
+use Rattle.pe_frame.proofs.Arm64Effects.{known_codes, undone-effects, operations-drop, prolog-drop}
+use Rattle.pe_frame.proofs.Arm64Packed.{canonical_step, left_called}
 use Rattle.pe_frame.proofs.Arm64Runs.{holds, known, sinks}
 use Rattle.pe_frame.proofs.Arm64Reverted.{Reverts, keeps_le, reverts}
 
@@ -23,19 +30,41 @@ returned_ok p u above =
     rw test refl
 
 -- the effects that have run are undone
-pub entry_of : (p : Arm64Part) (place : ℕ) (m : ℕ → Option ℕ) (g : Arm64Registers) → IsArm64Frame p place m g → Reverts m (effects_at place p) p.entry g
-entry_of p place m g frame =
+pub reverted_entry : (p : Arm64Part) (place : ℕ) (m : ℕ → Option ℕ) (g : Arm64Registers) → IsArm64Frame p place m g → Reverts m (effects_at place p) p.entry g
+reverted_entry p place m g frame =
     let es = effects_at place p in
     let prolog = prolog-drop (prolog_length p.codes - place) p.operations p.entry frame.prolog in
     let held = known m (run_arm64 es p.entry).memory es p.entry frame.body.memory (holds es p.entry prolog) in
     reverts m es p.entry g prolog held frame.body.count frame.body.float_count frame.body.stack frame.body.link
+
+-- codes whose operations are known are of no frame of the operating system
+called_by : (cs : List Arm64UnwindCode) (c : Arm64UnwindCode) (o : Arm64Operation) → operation_in cs c ≡ Some o → (entry_by c).has_pc ≡ false
+called_by cs (CustomStack k) o e = absurd (cc e)
+called_by cs other o e = refl
+
+called : (cs : List Arm64UnwindCode) (os : List Arm64Operation) → operations cs ≡ Some os → (entry_of cs).has_pc ≡ false
+called [] os e = refl
+called (c ∷ cs) os e =
+    let k = known_codes c cs os e in
+    rw (called_by cs c k.first k.first_is) (called cs k.rest k.rest_is)
+
+alone_left : (p : ℕ) (e : Arm64Entry) (x : Result Arm64Registers FrameError) → e.has_pc ≡ false → registers_alone (x >>= left_arm64 p e) ≡ (x >>= returned_arm64 p)
+alone_left p e (Ok u) call = rw call (alone (returned_arm64 p u) e.is_interrupt)
+alone_left p e (Err d) call = refl
+
+-- the registers of a caller that called
+alone_called : (m : ℕ → Option ℕ) (cs : List Arm64UnwindCode) (g : Arm64Registers) → (entry_of cs).has_pc ≡ false → registers_alone (caller_out m cs g) ≡ caller_by m cs g
+alone_called m cs g call = alone_left g.sp (entry_of cs) (undone_codes m cs g) call
+
+pub alone_known : (m : ℕ → Option ℕ) (cs : List Arm64UnwindCode) (os : List Arm64Operation) (g : Arm64Registers) → operations cs ≡ Some os → registers_alone (caller_out m cs g) ≡ caller_by m cs g
+alone_known m cs os g known = alone_called m cs g (called cs os known)
 
 -- undoing the codes of the instructions that have run gives the registers of the caller
 pub arm64_undone : (m : ℕ → Option ℕ) (p : Arm64Part) (place : ℕ) (g : Arm64Registers) (x : Result Arm64Registers FrameError) →
     IsArm64Frame p place m g → x ≡ (undone_codes m (ran_arm64 place p.codes) g >>= returned_arm64 g.sp) → (u : Arm64Registers) × (x ≡ Ok u) × IsArm64Caller (effects_at place p) p.entry g u
 arm64_undone m p place g x frame step =
     let es = effects_at place p in
-    let e = entry_of p place m g frame in
+    let e = reverted_entry p place m g frame in
     let undone : undone_codes m (ran_arm64 place p.codes) g ≡ Ok e.entry =
     undone-effects m (ran_arm64 place p.codes) (drop (prolog_length p.codes - place) p.operations) g (operations-drop (prolog_length p.codes - place) p.codes p.operations frame.known) ∙ e.is in
     let prolog = prolog-drop (prolog_length p.codes - place) p.operations p.entry frame.prolog in
@@ -49,10 +78,20 @@ arm64_undone m p place g x frame step =
       record { stack = e.stack; returns = e.link; link = e.link; registers = e.registers; floats = e.floats },
     )
 
+none_has_pc : (cs : List Arm64UnwindCode) → All (λ c. (entry_by c).has_pc ≡ false) cs → (entry_of cs).has_pc ≡ false
+none_has_pc [] all = refl
+none_has_pc (c ∷ cs) all =
+    let first : (entry_by c).has_pc ≡ false = All-head (λ d. (entry_by d).has_pc ≡ false) c cs all in
+    let rest = none_has_pc cs (All-tail (λ d. (entry_by d).has_pc ≡ false) c cs all) in
+    rw first rest
+
 -- a step by a record returns the registers of the caller
 pub arm64_caller : (m : ℕ → Option ℕ) (i : Arm64InfoView) (p : Arm64Part) (place stand : ℕ) (g : Arm64Registers) (x : Result Arm64Registers FrameError) → Leaves i place (Ok (ran_arm64 stand p.codes)) →
     IsArm64Frame p stand m g → StepsArm64 m i place g x → (u : Arm64Registers) × (x ≡ Ok u) × IsArm64Caller (effects_at stand p) p.entry g u
-arm64_caller m i p place stand g x left frame step = arm64_undone m p stand g x frame (step_by_codes m i (ran_arm64 stand p.codes) place g x left step)
+arm64_caller m i p place stand g x left frame step =
+    let n = prolog_length p.codes - stand in
+    arm64_undone m p stand g x frame (step_by_codes m i (ran_arm64 stand p.codes) place g x left step
+    ∙ alone_known m (ran_arm64 stand p.codes) (drop n p.operations) g (operations-drop n p.codes p.operations frame.known))
 
 -- so does a step by packed unwind data, which is one by a record that leaves their codes
 pub packed_caller : (m : ℕ → Option ℕ) (d : ℕ) (p : Arm64Part) (place stand : ℕ) (g : Arm64Registers) (x : Result Arm64Registers FrameError) → packed_left d place ≡ ran_arm64 stand p.codes → is_canonical d ≡ true →
@@ -62,4 +101,6 @@ packed_caller m d p place stand g x left canonical frame step =
 
 pub packed_as_codes : (m : ℕ → Option ℕ) (d : ℕ) (i : Arm64InfoView) (place : ℕ) (g : Arm64Registers) (x : Result Arm64Registers FrameError) → is_canonical d ≡ true → Leaves i place (Ok (packed_left d place)) →
     StepsArm64 m i place g x → stepped_packed m d place g ≡ x
-packed_as_codes m d i place g x canonical left step = canonical_step m d place g canonical ∙ sym (step_by_codes m i (packed_left d place) place g x left step)
+packed_as_codes m d i place g x canonical left step =
+    canonical_step m d place g canonical
+    ∙ sym (step_by_codes m i (packed_left d place) place g x left step ∙ alone_called m (packed_left d place) g (none_has_pc (packed_left d place) (left_called d place canonical)))

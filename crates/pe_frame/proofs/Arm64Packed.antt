@@ -10,43 +10,46 @@ use Rattle.pe_unwind.specs.declared.arm64.codes.Arm64UnwindCode.TheVariants.{All
 use Rattle.pe_unwind.specs.Arm64Words.{bits}
 use Rattle.pe_frame.specs.declared.arm64.packed.PackedFrame.{PackedFrame}
 use Rattle.pe_frame.specs.declared.arm64.registers.Arm64Registers.{Arm64Registers}
-use Rattle.pe_frame.specs.Arm64Undoing.{caller_by}
+use Rattle.pe_frame.specs.Arm64Undoing.{caller_by, entry_by}
 use Rattle.pe_frame.specs.Arm64Operations.{is_save_next}
 use Rattle.pe_frame.specs.Arm64Steps.{is_end_c, prolog_length, ran_arm64, epilog_start, left_in_epilog}
 use Rattle.pe_frame.specs.Arm64CodeLists.{Adds}
 use Rattle.pe_frame.specs.Arm64Packed.{packed_frame, float_count, is_chained, sign_codes, integer_pair, integer_pairs, single_register, last_integers, alone_codes, float_pair, float_pairs, last_float, home_codes, allocation, local_codes, frame_codes, point_codes, freed_codes, saved_codes, canonical_codes, epilog_codes, packed_codes, packed_length, left_after, packed_left, is_canonical, stepped_packed}
 use Rattle.pe_frame.proofs.Arm64Places.{left_yes, left_no}
 
--- a code that neither depends on others nor ends a prolog
+-- a code that neither depends on others nor ends a prolog nor is of a frame of the operating system
 record IsPlain (c : Arm64UnwindCode) : Type 0 where
   pub one : is_save_next c ≡ false
   pub inside : is_end_c c ≡ false
+  pub called : (entry_by c).has_pc ≡ false
 
 -- at most so many codes, each of which is undone alone and belongs to the prolog
 pub record Short (n : ℕ) (cs : List Arm64UnwindCode) : Type 0 where
   pub alone : All (λ c. is_save_next c ≡ false) cs
   pub inside : All (λ c. is_end_c c ≡ false) cs
+  pub called : All (λ c. (entry_by c).has_pc ≡ false) cs
   pub few : length cs ≤ n
 
-plain : (c : Arm64UnwindCode) → is_save_next c ≡ false → is_end_c c ≡ false → IsPlain c
-plain c one inside = record { one = one; inside = inside }
+plain : (c : Arm64UnwindCode) → is_save_next c ≡ false → is_end_c c ≡ false → (entry_by c).has_pc ≡ false → IsPlain c
+plain c one inside called = record { one = one; inside = inside; called = called }
 
 plain_if : (b : Bool) (c d : Arm64UnwindCode) → IsPlain c → IsPlain d → IsPlain (if b then c else d)
 plain_if true c d h k = h
 plain_if false c d h k = k
 
 short_nil : (n : ℕ) → Short n []
-short_nil n = record { alone = All-nil (λ c. is_save_next c ≡ false); inside = All-nil (λ c. is_end_c c ≡ false); few = omega arith }
+short_nil n = record { alone = All-nil (λ c. is_save_next c ≡ false); inside = All-nil (λ c. is_end_c c ≡ false); called = All-nil (λ c. (entry_by c).has_pc ≡ false); few = omega arith }
 
 short_cons : (n : ℕ) (c : Arm64UnwindCode) (cs : List Arm64UnwindCode) → IsPlain c → Short n cs → Short (n + 1) (c ∷ cs)
 short_cons n c cs h k = record {
   alone = All-cons (λ d. is_save_next d ≡ false) c cs h.one k.alone;
   inside = All-cons (λ d. is_end_c d ≡ false) c cs h.inside k.inside;
+  called = All-cons (λ d. (entry_by d).has_pc ≡ false) c cs h.called k.called;
   few = omega (arith, k.few);
 }
 
 short_more : (m n : ℕ) (cs : List Arm64UnwindCode) → m ≤ n → Short m cs → Short n cs
-short_more m n cs le h = record { alone = h.alone; inside = h.inside; few = omega (arith, h.few, le) }
+short_more m n cs le h = record { alone = h.alone; inside = h.inside; called = h.called; few = omega (arith, h.few, le) }
 
 short_if : (n : ℕ) (b : Bool) (cs ds : List Arm64UnwindCode) → Short n cs → Short n ds → Short n (if b then cs else ds)
 short_if n true cs ds h k = h
@@ -56,6 +59,7 @@ short_append : (m n : ℕ) (cs ds : List Arm64UnwindCode) → Short m cs → Sho
 short_append m n cs ds h k = record {
   alone = All-append (λ c. is_save_next c ≡ false) cs ds h.alone k.alone;
   inside = All-append (λ c. is_end_c c ≡ false) cs ds h.inside k.inside;
+  called = All-append (λ c. (entry_by c).has_pc ≡ false) cs ds h.called k.called;
   few = omega (arith, h.few, k.few, length-append cs ds);
 }
 
@@ -63,11 +67,11 @@ short_one : (c : Arm64UnwindCode) → IsPlain c → Short 1 (c ∷ [])
 short_one c h = short_cons 0 c [] h (short_nil 0)
 
 sign_short : (p : PackedFrame) → Short 1 (sign_codes p)
-sign_short p = short_if 1 (p.cr == 2) (PacSignLr ∷ []) [] (short_one PacSignLr (plain PacSignLr refl refl)) (short_nil 1)
+sign_short p = short_if 1 (p.cr == 2) (PacSignLr ∷ []) [] (short_one PacSignLr (plain PacSignLr refl refl refl)) (short_nil 1)
 
 integer_plain : (p : PackedFrame) (i : ℕ) → IsPlain (integer_pair p i)
 integer_plain p i =
-    plain_if (i == 0) (SaveRegPairPreindexed 19 p.saved_size) (SaveRegPair (19 + 2 * i) (16 * i)) (plain (SaveRegPairPreindexed 19 p.saved_size) refl refl) (plain (SaveRegPair (19 + 2 * i) (16 * i)) refl refl)
+    plain_if (i == 0) (SaveRegPairPreindexed 19 p.saved_size) (SaveRegPair (19 + 2 * i) (16 * i)) (plain (SaveRegPairPreindexed 19 p.saved_size) refl refl refl) (plain (SaveRegPair (19 + 2 * i) (16 * i)) refl refl refl)
 
 integers_short : (p : PackedFrame) (i : ℕ) → Short i (integer_pairs p i)
 integers_short p zero = short_nil 0
@@ -75,7 +79,7 @@ integers_short p (suc i) =
     short_more (i + 1) (suc i) (integer_pair p i ∷ integer_pairs p i) (omega arith) (short_cons i (integer_pair p i) (integer_pairs p i) (integer_plain p i) (integers_short p i))
 
 single_plain : (p : PackedFrame) (r i : ℕ) → IsPlain (single_register p r i)
-single_plain p r i = plain_if (i == 0) (SaveRegPreindexed r p.saved_size) (SaveReg r (16 * i)) (plain (SaveRegPreindexed r p.saved_size) refl refl) (plain (SaveReg r (16 * i)) refl refl)
+single_plain p r i = plain_if (i == 0) (SaveRegPreindexed r p.saved_size) (SaveReg r (16 * i)) (plain (SaveRegPreindexed r p.saved_size) refl refl refl) (plain (SaveReg r (16 * i)) refl refl refl)
 
 last_integers_short : (p : PackedFrame) (i : ℕ) → Short 1 (last_integers p i)
 last_integers_short p i =
@@ -83,14 +87,14 @@ last_integers_short p i =
     let odd = single_register p (19 + 2 * i) i in
     let link = single_register p 30 i in
     short_if 1 (p.integers % 2 == 1) ((if p.cr == 1 then pair else odd) ∷ []) (if p.cr == 1 then link ∷ [] else [])
-    (short_one (if p.cr == 1 then pair else odd) (plain_if (p.cr == 1) pair odd (plain pair refl refl) (single_plain p (19 + 2 * i) i)))
+    (short_one (if p.cr == 1 then pair else odd) (plain_if (p.cr == 1) pair odd (plain pair refl refl refl) (single_plain p (19 + 2 * i) i)))
     (short_if 1 (p.cr == 1) (link ∷ []) [] (short_one link (single_plain p 30 i)) (short_nil 1))
 
 float_plain : (p : PackedFrame) (i : ℕ) → IsPlain (float_pair p i)
 float_plain p i =
     let first = SaveFRegPairPreindexed 8 p.saved_size in
     let next = SaveFRegPair (8 + 2 * i) (p.integer_size + 16 * i) in
-    plain_if (p.integer_size + i == 0) first next (plain first refl refl) (plain next refl refl)
+    plain_if (p.integer_size + i == 0) first next (plain first refl refl refl) (plain next refl refl refl)
 
 floats_short : (p : PackedFrame) (i : ℕ) → Short i (float_pairs p i)
 floats_short p zero = short_nil 0
@@ -100,19 +104,19 @@ floats_short p (suc i) =
 last_float_short : (p : PackedFrame) (i : ℕ) → Short 1 (last_float p i)
 last_float_short p i =
     let one = SaveFReg (8 + 2 * i) (p.integer_size + 16 * i) in
-    short_if 1 (p.floats % 2 == 1) (one ∷ []) [] (short_one one (plain one refl refl)) (short_nil 1)
+    short_if 1 (p.floats % 2 == 1) (one ∷ []) [] (short_one one (plain one refl refl refl)) (short_nil 1)
 
 home_short : (p : PackedFrame) → Short 4 (home_codes p)
 home_short p =
     let first = if p.integer_size + p.floats == 0 then AllocSmall p.saved_size else Nop in
-    let nop = plain Nop refl refl in
+    let nop = plain Nop refl refl refl in
     short_if 4 p.homes (Nop ∷ Nop ∷ Nop ∷ first ∷ []) []
     (short_cons 3 Nop (Nop ∷ Nop ∷ first ∷ []) nop (short_cons 2 Nop (Nop ∷ first ∷ []) nop (short_cons 1 Nop (first ∷ []) nop
-    (short_one first (plain_if (p.integer_size + p.floats == 0) (AllocSmall p.saved_size) Nop (plain (AllocSmall p.saved_size) refl refl) nop)))))
+    (short_one first (plain_if (p.integer_size + p.floats == 0) (AllocSmall p.saved_size) Nop (plain (AllocSmall p.saved_size) refl refl refl) nop)))))
     (short_nil 4)
 
 allocation_plain : (n : ℕ) → IsPlain (allocation n)
-allocation_plain n = plain_if (nat_lt n 512) (AllocSmall n) (AllocMedium n) (plain (AllocSmall n) refl refl) (plain (AllocMedium n) refl refl)
+allocation_plain n = plain_if (nat_lt n 512) (AllocSmall n) (AllocMedium n) (plain (AllocSmall n) refl refl refl) (plain (AllocMedium n) refl refl refl)
 
 local_short : (n : ℕ) → Short 2 (local_codes n)
 local_short n =
@@ -120,27 +124,27 @@ local_short n =
     let two = allocation (n - 4080) ∷ AllocMedium 4080 ∷ [] in
     short_if 2 (n == 0) [] (if nat_le n 4080 then one else two) (short_nil 2)
     (short_if 2 (nat_le n 4080) one two (short_more 1 2 one (omega arith) (short_one (allocation n) (allocation_plain n)))
-    (short_cons 1 (allocation (n - 4080)) (AllocMedium 4080 ∷ []) (allocation_plain (n - 4080)) (short_one (AllocMedium 4080) (plain (AllocMedium 4080) refl refl))))
+    (short_cons 1 (allocation (n - 4080)) (AllocMedium 4080 ∷ []) (allocation_plain (n - 4080)) (short_one (AllocMedium 4080) (plain (AllocMedium 4080) refl refl refl))))
 
 frame_short : (p : PackedFrame) → Short 3 (frame_codes p)
 frame_short p =
     let one = SaveFpLrPreindexed p.local_size ∷ [] in
     let more = SaveFpLr 0 ∷ local_codes p.local_size in
     short_if 3 (is_chained p) (if nat_le p.local_size 512 then one else more) (local_codes p.local_size)
-    (short_if 3 (nat_le p.local_size 512) one more (short_more 1 3 one (omega arith) (short_one (SaveFpLrPreindexed p.local_size) (plain (SaveFpLrPreindexed p.local_size) refl refl)))
-    (short_cons 2 (SaveFpLr 0) (local_codes p.local_size) (plain (SaveFpLr 0) refl refl) (local_short p.local_size)))
+    (short_if 3 (nat_le p.local_size 512) one more (short_more 1 3 one (omega arith) (short_one (SaveFpLrPreindexed p.local_size) (plain (SaveFpLrPreindexed p.local_size) refl refl refl)))
+    (short_cons 2 (SaveFpLr 0) (local_codes p.local_size) (plain (SaveFpLr 0) refl refl refl) (local_short p.local_size)))
     (short_more 2 3 (local_codes p.local_size) (omega arith) (local_short p.local_size))
 
 point_short : (p : PackedFrame) → Short 1 (point_codes p)
-point_short p = short_if 1 (is_chained p) (SetFp ∷ []) [] (short_one SetFp (plain SetFp refl refl)) (short_nil 1)
+point_short p = short_if 1 (is_chained p) (SetFp ∷ []) [] (short_one SetFp (plain SetFp refl refl refl)) (short_nil 1)
 
 freed_short : (p : PackedFrame) → Short 1 (freed_codes p)
 freed_short p =
-    short_if 1 (p.homes && p.integer_size + p.floats == 0) (AllocSmall p.saved_size ∷ []) [] (short_one (AllocSmall p.saved_size) (plain (AllocSmall p.saved_size) refl refl)) (short_nil 1)
+    short_if 1 (p.homes && p.integer_size + p.floats == 0) (AllocSmall p.saved_size ∷ []) [] (short_one (AllocSmall p.saved_size) (plain (AllocSmall p.saved_size) refl refl refl)) (short_nil 1)
 
 alone_short : (p : PackedFrame) → Short 1 (alone_codes p)
 alone_short p =
-    short_if 1 (p.integers == 1 && p.cr == 1) (AllocSmall p.saved_size ∷ []) [] (short_one (AllocSmall p.saved_size) (plain (AllocSmall p.saved_size) refl refl)) (short_nil 1)
+    short_if 1 (p.integers == 1 && p.cr == 1) (AllocSmall p.saved_size ∷ []) [] (short_one (AllocSmall p.saved_size) (plain (AllocSmall p.saved_size) refl refl refl)) (short_nil 1)
 
 saved_short : (p : PackedFrame) → p.integers ≤ 11 → p.floats ≤ 9 → Short 13 (saved_codes p)
 saved_short p integers floats =
@@ -309,3 +313,30 @@ left_epilog d place run flag late is few =
     let left : left_after d place (packed_codes d) ≡ drop (place - start) es = left_yes place start (prolog_length es) es (packed_codes d) refl both in
     let number : place - start ≡ prolog_length es - (prolog_length es - run) = omega (arith, is, few) in
     (rw outside refl) ∙ (left ∙ ap (λ (k : ℕ). drop k es) number)
+
+-- ---- no code is of a frame of the operating system
+
+abbrev Called : List Arm64UnwindCode → Type 0
+Called cs = All (λ c. (entry_by c).has_pc ≡ false) cs
+
+called_if : (b : Bool) (cs ds : List Arm64UnwindCode) → Called cs → Called ds → Called (if b then cs else ds)
+called_if true cs ds h k = h
+called_if false cs ds h k = k
+
+packed_called : (d : ℕ) → is_canonical d ≡ true → Called (packed_codes d)
+packed_called d e =
+    let cs = canonical_codes (packed_frame d) in
+    let short = (codes_short d e).called in
+    called_if (bits d 0 2 == 2) (EndC ∷ cs) cs (All-cons (λ c. (entry_by c).has_pc ≡ false) EndC cs refl short) short
+
+after_called : (d place : ℕ) → is_canonical d ≡ true → Called (left_after d place (packed_codes d))
+after_called d place e =
+    let es = epilog_codes (packed_frame d) in
+    let start = epilog_start (bits d 2 11) None (prolog_length es) in
+    called_if (nat_le start place && nat_le (place - start) (prolog_length es)) (drop (place - start) es) (packed_codes d)
+    (All-drop (λ c. (entry_by c).has_pc ≡ false) (place - start) es (epilog_alone d e).called) (packed_called d e)
+
+pub left_called : (d place : ℕ) → is_canonical d ≡ true → Called (packed_left d place)
+left_called d place e =
+    called_if (bits d 0 2 == 2 || nat_lt place (prolog_length (packed_codes d))) (ran_arm64 place (packed_codes d)) (left_after d place (packed_codes d))
+    (All-drop (λ c. (entry_by c).has_pc ≡ false) (prolog_length (packed_codes d) - place) (packed_codes d) (packed_called d e)) (after_called d place e)

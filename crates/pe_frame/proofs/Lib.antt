@@ -21,6 +21,7 @@ pub mod SomeFunction
 pub mod SomeShortPlan
 pub mod SomeWalk
 pub mod WholeWalks
+pub mod FrameWalks
 pub mod Scans
 pub mod Found
 pub mod Frames
@@ -29,6 +30,7 @@ pub mod Returned
 pub mod Samples
 pub mod Arm64Streams
 pub mod Arm64Effects
+pub mod Arm64Entries
 pub mod Arm64Nexts
 pub mod Arm64Calls
 pub mod Arm64Runs
@@ -38,4 +40,6 @@ pub mod Arm64Places
 pub mod Arm64Packed
 pub mod Arm64Frames
 pub mod Arm64Epilogs
+pub mod Arm64Found
+pub mod Arm64Walks
 pub mod Arm64Samples

@@ -9,7 +9,7 @@ use Rattle.pe_frame.specs.declared.epilog.Instruction.{Instruction}
 use Rattle.pe_frame.specs.declared.error.FrameError.{FrameError}
 use Rattle.pe_frame.specs.declared.registers.Registers.{Registers}
 
-alone : (y : Result Registers FrameError) (b : Bool) → registers_alone (y >>= λ c. Ok (c, b)) ≡ y
+pub alone : {R : Type 0} (y : Result R FrameError) (b : Bool) → registers_alone (y >>= λ c. Ok (c, b)) ≡ y
 alone (Ok u) b = refl
 alone (Err e) b = refl
 

@@ -1,10 +1,10 @@
 -- What the instruction of each ARM64 unwind code did in the prolog. (ARM64 exception handling: unwind codes.)
-use Rattle.std.specs.Prelude.{ℕ, ◌+◌, ◌-◌, ◌*◌, nat_lt, Bool, true, false, if◌then◌else◌, List, [], ◌∷◌, ◌++◌, Option, Some, None}
+use Rattle.std.specs.Prelude.{ℕ, ◌+◌, ◌-◌, ◌*◌, ◌==◌, ◌&&◌, nat_le, nat_lt, Bool, true, false, if◌then◌else◌, List, [], ◌∷◌, ◌++◌, Option, Some, None}
 use Rattle.std.specs.Option.{option_map, option_and_then}
 use Rattle.pe_unwind.specs.declared.arm64.codes.Arm64UnwindCode.{Arm64UnwindCode}
-use Rattle.pe_unwind.specs.declared.arm64.codes.Arm64UnwindCode.TheVariants.{AllocSmall, SaveR19R20Preindexed, SaveFpLr, SaveFpLrPreindexed, AllocMedium, SaveRegPair, SaveRegPairPreindexed, SaveReg, SaveRegPreindexed, SaveLrPair, SaveFRegPair, SaveFRegPairPreindexed, SaveFReg, SaveFRegPreindexed, AllocLarge, SetFp, AddFp, Nop, End, EndC, SaveNext, PacSignLr}
+use Rattle.pe_unwind.specs.declared.arm64.codes.Arm64UnwindCode.TheVariants.{AllocSmall, SaveR19R20Preindexed, SaveFpLr, SaveFpLrPreindexed, AllocMedium, SaveRegPair, SaveRegPairPreindexed, SaveReg, SaveRegPreindexed, SaveLrPair, SaveFRegPair, SaveFRegPairPreindexed, SaveFReg, SaveFRegPreindexed, AllocLarge, SetFp, AddFp, Nop, End, EndC, SaveNext, SaveAnyReg, PacSignLr}
 use Rattle.pe_frame.specs.declared.arm64.operation.Arm64Operation.{Arm64Operation}
-use Rattle.pe_frame.specs.declared.arm64.operation.Arm64Operation.TheVariants.{Allocate, Save, SavePair, SaveWithLink, SetFrame, Sign, Nothing}
+use Rattle.pe_frame.specs.declared.arm64.operation.Arm64Operation.TheVariants.{Allocate, Save, SavePair, SaveWithLink, SaveEach, SetFrame, Sign, Nothing}
 use Rattle.pe_frame.specs.declared.arm64.operation.Arm64Register.{Arm64Register}
 use Rattle.pe_frame.specs.declared.arm64.operation.Arm64Register.TheVariants.{X, D}
 
@@ -51,8 +51,24 @@ save_operation (SaveRegPreindexed r n) = save (X r) 0 n
 save_operation (SaveLrPair r o) = save_with_link (X r) o
 save_operation other = float_operation other
 
--- All codes but `save_next`. None of one that is not undone: of scalable vectors, of any register, of a frame of the operating
--- system's own, reserved, or for a register that there is not.
+-- `save_any_reg`: a register of some kind by its number, and the next one if it stores a pair. The kinds are integer registers (0),
+-- the low halves of vectors (1) and vectors (2). Of vectors the low halves of v8 to v15 are restored, d8 to d15: a function need not
+-- preserve anything else of one, so from other slots nothing is loaded.
+abbrev pub any_register : ℕ → ℕ → Option Arm64Register
+any_register kind r =
+    if kind == 0 then Some (X r) else (if nat_le 8 r && nat_lt r 16 then Some (D (r - 8)) else None)
+
+-- None where there is no such register. How far a preindexed store moves the stack pointer is not known: by Microsoft's page so many
+-- bytes, by assemblers 16 more.
+abbrev pub any_operation : ℕ → Bool → Bool → ℕ → ℕ → Option Arm64Operation
+any_operation kind pair preindexed r o =
+    if preindexed then None
+    else (if nat_lt (r + (if pair then 1 else 0)) (if kind == 0 then 31 else 32)
+    then Some (SaveEach (any_register kind r) (if pair then any_register kind (r + 1) else None) o (if kind == 2 then 16 else 8))
+    else None)
+
+-- All codes but `save_next`. None of one that is not undone: of scalable vectors, of a frame of the operating system's own,
+-- reserved, or for a register that there is not.
 abbrev pub operation_of : Arm64UnwindCode → Option Arm64Operation
 operation_of (AllocSmall n) = Some (Allocate n)
 operation_of (AllocMedium n) = Some (Allocate n)
@@ -60,6 +76,7 @@ operation_of (AllocLarge n) = Some (Allocate n)
 operation_of SetFp = Some (SetFrame 0)
 operation_of (AddFp b n) = Some (SetFrame n)
 operation_of PacSignLr = Some Sign
+operation_of (SaveAnyReg kind pair preindexed r o) = any_operation kind pair preindexed r o
 operation_of Nop = Some Nothing
 operation_of End = Some Nothing
 operation_of EndC = Some Nothing
@@ -92,12 +109,18 @@ pub data Arm64Effect : Type 0 where
   PointFrame : ℕ → Arm64Effect
   SignLink : Arm64Effect
 
+-- a store, if the slot has a register that is restored
+abbrev pub store_some : Option Arm64Register → ℕ → List Arm64Effect
+store_some None o = []
+store_some (Some r) o = Store r o ∷ []
+
 -- those of an operation, the last one first
 abbrev pub effects_of : Arm64Operation → List Arm64Effect
 effects_of (Allocate n) = Lower n ∷ []
 effects_of (Save r o n) = Store r o ∷ Lower n ∷ []
 effects_of (SavePair r q o n) = Store r o ∷ Store q (o + 8) ∷ Lower n ∷ []
 effects_of (SaveWithLink r o) = Store r o ∷ Store (X 30) (o + 8) ∷ Lower 0 ∷ []
+effects_of (SaveEach a b o apart) = store_some a o ++ store_some b (o + apart)
 effects_of (SetFrame n) = PointFrame n ∷ []
 effects_of Sign = SignLink ∷ []
 effects_of Nothing = []

@@ -1,6 +1,6 @@
 -- The first code of a stream, and the rest of a stream while it is undone. Contracts of private functions alone cite it.
 use Rattle.pe_core.specs.Refusals.{◌>>=◌}
-use Rattle.std.specs.Prelude.{◌≡◌, ℕ, ◌*◌, ◌<◌, ◌≤◌, false, if◌then◌else◌, List, ◌++◌, length, replicate, Option, Some, None, Result, Ok, Err}
+use Rattle.std.specs.Prelude.{◌≡◌, ℕ, Bool, ◌*◌, ◌<◌, ◌≤◌, false, if◌then◌else◌, List, ◌++◌, length, replicate, Option, Some, None, Result, Ok, Err}
 use Rattle.pe_unwind.specs.declared.arm64.codes.Arm64UnwindCode.{Arm64UnwindCode}
 use Rattle.pe_unwind.specs.declared.arm64.codes.Arm64UnwindCode.TheVariants.{SaveNext}
 use Rattle.pe_unwind.specs.Arm64Encoding.{encoding, StartsWithArm64Code}
@@ -8,7 +8,7 @@ use Rattle.pe_frame.specs.declared.arm64.operation.Arm64Register.{Arm64Register}
 use Rattle.pe_unwind.specs.Arm64Record.{Arm64InfoView}
 use Rattle.pe_frame.specs.declared.arm64.epilog.Arm64Epilog.{Arm64Epilog}
 use Rattle.pe_frame.specs.declared.arm64.registers.Arm64Registers.{Arm64Registers}
-use Rattle.pe_frame.specs.Arm64Undoing.{undone_codes, returned_arm64}
+use Rattle.pe_frame.specs.Arm64Undoing.{caller_out}
 use Rattle.pe_frame.specs.declared.error.FrameError.{FrameError}
 use Rattle.pe_frame.specs.Arm64Operations.{is_register, register_after}
 use Rattle.pe_frame.specs.Arm64Steps.{is_end, LeavesIn, AreOver, AreTruncated, IsOfTruncated, HasArm64Codes}
@@ -40,7 +40,7 @@ abbrev pub with_nexts : ℕ → List Arm64UnwindCode → List Arm64UnwindCode
 with_nexts n codes = replicate n SaveNext ++ codes
 
 -- what a step returns after the prolog, whose codes are known, by an epilog
-abbrev pub StepsIn : (ℕ → Option ℕ) → Arm64InfoView → ℕ → List Arm64UnwindCode → Option Arm64Epilog → Arm64Registers → Result Arm64Registers FrameError → Type 0
+abbrev pub StepsIn : (ℕ → Option ℕ) → Arm64InfoView → ℕ → List Arm64UnwindCode → Option Arm64Epilog → Arm64Registers → Result (Arm64Registers × Bool) FrameError → Type 0
 StepsIn m i place cs epilog g answer =
     (left : Result (List Arm64UnwindCode) FrameError) × LeavesIn i place cs epilog left
-    × (answer ≡ left >>= λ ds. undone_codes m ds g >>= returned_arm64 g.sp)
+    × (answer ≡ left >>= λ ds. caller_out m ds g)

@@ -12,8 +12,8 @@ use Rattle.pe_frame.specs.declared.arm64.epilog.Arm64Epilog.{Arm64Epilog}
 use Rattle.pe_frame.specs.declared.arm64.registers.Arm64Registers.{Arm64Registers}
 use Rattle.pe_frame.specs.declared.error.FrameError.{FrameError}
 use Rattle.pe_frame.specs.declared.error.FrameError.TheVariants.{Codes}
-use Rattle.pe_frame.specs.Steps.{Then}
-use Rattle.pe_frame.specs.Arm64Undoing.{undone_codes, returned_arm64}
+use Rattle.pe_frame.specs.Steps.{Then, registers_alone}
+use Rattle.pe_frame.specs.Arm64Undoing.{caller_out}
 
 abbrev pub is_end : Arm64UnwindCode → Bool
 is_end End = true
@@ -106,8 +106,13 @@ Leaves i place left =
     (codes : Result (List Arm64UnwindCode) FrameError) × HasArm64Codes i.codes codes
     × Then codes (λ cs. LeavesIn i place cs (epilog_after i place cs)) left
 
--- what a step returns, by the record of a function and how many instructions before the instruction pointer it has
+-- what a step returns, by the record of a function and how many instructions before the instruction pointer it has; and whether
+-- no call left the caller
+abbrev pub StepsOutArm64 : (ℕ → Option ℕ) → Arm64InfoView → ℕ → Arm64Registers → Result (Arm64Registers × Bool) FrameError → Type 0
+StepsOutArm64 m i place g answer =
+    (left : Result (List Arm64UnwindCode) FrameError) × Leaves i place left × (answer ≡ left >>= λ cs. caller_out m cs g)
+
 abbrev pub StepsArm64 : (ℕ → Option ℕ) → Arm64InfoView → ℕ → Arm64Registers → Result Arm64Registers FrameError → Type 0
 StepsArm64 m i place g answer =
     (left : Result (List Arm64UnwindCode) FrameError) × Leaves i place left
-    × (answer ≡ left >>= λ cs. undone_codes m cs g >>= returned_arm64 g.sp)
+    × (answer ≡ left >>= λ cs. registers_alone (caller_out m cs g))

@@ -9,8 +9,10 @@ pub mod Survey
 pub mod Epilogs
 pub mod Jumps
 pub mod CallForms
+pub mod Arm64CallForms
 pub mod Modules
 pub mod Walks
+pub mod FrameWalks
 pub mod Tails
 pub mod Machine
 pub mod Frames
@@ -24,4 +26,5 @@ pub mod Arm64Packed
 pub mod Arm64CodeLists
 pub mod Arm64Machine
 pub mod Arm64Frames
+pub mod Arm64Walks
 pub mod Arm64Samples

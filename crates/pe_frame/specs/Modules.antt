@@ -7,6 +7,7 @@ use Rattle.pe_core.specs.SectionMap.{map_view, offset_in}
 use Rattle.pe_core.specs.declared.section_table.SectionTable.{SectionTable}
 use Rattle.pe_unwind.specs.ExceptionTable.{ExceptionView}
 use Rattle.pe_frame.specs.AddressRanges.{has_address}
+use Rattle.pe_frame.specs.Arm64CallForms.{is_call_arm64}
 use Rattle.pe_frame.specs.CallForms.{is_call, call_sizes}
 use Rattle.pe_frame.specs.declared.modules.Module.{Module}
 
@@ -65,3 +66,21 @@ is_code_return_of (Some m) a = list_any (executes (a - m.base - 1)) m.sections.n
 -- an address is one after a call in an executable section
 abbrev pub is_code_return : List Module → ℕ → Bool
 is_code_return modules a = is_code_return_of (module_at modules (a - 1)) a
+
+-- ---- return addresses on ARM64, where a call has four bytes
+
+-- the bytes before an RVA are a call
+abbrev pub has_call_before_arm64 : Module → Option ExceptionView → ℕ → Bool
+has_call_before_arm64 m None rva = false
+has_call_before_arm64 m (Some e) rva = nat_le 4 rva && is_call_arm64 (code_in m e (rva - 4) rva)
+
+abbrev pub is_after_call_arm64_in : Module → ℕ → Bool
+is_after_call_arm64_in m a = has_call_before_arm64 m (option_map (λ e. e.now) m.exceptions) (a - m.base)
+
+abbrev pub is_after_call_arm64_of : Option Module → ℕ → Bool
+is_after_call_arm64_of None a = false
+is_after_call_arm64_of (Some m) a = is_after_call_arm64_in m a
+
+-- an address is one after a call, in the module that has the last byte of the call
+abbrev pub is_after_call_arm64 : List Module → ℕ → Bool
+is_after_call_arm64 modules a = is_after_call_arm64_of (module_at modules (a - 1)) a

@@ -71,7 +71,7 @@ StepsOut m plan offset g answer =
     (entry : Result (Registers × Bool) FrameError) × Undoes m plan (limit_of plan offset) false g entry
     × (answer ≡ entry >>= returned_out m (pointer g))
 
-abbrev pub registers_alone : Result (Registers × Bool) FrameError → Result Registers FrameError
+abbrev pub registers_alone : {R : Type 0} → Result (R × Bool) FrameError → Result R FrameError
 registers_alone left = left >>= λ u. Ok u.0
 
 -- an error without the numbers in a refusal of codes

@@ -95,7 +95,7 @@ without_records memory modules g = option_or (leaf_frame modules (popped memory 
 -- ---- its caller, or why there is none
 
 -- records that cannot be read
-abbrev pub IsUnreadable : Refusal → Result StackFrame WalkEnd → Type 0
+abbrev pub IsUnreadable : {F : Type 0} → Refusal → Result F WalkEnd → Type 0
 IsUnreadable r (Ok s) = ⊥
 IsUnreadable r (Err (ends.Records e)) = kind_of e ≡ r
 IsUnreadable r (Err other) = ⊥
@@ -261,6 +261,6 @@ end_kind (ends.Step e) = OfError (error_kind e)
 end_kind other = OfEnd other
 
 -- a frame, or the kind of a reason
-abbrev pub by_end_kind : Result StackFrame WalkEnd → Result StackFrame EndKind
+abbrev pub by_end_kind : {F : Type 0} → Result F WalkEnd → Result F EndKind
 by_end_kind (Ok s) = Ok s
 by_end_kind (Err e) = Err (end_kind e)

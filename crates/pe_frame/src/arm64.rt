@@ -5,7 +5,9 @@
 //! leaves its return address in a register, the link register x30, so that undoing a prolog leads to it without a pop. An epilog
 //! undoes the prolog, and has codes of its own, or the same ones.
 
+mod call;
 mod code_list;
+mod entry;
 mod epilog;
 mod operation;
 mod packed;
@@ -13,6 +15,9 @@ mod record;
 mod registers;
 mod step;
 mod undo;
+mod walk;
 
+pub(crate) use call::is_call_arm64;
 pub use registers::Arm64Registers;
-pub use step::{leaf_arm64, step_arm64, step_arm64_packed};
+pub use step::{leaf_arm64, step_arm64, step_arm64_packed, step_out_arm64};
+pub use walk::{Arm64StackFrame, Arm64StackFrames};

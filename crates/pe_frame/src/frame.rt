@@ -80,7 +80,7 @@ pub(crate) fn undo_function<M: Memory>(
 }
 
 /// The registers alone.
-fn registers_alone(left: Result<(Registers, bool), FrameError>) -> Result<Registers, FrameError>
+pub(crate) fn registers_alone<R>(left: Result<(R, bool), FrameError>) -> Result<R, FrameError>
     ensures { result ≡ registers_alone left }
 {
     match left {

@@ -1,6 +1,7 @@
 //! Laws over the definitions. Each is the contract of a function that does nothing.
 
 pub mod arm64;
+pub mod arm64_walks;
 pub mod jumps;
 pub mod walks;
 

@@ -31,7 +31,10 @@ mod registers;
 mod undo;
 mod walk;
 
-pub use arm64::{Arm64Registers, leaf_arm64, step_arm64, step_arm64_packed};
+pub use arm64::{
+    Arm64Registers, Arm64StackFrame, Arm64StackFrames, leaf_arm64, step_arm64, step_arm64_packed,
+    step_out_arm64,
+};
 pub use error::FrameError;
 pub use frame::{leaf, step, step_out, step_with_code};
 pub use jump::{ImageFunctions, step_in_image};

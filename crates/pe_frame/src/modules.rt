@@ -4,9 +4,10 @@ ghost use Rattle.std.specs.Prelude.{◌≡◌, ◌+◌, ◌-◌, ◌≤◌, Matc
 ghost use Rattle.std.specs.List.{list_any};
 ghost use Rattle.std.specs.Option.{option_map};
 ghost use Rattle.pe_frame.specs.AddressRanges.{AreAscending, IsOverlap};
-ghost use Rattle.pe_frame.specs.Modules.{module_base, module_size, module_at, code_in, follows_call, is_after_call_in, is_after_call, executes, is_code_return};
+ghost use Rattle.pe_frame.specs.Modules.{module_base, module_size, module_at, code_in, follows_call, is_after_call_in, is_after_call, is_after_call_arm64_in, is_after_call_arm64, executes, is_code_return};
 
 use crate::address_ranges::{AddressRange, first_overlap, range_with};
+use crate::arm64::is_call_arm64;
 use crate::call::is_call;
 use pe_core::{ParseOptions, SectionTable, slice_at};
 use pe_unwind::ExceptionData;
@@ -14,10 +15,13 @@ use pe_unwind::ExceptionData;
 /// `IMAGE_SCN_MEM_EXECUTE`: the section is executable.
 const MEM_EXECUTE: u32 = 0x2000_0000;
 
+/// The bytes of a call on ARM64.
+const SIZE_OF_CALL_ARM64: u32 = 4;
+
 /// How many bytes a call may have, the sizes that are seen most first.
 const CALL_SIZES: [u32; 7] = [5, 6, 2, 3, 4, 7, 8];
 
-/// A module of a process on x64: an image, and the addresses where it is loaded.
+/// A module of a process on x64 or ARM64: an image, and the addresses where it is loaded.
 #[derive(Clone, Copy)]
 pub struct Module<'a> {
     /// The address where it is loaded.
@@ -109,6 +113,18 @@ impl<'a> Module<'a> {
         self.follows_any(exceptions, self.rva_of(address), &CALL_SIZES)
     }
 
+    /// Whether an address, which may be the end of the module, is one after a call on ARM64.
+    fn is_after_call_arm64(&self, address: u64) -> bool
+        requires { address ≤ self.now.base + self.now.size }
+        ensures { result ≡ is_after_call_arm64_in self.now address }
+    {
+        let Some(exceptions) = self.exceptions else {
+            return false;
+        };
+        let (size, rva) = (SIZE_OF_CALL_ARM64, self.rva_of(address));
+        size <= rva && is_call_arm64(self.code(exceptions, rva - size, rva))
+    }
+
     /// Whether an executable section has an RVA.
     fn is_executable(&self, rva: u32) -> bool
         ensures { result ≡ list_any (executes rva) self.now.sections.now }
@@ -168,6 +184,17 @@ impl<'a> Modules<'a> {
     {
         match self.find(address.saturating_sub(1)) {
             Some(module) => module.is_after_call(address),
+            None => false,
+        }
+    }
+
+    /// The same on ARM64, where a call is `BL`, or `BLR` in one of its forms.
+    pub fn is_after_call_arm64(&self, address: u64) -> bool
+        ensures { result ≡ is_after_call_arm64 self.now.modules.now address }
+    {
+        let last = address.saturating_sub(1);
+        match self.find(last) {
+            Some(module) => module.is_after_call_arm64(address),
             None => false,
         }
     }

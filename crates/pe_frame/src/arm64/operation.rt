@@ -2,12 +2,14 @@
 
 ghost use Rattle.std.specs.Prelude.{◌≡◌, ◌-◌, ◌<◌, IfSome, if◌then◌else◌, Some, None};
 ghost use Rattle.pe_frame.specs.declared.arm64.operation.Arm64Register.TheVariants.{D};
-ghost use Rattle.pe_frame.specs.Arm64Operations.{register_after, is_register, save, save_pair, save_with_link, float_operation, save_operation, operation_of, is_save_next};
+ghost use Rattle.pe_frame.specs.Arm64Operations.{register_after, is_register, save, save_pair, save_with_link, float_operation, save_operation, any_register, any_operation, operation_of, is_save_next};
 
 use pe_unwind::Arm64UnwindCode;
 
-/// How many integer registers there are, and how many floating-point registers a function preserves.
+/// How many integer registers there are, how many vectors, and how many floating-point registers a function preserves.
 const INTEGER_REGISTERS: u8 = 31;
+
+const VECTORS: u8 = 32;
 
 const PRESERVED_FLOATS: u8 = 8;
 
@@ -46,6 +48,13 @@ pub(crate) enum Arm64Operation {
     SaveWithLink {
         register: Arm64Register,
         offset: u32,
+    },
+    /// Stored two registers, the second so many bytes above the first, of which those that are there are restored.
+    SaveEach {
+        first: Option<Arm64Register>,
+        second: Option<Arm64Register>,
+        offset: u32,
+        apart: u32,
     },
     /// Set x29 so far above the stack pointer.
     SetFrame(u32),
@@ -196,6 +205,57 @@ fn save_operation(code: Arm64UnwindCode) -> Option<Arm64Operation>
     }
 }
 
+/// The kinds of registers that `save_any_reg` has: integer registers, and vectors.
+const INTEGER: u8 = 0;
+
+const VECTOR: u8 = 2;
+
+/// The register of some kind that is restored from a slot with this number.
+fn any_register(kind: u8, number: u8) -> Option<Arm64Register>
+    ensures { result ≡ any_register kind number }
+{
+    if kind == INTEGER {
+        return Some(Arm64Register::X(number));
+    }
+    if FIRST_FLOAT <= number && number < FIRST_FLOAT + PRESERVED_FLOATS {
+        Some(float(number))
+    } else {
+        None
+    }
+}
+
+/// The store of `save_any_reg`. `None` where there is no such register, and of a preindexed store.
+fn any_operation(
+    kind: u8,
+    pair: bool,
+    preindexed: bool,
+    number: u8,
+    offset: u32,
+) -> Option<Arm64Operation>
+    ensures { result ≡ any_operation kind pair preindexed number offset }
+{
+    let count = if kind == INTEGER {
+        INTEGER_REGISTERS
+    } else {
+        VECTORS
+    };
+    let last = u16::from(number) + if pair { 1 } else { 0 };
+    if preindexed || last >= u16::from(count) {
+        return None;
+    }
+    let second = if pair {
+        any_register(kind, number + 1)
+    } else {
+        None
+    };
+    Some(Arm64Operation::SaveEach {
+        first: any_register(kind, number),
+        second,
+        offset,
+        apart: if kind == VECTOR { 16 } else { 8 },
+    })
+}
+
 /// What the instruction of a code did. `None` of `save_next`, which depends on the codes after it, of a code that is not
 /// undone, and of one for a register that there is not.
 pub(crate) fn operation_of(code: Arm64UnwindCode) -> Option<Arm64Operation>
@@ -208,6 +268,13 @@ pub(crate) fn operation_of(code: Arm64UnwindCode) -> Option<Arm64Operation>
         Arm64UnwindCode::SetFp => Some(Arm64Operation::SetFrame(0)),
         Arm64UnwindCode::AddFp { offset_bytes, .. } => Some(Arm64Operation::SetFrame(offset_bytes)),
         Arm64UnwindCode::PacSignLr => Some(Arm64Operation::Sign),
+        Arm64UnwindCode::SaveAnyReg {
+            kind,
+            pair,
+            preindexed,
+            reg,
+            offset_bytes,
+        } => any_operation(kind, pair, preindexed, reg, offset_bytes),
         Arm64UnwindCode::Nop | Arm64UnwindCode::End | Arm64UnwindCode::EndC => {
             Some(Arm64Operation::Nothing)
         }

@@ -8,6 +8,7 @@ ghost use Rattle.pe_frame.specs.Arm64Steps.{is_end_c, CodesThen, AreOver, prolog
 ghost use Rattle.pe_frame.specs.Arm64Reading.{IsFirstCode, ReadsCodes, with_nexts};
 ghost use Rattle.pe_frame.specs.InPlace.{changed};
 
+use super::entry::undo_custom;
 use super::operation::{is_save_next, operation_of};
 use super::registers::Arm64Registers;
 use super::undo::{undo_operation, undo_save_next};
@@ -18,7 +19,10 @@ use pe_unwind::Arm64UnwindCode;
 
 /// The code at the start of the bytes, and its size. `None` if the codes are over: by `end`, or with the bytes. `Codes` if it
 /// is truncated; the offset for that counts from the record's first code.
-fn first_code(bytes: &[u8], offset: usize) -> Result<Option<(Arm64UnwindCode, usize)>, FrameError>
+pub(crate) fn first_code(
+    bytes: &[u8],
+    offset: usize,
+) -> Result<Option<(Arm64UnwindCode, usize)>, FrameError>
     ensures { IsFirstCode bytes.now result }
 {
     if bytes.is_empty() {
@@ -114,7 +118,7 @@ fn undo_code<M: Memory>(
     }
     match operation_of(code) {
         Some(operation) => undo_operation(operation, registers, memory),
-        None => Err(FrameError::Arm64Code(code)),
+        None => undo_custom(code, registers, memory),
     }
 }
 

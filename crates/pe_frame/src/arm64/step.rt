@@ -5,13 +5,14 @@ ghost use Rattle.pe_unwind.specs.Arm64Record.{info_view};
 ghost use Rattle.pe_frame.specs.declared.arm64.registers.Arm64Registers.{Arm64Registers};
 ghost use Rattle.pe_unwind.specs.declared.arm64.codes.Arm64UnwindCode.{Arm64UnwindCode};
 ghost use Rattle.pe_frame.specs.Arm64Operations.{is_save_next};
-ghost use Rattle.pe_frame.specs.Arm64Undoing.{caller_by, returned_arm64, link_register, put_pc};
-ghost use Rattle.pe_frame.specs.Arm64Steps.{CodesThen, AreOver, ran_arm64, Leaves, StepsArm64};
+ghost use Rattle.pe_frame.specs.Arm64Undoing.{caller_by, caller_out, left_arm64, returned_arm64, link_register, put_pc};
+ghost use Rattle.pe_frame.specs.Arm64Steps.{CodesThen, AreOver, ran_arm64, Leaves, StepsArm64, StepsOutArm64};
 ghost use Rattle.pe_frame.specs.Arm64Reading.{StepsIn};
 ghost use Rattle.pe_frame.specs.Arm64Packed.{packed_left, left_after, is_canonical, stepped_packed};
 ghost use Rattle.pe_frame.specs.Arm64Frames.{Arm64Part, IsArm64Frame, effects_at};
 ghost use Rattle.pe_frame.specs.Arm64Machine.{IsArm64Caller};
 
+use super::entry::{Arm64Entry, entry_of};
 use super::epilog::{
     Arm64Epilog, SIZE_OF_INSTRUCTION, codes_from, epilog_after, epilog_start, is_in_epilog,
 };
@@ -19,11 +20,12 @@ use super::packed::{epilog_codes, has_ended, is_canonical, packed_codes, packed_
 use super::record::{after_codes, prolog_length, require_codes, undo_codes, undo_each};
 use super::registers::{Arm64Registers, LINK_REGISTER};
 use crate::error::FrameError;
+use crate::frame::registers_alone;
 use crate::memory::Memory;
 use pe_unwind::{Arm64RuntimeFunction, Arm64UnwindCode, Arm64UnwindInfo};
 
 /// The registers of the caller, from those at the function's entry, if its stack pointer is not below this one.
-fn leave(pointer: u64, entry: Arm64Registers) -> Result<Arm64Registers, FrameError>
+fn returned(pointer: u64, entry: Arm64Registers) -> Result<Arm64Registers, FrameError>
     ensures { result ≡ returned_arm64 pointer entry }
 {
     if entry.sp < pointer {
@@ -32,16 +34,32 @@ fn leave(pointer: u64, entry: Arm64Registers) -> Result<Arm64Registers, FrameErr
     Ok(leaf_arm64(entry))
 }
 
-/// The registers of the caller, where these codes are left to be undone. None of them is truncated.
+/// The same by how the function was entered, and whether no call left the caller.
+fn leave(
+    pointer: u64,
+    entry: Arm64Entry,
+    registers: Arm64Registers,
+) -> Result<(Arm64Registers, bool), FrameError>
+    ensures { result ≡ left_arm64 pointer entry registers }
+{
+    if entry.has_pc {
+        return Ok((registers, true));
+    }
+    Ok((returned(pointer, registers)?, entry.is_interrupt))
+}
+
+/// The registers of the caller, where these codes are left to be undone, and whether no call left them. None of the codes is
+/// truncated.
 fn caller_by<M: Memory>(
     codes: &[u8],
     registers: Arm64Registers,
     memory: &M,
-) -> Result<Arm64Registers, FrameError>
+) -> Result<(Arm64Registers, bool), FrameError>
     ensures { (cs : List Arm64UnwindCode) → CodesThen AreOver codes.now cs →
-        result ≡ caller_by (M.word memory.now) cs registers }
+        result ≡ caller_out (M.word memory.now) cs registers }
 {
-    leave(registers.sp, undo_codes(codes, registers, memory)?)
+    let undone = undo_codes(codes, registers, memory)?;
+    leave(registers.sp, entry_of(codes), undone)
 }
 
 /// The registers of the caller after the prolog, if the instruction pointer may be in this epilog.
@@ -51,7 +69,7 @@ fn caller_after<M: Memory>(
     place: u32,
     registers: Arm64Registers,
     memory: &M,
-) -> Result<Arm64Registers, FrameError>
+) -> Result<(Arm64Registers, bool), FrameError>
     ensures { (cs : List Arm64UnwindCode) → CodesThen AreOver (info_view info.now).codes cs →
         StepsIn (M.word memory.now) (info_view info.now) place cs (Some epilog) registers result }
 {
@@ -69,13 +87,13 @@ fn caller_after<M: Memory>(
 }
 
 /// The registers of the caller, where so many instructions of the function are before the instruction pointer.
-fn caller<M: Memory>(
+pub(crate) fn caller<M: Memory>(
     info: &Arm64UnwindInfo<'_>,
     place: u32,
     registers: Arm64Registers,
     memory: &M,
-) -> Result<Arm64Registers, FrameError>
-    ensures { StepsArm64 (M.word memory.now) (info_view info.now) place registers result }
+) -> Result<(Arm64Registers, bool), FrameError>
+    ensures { StepsOutArm64 (M.word memory.now) (info_view info.now) place registers result }
 {
     let codes = info.code_bytes();
     require_codes(codes, 0)?;
@@ -89,13 +107,32 @@ fn caller<M: Memory>(
     }
 }
 
+/// The registers of a function's caller, from those inside the function, by its unwind record, and whether no call left them:
+/// an interrupt did, or the operating system, as its codes say. Look the function of such a caller up by its instruction pointer.
+///
+/// As [`step_arm64`], which says what is refused.
+pub fn step_out_arm64<M: Memory>(
+    info: &Arm64UnwindInfo<'_>,
+    start: u32,
+    rva: u32,
+    registers: Arm64Registers,
+    memory: &M,
+) -> Result<(Arm64Registers, bool), FrameError>
+    ensures { StepsOutArm64 (M.word memory.now)
+        (info_view info.now) ((rva - start) / 4) registers result }
+{
+    let offset = rva.saturating_sub(start);
+    caller(info, offset / SIZE_OF_INSTRUCTION, registers, memory)
+}
+
 /// The registers of a function's caller, from those inside the function, by its unwind record.
 ///
 /// `info` is the record of the function, `start` its `begin_address`, `rva` the instruction pointer less the image base. After
 /// the prolog all codes of the record are undone, inside of it those of the instructions before `rva`. In an epilog that the
 /// record describes, and at its return, the codes of the epilog are undone whose instructions have not run: it is the last scope
 /// that starts at or before `rva`, or the only epilog, at the end of the function. The caller goes on at the link register;
-/// `pac_sign_lr` takes its signature off, down to the 48 bits of an address, of which bit 55 says what the others are.
+/// `pac_sign_lr` takes its signature off, down to the 48 bits of an address, of which bit 55 says what the others are. A machine
+/// frame and a `CONTEXT` record have the caller's instruction pointer themselves; [`step_out_arm64`] says of which callers.
 ///
 /// **A walk.** In the top frame `rva` is the instruction that is about to run: look the function up by it. In each other frame
 /// it is a return address, which may lie after the end of the function if the call is its last instruction: look up by
@@ -107,9 +144,11 @@ fn caller<M: Memory>(
 /// Refused, in this order: `Codes` if one of the codes up to the first `end` is truncated, or after the prolog one of those of the
 /// epilog; for each code in turn `Arm64Code`
 /// if it is not undone, then `Address` and `Memory` where they come up; last `NotRising` if the caller's stack pointer is
-/// below this one. These codes are not undone: frames of the operating system's own (`CustomStack`), `AllocZ`, `SaveZReg`,
-/// `SavePReg`, `SaveAnyReg`, reserved codes, those that save a register after x30 or d15, and `SaveNext` unless the first code
-/// after it that is another one saves a pair.
+/// below this one, unless a code of a machine frame or a context restored both pointers. These codes are not undone: of the frames
+/// of the operating system's own (`CustomStack`) `TrapFrame` and `EcContext`, `AllocZ`, `SaveZReg`, `SavePReg`, a preindexed
+/// `SaveAnyReg`, reserved codes, those that save a register after x30 or d15, by `SaveAnyReg` after x30 or v31, and `SaveNext`
+/// unless the first code after it that is another one saves a pair.
+#[tactic(auto, using(crate::proofs::Arm64Streams::registers_of_arm64_step))]
 pub fn step_arm64<M: Memory>(
     info: &Arm64UnwindInfo<'_>,
     start: u32,
@@ -125,8 +164,7 @@ pub fn step_arm64<M: Memory>(
         (u : Arm64Registers) × (result ≡ Ok u)
         × IsArm64Caller (effects_at stand p) p.entry registers u }
 {
-    let offset = rva.saturating_sub(start);
-    caller(info, offset / SIZE_OF_INSTRUCTION, registers, memory)
+    registers_alone(step_out_arm64(info, start, rva, registers, memory))
 }
 
 /// The registers of the caller, where these codes are left to be undone, none of which is `save_next`.
@@ -138,7 +176,7 @@ fn caller_by_list<M: Memory>(
     requires { All (λ c. is_save_next c ≡ false) codes.now }
     ensures { result ≡ caller_by (M.word memory.now) codes.now registers }
 {
-    leave(registers.sp, undo_each(codes, registers, memory)?)
+    returned(registers.sp, undo_each(codes, registers, memory)?)
 }
 
 /// The registers of the caller after the prolog of a function with packed unwind data, whose codes these are.
@@ -167,7 +205,7 @@ fn packed_caller_after<M: Memory>(
 
 /// The registers of the caller, where so many instructions of a function with packed unwind data are before the instruction
 /// pointer.
-fn packed_caller<M: Memory>(
+pub(crate) fn packed_caller<M: Memory>(
     function: &Arm64RuntimeFunction,
     place: u32,
     registers: Arm64Registers,

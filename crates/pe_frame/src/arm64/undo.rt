@@ -1,9 +1,9 @@
 //! Undoing one operation of a prolog on ARM64.
 
-ghost use Rattle.std.specs.Prelude.{◌≡◌, ℕ, Option, ◌+◌, ◌^◌, ◌<◌, ◌≤◌, [], ◌∷◌, IfSome, Some};
+ghost use Rattle.std.specs.Prelude.{◌≡◌, ℕ, Option, ◌+◌, ◌^◌, ◌<◌, ◌≤◌, [], ◌∷◌, ◌++◌, IfSome, Some};
 ghost use Rattle.std.specs.Option.{option_and_then};
 ghost use Rattle.pe_unwind.specs.declared.arm64.codes.Arm64UnwindCode.TheVariants.{SaveNext};
-ghost use Rattle.pe_frame.specs.Arm64Operations.{Lower, Store, PointFrame, pair_after, operation_of, effects_of};
+ghost use Rattle.pe_frame.specs.Arm64Operations.{Lower, Store, PointFrame, pair_after, operation_of, effects_of, store_some};
 ghost use Rattle.pe_frame.specs.Arm64Undoing.{stripped, put_saved, reverted, reverted_all, undone_as};
 ghost use Rattle.pe_frame.specs.Arm64Reading.{pair_registers};
 ghost use Rattle.pe_frame.specs.InPlace.{changed};
@@ -90,7 +90,7 @@ fn put(register: Arm64Register, value: u64, registers: &mut Arm64Registers)
 }
 
 /// Loads a register from where it was stored, so many bytes above the stack pointer.
-fn load<M: Memory>(
+pub(crate) fn load<M: Memory>(
     register: Arm64Register,
     offset: u64,
     registers: &mut Arm64Registers,
@@ -122,6 +122,39 @@ fn undo_pair<M: Memory>(
     raise(moved, registers)
 }
 
+/// Loads a register from a slot, if the slot has one that is restored.
+fn load_some<M: Memory>(
+    register: Option<Arm64Register>,
+    offset: u64,
+    registers: &mut Arm64Registers,
+    memory: &M,
+) -> Result<(), FrameError>
+    ensures { changed result registers.new
+        ≡ reverted_all (M.word memory.now) (store_some register offset) registers.old }
+{
+    match register {
+        Some(register) => load(register, offset, registers, memory),
+        None => Ok(()),
+    }
+}
+
+/// The same from two slots.
+fn load_each<M: Memory>(
+    slots: (Option<Arm64Register>, Option<Arm64Register>),
+    offset: u64,
+    apart: u64,
+    registers: &mut Arm64Registers,
+    memory: &M,
+) -> Result<(), FrameError>
+    requires room { offset < 2 ^ 40 }
+    requires near { apart < 2 ^ 40 }
+    ensures { changed result registers.new ≡ reverted_all (M.word memory.now)
+        (store_some slots.0 offset ++ store_some slots.1 (offset + apart)) registers.old }
+{
+    load_some(slots.0, offset, registers, memory)?;
+    load_some(slots.1, offset + apart, registers, memory)
+}
+
 /// Makes the registers those before an operation.
 pub(crate) fn undo_operation<M: Memory>(
     operation: Arm64Operation,
@@ -150,6 +183,21 @@ pub(crate) fn undo_operation<M: Memory>(
         Arm64Operation::SaveWithLink { register, offset } => {
             let pair = (register, Arm64Register::X(LINK_REGISTER as u8));
             undo_pair(pair, u64::from(offset), 0, registers, memory)
+        }
+        Arm64Operation::SaveEach {
+            first,
+            second,
+            offset,
+            apart,
+        } => {
+            let slots = (first, second);
+            load_each(
+                slots,
+                u64::from(offset),
+                u64::from(apart),
+                registers,
+                memory,
+            )
         }
         Arm64Operation::SetFrame(offset) => lower_to_frame(offset, registers),
         Arm64Operation::Sign => {

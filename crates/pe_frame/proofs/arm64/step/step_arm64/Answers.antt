@@ -1,10 +1,17 @@
-use Rattle.std.proofs.Common.{ℕ, ◌/◌, subst}
+use Rattle.std.proofs.Common.{◌/◌, ◌-◌, Result, subst, sym}
 use Rattle.pe_unwind.specs.Arm64Record.{info_view}
 use Rattle.pe_frame.specs.Arm64Steps.{StepsArm64}
+use Rattle.pe_frame.specs.declared.arm64.registers.Arm64Registers.{Arm64Registers}
+use Rattle.pe_frame.specs.declared.error.FrameError.{FrameError}
 use Rattle.pe_frame.proofs.Arm64Frames.{arm64_caller}
+use Rattle.pe_frame.proofs.Arm64Streams.{registers_of_arm64_step}
 use Rattle.pe_frame.proofs.arm64.step.step_arm64.Goals as goal
 
 pub returns-clause-undoes : goal.returns-clause-undoes
 returns-clause-undoes g c p stand left frame =
-    arm64_caller (g.M.Memory.word c.args.memory.now) (info_view c.args.info.now) p _ stand c.args.registers c.caller.result left frame
-    (subst (λ (n : ℕ). StepsArm64 (g.M.Memory.word c.args.memory.now) (info_view c.args.info.now) (n / 4) c.args.registers c.caller.result) c.saturating_sub-offset.ensures c.caller.ensures)
+    let m = g.M.Memory.word c.args.memory.now in
+    let i = info_view c.args.info.now in
+    let place = (c.args.rva - c.args.start) / 4 in
+    arm64_caller m i p place stand c.args.registers c.registers_alone.result left frame
+    (subst (λ (x : Result Arm64Registers FrameError). StepsArm64 m i place c.args.registers x) (sym c.registers_alone.ensures)
+    (registers_of_arm64_step m i place c.args.registers c.step_out_arm64.result c.step_out_arm64.ensures))

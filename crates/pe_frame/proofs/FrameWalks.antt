@@ -1,0 +1,119 @@
+-- Whole walks over the frames of any machine: what all calls of `next` return, that there is a walk, and only one.
+use Rattle.std.proofs.Common.{◌≡◌, ℕ, zero, suc, ◌≤◌, Bool, true, false, List, [], ◌∷◌, length, Option, Some, None, Result, Ok, Err, refl, ap, sym, ◌∙◌, subst, arith}
+use Rattle.std.specs.Iterator.{Yields}
+use Rattle.pe_frame.specs.FrameWalks.{FrameWalk, Follows, FollowsBy, Advances, AdvancesBy, IsWalk, IsWalkBy, returned_frame, walk_after}
+use Rattle.pe_frame.specs.Walks.{by_end_kind, end_kind}
+use Rattle.pe_frame.specs.declared.walk.WalkEnd.{WalkEnd}
+
+module _ {P F : Type 0} (Calls : P → F → Result F WalkEnd → Type 0) where
+  -- the step of a walk that is not over
+  pub advanced : (n : ℕ) (w : FrameWalk P F) (found : Result F WalkEnd) → (n ≡ 0 → ⊥) → Follows Calls w found → AdvancesBy Calls n w (returned_frame found) (walk_after w found)
+  advanced zero w found some follows = absurd (some refl)
+  advanced (suc n) w found some follows = (found, follows, refl, refl)
+
+  -- ---- the call that returns nothing
+
+  ended_by : (n : ℕ) (w new : FrameWalk P F) (found : Result F WalkEnd) → Follows Calls w found → None ≡ returned_frame found → new ≡ walk_after w found → IsWalkBy Calls (suc n) w [] new.end × (new.remaining ≡ 0)
+  ended_by n w new (Ok s) follows none is = absurd (cc none)
+  ended_by n w new (Err e) follows none is = (
+    subst (λ (end : WalkEnd). Follows Calls w (Err end)) (sym (ap (λ (v : FrameWalk P F). v.end) is)) follows,
+    ap (λ (v : FrameWalk P F). v.remaining) is,
+  )
+
+  ended : (n : ℕ) (w new : FrameWalk P F) → w.remaining ≡ n → AdvancesBy Calls n w None new → IsWalkBy Calls n w [] new.end × (new.remaining ≡ 0)
+  ended zero w new left h =
+      ((refl, ap (λ (v : FrameWalk P F). v.end) h.1), ap (λ (v : FrameWalk P F). v.remaining) h.1 ∙ left)
+  ended (suc n) w new left h = ended_by n w new h.0 h.1 h.2 h.3
+
+  -- ---- a call that returns a frame
+
+  more_by : (n : ℕ) (w new : FrameWalk P F) (x : F) (xs : List F) (end : WalkEnd) (found : Result F WalkEnd) → w.remaining ≡ suc n → Follows Calls w found → Some x ≡ returned_frame found → new ≡ walk_after w found → IsWalk Calls new xs end → length xs ≤ new.remaining → IsWalkBy Calls (suc n) w (x ∷ xs) end × (length (x ∷ xs) ≤ suc n)
+  more_by n w new x xs end (Ok s) left follows some is rest few =
+      let same : s ≡ x = cc some in
+      let after : new ≡ walk_after w (Ok x) = is ∙ ap (λ (f : F). walk_after w (Ok f)) same in
+      let fewer : new.remaining ≡ n = ap (λ (v : FrameWalk P F). v.remaining) after ∙ omega (arith, left) in
+      let walk = subst (λ (k : ℕ). IsWalkBy Calls k new xs end) fewer rest in (
+        (
+          subst (λ (f : F). Follows Calls w (Ok f)) same follows,
+          subst (λ (v : FrameWalk P F). IsWalkBy Calls n v xs end) after walk,
+        ),
+        omega (arith, few, fewer),
+      )
+  more_by n w new x xs end (Err e) left follows some is rest few = absurd (cc some)
+
+  more : (n : ℕ) (w new : FrameWalk P F) (x : F) (xs : List F) (end : WalkEnd) → w.remaining ≡ n → AdvancesBy Calls n w (Some x) new → IsWalk Calls new xs end → length xs ≤ new.remaining → IsWalkBy Calls n w (x ∷ xs) end × (length (x ∷ xs) ≤ n)
+  more zero w new x xs end left h rest few = absurd (cc h.0)
+  more (suc n) w new x xs end left h rest few = more_by n w new x xs end h.0 left h.1 h.2 h.3 rest few
+
+  -- ---- all calls
+
+  module _ {I : Type 0} (at : I → FrameWalk P F) (steps : I → Option F → I → Type 0) where
+    abbrev pub AreAdvances : Type 0
+    AreAdvances = (s : I) (r : Option F) (t : I) → steps s r t → Advances Calls (at s) r (at t)
+
+    pub whole : AreAdvances → (s t u : I) (xs : List F) → Yields steps s xs t → steps t None u → IsWalk Calls (at s) xs (at u).end × (length xs ≤ (at s).remaining) × ((at u).remaining ≡ 0)
+    whole is s t u [] same end =
+        let over = ended (at t).remaining (at t) (at u) refl (is t None u end) in
+        (subst (λ (v : I). IsWalk Calls (at v) [] (at u).end) (sym same) over.0, omega arith, over.1)
+    whole is s t u (x ∷ xs) y end =
+        let rest = whole is y.0 t u xs y.2 end in
+        let one = more (at s).remaining (at s) (at y.0) x xs (at u).end refl (is s (Some x) y.0 y.1) rest.0 rest.1 in
+        (one.0, one.1, rest.2)
+
+  -- ---- there is a walk from each state, where each frame has a caller or a reason why not
+
+  abbrev pub HasCallers : Type 0
+  HasCallers = (p : P) (s : F) → (answer : Result F WalkEnd) × Calls p s answer
+
+  some_following : HasCallers → (returned : Bool) (w : FrameWalk P F) → (answer : Result F WalkEnd) × FollowsBy Calls returned w answer
+  some_following has true w = has w.process w.frame
+  some_following has false w = (Ok w.frame, refl)
+
+  abbrev Walk : ℕ → FrameWalk P F → Type 0
+  Walk n w = (frames : List F) × (end : WalkEnd) × IsWalkBy Calls n w frames end
+
+  by_following : (n : ℕ) (w : FrameWalk P F) → ((v : FrameWalk P F) → Walk n v) → (answer : Result F WalkEnd) → Follows Calls w answer → Walk (suc n) w
+  by_following n w more (Ok s) follows =
+      let rest = more (walk_after w (Ok s)) in
+      (s ∷ rest.0, rest.1, (follows, rest.2))
+  by_following n w more (Err end) follows = ([], end, follows)
+
+  from : HasCallers → (n : ℕ) (w : FrameWalk P F) → Walk n w
+  from has zero w = ([], w.end, (refl, refl))
+  from has (suc n) w =
+      let next = some_following has w.has_returned w in
+      by_following n w (λ v. from has n v) next.0 next.1
+
+  pub some_walk : HasCallers → (w : FrameWalk P F) → (frames : List F) × (end : WalkEnd) × IsWalk Calls w frames end
+  some_walk has w = from has w.remaining w
+
+  -- ---- and one alone, up to the numbers in a refusal, where each frame has one caller
+
+  abbrev pub HasOneCaller : P → Type 0
+  HasOneCaller p = (s : F) (x y : Result F WalkEnd) → Calls p s x → Calls p s y → by_end_kind x ≡ by_end_kind y
+
+  one_following : (returned : Bool) (w : FrameWalk P F) (x y : Result F WalkEnd) → HasOneCaller w.process → FollowsBy Calls returned w x → FollowsBy Calls returned w y → by_end_kind x ≡ by_end_kind y
+  one_following true w x y one h k = one w.frame x y h k
+  one_following false w x y one h k = ap by_end_kind (h ∙ sym k)
+
+  one_walk_by : (n : ℕ) (w : FrameWalk P F) (frames others : List F) (end other : WalkEnd) → HasOneCaller w.process → IsWalkBy Calls n w frames end → IsWalkBy Calls n w others other → (frames ≡ others) × (end_kind end ≡ end_kind other)
+  one_walk_by zero w frames others end other one h k =
+      (h.0 ∙ sym k.0, ap end_kind (h.1 ∙ sym k.1))
+  one_walk_by (suc n) w [] [] end other one h k =
+      let same = one_following w.has_returned w (Err end) (Err other) one h k in
+      (refl, cc same)
+  one_walk_by (suc n) w [] (y ∷ ys) end other one h k =
+      let same = one_following w.has_returned w (Err end) (Ok y) one h k.0 in
+      absurd (cc same)
+  one_walk_by (suc n) w (x ∷ xs) [] end other one h k =
+      let same = one_following w.has_returned w (Ok x) (Err other) one h.0 k in
+      absurd (cc same)
+  one_walk_by (suc n) w (x ∷ xs) (y ∷ ys) end other one h k =
+      let both = one_following w.has_returned w (Ok x) (Ok y) one h.0 k.0 in
+      let same : x ≡ y = cc both in
+      let here = subst (λ (s : F). IsWalkBy Calls n (walk_after w (Ok s)) xs end) same h.1 in
+      let rest = one_walk_by n (walk_after w (Ok y)) xs ys end other one here k.1 in
+      (ap (λ (s : F). s ∷ xs) same ∙ ap (λ (fs : List F). y ∷ fs) rest.0, rest.1)
+
+  pub one_walk : (w : FrameWalk P F) (frames others : List F) (end other : WalkEnd) → HasOneCaller w.process → IsWalk Calls w frames end → IsWalk Calls w others other → (frames ≡ others) × (end_kind end ≡ end_kind other)
+  one_walk w frames others end other one h k = one_walk_by w.remaining w frames others end other one h k

@@ -1,0 +1,18 @@
+use Rattle.std.proofs.Common.{◌+◌, Ok, Err, refl}
+use Rattle.std.proofs.lemmas.Result.{err_from_is_err_and}
+use Rattle.pe_frame.specs.Arm64Operations.{store_some}
+use Rattle.pe_frame.specs.InPlace.{changed}
+use Rattle.pe_frame.proofs.Arm64Effects.{both_reverted, first_refused}
+use Rattle.pe_frame.proofs.arm64.undo.load_each.Goals as goal
+
+pub returns : goal.returns
+returns g c =
+    let m = g.M.Memory.word c.args.memory.now in
+    let one = c.load_some.new.registers in
+    both_reverted m (store_some c.args.slots.0 c.args.offset) (store_some c.args.slots.1 (c.args.offset + c.args.apart)) c.args.registers.now one (Ok one) (changed c.load_some-2.result c.load_some-2.new.registers) c.in_ok-load_some.ensures refl c.load_some-2.ensures
+
+pub returns-in_err-load_some : goal.returns-in_err-load_some
+returns-in_err-load_some g c =
+    let m = g.M.Memory.word c.args.memory.now in
+    let p = err_from_is_err_and c.from_residual.result c.from_residual.ensures.1 in
+    rw (p.1, p.2) (first_refused m (store_some c.args.slots.0 c.args.offset) (store_some c.args.slots.1 (c.args.offset + c.args.apart)) c.args.registers.now c.in_err-load_some.field-0.0 (Err c.in_err-load_some.field-0.0) c.in_err-load_some.ensures refl)

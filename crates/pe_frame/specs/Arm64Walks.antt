@@ -1,0 +1,164 @@
+-- Walks of a stack on ARM64: from the frame of a function to that of its caller, through the modules of a process.
+use Rattle.std.specs.Prelude.{◌≡◌, ℕ, ◌+◌, ◌-◌, ◌/◌, ◌==◌, ◌&&◌, Bool, true, false, if◌then◌else◌, List, Option, Some, None, Result, Ok, Err}
+use Rattle.std.specs.Option.{option_map}
+use Rattle.pe_core.specs.Refusals.{Refusal, ◌>>=◌}
+use Rattle.pe_core.specs.SectionMap.{map_view}
+use Rattle.pe_unwind.specs.Arm64Functions.{arm64_functions}
+use Rattle.pe_unwind.specs.Arm64Lookup.{FindsArm64, length_of_arm64}
+use Rattle.pe_unwind.specs.Arm64Record.{Arm64InfoView}
+use Rattle.pe_unwind.specs.Arm64Unwinding.{info_of_function}
+use Rattle.pe_unwind.specs.ExceptionTable.{ExceptionView, table_of}
+use Rattle.pe_unwind.specs.Lookup.{IsSortedBy}
+use Rattle.pe_unwind.specs.declared.arm64.function.Arm64RuntimeFunction.{Arm64RuntimeFunction}
+use Rattle.std.specs.List.{AllByRecursion}
+use Rattle.pe_frame.specs.Arm64Packed.{stepped_packed}
+use Rattle.pe_frame.specs.Arm64Steps.{StepsOutArm64}
+use Rattle.pe_frame.specs.Arm64Undoing.{link_register, put_pc}
+use Rattle.pe_frame.specs.FrameWalks.{FrameWalk}
+use Rattle.pe_frame.specs.Modules.{is_after_call_arm64, module_at}
+use Rattle.pe_frame.specs.Walks.{IsUnreadable}
+use Rattle.pe_frame.specs.declared.arm64.registers.Arm64Registers.{Arm64Registers}
+use Rattle.pe_frame.specs.declared.arm64.walk.Arm64StackFrame.{Arm64StackFrame}
+use Rattle.pe_frame.specs.declared.arm64.walk.Arm64StackFrames.{Arm64StackFrames}
+use Rattle.pe_frame.specs.declared.error.FrameError.{FrameError}
+use Rattle.pe_frame.specs.declared.error.FrameError.TheVariants.{NotRising}
+use Rattle.pe_frame.specs.declared.modules.Module.{Module}
+use Rattle.pe_frame.specs.declared.walk.Way.{Way}
+use Rattle.pe_frame.specs.declared.walk.Way.TheVariants.{Top, Records, Leaf, Interrupt, Scanned}
+use Rattle.pe_frame.specs.declared.walk.WalkEnd.{WalkEnd}
+use Rattle.pe_frame.specs.declared.walk.WalkEnd.TheVariants as ends
+
+-- what is known of a process: its memory and its modules
+pub record Process : Type 0 where
+  pub memory : ℕ → Option ℕ
+  pub modules : List Module
+
+-- ---- a frame
+
+-- The function of a frame has called, so that its instruction pointer is a return address. In the top frame, and in one that
+-- an interrupt stopped, it is that of the instruction which is about to run. A frame that records lead to was interrupted too
+-- where no call ends there: of some interrupts no record says that they are any.
+abbrev pub has_called : List Module → Way → ℕ → Bool
+has_called modules Top pc = false
+has_called modules Records pc = is_after_call_arm64 modules pc
+has_called modules Leaf pc = true
+has_called modules Interrupt pc = false
+has_called modules Scanned pc = true
+
+-- a frame with these registers, found in this way
+abbrev pub frame_of : List Module → Way → Arm64Registers → Arm64StackFrame
+frame_of modules way g = record { registers = g; way = way; has_called = has_called modules way g.pc }
+
+-- the address by which the function is looked up: a return address may be the end of the function, so that of the call
+abbrev pub lookup_address : Arm64StackFrame → ℕ
+lookup_address s = (s.registers).pc - (if s.has_called then 4 else 0)
+
+-- how many instructions of the function are before the instruction pointer: those up to the lookup address, and the call
+abbrev pub place_of : Module → Arm64RuntimeFunction → Arm64StackFrame → ℕ
+place_of m f s = (lookup_address s - m.base - f.begin_address) / 4 + (if s.has_called then 1 else 0)
+
+-- ---- its caller, or why there is none
+
+-- the caller of a leaf function goes on at the link register
+abbrev pub after_leaf : Arm64Registers → Arm64Registers
+after_leaf g = put_pc g (link_register g)
+
+-- In no function of a module. A leaf function calls nothing, so a frame that has called has no caller.
+abbrev pub leaf_caller : List Module → Arm64StackFrame → Result Arm64StackFrame WalkEnd
+leaf_caller modules s =
+    if s.has_called then Err ends.NoFunction
+    else (if link_register s.registers == 0 then Err ends.Bottom else Ok (frame_of modules Leaf (after_leaf s.registers)))
+
+-- The same in no module, to which a wild jump or call may lead: there a call has to end at the link register.
+abbrev pub outside_caller : List Module → Arm64StackFrame → Result Arm64StackFrame WalkEnd
+outside_caller modules s =
+    if s.has_called then Err ends.NoModule
+    else (if is_after_call_arm64 modules (link_register s.registers) then Ok (frame_of modules Leaf (after_leaf s.registers)) else Err ends.NoModule)
+
+-- The frame that records lead to. A function that calls has stored the link register, below the stack pointer of its caller: where
+-- it stands, the walk is lost.
+abbrev pub called_frame : List Module → Arm64StackFrame → Arm64Registers → Result Arm64StackFrame WalkEnd
+called_frame modules s u =
+    if s.has_called && u.sp == (s.registers).sp then Err (ends.Step (NotRising u.sp))
+    else (if u.pc == 0 then Err ends.Bottom else Ok (frame_of modules Records u))
+
+-- what a step returned
+abbrev pub frame_after : List Module → Arm64StackFrame → Result (Arm64Registers × Bool) FrameError → Result Arm64StackFrame WalkEnd
+frame_after modules s (Ok (u, true)) = Ok (frame_of modules Interrupt u)
+frame_after modules s (Ok (u, false)) = called_frame modules s u
+frame_after modules s (Err e) = Err (ends.Step e)
+
+-- packed unwind data stand for no interrupt
+abbrev pub stepped_out_packed : (ℕ → Option ℕ) → ℕ → ℕ → Arm64Registers → Result (Arm64Registers × Bool) FrameError
+stepped_out_packed memory d place g = stepped_packed memory d place g >>= λ u. Ok (u, false)
+
+-- by the unwind record of its function, or by its packed unwind data
+abbrev pub CallsByInfo : Process → Module → Arm64RuntimeFunction → Arm64StackFrame → Option (Result Arm64InfoView Refusal) → Result Arm64StackFrame WalkEnd → Type 0
+CallsByInfo p m f s None answer =
+    answer ≡ frame_after p.modules s (stepped_out_packed p.memory f.unwind_data (place_of m f s) s.registers)
+CallsByInfo p m f s (Some (Err r)) answer = IsUnreadable r answer
+CallsByInfo p m f s (Some (Ok i)) answer =
+    (left : Result (Arm64Registers × Bool) FrameError) × StepsOutArm64 p.memory i (place_of m f s) s.registers left
+    × (answer ≡ frame_after p.modules s left)
+
+-- by the function that lookup found, if it found one; lookup reads the length of a function from its record
+abbrev pub CallsFound : Process → Module → ExceptionView → Arm64StackFrame → Result (Option Arm64RuntimeFunction) Refusal → Result Arm64StackFrame WalkEnd → Type 0
+CallsFound p m e s (Err r) answer = IsUnreadable r answer
+CallsFound p m e s (Ok None) answer = answer ≡ leaf_caller p.modules s
+CallsFound p m e s (Ok (Some f)) answer = CallsByInfo p m f s (info_of_function e m.sections.now m.opts f) answer
+
+-- the length of each function of a module
+abbrev pub length_in : Module → ExceptionView → Arm64RuntimeFunction → Result ℕ Refusal
+length_in m e = length_of_arm64 e.content (map_view m.opts m.sections.now e.alignment)
+
+-- by the exception data of a module; without any all of its functions are leaf functions
+abbrev pub CallsBy : Process → Module → Arm64StackFrame → Option ExceptionView → Result Arm64StackFrame WalkEnd → Type 0
+CallsBy p m s None answer = answer ≡ leaf_caller p.modules s
+CallsBy p m s (Some e) answer =
+    (found : Result (Option Arm64RuntimeFunction) Refusal)
+    × FindsArm64 (length_in m e) (arm64_functions (table_of e)) (lookup_address s - m.base) found
+    × CallsFound p m e s found answer
+
+-- in the module that has the address, if one does
+abbrev pub CallsIn : Process → Arm64StackFrame → Option Module → Result Arm64StackFrame WalkEnd → Type 0
+CallsIn p s None answer = answer ≡ outside_caller p.modules s
+CallsIn p s (Some m) answer = CallsBy p m s (option_map (λ e. e.now) m.exceptions) answer
+
+-- the frame of the caller of a frame, or why there is none
+abbrev pub Calls : Process → Arm64StackFrame → Result Arm64StackFrame WalkEnd → Type 0
+Calls p s answer = CallsIn p s (module_at p.modules (lookup_address s)) answer
+
+-- ---- the iterator
+
+-- where it is, by what its type of memory knows
+abbrev pub walk_of : {M : Type 0} → (M → ℕ → Option ℕ) → Arm64StackFrames M → FrameWalk Process Arm64StackFrame
+walk_of word s = record {
+  process = record { memory = word s.memory.now; modules = s.modules.modules.now };
+  frame = s.frame;
+  has_returned = s.has_returned;
+  remaining = s.remaining;
+  end = s.end;
+}
+
+-- a walk of at most so many frames, from the registers of a thread
+abbrev pub starting_walk : (ℕ → Option ℕ) → List Module → Arm64Registers → ℕ → FrameWalk Process Arm64StackFrame
+starting_walk memory modules registers most = record {
+  process = record { memory = memory; modules = modules };
+  frame = frame_of modules Top registers;
+  has_returned = false;
+  remaining = most;
+  end = ends.Bound;
+}
+
+-- ---- what decides a walk
+
+-- the function table of each module is sorted, so that lookup finds what a linear scan finds
+abbrev pub HasSortedTable : Option ExceptionView → Type 0
+HasSortedTable None = Unit {0}
+HasSortedTable (Some e) = IsSortedBy (λ f. f.begin_address) (arm64_functions (table_of e))
+
+abbrev pub IsSortedModule : Module → Type 0
+IsSortedModule m = HasSortedTable (option_map (λ e. e.now) m.exceptions)
+
+abbrev pub AreSortedModules : List Module → Type 0
+AreSortedModules modules = AllByRecursion IsSortedModule modules

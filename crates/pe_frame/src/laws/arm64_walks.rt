@@ -1,0 +1,89 @@
+//! Laws of whole walks on ARM64.
+
+ghost use Rattle.std.specs.Prelude.{Bool, ◌≡◌, ◌≢◌, ◌≤◌, ◌<◌, ◌⊎◌, true, false, List, length, None, Some, Ok, Err};
+ghost use Rattle.std.specs.Iterator.{YieldsThen};
+ghost use Rattle.pe_unwind.specs.Arm64Record.{Arm64InfoView};
+ghost use Rattle.pe_unwind.specs.declared.arm64.function.Arm64RuntimeFunction.{Arm64RuntimeFunction};
+ghost use Rattle.pe_frame.specs.Arm64Packed.{stepped_packed};
+ghost use Rattle.pe_frame.specs.Arm64Steps.{StepsOutArm64};
+ghost use Rattle.pe_frame.specs.Arm64Undoing.{link_register};
+ghost use Rattle.pe_frame.specs.Arm64Walks.{AreSortedModules, Calls, CallsByInfo, Process, has_called, leaf_caller, outside_caller, place_of, walk_of};
+ghost use Rattle.pe_frame.specs.FrameWalks.{FrameWalk, IsWalk};
+ghost use Rattle.pe_frame.specs.Walks.{end_kind};
+ghost use Rattle.pe_frame.specs.declared.arm64.registers.Arm64Registers.{Arm64Registers};
+ghost use Rattle.pe_frame.specs.declared.arm64.walk.Arm64StackFrame.{Arm64StackFrame};
+ghost use Rattle.pe_frame.specs.declared.arm64.walk.Arm64StackFrames.{Arm64StackFrames};
+ghost use Rattle.pe_frame.specs.declared.modules.Module.{Module};
+ghost use Rattle.pe_frame.specs.declared.walk.Way.TheVariants.{Records, Interrupt};
+ghost use Rattle.pe_frame.specs.declared.walk.WalkEnd.{WalkEnd};
+ghost use Rattle.pe_frame.specs.declared.walk.WalkEnd.TheVariants.{Bottom};
+
+use crate::arm64::Arm64StackFrames;
+use crate::memory::Memory;
+
+/// A whole walk returns the frames of a thread, at most as many as were asked for: the first as it is, and then the caller of
+/// each, until there is none, for the reason that the iterator then has, or until as many were returned.
+pub fn arm64_walks_return_the_frames<M: Memory + 'static>()
+    ensures { (s u : Arm64StackFrames M) (frames : List Arm64StackFrame) →
+        YieldsThen ⟦<Arm64StackFrames<'static, M> as Iterator>⟧.next_gives s frames None u →
+        IsWalk Calls (walk_of M.word s) frames u.end × (length frames ≤ s.remaining)
+        × (u.remaining ≡ 0) }
+{}
+
+/// From each state there is at most one walk, up to the numbers in a refusal, where the function tables of the modules are sorted.
+pub fn one_result_of_arm64_walks()
+    ensures { (w : FrameWalk Process Arm64StackFrame)
+        (frames others : List Arm64StackFrame) (end other : WalkEnd) →
+        AreSortedModules (w.process).modules →
+        IsWalk Calls w frames end → IsWalk Calls w others other →
+        (frames ≡ others) × (end_kind end ≡ end_kind other) }
+{}
+
+/// A frame that is found by an unwind record is the step from the one before it (`records`), and so is one that is found by
+/// packed unwind data (`packed`).
+pub fn arm64_frames_are_steps()
+    ensures records { (p : Process) (m : Module) (f : Arm64RuntimeFunction)
+        (s t : Arm64StackFrame) (i : Arm64InfoView) →
+        CallsByInfo p m f s (Some (Ok i)) (Ok t) →
+        (interrupted : Bool)
+        × StepsOutArm64 p.memory i (place_of m f s) s.registers (Ok (t.registers, interrupted)) }
+    ensures packed { (p : Process) (m : Module) (f : Arm64RuntimeFunction) (s t : Arm64StackFrame) →
+        CallsByInfo p m f s None (Ok t) →
+        stepped_packed p.memory f.unwind_data (place_of m f s) s.registers ≡ Ok t.registers }
+{}
+
+/// Each frame says whether it has called, by its way and the bytes before its instruction pointer (`called`). What was found
+/// without records was found from the top frame or from one that was interrupted: from one that has not called (`guessed`).
+pub fn arm64_frames_say_whether_they_called()
+    ensures called { (p : Process) (s t : Arm64StackFrame) →
+        Calls p s (Ok t) → t.has_called ≡ has_called p.modules t.way (t.registers).pc }
+    ensures guessed { (p : Process) (s t : Arm64StackFrame) →
+        Calls p s (Ok t) → s.has_called ≡ true → (t.way ≡ Records) ⊎ (t.way ≡ Interrupt) }
+{}
+
+/// From a frame that has called to one that is found by records the stack pointer rises, so that such frames do not go round.
+pub fn arm64_frames_that_called_rise()
+    ensures { (p : Process) (s t : Arm64StackFrame) →
+        Calls p s (Ok t) → s.has_called ≡ true →
+        t.way ≡ Records → (s.registers).sp < (t.registers).sp }
+{}
+
+/// At the bottom a caller's instruction pointer is 0: one to which records led (`records`) or packed unwind data (`packed`), or
+/// the link register of a frame that has not called (`leaf`). A frame in no module is never the bottom (`outside`).
+pub fn arm64_bottoms_are_returns_to_0()
+    ensures records { (p : Process) (m : Module) (f : Arm64RuntimeFunction)
+        (s : Arm64StackFrame) (i : Arm64InfoView) →
+        CallsByInfo p m f s (Some (Ok i)) (Err Bottom) →
+        (u : Arm64Registers)
+        × StepsOutArm64 p.memory i (place_of m f s) s.registers (Ok (u, false)) × (u.pc ≡ 0) }
+    ensures packed { (p : Process) (m : Module) (f : Arm64RuntimeFunction) (s : Arm64StackFrame) →
+        CallsByInfo p m f s None (Err Bottom) →
+        (u : Arm64Registers)
+        × (stepped_packed p.memory f.unwind_data (place_of m f s) s.registers ≡ Ok u)
+        × (u.pc ≡ 0) }
+    ensures leaf { (modules : List Module) (s : Arm64StackFrame) →
+        leaf_caller modules s ≡ Err Bottom →
+        (s.has_called ≡ false) × (link_register s.registers ≡ 0) }
+    ensures outside { (modules : List Module) (s : Arm64StackFrame) →
+        outside_caller modules s ≢ Err Bottom }
+{}
