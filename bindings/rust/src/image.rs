@@ -437,8 +437,7 @@ impl<'a> Image<'a> {
     pub fn headers(&self) -> Result<Headers, Error> {
         let mut headers = Headers::default();
         // SAFETY: as above.
-        let number =
-            unsafe { sys::pe_c_headers(self.bytes.as_ptr(), self.bytes.len(), self.info.mode, &mut headers) };
+        let number = unsafe { sys::pe_c_headers(self.bytes.as_ptr(), self.bytes.len(), self.info.mode, &mut headers) };
         Error::of(number).map(|()| headers)
     }
 
