@@ -364,6 +364,17 @@ PE_C_SIZE(pe_c_headers_info, 368);
  * Errors are those of pe_c_image. */
 uint32_t pe_c_headers(const uint8_t *bytes, size_t length, uint32_t mode, pe_c_headers_info *out) PE_C_RESULT(4);
 
+/* ---- the section map, section by section */
+
+/* Returns the index of the section that maps an RVA: the first that covers it, by which pe_c_offset maps it. PE_C_NOTHING where none
+ * does, and in an image as loaded, where no section maps RVAs. It never returns an error. */
+uint32_t pe_c_section_at(const pe_c_view *view, uint32_t rva, uint64_t *out) PE_C_RESULT(1, 3);
+
+/* Returns the bytes that the RVAs of a section are mapped to, one after the other, up to the end of the bytes. In an image as loaded
+ * they stand at the section's RVA, as many as its virtual size says, or its raw size where that is 0. PE_C_NOTHING without any. It
+ * never returns an error. */
+uint32_t pe_c_section_range(const pe_c_view *view, const pe_c_section *section, pe_c_range *out) PE_C_RESULT(1, 2, 3);
+
 /* ---- the overlay */
 
 /* Returns the range of the bytes after the headers and the raw data of all sections, which no loader reads: where installers

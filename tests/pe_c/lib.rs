@@ -17,6 +17,7 @@ mod image;
 mod imports;
 mod load_config;
 mod made;
+mod maps;
 mod overlay;
 mod plan;
 mod resource_leaves;

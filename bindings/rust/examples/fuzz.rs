@@ -212,7 +212,13 @@ fn read_by_lies(bytes: &[u8], random: &mut Random, seen: &mut Seen) {
     let view = sys::View { bytes: start, length, image: &image, sections: sections.as_ptr(), count: sections.len() };
     let mut entry = sys::DebugEntry::default();
     // SAFETY: as above, and the view is of what is lent.
-    unsafe { sys::pe_c_first_debug_entry(&view, few % 24, &mut entry) };
+    unsafe {
+        sys::pe_c_first_debug_entry(&view, few % 24, &mut entry);
+        let (mut index, mut range) = (0, sys::Range::default());
+        sys::pe_c_section_at(&view, few, &mut index);
+        sys::pe_c_section_range(&view, &section, &mut range);
+        assert!(range.offset <= number && range.length <= number - range.offset);
+    }
     for entry in [
         entry,
         sys::DebugEntry {

@@ -437,8 +437,7 @@ impl<'a> Image<'a> {
     pub fn headers(&self) -> Result<Headers, Error> {
         let mut headers = Headers::default();
         // SAFETY: as above.
-        let number =
-            unsafe { sys::pe_c_headers(self.bytes.as_ptr(), self.bytes.len(), self.info.mode, &mut headers) };
+        let number = unsafe { sys::pe_c_headers(self.bytes.as_ptr(), self.bytes.len(), self.info.mode, &mut headers) };
         Error::of(number).map(|()| headers)
     }
 
@@ -458,6 +457,30 @@ impl<'a> Image<'a> {
         let number =
             unsafe { sys::pe_c_offset(&self.info, self.sections.as_ptr(), self.sections.len(), rva, &mut offset) };
         (number == sys::DONE).then_some(offset)
+    }
+
+    /// The section that maps an RVA: the first that covers it, by which [`Image::offset`] maps it. `None` where none does, and in
+    /// [`Layout::Mapped`], where no section maps RVAs.
+    pub fn section_at(&self, rva: u32) -> Option<&Section> {
+        let view = self.view();
+        let mut index = 0;
+        // SAFETY: the view is of what `self` lends for the call.
+        let number = unsafe { sys::pe_c_section_at(&view, rva, &mut index) };
+        self.sections.get(usize::try_from(index).ok()?).filter(|_| number == sys::DONE)
+    }
+
+    /// The bytes that the RVAs of a section are mapped to, one after the other, up to the end of the bytes; empty without any. In
+    /// [`Layout::Mapped`] they stand at the section's RVA, as many as its virtual size says, or its raw size where that is 0.
+    pub fn section_bytes(&self, section: &Section) -> &'a [u8] {
+        let view = self.view();
+        let mut range = sys::Range::default();
+        // SAFETY: the view is of what `self` lends for the call, and the section is lent too.
+        let number = unsafe { sys::pe_c_section_range(&view, section, &mut range) };
+        if number == sys::DONE {
+            range.of(self.bytes).unwrap_or_default()
+        } else {
+            &[]
+        }
     }
 
     /// The image as newer calls take it. It is for calls that end before `self` changes or ends.

@@ -1190,6 +1190,10 @@ extern "C" {
         -> u32;
     /// Returns the first entry of a type in the debug directory.
     pub fn pe_c_first_debug_entry(view: *const View, data_type: u32, out: *mut DebugEntry) -> u32;
+    /// Returns the index of the section that maps an RVA.
+    pub fn pe_c_section_at(view: *const View, rva: u32, out: *mut u64) -> u32;
+    /// Returns the bytes that the RVAs of a section are mapped to.
+    pub fn pe_c_section_range(view: *const View, section: *const Section, out: *mut Range) -> u32;
     /// Starts the plan of a function, by its unwind RVA.
     pub fn pe_c_plan_from(unwind: u32, out: *mut Plan) -> u32;
     /// Finds the registers of an x64 function's caller, and writes them over those of the frame.

@@ -59,6 +59,9 @@ fn addresses_have_offsets_where_a_section_covers_them() {
     assert_eq!(image.offset(0x1040), Some(0x240));
     assert_eq!(image.offset(0x0FFF), None);
     assert_eq!(image.offset(0xFFFF_FFFF), None);
+    let section = image.section_at(0x1040).unwrap();
+    assert_eq!((section.name(), image.section_at(0x0FFF)), (b".rdata".as_slice(), None));
+    assert_eq!(image.section_bytes(section), &SMALL[0x200..0x400]);
 }
 
 /// Each number of the headers, by the bytes that the PE format has for it. The optional header starts at 0x58.

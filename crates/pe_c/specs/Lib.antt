@@ -32,3 +32,4 @@ pub mod VersionBlocks
 pub mod Overlays
 pub mod Headers
 pub mod DebugLaws
+pub mod Maps

@@ -28,6 +28,7 @@ mod image;
 mod imports;
 pub mod laws;
 mod load_config;
+mod maps;
 mod overlay;
 mod plan;
 mod ranges;

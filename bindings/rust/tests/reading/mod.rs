@@ -447,6 +447,8 @@ pub fn read_all(bytes: &[u8], mode: Mode, layout: Layout, most: usize) -> Seen {
     seen.images += 1;
     for section in image.sections() {
         std::hint::black_box(section.name().len());
+        seen.touch(image.section_bytes(section));
+        std::hint::black_box(image.section_at(section.virtual_address));
     }
     std::hint::black_box(image.offset(image.info().entry));
     let headers = image.headers().expect("the headers were read");

@@ -1,0 +1,147 @@
+//! Which section maps an RVA, and the bytes to which a section maps its RVAs.
+
+use super::made::{
+    MAPPED, PERMISSIVE, STRICT, UNTOUCHED, X64, image, in_mode, of_range, untouched,
+};
+use crate::image::Image;
+use crate::maps::{pe_c_section_at, pe_c_section_range};
+use crate::results::{DONE, NOTHING};
+use crate::view::View;
+use pe_core::SectionTable;
+
+/// A section of so many bytes in memory and in the file.
+fn section(rva: u32, virtual_size: u32, offset: u32, raw_size: u32) -> SectionTable {
+    SectionTable {
+        name: [0; 8],
+        virtual_size,
+        virtual_address: rva,
+        size_of_raw_data: raw_size,
+        pointer_to_raw_data: offset,
+        pointer_to_relocations: 0,
+        pointer_to_linenumbers: 0,
+        number_of_relocations: 0,
+        number_of_linenumbers: 0,
+        characteristics: 0,
+    }
+}
+
+fn aligned(file_alignment: u32, mode: u32) -> Image {
+    Image {
+        file_alignment,
+        ..in_mode(&image(X64), mode)
+    }
+}
+
+fn index_at(image: &Image, sections: &[SectionTable], rva: u32) -> (u32, u64) {
+    let view = View {
+        bytes: &[],
+        image,
+        sections,
+    };
+    let mut out = 9;
+    (pe_c_section_at(&view, rva, &mut out), out)
+}
+
+/// The first section that covers an RVA: up to its raw size, a page at a time, and its virtual size likewise. The third lies over
+/// the first two.
+#[test]
+fn sections_of_rvas(rt: HostRuntime) {
+    let sections = [
+        section(0x1000, 0x1001, 0x200, 0x1800),
+        section(0x4000, 0, 0x1A00, 0x200),
+        section(0x1000, 0x9000, 0x200, 0x9000),
+    ];
+    for mode in [STRICT, PERMISSIVE] {
+        let image = aligned(0x200, mode);
+        for (rva, number, index) in [
+            (0xFFF, NOTHING, 9),
+            (0x1000, DONE, 0),
+            (0x27FF, DONE, 0),
+            (0x2800, DONE, 2),
+            (0x4000, DONE, 1),
+            (0x41FF, DONE, 1),
+            (0x4200, DONE, 2),
+            (0x9FFF, DONE, 2),
+            (0xA000, NOTHING, 9),
+            (u32::MAX, NOTHING, 9),
+        ] {
+            assert_eq!(rt;
+                index_at(&image, &sections, rva),
+                (number, index),
+                "{rva:#x}"
+            );
+        }
+        assert_eq!(rt;
+            index_at(&aligned(0x300, mode), &sections, 0x1000),
+            (NOTHING, 9)
+        );
+        assert_eq!(rt;
+            index_at(&aligned(0, mode), &sections, 0x1000),
+            (NOTHING, 9)
+        );
+        assert_eq!(rt; index_at(&image, &[], 0x1000), (NOTHING, 9));
+    }
+    assert_eq!(rt;
+        index_at(&aligned(0x200, MAPPED), &sections, 0x1000),
+        (NOTHING, 9)
+    );
+}
+
+fn range_of(image: &Image, length: usize, section: &SectionTable) -> (u32, [u64; 2]) {
+    let bytes = [0; 0x1000];
+    let view = View {
+        bytes: &bytes[..length],
+        image,
+        sections: &[],
+    };
+    let mut out = untouched();
+    let number = pe_c_section_range(&view, section, &mut out);
+    (number, of_range(out))
+}
+
+/// The raw pointer is rounded down to 512 and the end up to the file alignment; a virtual size that is smaller is rounded up to a
+/// page. The bytes end where the file does.
+#[test]
+fn ranges_of_sections(rt: HostRuntime) {
+    let image = aligned(0x200, STRICT);
+    for (section, number, range) in [
+        (section(0x1000, 0x300, 0x400, 0x300), DONE, [0x400, 0x400]),
+        (section(0x1000, 0, 0x450, 0x1B0), DONE, [0x400, 0x200]),
+        (section(0x1000, 1, 0x400, 0xB00), DONE, [0x400, 0xC00]),
+        (section(0x1000, 0x2000, 0xE00, 0x1000), DONE, [0xE00, 0x200]),
+        (section(0x1000, 0x2000, 0x1000, 0x1000), NOTHING, UNTOUCHED),
+        (
+            section(0x1000, 0x2000, u32::MAX, u32::MAX),
+            NOTHING,
+            UNTOUCHED,
+        ),
+        (section(0x1000, 0x2000, 0x400, 0), NOTHING, UNTOUCHED),
+    ] {
+        assert_eq!(rt; range_of(&image, 0x1000, &section), (number, range));
+    }
+    let one = section(0x1000, 0x300, 0x400, 0x300);
+    assert_eq!(rt; range_of(&image, 0x401, &one), (DONE, [0x400, 1]));
+    assert_eq!(rt; range_of(&image, 0x400, &one), (NOTHING, UNTOUCHED));
+    assert_eq!(rt;
+        range_of(&aligned(0, STRICT), 0x1000, &one),
+        (NOTHING, UNTOUCHED)
+    );
+    // as loaded: at the RVA, as many as the virtual size says, or the raw size where that is 0
+    let loaded = aligned(0, MAPPED);
+    assert_eq!(rt;
+        range_of(&loaded, 0x1000, &section(0x800, 0x301, 0, 9)),
+        (DONE, [0x800, 0x301])
+    );
+    assert_eq!(rt;
+        range_of(&loaded, 0x1000, &section(0x800, 0, 0, 9)),
+        (DONE, [0x800, 9])
+    );
+    assert_eq!(rt;
+        range_of(&loaded, 0x1000, &section(0xFFF, 9, 0, 9)),
+        (DONE, [0xFFF, 1])
+    );
+    assert_eq!(rt;
+        range_of(&loaded, 0x1000, &section(0x1000, 9, 0, 9)),
+        (NOTHING, UNTOUCHED)
+    );
+}
