@@ -938,19 +938,23 @@ fn code_of(it: &sys::Arm64Code, len: u8) -> error::Result<Arm64UnwindCode> {
         19 => End,
         20 => EndC,
         21 => SaveNext,
-        22 => SaveAnyReg {
-            kind: (it.flags >> 2) as u8 & 3,
-            pair: it.flags & 1 != 0,
-            preindexed: it.flags & 2 != 0,
-            reg,
-            offset_bytes,
-        },
+        22 => save_any_reg_of(it, reg),
         23 => SaveZReg { r: reg, o: raw::narrow(it.value)? },
         24 => SavePReg { r: reg, o: raw::narrow(it.value)? },
         25 => CustomStack(custom_stack_of(reg)),
         26 => PacSignLr,
         _ => Reserved { opcode: reg, data: it.value, data_len: len.saturating_sub(1) },
     })
+}
+
+fn save_any_reg_of(it: &sys::Arm64Code, reg: u8) -> Arm64UnwindCode {
+    Arm64UnwindCode::SaveAnyReg {
+        kind: (it.flags >> 2) as u8 & 3,
+        pair: it.flags & 1 != 0,
+        preindexed: it.flags & 2 != 0,
+        reg,
+        offset_bytes: it.value,
+    }
 }
 
 fn custom_stack_of(case: u8) -> Arm64CustomStackCase {

@@ -104,43 +104,32 @@ impl<'a> PE<'a> {
             true => imports_of(view, limits)?,
             false => (None, Vec::new()),
         };
-        let debug_data = unless_damaged(debug::DebugData::of(view), is_permissive)?;
-        let tls_data = unless_damaged(tls::TlsData::of(view), is_permissive)?;
-        let exception_data = unless_damaged(exception::ExceptionData::of(view), is_permissive)?;
-        let relocation_data = unless_damaged(relocation::RelocationData::of(view), is_permissive)?;
-        let load_config_data = unless_damaged(load_config::LoadConfigData::of(view), is_permissive)?;
-        let clr_data = unless_damaged(clr::ClrData::of(view), is_permissive)?;
-        let certificates = match opts.parse_attribute_certificates {
-            true => unless_damaged(certificates_of(view), is_permissive)?.unwrap_or_default(),
-            false => Vec::new(),
-        };
-        let resource_data = match opts.parse_resources {
-            true => unless_damaged(resource::ResourceData::of(view), is_permissive)?,
-            false => None,
-        };
+        let libraries = libraries_of(&import_data)?;
+        let sections = sections_of(view)?;
         Ok(PE {
-            bytes,
-            header,
-            sections: sections_of(view)?,
             size: 0,
             name: export_data.as_ref().and_then(|it| it.name),
             is_lib: characteristic::is_dll(info.characteristics),
             is_64: info.width == 64,
             entry: info.entry,
             image_base: info.base,
+            // In the order in which strict mode returns their errors.
+            debug_data: unless_damaged(debug::DebugData::of(view), is_permissive)?,
+            tls_data: unless_damaged(tls::TlsData::of(view), is_permissive)?,
+            exception_data: unless_damaged(exception::ExceptionData::of(view), is_permissive)?,
+            relocation_data: unless_damaged(relocation::RelocationData::of(view), is_permissive)?,
+            load_config_data: unless_damaged(load_config::LoadConfigData::of(view), is_permissive)?,
+            clr_data: unless_damaged(clr::ClrData::of(view), is_permissive)?,
+            certificates: unless_damaged(certificates_of(view, opts), is_permissive)?.unwrap_or_default(),
+            resource_data: unless_damaged(resources_of(view, opts), is_permissive)?,
+            bytes,
+            header,
+            sections,
             export_data,
-            libraries: libraries_of(&import_data)?,
-            import_data,
             exports,
+            import_data,
             imports,
-            debug_data,
-            tls_data,
-            exception_data,
-            relocation_data,
-            load_config_data,
-            certificates,
-            resource_data,
-            clr_data,
+            libraries,
             info,
         })
     }
@@ -209,13 +198,20 @@ fn libraries_of<'a>(data: &Option<import::ImportData<'a>>) -> error::Result<Vec<
 
 type Certificates<'a> = Option<certificate_table::CertificateDirectoryTable<'a>>;
 
-fn certificates_of<'a>(view: View<'a, '_>) -> error::Result<Certificates<'a>> {
+fn certificates_of<'a>(view: View<'a, '_>, opts: &ParseOptions) -> error::Result<Certificates<'a>> {
     let directory = view.directory(Index::Certificate);
-    if directory == Default::default() {
+    if !opts.parse_attribute_certificates || directory == Default::default() {
         return Ok(None);
     }
     let (at, size) = (directory.virtual_address, directory.size);
     certificate_table::enumerate_certificates(view.bytes, at, size).map(Some)
+}
+
+fn resources_of<'a>(view: View<'a, '_>, opts: &ParseOptions) -> error::Result<Option<resource::ResourceData<'a>>> {
+    match opts.parse_resources {
+        true => resource::ResourceData::of(view),
+        false => Ok(None),
+    }
 }
 
 /// A TE image: what UEFI keeps of a PE image. Its RVAs and offsets count from the start of the headers that were stripped; here
