@@ -5,10 +5,9 @@ use Rattle.std.proofs.lemmas.Grind.{same_number_lists}
 use Rattle.std.proofs.lemmas.List.{places}
 use Rattle.std.specs.List.{AllZip, find}
 use Rattle.std.specs.Option.{option_map}
-use Rattle.std.specs.Prelude.{◌==◌, ◌||◌, min, nat_le, nat_lt, slice_index, if◌then◌else◌}
+use Rattle.std.specs.Prelude.{◌==◌, nat_le, nat_lt, if◌then◌else◌}
 use Rattle.pe_core.specs.Bytes.{holds, le, range}
 use Rattle.pe_core.specs.Offsets.{bytes_in}
-use Rattle.pe_core.specs.Options.{is_permissive}
 use Rattle.pe_core.specs.Refusals.{Refusal, BadMagic, DebugData, DebugSize, Short, outcome, ◌>>=◌}
 use Rattle.pe_core.specs.SectionMap.{section_map}
 use Rattle.pe_core.specs.declared.byte_range.ByteRange.{ByteRange}
@@ -21,8 +20,8 @@ use Rattle.pe_records.specs.DebugRecords.{pdb70_at, pdb70_record, pdb20_at, pdb2
 use Rattle.pe_records.specs.DebugRecords as records
 use Rattle.pe_records.specs.ManagedDebug.{Embedded, checksum_record, embedded_record}
 use Rattle.pe_records.specs.declared.debug.ImageDebugDirectory.{ImageDebugDirectory}
-use Rattle.pe_c.specs.Debug.{characteristics_of, checksum_of, embedded_of, features_of, first_entry, flat_checksum, flat_embedded, flat_key, flat_pdb20, flat_pogo, flat_repro, key_of, pdb20_of, pogo_of, read_first, repro_of}
-use Rattle.pe_c.specs.DebugLaws.{DiffersElsewhere, ReadsItsBytes, SameBytes, SameOrOther, StandsAlone, by_kind, by_length, by_signature, by_size, debug_table}
+use Rattle.pe_c.specs.Debug.{characteristics_of, checksum_of, embedded_of, features_of, first_entry, flat_checksum, flat_embedded, flat_key, flat_pdb20, flat_pogo, flat_repro, key_of, pdb20_of, pogo_of, repro_of}
+use Rattle.pe_c.specs.DebugLaws.{ReadsItsBytes, SameBytes, SameOrOther, StandsAlone, by_kind, by_length, by_signature, by_size, debug_table}
 use Rattle.pe_c.specs.Images.{debug_directory, is_absent}
 use Rattle.pe_c.specs.Modes.{options_of, resolves}
 use Rattle.pe_c.specs.declared.image.Image.{Image}

@@ -1,5 +1,5 @@
 -- What a call returns of all headers of an image.
-use Rattle.std.specs.Prelude.{ℕ, ◌+◌, ◌==◌, List, [], ◌∷◌, length, Option, Some, None, Result, Ok}
+use Rattle.std.specs.Prelude.{ℕ, ◌+◌, List, [], ◌∷◌, length, Option, Some, None, Result, Ok}
 use Rattle.pe_core.specs.Bytes.{le}
 use Rattle.pe_core.specs.Header.{HeaderView, OptionalHeaderView, header_at}
 use Rattle.pe_core.specs.Refusals.{Refusal, ◌>>=◌}
