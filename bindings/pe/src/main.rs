@@ -21,7 +21,7 @@ mod summary;
 mod tables;
 mod unwind;
 
-use arguments::{Arguments, Command, Files, Hashing, Output, Reading};
+use arguments::{Arguments, Command, Files, Hashing, Output, Reading, Walk};
 use clap::error::ErrorKind;
 use clap::{CommandFactory, Parser, ValueEnum};
 use facts::{Facts, Topic, Wanted};
@@ -30,7 +30,7 @@ use page::Style;
 use pe_c::{Error, Image, Placement};
 use serde::Serialize;
 use std::io::{self, BufWriter, Write};
-use std::path::Path;
+use std::path::{Path, PathBuf};
 use std::process::ExitCode;
 
 /// What a run came to: the exit status. The worst of several files counts.
@@ -106,14 +106,7 @@ fn shown_whole(files: &Files, topics: &[Topic], how: How, out: &mut dyn Write) -
 fn run_command(command: &Command, out: &mut dyn Write) -> io::Result<Status> {
     match command {
         Command::Show { words, csv, walk, reading, hashing, output } => {
-            let (files, topics) = arguments::files_and_parts(words, *walk);
-            refuse_unknown_parts(&files);
-            let how = How::of(reading, hashing, output);
-            if *csv {
-                show_csv(&files, &topics, how, out)
-            } else {
-                shown_whole(&files, &topics, how, out)
-            }
+            show_parts((words, *walk), *csv, How::of(reading, hashing, output), out)
         }
         Command::Find { word, files, reading, output } => {
             find_word(word, files, How::without_hashes(reading, output), out)
@@ -136,15 +129,7 @@ fn run_command(command: &Command, out: &mut dyn Write) -> io::Result<Status> {
             })
         }
         Command::Unwind { words, all, walk, reading, output } => {
-            let is_last_a_file = words.last().is_some_and(|it| it.symlink_metadata().is_ok());
-            let (files, rva) = match arguments::files_and_rva(words, *walk) {
-                Some(_) if *all && !is_last_a_file => misused("--all is in place of an RVA"),
-                _ if *all => (Files { files: words.clone(), walk: *walk }, None),
-                Some((files, rva)) => (files, Some(rva)),
-                None => misused("an RVA in hexadecimal has to come after the files, or --all before them"),
-            };
-            let asked = unwind::Asked { rva, is_json: output.json, is_named: files.is_several() };
-            files::each(&files, out, |path, bytes| of_image(bytes, reading, |image| unwind::report(path, image, asked)))
+            unwind_functions((words, *walk), *all, How::without_hashes(reading, output), out)
         }
         Command::Completions { shell } => {
             clap_complete::generate(*shell, &mut Arguments::command(), "pe", out);
@@ -153,6 +138,31 @@ fn run_command(command: &Command, out: &mut dyn Write) -> io::Result<Status> {
         Command::Man => out.write_all(man::page().as_bytes()).map(|()| Status::Done),
         _ => write_file(command, out),
     }
+}
+
+/// `pe show`, of its words.
+fn show_parts(words: (&[PathBuf], Walk), is_csv: bool, how: How, out: &mut dyn Write) -> io::Result<Status> {
+    let (files, topics) = arguments::files_and_parts(words.0, words.1);
+    refuse_unknown_parts(&files);
+    if is_csv {
+        show_csv(&files, &topics, how, out)
+    } else {
+        shown_whole(&files, &topics, how, out)
+    }
+}
+
+/// `pe unwind`, of its words: the function at an RVA, or all.
+fn unwind_functions(words: (&[PathBuf], Walk), is_all: bool, how: How, out: &mut dyn Write) -> io::Result<Status> {
+    let (words, walk) = words;
+    let is_last_a_file = words.last().is_some_and(|it| it.symlink_metadata().is_ok());
+    let (files, rva) = match arguments::files_and_rva(words, walk) {
+        Some(_) if is_all && !is_last_a_file => misused("--all is in place of an RVA"),
+        _ if is_all => (Files { files: words.to_vec(), walk }, None),
+        Some((files, rva)) => (files, Some(rva)),
+        None => misused("an RVA in hexadecimal has to come after the files, or --all before them"),
+    };
+    let asked = unwind::Asked { rva, is_json: how.is_json, is_named: files.is_several() };
+    files::each(&files, out, |path, bytes| of_image(bytes, how.reading, |image| unwind::report(path, image, asked)))
 }
 
 /// Ends where the last of the files is none, and its name is nearly that of a part.
