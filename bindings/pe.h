@@ -366,13 +366,13 @@ uint32_t pe_c_headers(const uint8_t *bytes, size_t length, uint32_t mode, pe_c_h
 
 /* ---- the section map, section by section */
 
-/* Returns the index of the section that maps an RVA: the first that covers it, by which pe_c_offset maps it. PE_C_NOTHING where none
- * does, and in an image as loaded, where no section maps RVAs. It never returns an error. */
+/* Returns the index of the section that maps an RVA: the first that covers it, by which pe_c_offset maps it.
+ * PE_C_NOTHING where none does, and in an image as loaded, where no section maps RVAs. It never returns an error. */
 uint32_t pe_c_section_at(const pe_c_view *view, uint32_t rva, uint64_t *out) PE_C_RESULT(1, 3);
 
-/* Returns the bytes that the RVAs of a section are mapped to, one after the other, up to the end of the bytes. In an image as loaded
- * they stand at the section's RVA, as many as its virtual size says, or its raw size where that is 0. PE_C_NOTHING without any. It
- * never returns an error. */
+/* Returns the bytes that the RVAs of a section are mapped to, one after the other, up to the end of the bytes. In an
+ * image as loaded they stand at the section's RVA, as many as its virtual size says, or its raw size where that is 0.
+ * PE_C_NOTHING without any. It never returns an error. */
 uint32_t pe_c_section_range(const pe_c_view *view, const pe_c_section *section, pe_c_range *out) PE_C_RESULT(1, 2, 3);
 
 /* ---- the overlay */
@@ -536,15 +536,15 @@ uint32_t pe_c_next_debug_entry(const uint8_t *bytes, size_t length, pe_c_range *
  * Errors: PE_C_UNMAPPED; PE_C_DEBUG_BOUNDS in strict mode. */
 uint32_t pe_c_first_debug_entry(const pe_c_view *view, uint32_t data_type, pe_c_debug_entry *out) PE_C_RESULT(1, 3);
 
-/* The next six read the record of the first entry of a type, and return PE_C_NOTHING also without such an entry. Errors: those
- * of pe_c_first_debug_entry, then those of the call of the same record below, which takes an entry. */
+/* The next six read the record of the first entry of a type, and return PE_C_NOTHING also without such an entry.
+ * Errors: those of pe_c_first_debug_entry, then those of the call of the same record below, which takes an entry. */
 
 /* Returns the symbol key: the CodeView record, if it is one of PDB 7.0. */
 uint32_t pe_c_symbol_key(const uint8_t *bytes, size_t length, const pe_c_image_info *image,
                          const pe_c_section *sections, size_t count, pe_c_key *out) PE_C_RESULT(3, 6);
 
-/* Returns the symbol key of a CodeView record that stands alone, as a minidump has one of each module: no other debug data
- * is read, and no damage there is an error. PE_C_NOTHING where it is not a record of PDB 7.0.
+/* Returns the symbol key of a CodeView record that stands alone, as a minidump has one of each module: no other debug
+ * data is read, and no damage there is an error. PE_C_NOTHING where it is not a record of PDB 7.0.
  * Errors: PE_C_SHORT where the range is not inside the bytes; PE_C_DEBUG_SIZE where it has fewer than 24 bytes. */
 uint32_t pe_c_codeview(const uint8_t *bytes, size_t length, const pe_c_range *record, pe_c_key *out) PE_C_RESULT(3, 4);
 
@@ -571,14 +571,14 @@ uint32_t pe_c_debug_pogo(const uint8_t *bytes, size_t length, const pe_c_image_i
 /* The next eight read the record of an entry that the caller has, in a mode, whatever the entry's type is. */
 
 /* Returns the symbol key. PE_C_NOTHING where the record is not one of PDB 7.0.
- * Errors: PE_C_DEBUG_SIZE where the entry's size is below 24, in strict mode, and PE_C_NOTHING in permissive mode; PE_C_SHORT of
- * the first 24 bytes; PE_C_DEBUG_DATA of the name. */
+ * Errors: PE_C_DEBUG_SIZE where the entry's size is below 24, in strict mode, and PE_C_NOTHING in permissive mode;
+ * PE_C_SHORT of the first 24 bytes; PE_C_DEBUG_DATA of the name. */
 uint32_t pe_c_symbol_key_of(const uint8_t *bytes, size_t length, uint32_t mode, const pe_c_debug_entry *entry,
                             pe_c_key *out) PE_C_RESULT(4, 5);
 
 /* Returns a CodeView record of PDB 2.0. PE_C_NOTHING where it is none.
- * Errors: PE_C_DEBUG_SIZE where the entry's size is below 16, in strict mode, and PE_C_NOTHING in permissive mode; PE_C_SHORT of
- * the first 16 bytes; PE_C_DEBUG_DATA of the name. */
+ * Errors: PE_C_DEBUG_SIZE where the entry's size is below 16, in strict mode, and PE_C_NOTHING in permissive mode;
+ * PE_C_SHORT of the first 16 bytes; PE_C_DEBUG_DATA of the name. */
 uint32_t pe_c_pdb20_of(const uint8_t *bytes, size_t length, uint32_t mode, const pe_c_debug_entry *entry,
                        pe_c_pdb20 *out) PE_C_RESULT(4, 5);
 
@@ -598,13 +598,14 @@ uint32_t pe_c_repro_of(const uint8_t *bytes, size_t length, uint32_t mode, const
                        pe_c_repro *out) PE_C_RESULT(4, 5);
 
 /* Returns a POGO record. PE_C_NOTHING for another signature.
- * Errors: PE_C_SHORT of the signature; PE_C_POGO_SIZE where the entry's size is at most 4; PE_C_DEBUG_DATA of the entries. */
+ * Errors: PE_C_SHORT of the signature; PE_C_POGO_SIZE where the entry's size is at most 4; PE_C_DEBUG_DATA of the
+ * entries. */
 uint32_t pe_c_pogo_of(const uint8_t *bytes, size_t length, uint32_t mode, const pe_c_debug_entry *entry,
                       pe_c_pogo *out) PE_C_RESULT(4, 5);
 
 /* Returns the portable PDB in an image.
- * Errors: PE_C_DEBUG_SIZE where the entry's size is below 8; PE_C_SHORT of the first 8 bytes; PE_C_BAD_MAGIC; PE_C_DEBUG_DATA of
- * the compressed data. */
+ * Errors: PE_C_DEBUG_SIZE where the entry's size is below 8; PE_C_SHORT of the first 8 bytes; PE_C_BAD_MAGIC;
+ * PE_C_DEBUG_DATA of the compressed data. */
 uint32_t pe_c_embedded_pdb_of(const uint8_t *bytes, size_t length, uint32_t mode, const pe_c_debug_entry *entry,
                               pe_c_embedded_pdb *out) PE_C_RESULT(4, 5);
 

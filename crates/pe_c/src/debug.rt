@@ -77,8 +77,8 @@ fn first_entry(
     Ok(ImageDebugDirectoryIterator::new(range.of(bytes), 0).find_type(data_type))
 }
 
-/// Returns the first entry of a type, `IMAGE_DEBUG_TYPE_` of winnt.h, in the debug directory: `NOTHING` where there is none, or
-/// no such directory. A truncated last entry is none. The record is not read.
+/// Returns the first entry of a type, `IMAGE_DEBUG_TYPE_` of winnt.h, in the debug directory: `NOTHING` where there is
+/// none, or no such directory. A truncated last entry is none. The record is not read.
 ///
 /// Errors: `UNMAPPED`; `DEBUG_BOUNDS` in strict mode. Permissive mode truncates the entries at the end of the bytes.
 #[unsafe(no_mangle)]
@@ -103,8 +103,8 @@ fn first_key(bytes: &[u8], image: &Image, sections: &[SectionTable]) -> Result<O
     }
 }
 
-/// Returns the key under which a symbol server files an image's symbols, of the first CodeView entry: `NOTHING` where there is
-/// no such entry, or its record is not one of PDB 7.0.
+/// Returns the key under which a symbol server files an image's symbols, of the first CodeView entry: `NOTHING` where
+/// there is no such entry, or its record is not one of PDB 7.0.
 ///
 /// Errors: those of `pe_c_first_debug_entry`, then those of `pe_c_symbol_key_of`.
 #[unsafe(no_mangle)]
@@ -129,7 +129,8 @@ fn first_pdb20(bytes: &[u8], image: &Image, sections: &[SectionTable]) -> Result
     }
 }
 
-/// Reads the record of the first CodeView entry: `NOTHING` where there is no such entry, or its record is not one of PDB 2.0.
+/// Reads the record of the first CodeView entry: `NOTHING` where there is no such entry, or its record is not one of
+/// PDB 2.0.
 ///
 /// Errors: those of `pe_c_first_debug_entry`, then those of `pe_c_pdb20_of`.
 #[unsafe(no_mangle)]
@@ -192,8 +193,8 @@ fn first_characteristics(
     }
 }
 
-/// Reads the extended DLL characteristics, `IMAGE_DLLCHARACTERISTICS_EX_` flags, of the first entry that has them: `NOTHING`
-/// where there is no such entry.
+/// Reads the extended DLL characteristics, `IMAGE_DLLCHARACTERISTICS_EX_` flags, of the first entry that has them:
+/// `NOTHING` where there is no such entry.
 ///
 /// Errors: those of `pe_c_first_debug_entry`, then those of `pe_c_characteristics_of`.
 #[unsafe(no_mangle)]
@@ -243,7 +244,8 @@ fn first_pogo(bytes: &[u8], image: &Image, sections: &[SectionTable]) -> Result<
     }
 }
 
-/// Reads the record of the first POGO entry: `NOTHING` where there is no such entry, or its record has another signature.
+/// Reads the record of the first POGO entry: `NOTHING` where there is no such entry, or its record has another
+/// signature.
 ///
 /// Errors: those of `pe_c_first_debug_entry`, then those of `pe_c_pogo_of`.
 #[unsafe(no_mangle)]

@@ -230,10 +230,11 @@ fn checksum_of(bytes: &[u8], mode: u32, entry: &ImageDebugDirectory) -> Result<O
     }))
 }
 
-/// The key under which a symbol server files an image's symbols: `NOTHING` where the record is not one of PDB 7.0. The record is that of an entry of the caller's, whatever its type is.
+/// The key under which a symbol server files an image's symbols: `NOTHING` where the record is not one of PDB 7.0. The
+/// record is that of an entry of the caller's, whatever its type is.
 ///
-/// Errors: `DEBUG_SIZE` where the entry's size is below 24, in strict mode, and `NOTHING` in permissive mode; `SHORT` of the
-/// first 24 bytes; `DEBUG_DATA` of the name.
+/// Errors: `DEBUG_SIZE` where the entry's size is below 24, in strict mode, and `NOTHING` in permissive mode; `SHORT`
+/// of the first 24 bytes; `DEBUG_DATA` of the name.
 #[unsafe(no_mangle)]
 pub extern "C" fn pe_c_symbol_key_of(
     bytes: &[u8],
@@ -246,10 +247,11 @@ pub extern "C" fn pe_c_symbol_key_of(
     hand_out_some(key_of(bytes, mode, entry), out)
 }
 
-/// A CodeView record of PDB 2.0: `NOTHING` where it is none. The record is that of an entry of the caller's, whatever its type is.
+/// A CodeView record of PDB 2.0: `NOTHING` where it is none. The record is that of an entry of the caller's, whatever
+/// its type is.
 ///
-/// Errors: `DEBUG_SIZE` where the entry's size is below 16, in strict mode, and `NOTHING` in permissive mode; `SHORT` of the
-/// first 16 bytes; `DEBUG_DATA` of the name.
+/// Errors: `DEBUG_SIZE` where the entry's size is below 16, in strict mode, and `NOTHING` in permissive mode; `SHORT`
+/// of the first 16 bytes; `DEBUG_DATA` of the name.
 #[unsafe(no_mangle)]
 pub extern "C" fn pe_c_pdb20_of(
     bytes: &[u8],
@@ -262,7 +264,8 @@ pub extern "C" fn pe_c_pdb20_of(
     hand_out_some(pdb20_of(bytes, mode, entry), out)
 }
 
-/// The counts of VC features, whatever the entry's size is. The record is that of an entry of the caller's, whatever its type is.
+/// The counts of VC features, whatever the entry's size is. The record is that of an entry of the caller's, whatever
+/// its type is.
 ///
 /// Errors: `SHORT`.
 #[unsafe(no_mangle)]
@@ -277,7 +280,8 @@ pub extern "C" fn pe_c_vc_features_of(
     hand_out_some(features_of(bytes, mode, entry), out)
 }
 
-/// The extended DLL characteristics, `IMAGE_DLLCHARACTERISTICS_EX_` flags, whatever the entry's size is. The record is that of an entry of the caller's, whatever its type is.
+/// The extended DLL characteristics, `IMAGE_DLLCHARACTERISTICS_EX_` flags, whatever the entry's size is. The record is
+/// that of an entry of the caller's, whatever its type is.
 ///
 /// Errors: `SHORT`.
 #[unsafe(no_mangle)]
@@ -307,7 +311,8 @@ pub extern "C" fn pe_c_repro_of(
     hand_out_some(repro_of(bytes, mode, entry), out)
 }
 
-/// A POGO record: `NOTHING` where it has another signature. The record is that of an entry of the caller's, whatever its type is.
+/// A POGO record: `NOTHING` where it has another signature. The record is that of an entry of the caller's, whatever
+/// its type is.
 ///
 /// Errors: `SHORT` of the signature; `POGO_SIZE` where the entry's size is at most 4; `DEBUG_DATA` of the entries.
 #[unsafe(no_mangle)]
@@ -324,8 +329,8 @@ pub extern "C" fn pe_c_pogo_of(
 
 /// The portable PDB in an image. The record is that of an entry of the caller's, whatever its type is.
 ///
-/// Errors: `DEBUG_SIZE` where the entry's size is below 8; `SHORT` of the first 8 bytes; `BAD_MAGIC`; `DEBUG_DATA` of the
-/// compressed data.
+/// Errors: `DEBUG_SIZE` where the entry's size is below 8; `SHORT` of the first 8 bytes; `BAD_MAGIC`; `DEBUG_DATA` of
+/// the compressed data.
 #[unsafe(no_mangle)]
 pub extern "C" fn pe_c_embedded_pdb_of(
     bytes: &[u8],

@@ -119,8 +119,8 @@ fn section_range(bytes: &[u8], image: &Image, section: &SectionTable) -> Option<
     bytes_between(bytes, start, start + reach(section, image.file_alignment))
 }
 
-/// Returns the index of the section that maps an RVA: the first that covers it, by which `pe_c_offset` maps it. `NOTHING` where
-/// none does, and in an image as loaded, where no section maps RVAs. It never returns an error.
+/// Returns the index of the section that maps an RVA: the first that covers it, by which `pe_c_offset` maps it.
+/// `NOTHING` where none does, and in an image as loaded, where no section maps RVAs. It never returns an error.
 #[unsafe(no_mangle)]
 pub extern "C" fn pe_c_section_at(view: &View, rva: u32, out: &mut u64) -> u32
     ensures { HandsOutIf result out.old out.new
@@ -135,9 +135,9 @@ pub extern "C" fn pe_c_section_at(view: &View, rva: u32, out: &mut u64) -> u32
     }
 }
 
-/// Returns the bytes that the RVAs of a section are mapped to, one after the other, up to the end of the bytes: `NOTHING` without
-/// any. In an image as loaded they stand at the section's RVA, as many as its virtual size says, or its raw size where that is 0.
-/// It never returns an error.
+/// Returns the bytes that the RVAs of a section are mapped to, one after the other, up to the end of the bytes:
+/// `NOTHING` without any. In an image as loaded they stand at the section's RVA, as many as its virtual size says, or
+/// its raw size where that is 0. It never returns an error.
 #[unsafe(no_mangle)]
 pub extern "C" fn pe_c_section_range(view: &View, section: &SectionTable, out: &mut Range) -> u32
     ensures { HandsOutIf result out.old out.new
