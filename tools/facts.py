@@ -13,7 +13,8 @@ NOT_MADE = {"short"}
 
 
 def golden():
-    """What pe prints in JSON of each image that the cargo crate's tests make, from the golden texts, which are read and compared."""
+    """What pe prints in JSON of each image that the cargo crate's tests make, from the golden texts, which are read
+    and compared."""
     found = {}
     for path in sorted(glob.glob(os.path.join(GOLDEN, "*.txt"))):
         name = os.path.basename(path).removesuffix(".txt")

@@ -1,6 +1,8 @@
-"""What bindings/pe.h declares: its calls, its records with their layouts, its constants, its version and the number of its ABI.
+"""What bindings/pe.h declares: its calls, its records with their layouts, its constants, its version and the number
+of its ABI.
 
-The header is C11 of a few plain forms, and a form that is not known is an error. All targets of the library are little-endian,
+The header is C11 of a few plain forms, and a form that is not known is an error. All targets of the library are
+little-endian,
 and a number is aligned to its width on each, so a record has one layout on all of them."""
 
 import dataclasses

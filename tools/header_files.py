@@ -1,4 +1,5 @@
-"""The files that tools/make_targets makes of bindings/pe.h: a function each, from the header as it is read to the file's text."""
+"""The files that tools/make_targets makes of bindings/pe.h: a function each, from the header as it is read to the
+file's text."""
 
 import json
 import os
@@ -26,8 +27,9 @@ def json_of(header):
 
 def calls_h(header):
     numbers = "".join(f"    number_of_{name},\n" for name in header.calls)
-    return (f"{MADE}#ifndef PE_C_CALLS_H\n#define PE_C_CALLS_H\n#define PE_C_ABI pe_c_abi_{header.abi}\n"
-            f"#define NUMBER_OF_ABI number_of_pe_c_abi_{header.abi}\nenum {{\n{numbers}    CALLS,\n    ABI = {header.abi}\n}};\n#endif\n")
+    abi = f"#define PE_C_ABI pe_c_abi_{header.abi}\n#define NUMBER_OF_ABI number_of_pe_c_abi_{header.abi}\n"
+    return (f"{MADE}#ifndef PE_C_CALLS_H\n#define PE_C_CALLS_H\n{abi}enum {{\n{numbers}    CALLS,\n    ABI = {header.abi}\n}};\n"
+            "#endif\n")
 
 
 def names_h(header):
@@ -64,7 +66,8 @@ def thunks_c(header):
 
 def checked_h(header):
     lines = "".join(f"{call.declaration(f'checked_{name}')};\n" for name, call in header.calls.items())
-    return (f'{MADE}#include "pe.h"\n#define CHECKED_(call) checked_##call\n#define TARGET_CALL(call) CHECKED_(call)\n{lines}')
+    macros = "#define CHECKED_(call) checked_##call\n#define TARGET_CALL(call) CHECKED_(call)\n"
+    return f'{MADE}#include "pe.h"\n{macros}{lines}'
 
 
 def checked_c(header):
@@ -89,8 +92,9 @@ OWN_WAYS = re.compile(r"pe_c_(image|sections|text|abi_\d+)")
 
 
 def js_parameters(call):
-    """The parameters after the file, or the file and the image: their number, and of each its name, its type and its way: "in" or
-    "out" for a pointer, "" for a number. An array has true after that, and its length the way "length" and the array's name."""
+    """The parameters after the file, or the file and the image: their number, and of each its name, its type and its
+    way: "in" or "out" for a pointer, "" for a number. An array has true after that, and its length the way "length"
+    and the array's name."""
     names = call.names()
     first = 5 if names[:5] == IMAGE else 2 if names[:2] == IMAGE[:2] else 0
     rest = []
@@ -106,7 +110,8 @@ def js_parameters(call):
 
 def layouts_mjs(header):
     records = {name: [it.size, [[f.name, f.type, f.offset, f.count] for f in it.fields]] for name, it in header.records.items()}
-    calls = {name: [js_parameters(it)[0], *js_parameters(it)[1]] for name, it in header.calls.items() if not OWN_WAYS.fullmatch(name)}
+    calls = {name: [first, *rest] for name, (first, rest) in
+             ((name, js_parameters(it)) for name, it in header.calls.items() if not OWN_WAYS.fullmatch(name))}
     results = {str(number): name for name, number in header.results.items()}
     lines = [f"// tools/make_targets makes this file of bindings/pe.h.\nexport const version = {json.dumps(header.version)};",
              f"export const abi = {header.abi};"]

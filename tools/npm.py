@@ -14,7 +14,8 @@ FILES = ["index.mjs", "browser.mjs", "library.mjs", "facts.mjs", "facts.d.ts", "
 
 
 def write_package(wasm, folder, build):
-    """Writes the files of the package: of the folder of modules that tools/build_target makes, and the text of the file BUILD."""
+    """Writes the files of the package: of the folder of modules that tools/build_target makes, and the text of the
+    file BUILD."""
     os.makedirs(folder, exist_ok=True)
     header = Header()
     for name in FILES:

@@ -4,8 +4,8 @@
     wasm            pe-c-NUMBER.tgz, for npm, and pe.html, the page
     windows-x64     lovandezh-VERSION-windows-x64.zip
 
-Each says in BUILD of which proof it is, what is trusted beside that of the library for Linux on x86-64, and the SHA-256 of what was
-tried: the hashes of tools/try_targets are of these very files."""
+Each says in BUILD of which proof it is, what is trusted beside that of the library for Linux on x86-64, and the
+SHA-256 of what was tried: the hashes of tools/try_targets are of these very files."""
 
 import hashlib
 import os
@@ -89,7 +89,7 @@ def windows_tree(folder, build, tree):
     with open(os.path.join(BINDINGS, "pe_cConfigVersion.cmake.in"), encoding="utf-8") as file:
         write(file.read().replace("@VERSION@", header.version), tree, "lib", "cmake", "pe_c", "pe_cConfigVersion.cmake")
     lines = ["prefix=${pcfiledir}/../..", "libdir=${prefix}/lib", "includedir=${prefix}/include", "", "Name: pe_c",
-             "Description: proved readers of Windows executables", f"Version: {header.version}", "Cflags: -I${includedir}",
+             "Description: readers of Windows executables", f"Version: {header.version}", "Cflags: -I${includedir}",
              "Libs: -L${libdir} -lpe_c"]
     write("".join(f"{it}\n" for it in lines), tree, "lib", "pkgconfig", "pe_c.pc")
     write(build, tree, "BUILD")
@@ -111,8 +111,8 @@ def make_zip(tree, name, date, to):
 
 
 def try_zip(path, wine):
-    """Unpacks the zip into an empty folder, compiles the program pe_list.c against it by mingw, with the DLL and with the archive,
-    and compares what both print by Wine with what the program prints on Linux, which `linux` is."""
+    """Unpacks the zip into an empty folder, compiles the program pe_list.c against it by mingw, with the DLL and with
+    the archive, and compares what both print by Wine with what the program prints on Linux, which `linux` is."""
     with tempfile.TemporaryDirectory() as room:
         with zipfile.ZipFile(path) as packed:
             packed.extractall(room)
@@ -122,8 +122,8 @@ def try_zip(path, wine):
         said = {}
         for library in ("libpe_c.dll.a", "libpe_c.a"):
             program = at("bin", f"pe_list_{'dll' if 'dll' in library else 'archive'}.exe")
-            run([f"{MINGW}-gcc", "-std=c11", "-Wall", "-Wextra", "-Werror", f"-I{at('include')}", os.path.join(BINDINGS, "pe_list.c"),
-                 at("lib", library), "-o", program])
+            run([f"{MINGW}-gcc", "-std=c11", "-Wall", "-Wextra", "-Werror", f"-I{at('include')}",
+                 os.path.join(BINDINGS, "pe_list.c"), at("lib", library), "-o", program])
             environment = {**os.environ, "WINEPREFIX": os.path.join(room, "wine"), "WINEDEBUG": "-all",
                            "WINEDLLOVERRIDES": "mscoree,mshtml="}
             done = subprocess.run([wine, program, "list", image], env=environment, stdin=subprocess.DEVNULL, capture_output=True)

@@ -1,12 +1,14 @@
-"""Building the library for targets other than Linux on x86-64: of proved crates by the kit, or of code that is not proved.
+"""Building the library for targets other than Linux on x86-64: of proved crates by the kit, or of code that is not
+proved.
 
     linux-arm64     libpe_c.a, by the kit, for aarch64-unknown-linux-gnu
-    wasm            pe_c64.wasm, by the kit, for wasm64-unknown-unknown; and pe_c.wasm, that with a memory of 32 bits, by binaryen
-    windows-x64     libpe_c.a, pe_c-ABI.dll, libpe_c.dll.a, pe_c.lib and pe_c.def, of the LLVM code that the kit makes for Linux on
-                    x86-64, changed as retarget.py says, since Windows is no target of the kit
+    wasm            pe_c64.wasm, by the kit, for wasm64-unknown-unknown; and pe_c.wasm, that with a memory of 32 bits,
+                    by binaryen
+    windows-x64     libpe_c.a, pe_c-ABI.dll, libpe_c.dll.a, pe_c.lib and pe_c.def, of the LLVM code that the kit makes
+                    for Linux on x86-64, changed as retarget.py says, since Windows is no target of the kit
 
-A folder of a target has these files, and PROOF, which says what was proved; and for windows-x64 linux.a, the archive for Linux that
-the kit made of the same code."""
+A folder of a target has these files, and PROOF, which says what was proved; and for windows-x64 linux.a, the archive
+for Linux that the kit made of the same code."""
 
 import contextlib
 import os
@@ -31,7 +33,8 @@ WINE = shutil.which("wine64") or "/usr/lib/wine/wine64"
 NEEDS = {
     "linux-arm64": {},
     "wasm": {"wasm-opt": "binaryen"},
-    "windows-x64": {f"{MINGW}-gcc": "gcc-mingw-w64-x86-64", f"{MINGW}-windres": "binutils-mingw-w64-x86-64", "llvm-dlltool": "llvm"},
+    "windows-x64": {f"{MINGW}-gcc": "gcc-mingw-w64-x86-64", f"{MINGW}-windres": "binutils-mingw-w64-x86-64",
+                    "llvm-dlltool": "llvm"},
 }
 # What the module uses beside a memory of 64 bits; engines have had it since 2021.
 FEATURES = ["--enable-bulk-memory", "--enable-sign-ext", "--enable-mutable-globals", "--enable-nontrapping-float-to-int"]
@@ -65,7 +68,8 @@ def find_rt():
 
 @contextlib.contextmanager
 def kit_that_keeps(rt, code):
-    """A kit, made of links to another, whose compiler keeps a copy of the code that it compiles last. Yields its command."""
+    """A kit, made of links to another, whose compiler keeps a copy of the code that it compiles last. Yields its
+    command."""
     kit = os.path.dirname(os.path.dirname(rt))
     with tempfile.TemporaryDirectory() as room:
         for part in ("", "bin", "toolchain", "toolchain/bin"):
@@ -86,7 +90,8 @@ def kit_that_keeps(rt, code):
 
 
 def archive_of_kit(rt, out, words):
-    """Proves what has changed of the crates, and writes the archive by `rt lib`. The archive for Linux on x86-64 stays as it is."""
+    """Proves what has changed of the crates, and writes the archive by `rt lib`. The archive for Linux on x86-64
+    stays as it is."""
     kept = f"{BUILT}.kept"
     if os.path.exists(BUILT):
         os.replace(BUILT, kept)
@@ -118,7 +123,8 @@ def archive_of_code(target, text, out, level="-O2"):
     pieces = [piece]
     if target == "windows-x64":
         pieces.append(os.path.join(folder, "chkstk.o"))
-        run([compiler.tool("clang"), f"--target={TRIPLES[target]}", "-c", os.path.join(SOURCES, "windows", "chkstk.S"), "-o", pieces[1]])
+        source = os.path.join(SOURCES, "windows", "chkstk.S")
+        run([compiler.tool("clang"), f"--target={TRIPLES[target]}", "-c", source, "-o", pieces[1]])
     with contextlib.suppress(FileNotFoundError):
         os.remove(out)
     run([compiler.tool("llvm-ar"), "rcsD", out, *pieces])
@@ -130,7 +136,8 @@ def archive_of_code(target, text, out, level="-O2"):
 
 
 def lowered(module, out):
-    """Writes the module with a memory of 32 bits in place of 64. Pointers and lengths stay numbers of 64 bits at its calls."""
+    """Writes the module with a memory of 32 bits in place of 64. Pointers and lengths stay numbers of 64 bits at its
+    calls."""
     run(["wasm-opt", "--enable-memory64", *FEATURES, "--memory64-lowering", module, "-o", out])
 
 
@@ -157,8 +164,8 @@ def write_resource(path, header):
 def link_dll(folder, dll, objects):
     """Links a DLL that exports the calls of pe.h: reproducibly, without start-up code, for any base."""
     exports = os.path.join(folder, "pe_c.def")
-    run([f"{MINGW}-gcc", "-shared", "-s", "-nostartfiles", "-o", dll, *objects, exports, "-Wl,--no-insert-timestamp,--image-base,0x180000000,"
-         "--dynamicbase,--nxcompat,--high-entropy-va", "-lmsvcrt"], cwd=folder)
+    flags = "-Wl,--no-insert-timestamp,--image-base,0x180000000,--dynamicbase,--nxcompat,--high-entropy-va"
+    run([f"{MINGW}-gcc", "-shared", "-s", "-nostartfiles", "-o", dll, *objects, exports, flags, "-lmsvcrt"], cwd=folder)
 
 
 def finish_windows(folder):
@@ -167,7 +174,8 @@ def finish_windows(folder):
     dll = f"pe_c-{header.abi}.dll"
     with tempfile.TemporaryDirectory() as room:
         pieces = [os.path.join(room, it) for it in ("dll.o", "version.o")]
-        run([f"{MINGW}-gcc", "-O2", "-Wall", "-Wextra", "-Werror", "-c", os.path.join(SOURCES, "windows", "dll.c"), "-o", pieces[0]])
+        source = os.path.join(SOURCES, "windows", "dll.c")
+        run([f"{MINGW}-gcc", "-O2", "-Wall", "-Wextra", "-Werror", "-c", source, "-o", pieces[0]])
         write_resource(os.path.join(room, "pe_c.rc"), header)
         run([f"{MINGW}-windres", os.path.join(room, "pe_c.rc"), pieces[1]])
         archive = ["-Wl,--whole-archive", os.path.join(folder, "libpe_c.a"), "-Wl,--no-whole-archive"]
@@ -182,8 +190,8 @@ FINISH = {"linux-arm64": lambda folder: None, "wasm": finish_wasm, "windows-x64"
 
 
 def build(target, folder, code=None, words=()):
-    """Builds the files of a target into a folder: of proved crates, by `rt lib` with these words more, or of the text of LLVM code,
-    which is not proved. Returns the line that says what was proved, or "not proved"."""
+    """Builds the files of a target into a folder: of proved crates, by `rt lib` with these words more, or of the text
+    of LLVM code, which is not proved. Returns the line that says what was proved, or "not proved"."""
     lacking = missing(NEEDS[target])
     if lacking:
         raise Failed(f"{target}: programs of the Debian packages {', '.join(lacking)} are missing")

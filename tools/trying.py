@@ -65,7 +65,8 @@ def contents_of(folder):
 
 
 def damaged(content, number):
-    """A copy with some bytes changed, half of them in the headers, or truncated. The same file has the same damage each time."""
+    """A copy with some bytes changed, half of them in the headers, or truncated. The same file has the same damage
+    each time."""
     chance, changed = random.Random(number), bytearray(content)
     for _ in range(chance.choice([1, 2, 8, 40])):
         end = len(changed) if chance.random() < 0.5 else min(len(changed), 0x400)

@@ -1,6 +1,7 @@
 import { Image, Library } from './index.mjs';
 
-/** What the program pe says of an image in JSON, without hashes and entropy: see its JSON.md. Numbers above 2^53 are bigint. */
+/** What the program pe says of an image in JSON, without hashes and entropy: see its JSON.md. Numbers above 2^53 are
+ * bigint. */
 export type Facts = Record<string, unknown>;
 
 /** The facts of an image that is open. */

@@ -1,5 +1,6 @@
-// What an image is, as the program pe says it in JSON (bindings/pe/docs/JSON.md): the same names, values and errors of these parts,
-// without hashes, entropy, what an overlay is, and all that needs more than the image. Numbers above 2^53 are BigInt.
+// What an image is, as the program pe says it in JSON (bindings/pe/docs/JSON.md): the same names, values and errors
+// of these parts, without hashes, entropy, what an overlay is, and all that needs more than the image. Numbers above
+// 2^53 are BigInt.
 import { PeError, constants } from './library.mjs';
 import * as names from './names.mjs';
 
@@ -12,7 +13,10 @@ const READINGS = 16, ITEM = 8, LONG_NAMES = 96, LEAVES = 65536, TABLES = 4096;
 const number = (value) => (typeof value === 'bigint' && value <= Number.MAX_SAFE_INTEGER ? Number(value) : value);
 const hex = (bytes) => Array.from(bytes, (it) => it.toString(16).padStart(2, '0')).join('');
 const named = (value, table) => ({ number: value, name: table[value] ?? null });
-const flags = (value, table) => ({ number: value, flags: Object.fromEntries(Object.entries(table).map(([flag, name]) => [name, (value & flag) !== 0])) });
+const flags = (value, table) => ({
+  number: value,
+  flags: Object.fromEntries(Object.entries(table).map(([flag, name]) => [name, (value & flag) !== 0])),
+});
 const refusal = (error) => ({ number: error.number, name: error.constant.replace('PE_C_', ''), text: error.message });
 const time = (stamp, isHash = false) => ({
   time_date_stamp: stamp,
@@ -236,8 +240,8 @@ function debug(image) {
     ...part('pdb', () => {
       const key = image.call('pe_c_symbol_key');
       if (!key) return null;
-      const all = guid(key.guid), cut = [0, 8, 12, 16, 20, 32];
-      return { name: name(untilZero(image.slice(key.name))), guid: `{${cut.slice(1).map((end, i) => all.slice(cut[i], end)).join('-')}}`, age: key.age,
+      const all = guid(key.guid), cut = [0, 8, 12, 16, 20, 32], parts = cut.slice(1).map((end, i) => all.slice(cut[i], end));
+      return { name: name(untilZero(image.slice(key.name))), guid: `{${parts.join('-')}}`, age: key.age,
         key: `${all}${key.age.toString(16).toUpperCase()}` };
     }),
     ...part('repro', () => {
@@ -259,7 +263,8 @@ function certificates(image) {
 
 // ---- resources and version information
 
-const label = (image, it) => (it.has_name ? { id: null, name: image.utf16(it.name, { isWhole: true }) } : { id: it.id, name: null });
+const label = (image, it) => (it.has_name
+  ? { id: null, name: image.utf16(it.name, { isWhole: true }) } : { id: it.id, name: null });
 
 function resources(image) {
   const budget = new Budget(image), length = (it) => (it.has_name ? Number(it.name.length) : 0);
@@ -320,7 +325,8 @@ function relocations(image) {
       counts.set(it.kind, (counts.get(it.kind) ?? 0) + 1);
       return true;
     });
-    const types = [...counts].sort((a, b) => a[0] - b[0]).map(([kind, count]) => ({ type: named(kind, names.RELOCATION_TYPES), count }));
+    const types = [...counts].sort((a, b) => a[0] - b[0])
+      .map(([kind, count]) => ({ type: named(kind, names.RELOCATION_TYPES), count }));
     return { page_rva: block.page_rva, types, error: said.kinds_error };
   });
 }

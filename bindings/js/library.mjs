@@ -1,8 +1,8 @@
-// The library for C, pe_c, as a WebAssembly module: records of pe.h as objects, walks as iterators, errors as PeError. index.mjs and
-// browser.mjs say where the module comes from.
+// The library for C, pe_c, as a WebAssembly module: records of pe.h as objects, walks as iterators, errors as
+// PeError. index.mjs and browser.mjs say where the module comes from.
 //
-// Each file has an instance of the module of its own, which has the file, its section headers and nothing else in its memory. That
-// memory never shrinks, so drop the image, and with it the instance, when the file is done.
+// Each file has an instance of the module of its own, which has the file, its section headers and nothing else in its
+// memory. That memory never shrinks, so drop the image, and with it the instance, when the file is done.
 import { abi, calls, constants, records, results, version } from './layouts.mjs';
 
 export { abi, calls, constants, records, results, version };
@@ -13,7 +13,8 @@ const utf8 = new TextDecoder('utf-8'), utf16 = new TextDecoder('utf-16le');
 const aligned = (at) => Math.ceil(at / 16) * 16;
 const width = (type) => WIDTHS[type] ?? records[type][0];
 
-/** Why a call refused an image: `number` and `name` are those of pe.h, such as 2 and PE_C_SHORT, and `message` is its text. */
+/** Why a call refused an image: `number` and `name` are those of pe.h, such as 2 and PE_C_SHORT, and `message` is its
+ * text. */
 export class PeError extends Error {
   constructor(call, number, text) {
     super(text);
@@ -41,14 +42,21 @@ export class Library {
   }
 }
 
-// The memory of an instance. Addresses never leave this file: in the module with a memory of 32 bits one above 4 GiB would be taken
-// for another.
+// The memory of an instance. Addresses never leave this file: in the module with a memory of 32 bits one above 4 GiB
+// would be taken for another.
 class Memory {
+  #exports;
+
   constructor(module) {
-    this.exports = new WebAssembly.Instance(module).exports;
+    this.#exports = new WebAssembly.Instance(module).exports;
     if (this.exports[`pe_c_abi_${abi}`]?.() !== abi) throw new TypeError('the module is of another ABI than this library');
     this.start = aligned(Number(this.exports.__heap_base.value));
     this.free = this.start;
+  }
+
+  get exports() {
+    if (!this.#exports) throw new Error('the instance has ended');
+    return this.#exports;
   }
 
   /** Room for so many bytes, zeros. A view of the memory ends where the memory grows, so each is made anew. */
@@ -97,7 +105,8 @@ class Memory {
     const found = {};
     for (const [name, kind, offset, count] of records[type][1]) {
       const size = width(kind);
-      found[name] = count ? Array.from({ length: count }, (_, i) => this.read(kind, at + offset + i * size)) : this.read(kind, at + offset);
+      const one = (i) => this.read(kind, at + offset + i * size);
+      found[name] = count ? Array.from({ length: count }, (_, i) => one(i)) : one(0);
     }
     return found;
   }
@@ -113,17 +122,17 @@ class Memory {
     }
     for (const [name, kind, offset, count] of records[type][1]) {
       const size = width(kind), own = value[name];
-      for (let i = 0; own !== undefined && i < (count || 1); i++) this.write(kind, at + offset + i * size, count ? own[i] ?? 0 : own);
+      const values = own === undefined ? [] : count ? own.slice(0, count) : [own];
+      values.forEach((it, i) => this.write(kind, at + offset + i * size, it));
     }
   }
 
   /** Makes a call. After a trap, as of a stack that is used up, the instance ends and each later call throws. */
   make(name, words) {
-    if (!this.exports) throw new Error('the instance has ended');
     try {
       return this.exports[name](...words);
     } catch (error) {
-      if (error instanceof WebAssembly.RuntimeError) this.exports = null;
+      if (error instanceof WebAssembly.RuntimeError) this.#exports = null;
       throw error;
     }
   }
@@ -150,7 +159,8 @@ const LISTS = {
 // What an image passes to a call itself, by its place among the arguments of calls on an image.
 const OWN = { image: 2, sections: 3, count: 4 };
 
-/** The parameters of a call, if those that are given are its own, and none is missing but arrays and what a call makes. */
+/** The parameters of a call, if those that are given are its own, and none is missing but arrays and what a call
+ * makes. */
 function expected(name, given) {
   if (!Object.hasOwn(calls, name)) throw new TypeError(`${name} is no call of pe.h on an image`);
   const [first, ...parameters] = calls[name];

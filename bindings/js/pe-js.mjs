@@ -1,6 +1,6 @@
 #!/usr/bin/env node
-// pe-js [--strict] [--mapped] FILE..: a line of JSON for each file, what `facts` returns. The status is 1 where a file is refused, and
-// 2 where one cannot be read.
+// pe-js [--strict] [--mapped] FILE..: a line of JSON for each file, what `facts` returns. The status is 1 where a
+// file is refused, and 2 where one cannot be read.
 import { readFileSync } from 'node:fs';
 import { basename } from 'node:path';
 import { constants, load } from './index.mjs';
@@ -13,7 +13,8 @@ if (unknown.length || !files.length) {
   console.error('usage: pe-js [--strict] [--mapped] FILE..');
   process.exit(2);
 }
-const mode = (options.has('--strict') ? constants.PE_C_STRICT : constants.PE_C_PERMISSIVE) | (options.has('--mapped') ? constants.PE_C_MAPPED : 0);
+const mode = (options.has('--strict') ? constants.PE_C_STRICT : constants.PE_C_PERMISSIVE)
+  | (options.has('--mapped') ? constants.PE_C_MAPPED : 0);
 // A number above 2^53 is a text: JSON in JavaScript has none that is so large.
 const plain = (_, value) => (typeof value === 'bigint' ? String(value) : value);
 const library = await load();

@@ -1,5 +1,5 @@
-// node test.mjs FOLDER: tests the package pe-c as it is installed, over the images that the tests of the cargo crate make. Each call of
-// pe.h has to be made by some test, and to succeed. The last line is 'N passed, M failed'.
+// node test.mjs FOLDER: tests the package pe-c as it is installed, over the images that the tests of the cargo crate
+// make. Each call of pe.h has to be made by some test, and to succeed. The last line is 'N passed, M failed'.
 import { strict as assert } from 'node:assert';
 import { readFileSync, readdirSync } from 'node:fs';
 import { join } from 'node:path';
@@ -41,7 +41,8 @@ function refused(run) {
 
 test('errors are objects with the name and the text of pe.h', () => {
   const error = refused(() => library.open(new Uint8Array(100)));
-  assert.deepEqual([error.call, error.number, error.constant, error.message], ['pe_c_image', 3, 'PE_C_BAD_MAGIC', 'invalid magic number']);
+  const said = [error.call, error.number, error.constant, error.message];
+  assert.deepEqual(said, ['pe_c_image', 3, 'PE_C_BAD_MAGIC', 'invalid magic number']);
   assert.equal(refused(() => library.open(new Uint8Array(0))).constant, 'PE_C_SHORT');
   assert.equal(library.text(100).length > 0, true);
   assert.equal(results[error.number], 'PE_C_BAD_MAGIC');
@@ -86,7 +87,8 @@ test('parameters that are missing or unknown', () => {
 test('certificates are attached, listed and detached', () => {
   const image = opened('debug'), certificate = Uint8Array.of(16, 0, 0, 0, 0, 2, 2, 0, 1, 2, 3, 4, 5, 6, 7, 8);
   const length = image.call('pe_c_attached_length', { certificate, placement: constants.PE_C_AFTER });
-  assert.equal(refused(() => image.call('pe_c_attach', { certificate, placement: 0, room: new Uint8Array(9) })).constant, 'PE_C_WRITE_FIT');
+  const short = { certificate, placement: 0, room: new Uint8Array(9) };
+  assert.equal(refused(() => image.call('pe_c_attach', short)).constant, 'PE_C_WRITE_FIT');
   const room = new Uint8Array(Number(length));
   assert.equal(image.call('pe_c_attach', { certificate, placement: constants.PE_C_AFTER, room }), length);
   const attached = library.open(room), listed = [...attached.certificates()];
@@ -110,7 +112,8 @@ test('the caller of a leaf function, by its return address', () => {
   image.call('pe_c_leaf_pieces', { memory: stack, pieces, frame: other });
   assert.equal(other.registers.rip, 0x1122334455667788n);
   registers.general[4] = 0x5000n;
-  assert.equal(refused(() => image.call('pe_c_leaf', { stack, frame: { registers, stack_start: 0x1000n } })).constant, 'PE_C_MISSING');
+  const outside = { registers, stack_start: 0x1000n };
+  assert.equal(refused(() => image.call('pe_c_leaf', { stack, frame: outside })).constant, 'PE_C_MISSING');
   const arm64 = { registers: { general: Array.from({ length: 31 }, (_, i) => BigInt(i)) } };
   image.call('pe_c_leaf_arm64', { frame: arm64 });
   assert.equal(arm64.registers.pc, 30n);
@@ -126,7 +129,8 @@ test('functions, records, codes and steps of x64', () => {
     });
     attempt(() => image.call('pe_c_unwind_record', { table, unwind: found.unwind }));
     image.call('pe_c_find_function', { table, rva: found.begin });
-    const frame = () => ({ registers: { general: new Array(16).fill(0x1100n), xmm: [], rip: 0n }, stack_start: 0x1000n, function: found, rva: found.begin });
+    const general = new Array(16).fill(0x1100n);
+    const frame = () => ({ registers: { general }, stack_start: 0x1000n, function: found, rva: found.begin });
     attempt(() => image.call('pe_c_step', { stack, frame: frame() }));
     const pieces = [{ start: 0x1000n, offset: 0n, length: 4096n }];
     attempt(() => image.call('pe_c_step_pieces', { memory: stack, pieces, frame: frame() }));
@@ -160,17 +164,21 @@ test('functions, records, codes and steps of ARM64', () => {
       const walk = image.call('pe_c_arm64_codes', { codes: record.codes, start: 0 });
       attempt(() => [...image.items('pe_c_next_arm64_code', walk)]);
     }
-    const frame = () => ({ registers: { general: new Array(31).fill(0x1100n), sp: 0x1100n }, stack_start: 0x1000n, function: found, rva: found.begin });
+    const registers = { general: new Array(31).fill(0x1100n), sp: 0x1100n };
+    const frame = () => ({ registers, stack_start: 0x1000n, function: found, rva: found.begin });
+    const pieces = [{ start: 0x1000n, offset: 0n, length: 4096n }];
     attempt(() => image.call('pe_c_step_arm64', { stack, frame: frame() }));
-    attempt(() => image.call('pe_c_step_arm64_pieces', { memory: stack, pieces: [{ start: 0x1000n, offset: 0n, length: 4096n }], frame: frame() }));
+    attempt(() => image.call('pe_c_step_arm64_pieces', { memory: stack, pieces, frame: frame() }));
   }
 });
+
+const LISTS = ['debugEntries', 'exports', 'libraries', 'delayImports', 'versionBlocks', 'resourceLeaves', 'relocationBlocks'];
 
 test('each list of each image ends', () => {
   for (const name of readdirSync(folder)) {
     const image = attempt(() => opened(name.replace('.bin', '')));
     if (!image) continue;
-    for (const list of ['debugEntries', 'exports', 'libraries', 'delayImports', 'versionBlocks', 'resourceLeaves', 'relocationBlocks']) {
+    for (const list of LISTS) {
       attempt(() => {
         for (const item of image.list(list)) follow(image, list, item);
       });
@@ -198,8 +206,8 @@ function follow(image, list, item) {
 }
 
 function others(image) {
-  for (const name of ['overlay', 'symbol_key', 'debug_pdb20', 'debug_vc_features', 'debug_characteristics', 'debug_repro', 'fixed_version', 'manifest',
-    'load_config']) attempt(() => image.call(`pe_c_${name}`));
+  for (const name of ['overlay', 'symbol_key', 'debug_pdb20', 'debug_vc_features', 'debug_characteristics', 'debug_repro',
+    'fixed_version', 'manifest', 'load_config']) attempt(() => image.call(`pe_c_${name}`));
   const pogo = attempt(() => image.call('pe_c_debug_pogo'));
   if (pogo) [...image.items('pe_c_next_pogo_entry', pogo.entries)];
   for (let name = 0; name < 12; name++) attempt(() => image.call('pe_c_version_text', { name }));
@@ -219,6 +227,20 @@ test('what is no module, or one of another ABI', () => {
   assert.throws(() => new Library({}).open(file('imports')), TypeError);
   const empty = new WebAssembly.Module(Uint8Array.of(0, 0x61, 0x73, 0x6D, 1, 0, 0, 0));
   assert.throws(() => new Library(empty).open(file('imports')), /another ABI/);
+});
+
+// A module of the ABI 3 whose calls return 0, but for pe_c_overlay, which traps.
+const TRAPS = `AGFzbQEAAAABIARgAAF/YAR+fn9+AX9gBX5+fn5+AX9gBn5+fn5+fgF/AwUEAAECAwUDAQACBgcBfgBCgAgLB1EGBm1lbW9yeQIAC19faGVhcF9iYXNlAwAK
+cGVfY19hYmlfMwAACnBlX2NfaW1hZ2UAAQ1wZV9jX3NlY3Rpb25zAAIMcGVfY19vdmVybGF5AAMKFAQEAEEDCwQAQQALBABBAAsDAAAL`;
+
+test('an instance that traps ends', () => {
+  const named = atob(TRAPS.replace('\n', '')).replace('pe_c_abi_3', `pe_c_abi_${abi}`);
+  const text = named.replace('A\x03\x0B', `A${String.fromCharCode(abi)}\x0B`);
+  const traps = new Library(new WebAssembly.Module(Uint8Array.from(text, (it) => it.charCodeAt(0))));
+  const image = traps.open(file('imports'));
+  assert.throws(() => image.call('pe_c_overlay'), WebAssembly.RuntimeError);
+  assert.throws(() => image.call('pe_c_overlay'), /the instance has ended/);
+  assert.equal(traps.open(file('imports')).info.machine, 0);
 });
 
 test('every call of pe.h succeeds in some test', () => {

@@ -1,6 +1,7 @@
-// node drive.mjs PAGE PICTURES FILE..: opens the page in chromium, gives it the files, and prints what `window.facts` is of each, a line of
-// JSON, and then a line of what the page may not do: { requests, fetched, faults, elements }. By the pipe of the debugging protocol: no port, no package.
-// PICTURES is a folder for pictures at two widths, light and dark, or - for none.
+// node drive.mjs PAGE PICTURES FILE..: opens the page in chromium, gives it the files, and prints what `window.facts`
+// is of each, a line of JSON, and then a line of what the page may not do: { requests, refused, faults, elements }.
+// By the pipe of the debugging protocol: no port, no package. PICTURES is a folder for pictures at two widths, light
+// and dark, or - for none.
 import { spawn } from 'node:child_process';
 import { mkdtempSync, rmSync, writeFileSync } from 'node:fs';
 import { tmpdir } from 'node:os';
@@ -8,8 +9,8 @@ import { join, resolve } from 'node:path';
 
 const [page, pictures, ...files] = process.argv.slice(2), SECONDS = 120;
 const profile = mkdtempSync(join(tmpdir(), 'chromium-')), address = `file://${resolve(page)}`;
-const browser = spawn('chromium', ['--headless=new', '--no-sandbox', '--disable-gpu', '--remote-debugging-pipe', `--user-data-dir=${profile}`,
-  '--window-size=1200,900', 'about:blank'], { stdio: ['ignore', 'ignore', 'ignore', 'pipe', 'pipe'] });
+const options = ['--headless=new', '--no-sandbox', '--disable-gpu', '--remote-debugging-pipe', `--user-data-dir=${profile}`];
+const browser = spawn('chromium', [...options, '--window-size=1200,900', 'about:blank'], { stdio: ['ignore', 'ignore', 'ignore', 'pipe', 'pipe'] });
 const waiting = new Map(), requests = [], faults = [], elements = new Set();
 // What the page makes of a file.
 const OWN = 'ARTICLE H2 H3 P DIV TABLE THEAD TBODY TR TH TD UL LI DETAILS SUMMARY BUTTON'.split(' ');
@@ -41,9 +42,13 @@ async function until(what, holds) {
 
 async function main() {
   const { targetInfos } = await send('Target.getTargets');
-  const { sessionId: session } = await send('Target.attachToTarget', { targetId: targetInfos.find((it) => it.type === 'page').targetId, flatten: true });
+  const { targetId } = targetInfos.find((it) => it.type === 'page');
+  const { sessionId: session } = await send('Target.attachToTarget', { targetId, flatten: true });
   const own = (method, params) => send(method, params, session);
-  const value = async (expression) => (await own('Runtime.evaluate', { expression, returnByValue: true, awaitPromise: true })).result.value;
+  const value = async (expression) => {
+    const { result } = await own('Runtime.evaluate', { expression, returnByValue: true, awaitPromise: true });
+    return result.value;
+  };
   await own('Network.enable');
   await own('Runtime.enable');
   await own('Page.enable');
@@ -53,15 +58,19 @@ async function main() {
   if (faults.length) throw new Error(faults.join('; '));
   for (const file of files) console.log(await factsOf(own, value, file));
   if (pictures !== '-') await takePictures(own, value);
-  // what the policy has to refuse
-  const fetched = await value(`fetch('https://example.com/').then(() => true, () => false)`);
+  // A request fails without a network too: it has to be the policy that refuses it.
+  const refused = await value(`new Promise((take) => {
+    addEventListener('securitypolicyviolation', (event) => take(event.effectiveDirective), { once: true });
+    fetch('https://example.com/').catch(() => setTimeout(() => take('none'), 1000));
+  })`);
   const others = requests.filter((it) => it !== address && it !== 'https://example.com/');
-  console.log(JSON.stringify({ requests: others, fetched, faults, elements: [...elements] }));
+  console.log(JSON.stringify({ requests: others, refused, faults, elements: [...elements] }));
 }
 
 async function factsOf(own, value, file) {
   await value(`document.body.removeAttribute('data-done')`);
-  const { root } = await own('DOM.getDocument'), { nodeId } = await own('DOM.querySelector', { nodeId: root.nodeId, selector: '#files' });
+  const { root } = await own('DOM.getDocument');
+  const { nodeId } = await own('DOM.querySelector', { nodeId: root.nodeId, selector: '#files' });
   await own('DOM.setFileInputFiles', { files: [resolve(file)], nodeId });
   await until(file, () => value(`document.body.dataset.done === 'yes'`));
   await value(`document.querySelectorAll('#found details').forEach((it) => { it.open = true; })`);

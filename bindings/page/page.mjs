@@ -1,5 +1,6 @@
-// The page: files that are dropped or chosen are read one after the other, each by an instance of the module of its own, and shown by
-// the facts of facts.mjs. Texts of a file, which may be hostile, reach the page as text alone, and never as markup.
+// The page: files that are dropped or chosen are read one after the other, each by an instance of the module of its
+// own, and shown by the facts of facts.mjs. Texts of a file, which may be hostile, reach the page as text alone, and
+// never as markup.
 import { Library } from './library.mjs';
 import { factsOf } from './facts.mjs';
 import { module as encoded } from './module.mjs';
@@ -11,8 +12,8 @@ const compiled = WebAssembly.compile(Uint8Array.from(atob(encoded), (it) => it.c
 // ---- parts of the page
 
 /** Characters that would hide or turn around what follows are shown by their numbers. */
-const shown = (text) => String(text).replace(/[\u0000-\u001f\u007f-\u00a0\u00ad\u061c\u180e\u200b-\u200f\u2028-\u202f\u205f-\u2069\ufeff\ufff9-\ufffb]/g,
-  (it) => `\\u{${it.charCodeAt(0).toString(16)}}`);
+const HIDDEN = /[\u0000-\u001f\u007f-\u00a0\u00ad\u061c\u180e\u200b-\u200f\u2028-\u202f\u205f-\u2069\ufeff\ufff9-\ufffb]/g;
+const shown = (text) => String(text).replace(HIDDEN, (it) => `\\u{${it.charCodeAt(0).toString(16)}}`);
 const textOf = (name) => (name === null ? '' : typeof name === 'string' ? shown(name) : `bytes ${name.hex}`);
 const hex = (number) => `0x${number.toString(16)}`;
 const count = (number, what) => `${number.toLocaleString('en')} ${what}${number === 1 ? '' : 's'}`;
@@ -70,7 +71,8 @@ function refused(to, what, error) {
 
 function overview(to, { headers, version, debug }) {
   pairs(to, [
-    ['Format', [headers.format ?? 'no optional header', headers.is_dll ? 'DLL' : '', named(headers.machine)].filter(Boolean).join(', ')],
+    ['Format', [headers.format ?? 'no optional header', headers.is_dll ? 'DLL' : '', named(headers.machine)].filter(Boolean)
+      .join(', ')],
     ['Subsystem', named(headers.subsystem)],
     ['Built', headers.time ?? (headers.is_reproducible ? 'reproducibly, without a time' : 'without a time stamp')],
     ['Entry point', hex(headers.entry_rva)],
@@ -100,8 +102,9 @@ function hardening(to, it) {
 
 function sections(to, all) {
   add(to, 'h3', count(all.length, 'section'));
-  table(to, ['Name', 'Access', 'RVA', 'Size', 'File offset', 'Size in file'], all.map((it) => [textOf(it.long_name ?? it.name), it.permissions,
-    hex(it.rva), hex(it.virtual_size), hex(it.file_offset), hex(it.file_size)]), [2, 3, 4, 5]);
+  const row = (it) => [textOf(it.long_name ?? it.name), it.permissions,
+    ...[it.rva, it.virtual_size, it.file_offset, it.file_size].map(hex)];
+  table(to, ['Name', 'Access', 'RVA', 'Size', 'File offset', 'Size in file'], all.map(row), [2, 3, 4, 5]);
 }
 
 const functionRow = (it) => [it.name === null ? `#${it.ordinal}` : textOf(it.name)];
@@ -123,7 +126,8 @@ function exported(to, facts) {
   refused(to, 'Exports', facts.exports_error);
   const all = facts.exports?.entries;
   if (!all) return;
-  add(to, 'h3', `Exports: ${count(all.length, 'entry').replace('entrys', 'entries')}${facts.exports.name ? ` of ${textOf(facts.exports.name)}` : ''}`);
+  const own = facts.exports.name ? ` of ${textOf(facts.exports.name)}` : '';
+  add(to, 'h3', `Exports${own}: ${count(all.length, 'function')}`);
   folded(to, 'names', (box) => table(box, ['Ordinal', 'RVA', 'Name', 'Forwarder'], all.map((it) => [it.ordinal, hex(it.rva),
     it.names.map(textOf).join(', '), textOf(it.forwarder)]), [0, 1]));
 }
@@ -135,14 +139,16 @@ function others(to, facts) {
     ['Data directories', facts.headers.directories, null, ['Directory', 'Start', 'Size'], (it) => [it.name,
       it.rva === null ? `file offset ${hex(it.file_offset)}` : `RVA ${hex(it.rva)}`, hex(it.size)], [2]],
     ['Certificates', facts.certificates, facts.certificates_error, ['Type', 'Size'], (it) => [named(it.type), it.size], [1]],
-    ['Resources', facts.resources, facts.resources_error, ['Type', 'Name', 'RVA', 'Size'], (it) => [label(it.type), label(it.name), hex(it.rva),
-      it.size], [2, 3]],
-    ['Debug entries', facts.debug.entries, null, ['Type', 'Size', 'RVA', 'File offset'], (it) => [named(it.type), it.size, hex(it.rva),
-      hex(it.file_offset)], [1, 2, 3]],
-    ['TLS callbacks', facts.tls?.callbacks, facts.tls_error ?? facts.tls?.callbacks_error, ['Virtual address'], (it) => [hex(it)], [0]],
+    ['Resources', facts.resources, facts.resources_error, ['Type', 'Name', 'RVA', 'Size'], (it) => [label(it.type),
+      label(it.name), hex(it.rva), it.size], [2, 3]],
+    ['Debug entries', facts.debug.entries, null, ['Type', 'Size', 'RVA', 'File offset'], (it) => [named(it.type), it.size,
+      hex(it.rva), hex(it.file_offset)], [1, 2, 3]],
+    ['TLS callbacks', facts.tls?.callbacks, facts.tls_error ?? facts.tls?.callbacks_error, ['Virtual address'],
+      (it) => [hex(it)], [0]],
     ['Base relocations', facts.relocations, facts.relocations_error, ['Page', 'Relocations'], (it) => [hex(it.page_rva),
       it.types.map((one) => `${one.count} ${named(one.type)}`).join(', ')], [0]],
-    ['Rich header', facts.rich?.tools, facts.rich_error, ['Product', 'Build', 'Objects'], (it) => [it.product, it.build, it.count], [0, 1, 2]],
+    ['Rich header', facts.rich?.tools, facts.rich_error, ['Product', 'Build', 'Objects'], (it) => [it.product, it.build,
+      it.count], [0, 1, 2]],
   ];
   for (const [title, all, error, head, row, numbers] of lists) {
     refused(to, title, error);

@@ -1,9 +1,10 @@
-/* Makes every call of pe.h on a file, in each mode, and hashes each result and each record that a call wrote, so that the library
- * for one target is compared with that for another by a number a file. Freestanding C11: it needs no C library, and runs in a
- * WebAssembly module as on Linux.
+/* Makes every call of pe.h on a file, in each mode, and hashes each result and each record that a call wrote, so that
+ * the library for one target is compared with that for another by a number a file. Freestanding C11: it needs no C
+ * library, and runs in a WebAssembly module as on Linux.
  *
- * A call of pe.h that is not made here fails tools/try_targets. To add one, add a line CALL, or WALK for the next item of a list,
- * where its arguments are known: that is all. calls.h, with number_of_NAME for each call of pe.h, is made by tools/make_targets. */
+ * A call of pe.h that is not made here fails tools/try_targets. To add one, add a line CALL, or WALK for the next
+ * item of a list, where its arguments are known: that is all. calls.h, with number_of_NAME for each call of pe.h, is
+ * made by tools/make_targets. */
 #include "pe.h"
 #include "calls.h"
 #include "all_calls.h"

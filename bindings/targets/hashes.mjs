@@ -1,6 +1,7 @@
-// node hashes.mjs MODULE CALLS NAMES LIST: prints what hashes.c prints, over the library as a WebAssembly module. CALLS is the module
-// of all_calls.c, which imports the functions of MODULE and its memory, so that MODULE is tried as it is; its own data stand above
-// the library's. NAMES is pe.json. Both modules have the same kind of memory, of 32 or of 64 bits.
+// node hashes.mjs MODULE CALLS NAMES LIST: prints what hashes.c prints, over the library as a WebAssembly module.
+// CALLS is the module of all_calls.c, which imports the functions of MODULE and its memory, so that MODULE is tried
+// as it is; its own data stand above the library's. NAMES is pe.json. Both modules have the same kind of memory, of
+// 32 or of 64 bits.
 import fs from 'node:fs';
 
 const [library, calls, names, list] = process.argv.slice(2);

@@ -1,5 +1,5 @@
-/* What a compiler may call, for the module of all_calls.c alone: the library's module has its own. It is compiled with -fno-builtin,
- * since else these loops become calls of themselves. */
+/* What a compiler may call, for the module of all_calls.c alone: the library's module has its own. It is compiled
+ * with -fno-builtin, since else these loops become calls of themselves. */
 typedef __SIZE_TYPE__ size_t;
 
 void *memcpy(void *to, const void *from, size_t length);

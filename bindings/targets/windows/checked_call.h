@@ -1,5 +1,6 @@
-/* Makes a call with known values in all registers that a function of Windows on x64 preserves, and ends the program where one of
- * them came back with another value. The arguments are 4 words or more, numbers and pointers as they are passed on x64. */
+/* Makes a call with known values in all registers that a function of Windows on x64 preserves, and ends the program
+ * where one of them came back with another value. The arguments are 4 words or more, numbers and pointers as they are
+ * passed on x64. */
 #ifndef CHECKED_CALL_H
 #define CHECKED_CALL_H
 #include <stddef.h>

@@ -1,6 +1,6 @@
-/* What code for Windows calls in a function whose locals take more than a page: it touches each page of rax bytes below the stack
- * pointer, from the nearest on, so that Windows adds them to the stack, and changes no register. The archive has it so that it
- * links by MSVC too, whose C library has only one of another name. */
+/* What code for Windows calls in a function whose locals take more than a page: it touches each page of rax bytes
+ * below the stack pointer, from the nearest on, so that Windows adds them to the stack, and changes no register. The
+ * archive has it so that it links by MSVC too, whose C library has only one of another name. */
         .intel_syntax noprefix
         .text
         .globl  ___chkstk_ms

@@ -1,7 +1,7 @@
-/* fault NUMBER: a page of the file cannot be read, as one of a mapped file on a server that is gone, and a call faults inside the
- * library. From there the stack is walked by the unwind tables, as debuggers, crash reporters and __except do. The status is 0
- * where that finds main, 1 where it does not, and 2 where nothing faulted. NUMBER is the call: 0 pe_c_image, 1 pe_c_sections,
- * 2 pe_c_rich_header, 3 pe_c_detach, which copies. */
+/* fault NUMBER: a page of the file cannot be read, as one of a mapped file on a server that is gone, and a call
+ * faults inside the library. From there the stack is walked by the unwind tables, as debuggers, crash reporters and
+ * __except do. The status is 0 where that finds main, 1 where it does not, and 2 where nothing faulted. NUMBER is the
+ * call: 0 pe_c_image, 1 pe_c_sections, 2 pe_c_rich_header, 3 pe_c_detach, which copies. */
 #include <windows.h>
 #include <stdio.h>
 #include <stdlib.h>

@@ -1,5 +1,6 @@
-/* uint32_t call_with_known_registers(call, count, words, result): calls with `count` words as arguments, and stores what the call
- * returned. What is returned has bit N where the call changed the register N: rbx, rbp, rsi, rdi, r12 to r15, xmm6 to xmm15.
+/* uint32_t call_with_known_registers(call, count, words, result): calls with `count` words as arguments, and stores
+ * what the call returned. What is returned has bit N where the call changed the register N: rbx, rbp, rsi, rdi, r12
+ * to r15, xmm6 to xmm15.
  * https://learn.microsoft.com/cpp/build/x64-software-conventions#register-volatility-and-preservation */
         .intel_syntax noprefix
         .text

@@ -1,5 +1,5 @@
-/* Loads the DLL, and a copy of it, of which one cannot be at its preferred base, and compares all texts of results: their addresses
- * are what base relocations change. */
+/* Loads the DLL, and a copy of it, of which one cannot be at its preferred base, and compares all texts of results:
+ * their addresses are what base relocations change. */
 #include <windows.h>
 #include <stdio.h>
 #include <stdint.h>

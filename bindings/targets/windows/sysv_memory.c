@@ -1,5 +1,5 @@
-/* For the control alone: what the object of Linux calls, by the convention of System V. Those of the C library of Windows have
- * another, and a program that links them crashes. */
+/* For the control alone: what the object of Linux calls, by the convention of System V. Those of the C library of
+ * Windows have another, and a program that links them crashes. */
 #include <stddef.h>
 #include <stdint.h>
 

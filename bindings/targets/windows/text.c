@@ -1,5 +1,5 @@
-/* By linkers that take libraries in MSVC's format, without a C library: the status is the length of the text of PE_C_SHORT. The
- * library's archive may call the functions of memory. */
+/* By linkers that take libraries in MSVC's format, without a C library: the status is the length of the text of
+ * PE_C_SHORT. The library's archive may call the functions of memory. */
 #include "pe.h"
 
 int start(void);
