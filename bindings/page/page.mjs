@@ -87,7 +87,7 @@ function overview(to, { headers, version, debug }) {
     ['PDB in the image', debug.embedded_pdb && count(debug.embedded_pdb.size, 'byte')],
     ['Checksum of the PDB', debug.pdb_checksum && `${textOf(debug.pdb_checksum.algorithm)} ${debug.pdb_checksum.checksum_hex}`],
     ['Linker', headers.optional?.linker_version],
-    ['For Windows', headers.optional?.operating_system_version],
+    ['Subsystem version', headers.optional?.subsystem_version],
   ]);
   refused(to, 'Version information', version.fixed_error);
   refused(to, 'Debug data', debug.entries_error ?? debug.pdb_error ?? debug.embedded_pdb_error ?? debug.pdb_checksum_error);
