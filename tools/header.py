@@ -24,6 +24,10 @@ class Field:
     count: int
     is_pointer: bool = False
 
+    def kind(self):
+        """Its type in C, but for const and the length of an array."""
+        return f"{self.type} *" if self.is_pointer else self.type
+
 
 @dataclasses.dataclass(frozen=True)
 class Record:
@@ -32,6 +36,9 @@ class Record:
     size: int
     align: int
     fields: tuple
+
+    def has_pointers(self):
+        return any(it.is_pointer for it in self.fields)
 
 
 @dataclasses.dataclass(frozen=True)

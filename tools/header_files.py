@@ -5,11 +5,11 @@ import json
 import os
 import re
 
-from header import IMAGE, TOP, WIDTHS
+from header import IMAGE, TOP, WIDTHS, Unknown
 
 MADE = "/* tools/make_targets makes this file of bindings/pe.h. */\n"
 # Fields of 64 bits are BigInt in JavaScript, all others numbers.
-BIGINT = "uint64_t"
+BIGINT = ("uint64_t", "size_t")
 
 
 def json_of(header):
@@ -19,10 +19,14 @@ def json_of(header):
                          "parameters": [[p.name, p.type, "in" if p.is_const else "out"] if p.is_pointer else [p.name, p.type]
                                         for p in it.parameters]} for name, it in header.calls.items()},
         "records": {name: {"size": it.size, "align": it.align,
-                           "fields": [[f.name, f.type, f.offset, f.count] for f in it.fields]}
+                           "fields": fields_of(it)}
                     for name, it in header.records.items()},
         "constants": header.constants,
     }
+
+
+def fields_of(record):
+    return [[it.name, it.kind(), it.offset, it.count] for it in record.fields]
 
 
 def calls_h(header):
@@ -48,7 +52,7 @@ def layouts_c(header):
 
 
 def width_of(field, header):
-    one = WIDTHS[field.type] if field.type in WIDTHS else header.records[field.type].size
+    one = 8 if field.is_pointer else WIDTHS[field.type] if field.type in WIDTHS else header.records[field.type].size
     return one * (field.count or 1)
 
 
@@ -87,7 +91,7 @@ def checked_c(header):
 
 
 # What the JavaScript passes itself, and calls that it makes in ways of its own.
-PASSED = {"image", "sections", "count"}
+PASSED = {"image", "sections", "count", "view"}
 OWN_WAYS = re.compile(r"pe_c_(image|sections|text|abi_\d+)")
 
 
@@ -109,7 +113,7 @@ def js_parameters(call):
 
 
 def layouts_mjs(header):
-    records = {name: [it.size, [[f.name, f.type, f.offset, f.count] for f in it.fields]] for name, it in header.records.items()}
+    records = {name: [it.size, fields_of(it)] for name, it in header.records.items()}
     calls = {name: [first, *rest] for name, (first, rest) in
              ((name, js_parameters(it)) for name, it in header.calls.items() if not OWN_WAYS.fullmatch(name))}
     results = {str(number): name for name, number in header.results.items()}
@@ -143,18 +147,20 @@ def type_name(record):
 def kind_of(parameter):
     """The type of a parameter or of what a call makes."""
     if not parameter.is_pointer:
-        return "bigint | number" if parameter.type in ("uint64_t", "size_t") else "number"
+        return "bigint | number" if parameter.type in BIGINT else "number"
     return {"uint64_t": "bigint", "uint32_t": "number", "uint8_t": "Uint8Array"}.get(parameter.type) or type_name(parameter.type)
 
 
-def call_type(call):
-    """What a call of Image.call is given, and what it returns."""
+def call_type(call, header):
+    """What a call of Image.call is given, and what it returns. Addresses are neither."""
     first, rest = js_parameters(call)
     own = {it.name: it for it in call.parameters}
     given, made = [], []
     for name, _, way, *array in rest:
         if name in PASSED or way == "length":
             continue
+        if own[name].type in header.records and header.records[own[name].type].has_pointers():
+            raise Unknown(f"{call.name}: the parameter {name}, a record with pointers that bindings/js does not make itself")
         optional = "?" if array or way == "out" else ""
         if way == "out" and not array and own[name].type in WIDTHS:
             made.append(own[name])
@@ -169,18 +175,19 @@ def call_type(call):
 def index_d_ts(header):
     with open(os.path.join(TOP, "bindings", "js", "index.d.ts.in"), encoding="utf-8") as file:
         parts = [file.read().rstrip("\n")]
-    for name, record in header.records.items():
+    records = {name: it for name, it in header.records.items() if not it.has_pointers()}
+    for name, record in records.items():
         fields = []
         for it in record.fields:
-            kind = "bigint" if it.type == BIGINT else "number" if it.type in WIDTHS else type_name(it.type)
+            kind = "bigint" if it.type in BIGINT else "number" if it.type in WIDTHS else type_name(it.type)
             fields.append(f"  {it.name}: {kind}{'[]' if it.count else ''};\n")
         parts.append(f"/** {name} of pe.h. */\nexport interface {type_name(name)} {{\n{''.join(fields)}}}")
-    names = "".join(f"  {name}: {type_name(name)};\n" for name in header.records)
-    parts.append(f"/** The records of pe.h by their names. */\nexport interface Records {{\n{names}}}")
+    names = "".join(f"  {name}: {type_name(name)};\n" for name in records)
+    parts.append(f"/** The records of pe.h by their names, but for those with addresses. */\nexport interface Records {{\n{names}}}")
     numbers = "".join(f"  readonly {name}: {number};\n" for name, number in header.constants.items())
     parts.append(f"/** The constants of pe.h. */\nexport declare const constants: {{\n{numbers}}};")
     parts.append("/** The calls of pe.h on an image: what each is given, and what it returns. */\nexport interface Calls {\n"
-                 + "".join(call_type(it) for name, it in header.calls.items() if not OWN_WAYS.fullmatch(name)) + "}")
+                 + "".join(call_type(it, header) for name, it in header.calls.items() if not OWN_WAYS.fullmatch(name)) + "}")
     return "\n\n".join(parts) + "\n"
 
 

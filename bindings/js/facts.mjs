@@ -6,7 +6,7 @@ import * as names from './names.mjs';
 
 const utf8 = new TextDecoder('utf-8', { fatal: true });
 const CODE_AND_WRITABLE = 0xA0000000, PERMISSIONS = [[0x40000000, 'r'], [0x80000000, 'w'], [0x20000000, 'x']];
-const X86 = 0x14C, X64 = 0x8664;
+const X86 = 0x14C, X64 = 0x8664, PE32 = 0x10B, EMBEDDED_PDB = 17, PDB_CHECKSUM = 19;
 // What is shown in all is bounded by the file's length times this; each item counts as so many bytes.
 const READINGS = 16, ITEM = 8, LONG_NAMES = 96, LEAVES = 65536, TABLES = 4096;
 
@@ -120,7 +120,40 @@ function headers(image, fileName) {
     checksum_state: right === null ? null : info.checksum === 0 ? 'none' : info.checksum === right ? 'right' : 'wrong',
     characteristics: flags(info.characteristics, names.CHARACTERISTICS),
     dll_characteristics: flags(info.dll_characteristics, names.DLL_CHARACTERISTICS),
+    ...allHeaders(image),
     directories: info.directories.map((it, index) => directory(it, index)).filter(Boolean),
+  };
+}
+
+const versionOf = (header, name) => `${header[`major_${name}_version`]}.${header[`minor_${name}_version`]}`;
+
+function optional(header) {
+  return {
+    magic: header.magic,
+    linker_version: versionOf(header, 'linker'), operating_system_version: versionOf(header, 'operating_system'),
+    image_version: versionOf(header, 'image'), subsystem_version: versionOf(header, 'subsystem'),
+    size_of_code: header.size_of_code, size_of_initialized_data: header.size_of_initialized_data,
+    size_of_uninitialized_data: header.size_of_uninitialized_data,
+    base_of_code_rva: header.base_of_code, base_of_data_rva: header.magic === PE32 ? header.base_of_data : null,
+    size_of_stack_reserve: number(header.size_of_stack_reserve), size_of_stack_commit: number(header.size_of_stack_commit),
+    size_of_heap_reserve: number(header.size_of_heap_reserve), size_of_heap_commit: number(header.size_of_heap_commit),
+    win32_version_value: header.win32_version_value, loader_flags: header.loader_flags,
+    number_of_rva_and_sizes: header.number_of_rva_and_sizes,
+  };
+}
+
+/** The numbers of the headers that few programs look at. */
+function allHeaders(image) {
+  const all = image.headers(), texts = attempt(() => image.call('pe_c_string_table'));
+  const { signature, relocations_offset: tableOffset, pe_pointer: peOffset, ...dos } = all.dos;
+  return {
+    coff: {
+      number_of_sections: all.coff.number_of_sections, symbol_table_file_offset: all.coff.pointer_to_symbol_table,
+      number_of_symbols: all.coff.number_of_symbol_table, string_table_size: texts && number(texts.length),
+      size_of_optional_header: all.coff.size_of_optional_header,
+    },
+    optional: image.info.width === 0 ? null : optional(all.optional),
+    dos: { ...dos, relocations_file_offset: tableOffset, pe_file_offset: peOffset, stub_size: number(all.dos_stub.length) },
   };
 }
 
@@ -231,6 +264,12 @@ function guid(bytes) {
   return digits(order);
 }
 
+/** The record of the first debug entry of a type, by the call that reads it. */
+function recordOf(image, type, call) {
+  const entry = image.debugEntry(type);
+  return entry && image.call(call, { mode: image.info.mode, entry });
+}
+
 function debug(image) {
   const isHash = Boolean(attempt(() => image.call('pe_c_debug_repro')));
   const entry = (it) => ({ type: named(it.data_type, names.DEBUG_TYPES), size: it.size_of_data, rva: it.address_of_raw_data,
@@ -251,6 +290,14 @@ function debug(image) {
     ...part('extended_dll_characteristics', () => {
       const value = image.call('pe_c_debug_characteristics');
       return value === null ? null : flags(value, names.EXTENDED_DLL_CHARACTERISTICS);
+    }),
+    ...part('embedded_pdb', () => {
+      const record = recordOf(image, EMBEDDED_PDB, 'pe_c_embedded_pdb_of');
+      return record && { size: record.uncompressed_size, compressed_size: number(record.compressed.length) };
+    }),
+    ...part('pdb_checksum', () => {
+      const record = recordOf(image, PDB_CHECKSUM, 'pe_c_pdb_checksum_of');
+      return record && { algorithm: name(image.slice(record.algorithm)), checksum_hex: hex(image.slice(record.checksum)) };
     }),
   };
 }

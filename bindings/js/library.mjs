@@ -8,7 +8,7 @@ import { abi, calls, constants, records, results, version } from './layouts.mjs'
 export { abi, calls, constants, records, results, version };
 
 const PAGE = 65536;
-const WIDTHS = { uint8_t: 1, uint16_t: 2, uint32_t: 4, uint64_t: 8 };
+const WIDTHS = { uint8_t: 1, uint16_t: 2, uint32_t: 4, uint64_t: 8, size_t: 8 };
 const utf8 = new TextDecoder('utf-8'), utf16 = new TextDecoder('utf-16le');
 const aligned = (at) => Math.ceil(at / 16) * 16;
 const width = (type) => WIDTHS[type] ?? records[type][0];
@@ -100,7 +100,7 @@ class Memory {
       case 'uint8_t': return view.getUint8(0);
       case 'uint16_t': return view.getUint16(0, true);
       case 'uint32_t': return view.getUint32(0, true);
-      case 'uint64_t': return view.getBigUint64(0, true);
+      case 'uint64_t': case 'size_t': return view.getBigUint64(0, true);
     }
     const found = {};
     for (const [name, kind, offset, count] of records[type][1]) {
@@ -118,7 +118,7 @@ class Memory {
       case 'uint8_t': return view.setUint8(0, Number(value));
       case 'uint16_t': return view.setUint16(0, Number(value), true);
       case 'uint32_t': return view.setUint32(0, Number(value), true);
-      case 'uint64_t': return view.setBigUint64(0, BigInt(value), true);
+      case 'uint64_t': case 'size_t': return view.setBigUint64(0, BigInt(value), true);
     }
     for (const [name, kind, offset, count] of records[type][1]) {
       const size = width(kind), own = value[name];
@@ -156,8 +156,10 @@ const LISTS = {
   relocationBlocks: ['pe_c_relocation_blocks', 'pe_c_next_relocation_block'],
 };
 
-// What an image passes to a call itself, by its place among the arguments of calls on an image.
-const OWN = { image: 2, sections: 3, count: 4 };
+// What an image passes to a call itself, by its place among the arguments of calls on an image. The view, a record of
+// these arguments, comes after them.
+const ARGUMENTS = { bytes: 0, length: 1, image: 2, sections: 3, count: 4 };
+const OWN = { image: 2, sections: 3, count: 4, view: 5 };
 
 /** The parameters of a call, if those that are given are its own, and none is missing but arrays and what a call
  * makes. */
@@ -191,8 +193,16 @@ export class Image {
     const array = [BigInt(table), BigInt(count)];
     this.#require('pe_c_sections', memory.make('pe_c_sections', [...this.#words, BigInt(info), ...array]));
     this.#words.push(BigInt(info), ...array);
+    this.#words.push(BigInt(this.#view()));
     /** pe_c_section, one for each section. */
     this.sections = Array.from({ length: count }, (_, i) => memory.read('pe_c_section', table + i * width('pe_c_section')));
+  }
+
+  /** Makes the view of this image, whose fields are addresses and lengths; returns its own address. */
+  #view() {
+    const [size, fields] = records.pe_c_view, at = this.#memory.reserve(size), view = this.#memory.view(at, size);
+    for (const [name, , offset] of fields) view.setBigUint64(offset, this.#words[ARGUMENTS[name]], true);
+    return at;
   }
 
   #require(call, result) {
@@ -258,6 +268,16 @@ export class Image {
   *list(name) {
     const [start, next] = LISTS[name], walk = this.call(start);
     if (walk) yield* this.items(next, walk);
+  }
+
+  /** All numbers of the headers: pe_c_headers_info. */
+  headers() {
+    return this.call('pe_c_headers', { mode: this.info.mode });
+  }
+
+  /** The first entry of the debug directory of a type, IMAGE_DEBUG_TYPE_ of winnt.h, or null. */
+  debugEntry(type) {
+    return this.call('pe_c_first_debug_entry', { data_type: type });
   }
 
   /** A copy of a range of the image's bytes. */

@@ -76,6 +76,77 @@ test('a walk that is given is moved, and is over in the end', () => {
   assert.equal(image.call('pe_c_next_library', { walk }), null);
 });
 
+// Offsets in the images: e_lfanew is 0x40, so the COFF header is at 0x44, and the optional header at 0x58.
+test('all numbers of the headers stand where winnt.h has them', () => {
+  const bytes = Uint8Array.from(file('imports')), view = new DataView(bytes.buffer);
+  const words = Array.from({ length: 29 }, (_, i) => 0x101 * (i + 1));
+  words.forEach((it, i) => view.setUint16(2 + 2 * i, it, true));
+  view.setUint32(0x48, 0x5F000000, true);
+  for (const [offset, it] of [[0x5A, 14], [0x5B, 29]]) view.setUint8(offset, it);
+  for (const [offset, it] of [[0x80, 10], [0x82, 1], [0x84, 7], [0x86, 8], [0x88, 6], [0x8A, 3]]) view.setUint16(offset, it, true);
+  for (const [offset, it] of [[0xA0, 1n << 40n], [0xA8, 2n], [0xB0, 3n], [0xB8, 4n]]) view.setBigUint64(offset, it, true);
+  const { signature, dos, coff, optional, ...rest } = library.open(bytes).headers();
+  assert.deepEqual(Object.values(dos).flat(), [0x5A4D, ...words, 0x40]);
+  assert.deepEqual([dos.reserved.length, dos.reserved2.length, signature], [4, 10, 0x4550]);
+  assert.deepEqual([coff.machine, coff.number_of_sections, coff.time_date_stamp, coff.size_of_optional_header],
+    [0x8664, 1, 0x5F000000, 0xF0]);
+  assert.deepEqual([optional.magic, optional.major_linker_version, optional.minor_linker_version], [0x20B, 14, 29]);
+  assert.deepEqual(['operating_system', 'image', 'subsystem'].map((it) => [optional[`major_${it}_version`],
+    optional[`minor_${it}_version`]]), [[10, 1], [7, 8], [6, 3]]);
+  assert.deepEqual([optional.image_base, optional.address_of_entry_point, optional.section_alignment, optional.file_alignment],
+    [0x180000000n, 0x1234, 0x1000, 0x200]);
+  assert.deepEqual(['stack_reserve', 'stack_commit', 'heap_reserve', 'heap_commit'].map((it) => optional[`size_of_${it}`]),
+    [1n << 40n, 2n, 3n, 4n]);
+  assert.deepEqual([rest.dos_stub, rest.optional_offset, rest.directories_offset], [{ offset: 0x40n, length: 0n }, 0x58n, 0xC8n]);
+  assert.deepEqual([rest.directories.length, rest.directories[1].virtual_address], [16, view.getUint32(0xD0, true)]);
+});
+
+test('the first debug entry of a type, in a view that the library makes', () => {
+  const image = opened('debug'), sizes = { 2: 30, 12: 20, 13: 40, 16: 8, 20: 4 };
+  for (const [type, size] of Object.entries(sizes)) {
+    const entry = image.debugEntry(Number(type));
+    assert.deepEqual([entry.data_type, entry.size_of_data, entry.time_date_stamp], [Number(type), size, 0x5F000000]);
+    assert.equal(entry.pointer_to_raw_data, entry.address_of_raw_data - 0xC00);
+  }
+  assert.deepEqual([17, 19, 3].map((type) => image.debugEntry(type)), [null, null, null]);
+  assert.throws(() => image.call('pe_c_first_debug_entry', { data_type: 2, view: {} }), TypeError);
+  assert.throws(() => image.call('pe_c_first_debug_entry', {}), TypeError);
+  // other calls before it do not write over the view
+  [...image.list('debugEntries')].forEach((it) => assert.deepEqual(image.debugEntry(it.data_type), it));
+});
+
+/** The record of the first debug entry of a type. */
+function record(image, type, call, mode = constants.PE_C_STRICT) {
+  return image.call(call, { mode, entry: image.debugEntry(type) });
+}
+
+test('the records of debug entries', () => {
+  const image = opened('debug'), key = record(image, 2, 'pe_c_symbol_key_of');
+  const guid = [0xF6, 0x72, 0x7B, 0x49, 0x0A, 0x39, 0xFC, 0x44, 0x87, 0x8E, 0x5A, 0x2D, 0x63, 0xB6, 0xCC, 0x4B];
+  assert.deepEqual([key.guid, key.age, image.utf8(key.name)], [guid, 1, 'a.pdb\0']);
+  assert.deepEqual(Object.values(record(image, 12, 'pe_c_vc_features_of')), [1, 2, 3, 4, 5]);
+  const pogo = record(image, 13, 'pe_c_pogo_of');
+  assert.deepEqual([...image.items('pe_c_next_pogo_entry', pogo.entries)].map((it) => [image.utf8(it.name), it.rva, it.size]),
+    [['.text$mn\0', 0x1000, 16], ['.bss\0', 0x2000, 8]]);
+  assert.equal(image.utf8(record(image, 16, 'pe_c_repro_of').hash), 'hash');
+  assert.equal(record(image, 20, 'pe_c_characteristics_of'), 0x41);
+  assert.equal(record(image, 2, 'pe_c_pdb20_of'), null);
+  const old = opened('old_debug'), pdb = record(old, 2, 'pe_c_pdb20_of');
+  assert.deepEqual([pdb.signature, pdb.age, old.utf8(pdb.name)], [0x3333, 7, 'b.pdb\0\0\0']);
+  const managed = opened('managed_debug'), embedded = record(managed, 17, 'pe_c_embedded_pdb_of');
+  assert.deepEqual([embedded.uncompressed_size, managed.utf8(embedded.compressed)], [600, 'zippe']);
+  const checksum = record(managed, 19, 'pe_c_pdb_checksum_of');
+  assert.deepEqual([managed.utf8(checksum.algorithm), [...managed.slice(checksum.checksum)]], ['SHA256', [0xAA, 0, 0xBB]]);
+});
+
+test('the mode of a call for a debug entry', () => {
+  const image = opened('debug'), entry = { ...image.debugEntry(2), size_of_data: 23 };
+  const read = (mode) => image.call('pe_c_symbol_key_of', { mode, entry });
+  assert.equal(refused(() => read(constants.PE_C_STRICT)).constant, 'PE_C_DEBUG_SIZE');
+  assert.equal(read(constants.PE_C_PERMISSIVE), null);
+  assert.equal(refused(() => record(image, 2, 'pe_c_embedded_pdb_of')).constant, 'PE_C_BAD_MAGIC');
+});
+
 test('parameters that are missing or unknown', () => {
   const image = opened('functions'), table = image.call('pe_c_function_table');
   assert.throws(() => image.call('pe_c_find_function', { table }), TypeError);

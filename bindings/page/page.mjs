@@ -84,9 +84,13 @@ function overview(to, { headers, version, debug }) {
     ...Object.entries(version.texts).map(([name, text]) => [name, shown(text)]),
     ['PDB', debug.pdb && textOf(debug.pdb.name)],
     ['PDB key', debug.pdb?.key],
+    ['PDB in the image', debug.embedded_pdb && count(debug.embedded_pdb.size, 'byte')],
+    ['Checksum of the PDB', debug.pdb_checksum && `${textOf(debug.pdb_checksum.algorithm)} ${debug.pdb_checksum.checksum_hex}`],
+    ['Linker', headers.optional?.linker_version],
+    ['Subsystem version', headers.optional?.subsystem_version],
   ]);
   refused(to, 'Version information', version.fixed_error);
-  refused(to, 'Debug data', debug.entries_error ?? debug.pdb_error);
+  refused(to, 'Debug data', debug.entries_error ?? debug.pdb_error ?? debug.embedded_pdb_error ?? debug.pdb_checksum_error);
 }
 
 const HARDENING = [['aslr', 'ASLR'], ['high_entropy_aslr', 'high-entropy ASLR'], ['dep', 'DEP'], ['cfg', 'CFG'], ['cet', 'CET'],

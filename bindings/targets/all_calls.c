@@ -212,6 +212,39 @@ static void walk_arm64(const struct file *file)
 
 /* ---- the parts of an image */
 
+/* The record of an entry by each call, whatever the entry's type is. */
+static void debug_record(const struct file *file, const pe_c_debug_entry *entry)
+{
+    pe_c_range record = {entry->pointer_to_raw_data, entry->size_of_data};
+    pe_c_key key = PE_C_EMPTY;
+    pe_c_pdb20 pdb = PE_C_EMPTY;
+    pe_c_vc_features features = PE_C_EMPTY;
+    uint32_t flags = 0, mode = file->image.mode;
+    pe_c_repro repro = PE_C_EMPTY;
+    pe_c_pogo pogo = PE_C_EMPTY;
+    pe_c_embedded_pdb embedded = PE_C_EMPTY;
+    pe_c_pdb_checksum checksum = PE_C_EMPTY;
+    CALL(pe_c_codeview, key, BYTES, &record, &key);
+    CALL(pe_c_symbol_key_of, key, BYTES, mode, entry, &key);
+    CALL(pe_c_pdb20_of, pdb, BYTES, mode, entry, &pdb);
+    CALL(pe_c_vc_features_of, features, BYTES, mode, entry, &features);
+    CALL(pe_c_characteristics_of, flags, BYTES, mode, entry, &flags);
+    CALL(pe_c_repro_of, repro, BYTES, mode, entry, &repro);
+    CALL(pe_c_pogo_of, pogo, BYTES, mode, entry, &pogo);
+    CALL(pe_c_embedded_pdb_of, embedded, BYTES, mode, entry, &embedded);
+    CALL(pe_c_pdb_checksum_of, checksum, BYTES, mode, entry, &checksum);
+}
+
+/* The first entry of each type whose record has a call, and of one that no image has. */
+static void first_entries(const struct file *file)
+{
+    static const uint32_t types[] = {2, 12, 13, 16, 17, 19, 20, 0xFFFF};
+    const pe_c_view view = {BYTES, &file->image, sections, file->count};
+    pe_c_debug_entry entry = PE_C_EMPTY;
+    for (size_t i = 0; i < sizeof types / sizeof *types; i++)
+        CALL(pe_c_first_debug_entry, entry, &view, types[i], &entry);
+}
+
 static void debug_data(const struct file *file)
 {
     pe_c_range range = PE_C_EMPTY;
@@ -224,10 +257,9 @@ static void debug_data(const struct file *file)
     pe_c_pogo pogo = PE_C_EMPTY;
     pe_c_pogo_entry pogo_entry = PE_C_EMPTY;
     if (IS_DONE(pe_c_debug_entries, range, IMAGE, &range))
-        WALK(ITEMS, pe_c_next_debug_entry, entry, BYTES, &range, &entry) {
-            pe_c_range record = {entry.pointer_to_raw_data, entry.size_of_data};
-            CALL(pe_c_codeview, key, BYTES, &record, &key);
-        }
+        WALK(ITEMS, pe_c_next_debug_entry, entry, BYTES, &range, &entry)
+            debug_record(file, &entry);
+    first_entries(file);
     CALL(pe_c_symbol_key, key, IMAGE, &key);
     CALL(pe_c_debug_pdb20, pdb, IMAGE, &pdb);
     CALL(pe_c_debug_vc_features, features, IMAGE, &features);
@@ -374,6 +406,8 @@ static void headers(const struct file *file)
 
 static void in_mode(struct file *file, uint32_t mode)
 {
+    pe_c_headers_info all = PE_C_EMPTY;
+    CALL(pe_c_headers, all, BYTES, mode, &all);
     if (!IS_DONE(pe_c_image, file->image, BYTES, mode, &file->image))
         return;
     file->count = file->image.number_of_sections;
