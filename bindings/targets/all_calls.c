@@ -395,7 +395,11 @@ static void headers(const struct file *file)
     uint64_t offset = 0;
     pe_c_rich_header_info rich = PE_C_EMPTY;
     pe_c_rich_entry entry = PE_C_EMPTY;
+    const pe_c_view view = {BYTES, &file->image, sections, file->count};
     CALL(pe_c_offset, offset, &file->image, sections, file->count, file->image.entry, &offset);
+    CALL(pe_c_section_at, offset, &view, file->image.entry, &offset);
+    for (size_t i = 0; i < file->count; i++)
+        CALL(pe_c_section_range, range, &view, &sections[i], &range);
     CALL(pe_c_overlay, range, IMAGE, &range);
     if (IS_DONE(pe_c_string_table, table, BYTES, &file->image, &table))
         for (size_t i = 0; i < file->count; i++)
