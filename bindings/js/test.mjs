@@ -115,6 +115,13 @@ test('the first debug entry of a type, in a view that the library makes', () => 
   [...image.list('debugEntries')].forEach((it) => assert.deepEqual(image.debugEntry(it.data_type), it));
 });
 
+// The images have one section, of 0x200 bytes at RVA 0x1000 and offset 0x400.
+test('the section map, in a view that the library makes', () => {
+  const image = opened('imports'), [section] = image.sections;
+  assert.deepEqual([0x1000, 0x11FF, 0xFFF, 0x9000].map((rva) => image.call('pe_c_section_at', { rva })), [0n, 0n, null, null]);
+  assert.deepEqual(image.call('pe_c_section_range', { section }), { offset: 0x400n, length: 0x200n });
+});
+
 /** The record of the first debug entry of a type. */
 function record(image, type, call, mode = constants.PE_C_STRICT) {
   return image.call(call, { mode, entry: image.debugEntry(type) });
