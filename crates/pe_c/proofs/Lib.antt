@@ -34,3 +34,6 @@ pub mod VersionsReported
 pub mod Ways
 pub mod LeafRuns
 pub mod VersionBlockParts
+pub mod ViewedModules
+pub mod WalkFrames
+pub mod FrameRuns

@@ -2,6 +2,7 @@
 //! proof can cite it by calling the function.
 
 pub mod directories;
+pub mod frames;
 pub mod version_blocks;
 pub mod walks;
 

@@ -95,7 +95,7 @@ fn half_registers(registers: &[u128; 16]) -> [u64; 32]
 }
 
 /// The registers that a caller passes.
-fn registers_of(registers: &FrameRegisters) -> Registers
+pub fn registers_of(registers: &FrameRegisters) -> Registers
     ensures { result ≡ registers_of registers.now }
 {
     Registers {
@@ -106,7 +106,7 @@ fn registers_of(registers: &FrameRegisters) -> Registers
 }
 
 /// Registers as callers get them.
-fn flat_registers(registers: &Registers) -> FrameRegisters
+pub fn flat_registers(registers: &Registers) -> FrameRegisters
     ensures { result ≡ flat_registers registers.now }
 {
     FrameRegisters {

@@ -38,6 +38,8 @@ pub use jump::{ImageFunctions, step_in_image};
 pub use memory::{Memory, Stack};
 pub use memory_list::{MemoryList, MemoryPiece};
 pub use memory_pieces::StackPieces;
-pub use modules::{Module, ModuleOrder, Modules};
+pub use modules::{CallSites, LoadedModules, Module, ModuleOrder, Modules};
 pub use registers::Registers;
-pub use walk::{StackFrame, StackFrames, WalkEnd, Way};
+pub use walk::{
+    StackFrame, StackFrames, WalkEnd, WalkPosition, Way, caller_in_module, caller_outside,
+};

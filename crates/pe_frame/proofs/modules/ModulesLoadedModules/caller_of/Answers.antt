@@ -3,7 +3,7 @@ use Rattle.std.specs.List.{find}
 use Rattle.pe_frame.specs.AddressRanges.{has_address}
 use Rattle.pe_frame.specs.Modules.{module_base, module_size}
 use Rattle.pe_frame.specs.Walks.{lookup_address}
-use Rattle.pe_frame.proofs.walk.caller_of.Goals as goal
+use Rattle.pe_frame.proofs.modules.ModulesLoadedModules.caller_of.Goals as goal
 use Rattle.pe_core.proofs.Map.{found_passes}
 
 pub caller_in_module-requires : goal.caller_in_module-requires
