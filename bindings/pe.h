@@ -653,6 +653,58 @@ typedef struct {
     uint64_t length;                /* bytes; those past the last address have none */
 } pe_c_memory_piece;
 
+/* A module of a process on x64: its image, and where it is loaded. `bytes` and `sections` are as in a call; what they lead to
+ * stays readable as long as the record is passed. */
+typedef struct {
+    const uint8_t *bytes;           /* the image, as pe_c_image was called */
+    size_t length;                  /* bytes of it */
+    const pe_c_section *sections;   /* of pe_c_sections */
+    size_t count;                   /* how many there are */
+    pe_c_range table;               /* of pe_c_function_table; all 0 where that returned PE_C_NOTHING: leaf functions alone */
+    uint64_t base;                  /* address where it is loaded */
+    uint32_t size;                  /* size_of_image: how many bytes it has there */
+    uint32_t file_alignment;        /* that of the image */
+    uint32_t mode;                  /* that of the image */
+    uint32_t spare;                 /* 0 */
+} pe_c_module;
+
+/* How a frame of a walk was found. */
+enum {
+    PE_C_WAY_TOP = 0,               /* it is the top frame */
+    PE_C_WAY_RECORDS = 1,           /* by the unwind records of the function that it called */
+    PE_C_WAY_LEAF = 2,              /* it called a leaf function */
+    PE_C_WAY_INTERRUPT = 3,         /* an interrupt stopped it: the records before it show what the processor pushed */
+    PE_C_WAY_SCANNED = 4            /* by a scan of the stack, where no records led on: it may be wrong, and those after it */
+};
+
+/* Why a walk is over. */
+enum {
+    PE_C_END_BOUND = 0,             /* as many frames were returned as the caller wants */
+    PE_C_END_BOTTOM = 1,            /* the stack is whole: its last frame returns to 0, and no frame is found there */
+    PE_C_END_NO_MODULE = 2,         /* no module has the last instruction pointer, and no return address is found */
+    PE_C_END_NO_FUNCTION = 3,       /* no function covers the call in the last frame */
+    PE_C_END_RECORDS = 4,           /* an unwind record of the last function cannot be read: `error` says why */
+    PE_C_END_LONG_CHAIN = 5,        /* more than 32 of them are chained */
+    PE_C_END_STEP = 6               /* the step from the last frame is refused: `error` and `address` as in pe_c_step */
+};
+
+/* A walk of a stack, and the frame that was returned last. For a walk from the start set the registers to those of the thread,
+ * `remaining` to how many frames are wanted at most, and all else to 0. */
+typedef struct {
+    pe_c_registers registers;       /* inside the function of the frame */
+    uint64_t remaining;             /* how many frames follow at most; 0 once the walk is over */
+    uint64_t address;               /* of a walk that is over, as `address` of a frame; else 0 */
+    uint32_t has_returned;          /* 0 before the first call, else 1 */
+    uint32_t way;                   /* PE_C_WAY_* */
+    uint32_t has_called;            /* 1 where the function of the frame has called: rip is the return address. 0 where rip is the
+                                       instruction that is about to run */
+    uint32_t end;                   /* PE_C_END_* of a walk that is over */
+    uint32_t error;                 /* a result, for PE_C_END_RECORDS, _LONG_CHAIN and _STEP; else 0 */
+    uint32_t spare;                 /* 0 */
+} pe_c_stack_walk;
+
+PE_C_SIZE(pe_c_module, 72);
+PE_C_SIZE(pe_c_stack_walk, 432);
 PE_C_SIZE(pe_c_function, 12);
 PE_C_SIZE(pe_c_walk, 24);
 PE_C_SIZE(pe_c_record, 72);
@@ -763,6 +815,21 @@ uint32_t pe_c_step_pieces(const uint8_t *bytes, size_t length, const pe_c_image_
  * Errors: PE_C_SHORT where a piece is not inside the memory; then those of pe_c_leaf. */
 uint32_t pe_c_leaf_pieces(const uint8_t *memory, size_t memory_length, const pe_c_memory_piece *pieces,
                           size_t piece_count, pe_c_frame *frame) PE_C_RESULT(5);
+
+/* Returns the next frame of a stack walk on x64, in the walk: first the top frame, and then the caller of each, through the
+ * modules of a process. PE_C_NOTHING where the walk is over: walk->end says why. The caller keeps the walk between two calls,
+ * and may copy it.
+ *
+ * The modules are looked up in turn: an address is that of the first module that has it. `memory` and `pieces` are as in
+ * pe_c_step_pieces; a stack in one piece is a list of one. They are tested in each call, and may differ from call to call.
+ *
+ * In each frame the function is looked up by rip, or by the byte before it where the function has called. Its epilogs are known by
+ * their code in the image, and a jump out of it is followed. In the top frame, and in one that was interrupted, the caller may have
+ * no records: then it is found by the return address at rsp, if a call ends there, else by the first of 128 words from rsp on that
+ * is after a call in an executable section. Only past an interrupt may the stack pointer not rise.
+ * Errors, which change nothing: PE_C_SHORT where the table of a module is not inside its bytes, or a piece not inside the memory. */
+uint32_t pe_c_next_frame(const pe_c_module *modules, size_t module_count, const uint8_t *memory, size_t memory_length,
+                         const pe_c_memory_piece *pieces, size_t piece_count, pe_c_stack_walk *walk) PE_C_RESULT(7);
 
 /* ---- ARM64 functions and unwind records
  *

@@ -26,6 +26,7 @@ mod memory;
 mod memory_list;
 mod memory_pieces;
 mod modules;
+mod process;
 mod record;
 mod registers;
 mod undo;
@@ -38,7 +39,8 @@ pub use jump::{ImageFunctions, step_in_image};
 pub use memory::{Memory, Stack};
 pub use memory_list::{MemoryList, MemoryPiece};
 pub use memory_pieces::StackPieces;
-pub use modules::{CallSites, LoadedModules, Module, ModuleOrder, Modules};
+pub use modules::{Module, ModuleOrder, Modules};
+pub use process::{CallSites, LoadedModules};
 pub use registers::Registers;
 pub use walk::{
     StackFrame, StackFrames, WalkEnd, WalkPosition, Way, caller_in_module, caller_outside,
