@@ -97,7 +97,7 @@ impl fmt::Display for StepError {
 impl core::error::Error for StepError {}
 
 /// The registers after a step, by the number that it returned, or its error with the address that it speaks of.
-fn stepped<R>(number: u32, registers: R, address: u64) -> Result<R, StepError> {
+pub(crate) fn stepped<R>(number: u32, registers: R, address: u64) -> Result<R, StepError> {
     let error = Error::with_number(number);
     match error {
         _ if number == sys::DONE => Ok(registers),
