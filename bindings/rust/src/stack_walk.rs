@@ -272,6 +272,50 @@ impl sealed::Machine for Arm64Registers {
 /// On x64 the top frame, and one that was interrupted, may be in no function, as after a call of a null pointer. The return
 /// address is then at its stack pointer, if a call ends at it. If none does, it is the first of the 128 words from there on
 /// that is after a call in an executable section: [`Way::Scanned`] says so.
+///
+/// On x64:
+///
+/// ```
+/// # #[path = "../tests/made/mod.rs"] mod made;
+/// # let bytes = made::with_functions();
+/// use pe_c::{End, Frames, Image, MemoryList, MemoryPiece, Mode, Module, Registers};
+///
+/// let image = Image::parse(&bytes, Mode::Permissive)?;
+/// let modules = [Module::new(&image, 0x1_8000_0000)?];
+/// let mut registers = Registers { rip: 0x1_8000_5000, ..Registers::default() };
+/// registers.set_rsp(0x2_0000);
+/// let stack = [0; 8]; // its last return address is 0
+/// let pieces = [MemoryPiece { start: 0x2_0000, offset: 0, length: 8 }];
+/// let mut frames = Frames::new(registers, 100, &modules, MemoryList::new(&stack, &pieces)?);
+/// assert_eq!(frames.by_ref().count(), 1);
+/// assert_eq!(frames.end(), Some(End::Bottom));
+/// # Ok::<(), pe_c::Error>(())
+/// ```
+///
+/// On ARM64, where the last instruction of a function calls the next one. The return address is the start of that one, and is not
+/// looked up:
+///
+/// ```
+/// # #[path = "../tests/made/mod.rs"] mod made;
+/// # let bytes = made::with_arm64_calls();
+/// use pe_c::{Arm64Registers, End, Frames, Image, MemoryList, MemoryPiece, Mode, Module, Way};
+///
+/// let image = Image::parse(&bytes, Mode::Permissive)?;
+/// let base = 0x1_8000_0000;
+/// let modules = [Module::new(&image, base)?];
+/// // before the first instruction of the second function
+/// let mut registers = Arm64Registers { pc: base + 0x5020, sp: 0x2_0000, ..Arm64Registers::default() };
+/// registers.set_lr(base + 0x5020);
+/// // the first one set x29 to the stack pointer, and stored x29, its return address, which is 0, x19 and x20 in 48 bytes
+/// registers.general[29] = 0x2_0000;
+/// let stack = [0; 48];
+/// let pieces = [MemoryPiece { start: 0x2_0000, offset: 0, length: 48 }];
+/// let mut frames = Frames::new(registers, 100, &modules, MemoryList::new(&stack, &pieces)?);
+/// let found: Vec<_> = frames.by_ref().map(|frame| (frame.registers.pc, frame.registers.sp, frame.way)).collect();
+/// assert_eq!(found, [(base + 0x5020, 0x2_0000, Way::Top), (base + 0x5020, 0x2_0000, Way::Records)]);
+/// assert_eq!(frames.end(), Some(End::Bottom));
+/// # Ok::<(), pe_c::Error>(())
+/// ```
 pub struct Frames<'m, R: MachineRegisters = Registers> {
     modules: &'m [Module<'m>],
     memory: MemoryList<'m>,

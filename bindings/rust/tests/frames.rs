@@ -490,7 +490,8 @@ fn walks_on_the_other_machine_find_no_function() {
     let (modules, registers) = ([module(&arm64, BASE)], Registers { rip: BASE + 0x5004, ..Registers::default() });
     let mut frames = Frames::new(registers, 9, &modules, memory);
     assert_eq!((frames.by_ref().count(), frames.end()), (1, Some(End::Step(StepError::Missing(0)))));
-    let (modules, registers) = ([module(&x64, BASE)], Arm64Registers { pc: BASE + 0x5004, ..Arm64Registers::default() });
+    let (modules, registers) =
+        ([module(&x64, BASE)], Arm64Registers { pc: BASE + 0x5004, ..Arm64Registers::default() });
     let mut frames = Frames::new(registers, 9, &modules, memory);
     assert_eq!((frames.by_ref().count(), frames.end()), (1, Some(End::Bottom)));
 }

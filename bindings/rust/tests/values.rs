@@ -8,8 +8,7 @@ use facts::as_loaded;
 use made::*;
 use pe_c::{
     Arm64Unwinding, DirectoryIndex, Error, Frames, Handler, Image, Layout, MemoryList, MemoryPiece, Mode, Module,
-    Registers, Repro, Text,
-    VersionName, Way,
+    Registers, Repro, Text, VersionName, Way,
 };
 
 fn strict(bytes: &[u8]) -> Image<'_> {
