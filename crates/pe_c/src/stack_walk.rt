@@ -104,7 +104,7 @@ fn exceptions_of<'a>(view: &ModuleView<'a>) -> Option<ExceptionData<'a>>
 
 /// A module as pe_frame takes it, with its exception data.
 fn module_with<'a>(view: &ModuleView<'a>, exceptions: Option<&'a ExceptionData<'a>>) -> Module<'a>
-    ensures { result ≡ module_with view.now exceptions }
+    ensures { result ≡ module_with view.now exceptions.entry }
 {
     Module {
         base: view.base,

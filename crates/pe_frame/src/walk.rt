@@ -168,7 +168,10 @@ fn scanned<L: CallSites, M: Memory>(
 }
 
 /// The frame of the caller of a leaf function, if a call ends where it returns to.
-fn leaf_frame<L: CallSites>(modules: &L, popped: &Result<Registers, FrameError>) -> Option<StackFrame>
+fn leaf_frame<L: CallSites>(
+    modules: &L,
+    popped: &Result<Registers, FrameError>,
+) -> Option<StackFrame>
     ensures { result ≡ leaf_frame (L.list modules.now) popped.now }
 {
     match popped {
@@ -412,7 +415,11 @@ impl WalkPosition {
 
     /// The next frame of the walk over these modules and this memory, as [`StackFrames`] returns it. `None` once the walk is over.
     #[tactic(auto, using(crate::proofs::WholeWalks::advanced))]
-    pub fn next<L: LoadedModules, M: Memory>(&mut self, modules: &L, memory: &M) -> Option<StackFrame>
+    pub fn next<L: LoadedModules, M: Memory>(
+        &mut self,
+        modules: &L,
+        memory: &M,
+    ) -> Option<StackFrame>
         ensures { Advances (state_of (M.word memory.now) (L.modules modules.now) self.old) result
             (state_of (M.word memory.now) (L.modules modules.now) self.new) }
     {
