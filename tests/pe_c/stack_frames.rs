@@ -305,7 +305,7 @@ fn a_jump_is_followed_in_the_image(rt: HostRuntime) -> Result<(), Fail> {
     Ok(())
 }
 
-/// A function without a prolog jumps into another one behind its prolog, as parts of a function do: the frame is still in place.
+/// A function without a prolog jumps into another one after its prolog, as parts of a function do: the frame is still in place.
 #[test]
 fn a_jump_into_another_function_is_followed(rt: HostRuntime) -> Result<(), Fail> {
     let mut bytes = with_records(rt.alloc())?;
