@@ -230,6 +230,37 @@ def build(target, folder, code=None, words=()):
     return proof
 
 
+# ---- plain C
+
+WASM2C = ["/usr/include/wasm-rt.h", "/usr/share/wabt/wasm2c/wasm-rt-impl.c", "/usr/share/wabt/wasm2c/wasm-rt-impl.h"]
+PORTABLE = """The library pe_c, compiled to WebAssembly and translated to C by wasm2c: for systems that it is not compiled for.
+
+The code of the library is proved. No proof covers the compilation to WebAssembly, binaryen's lowering of the module's memory to
+32 bits, the translation by wasm2c, its run-time (wasm-rt-impl.c) or the C compiler.
+
+    cc -std=gnu11 -O2 -DWASM_RT_MEMCHECK_SIGNAL_HANDLER=0 -c pe_c.c wasm-rt-impl.c
+
+It is not the interface of pe.h. A call NAME of pe.h is Z_pe_cZ_NAME. Its first parameter is an instance, which
+Z_pe_c_instantiate makes after wasm_rt_init and Z_pe_c_init_module. Pointers are offsets in the memory of the instance, as numbers
+of 64 bits: what a call reads is copied into that memory first, behind the offset that Z_pe_cZ___heap_base points to where the
+module has one, and what it writes is copied out. The memory has less than 4 GiB, and wasm_rt_grow_memory makes it larger. What a
+call does wrong there reaches no other memory: an access beyond it ends in wasm_rt_trap. An instance is for one thread at a time.
+"""
+
+
+def make_portable(wasm, folder):
+    """Writes the C that wasm2c makes of the module of a folder, with its run-time, into another folder."""
+    lacking = missing({"wasm2c": "wabt"})
+    if lacking:
+        raise Failed(f"a program of the Debian package {lacking[0]} is missing")
+    os.makedirs(folder, exist_ok=True)
+    run(["wasm2c", os.path.realpath(os.path.join(wasm, "pe_c.wasm")), "-n", "pe_c", "-o", "pe_c.c"], cwd=folder)
+    for path in WASM2C:
+        shutil.copy(path, folder)
+    with open(os.path.join(folder, "README"), "w", encoding="utf-8") as file:
+        file.write(PORTABLE)
+
+
 def build_all(folder, words=(), say=print):
     """Builds every target, each into a folder of its own, of one proof. Says of each what was proved and what it took. The
     code that is compiled for Windows has to be that of the archive for Linux."""
