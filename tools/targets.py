@@ -31,7 +31,8 @@ BINDINGS = os.path.join(TOP, "bindings")
 SOURCES = os.path.join(BINDINGS, "targets")
 CRATE = os.path.join(TOP, "crates", "pe_c")
 BUILT = os.path.join(CRATE, "out", "libpe_c.a")
-TRIPLES = {"linux-x64": "x86_64-unknown-linux-gnu", "linux-arm64": "aarch64-unknown-linux-gnu", "wasm": "wasm64-unknown-unknown", "windows-x64": "x86_64-pc-windows-gnu"}
+TRIPLES = {"linux-x64": "x86_64-unknown-linux-gnu", "linux-arm64": "aarch64-unknown-linux-gnu",
+           "wasm": "wasm64-unknown-unknown", "windows-x64": "x86_64-pc-windows-gnu"}
 # Those that have a folder beside the archive for Linux on x86-64.
 OTHERS = [it for it in TRIPLES if it != "linux-x64"]
 MINGW = "x86_64-w64-mingw32"
