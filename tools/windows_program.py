@@ -55,7 +55,7 @@ def words_of(room, sources, debian):
     """The words of cargo. The folders of this machine and the time have no place in the program."""
     names = {room: ".", os.path.expanduser("~"): "~"}
     if sources:
-        names[os.path.realpath(sources)] = "library"
+        names.update(dict.fromkeys((sources, os.path.realpath(sources)), "library"))
     flags = [f"--remap-path-prefix={path}={name}" for path, name in names.items()]
     flags += ["-C", "link-arg=-Wl,--no-insert-timestamp", "-C", "strip=symbols"]
     words = ["--config", f"target.{TARGET}.rustflags = {json.dumps(flags)}", "--target", TARGET, "--release", "--quiet"]
