@@ -7,8 +7,8 @@ nothing of a target but four things, which are changed as text, and have to be t
 - "target-cpu" and "target-features" of functions, which are left out: the target's least processor;
 - for Windows `uwtable` for each function: without it one that cannot throw has no unwind table there, and a debugger, a
   crash reporter or __except cannot find the caller of a call that faults;
-- for Windows "probe-stack", which elsewhere names a way to probe the stack and there a function to call: without it the
-  compiler calls ___chkstk_ms, which bindings/targets/windows/chkstk.S is.
+- for Windows "probe-stack", which elsewhere names a way to probe the stack and there a function to call: it becomes
+  pe_c_probe_stack, which bindings/targets/windows/chkstk.S is.
 """
 
 import os
@@ -88,7 +88,8 @@ def retargeted(text, layout):
     text = edited(text, r' ?"target-(?:cpu|features)"="[^"]*"', "", 0)
     text = edited(text, r"^(attributes #\d+ = \{ .*)sanitize_address ", r"\1", 0)
     if "-windows-" in layout["triple"]:
-        text = edited(text, r' ?"(?:probe-stack|stack-probe-size)"="[^"]*"', "")
+        text = edited(text, r' ?"stack-probe-size"="[^"]*"', "", 0)
+        text = edited(text, r'"probe-stack"="[^"]*"', '"probe-stack"="pe_c_probe_stack"')
         used = set(re.findall(r"^define .*\) (?:unnamed_addr |local_unnamed_addr )?#(\d+)", text, re.M))
         plain = re.findall(r"^define (?!.*#\d+).*$", text, re.M)
         if plain or not used:

@@ -41,11 +41,20 @@ def build_text(target, folder, common):
         proof = file.read().strip()
     if not proof.startswith("logic=proved "):
         raise Failed(f"{folder} is of code that is not proved")
-    lines = [f"target {target}", f"proof {proof}", f"trusted beside the proof {TRUSTED[target]}"]
+    first, *more = proof.split("\n")
+    lines = [f"target {target}", f"proof {first}", *[f"of which in the run that compiled it: {it}" for it in more],
+             f"trusted beside the proof {TRUSTED[target]}"]
     for name in files_of(target):
         with open(os.path.join(folder, name), "rb") as file:
             lines.append(f"sha256 {name} {hashlib.sha256(file.read()).hexdigest()}")
     return common + "".join(f"{it}\n" for it in lines)
+
+
+def program_text(program):
+    """What BUILD says of the program."""
+    with open(program, "rb") as file:
+        digest = hashlib.sha256(file.read()).hexdigest()
+    return f"sha256 pe.exe {digest}\npe.exe is a program in Rust over libpe_c.a: no proof covers it\n"
 
 
 def write(text, *path):
@@ -82,7 +91,6 @@ def windows_tree(folder, build, tree):
     for name in files_of("windows-x64"):
         copy(os.path.join(folder, name), tree, "bin" if name.endswith(".dll") else "lib", name)
     copy(os.path.join(BINDINGS, "pe.h"), tree, "include", "pe.h")
-    copy(os.path.join(TOP, "LICENSE"), tree, "LICENSE")
     copy(os.path.join(BINDINGS, "sample.c"), tree, "sample.c")
     with open(os.path.join(SOURCES, "windows", "pe_cConfig.cmake.in"), encoding="utf-8") as file:
         write(file.read().replace("@ABI@", str(header.abi)), tree, "lib", "cmake", "pe_c", "pe_cConfig.cmake")

@@ -1,21 +1,27 @@
-"""Building the library for targets other than Linux on x86-64: of proved crates by the kit, or of code that is not
-proved.
+"""Building the library for its targets: of proved crates by the kit, or of code that is not proved.
 
+    linux-x64       libpe_c.a, by the kit, for x86_64-unknown-linux-gnu: the archive that `make -C bindings` makes
     linux-arm64     libpe_c.a, by the kit, for aarch64-unknown-linux-gnu
     wasm            pe_c64.wasm, by the kit, for wasm64-unknown-unknown; and pe_c.wasm, that with a memory of 32 bits,
                     by binaryen
     windows-x64     libpe_c.a, pe_c-ABI.dll, libpe_c.dll.a, pe_c.lib and pe_c.def, of the LLVM code that the kit makes
                     for Linux on x86-64, changed as retarget.py says, since Windows is no target of the kit
 
-A folder of a target has these files, and PROOF, which says what was proved; and for windows-x64 linux.a, the archive
-for Linux that the kit made of the same code."""
+A folder of a target has these files, and PROOF, the line of the log that says what was proved; and for windows-x64
+linux.a, the archive for Linux that the kit made of the same code.
+
+One proof serves all. The kit keeps what it checked of a crate in the crate's out/incremental, whatever the target: the
+first target that is built proves what has changed, and for each further one the kit says in its log that it checked no
+module, `modules loaded=N checked=0`, which stands in PROOF too."""
 
 import contextlib
 import os
 import re
+import resource
 import shutil
 import subprocess
 import tempfile
+import time
 
 import header_files
 from header import TOP, Header
@@ -25,12 +31,18 @@ BINDINGS = os.path.join(TOP, "bindings")
 SOURCES = os.path.join(BINDINGS, "targets")
 CRATE = os.path.join(TOP, "crates", "pe_c")
 BUILT = os.path.join(CRATE, "out", "libpe_c.a")
-TRIPLES = {"linux-arm64": "aarch64-unknown-linux-gnu", "wasm": "wasm64-unknown-unknown", "windows-x64": "x86_64-pc-windows-gnu"}
+TRIPLES = {"linux-x64": "x86_64-unknown-linux-gnu", "linux-arm64": "aarch64-unknown-linux-gnu",
+           "wasm": "wasm64-unknown-unknown", "windows-x64": "x86_64-pc-windows-gnu"}
+# Those that have a folder beside the archive for Linux on x86-64.
+OTHERS = [it for it in TRIPLES if it != "linux-x64"]
 MINGW = "x86_64-w64-mingw32"
 # The program wine speaks of what is missing of 32 bits.
 WINE = shutil.which("wine64") or "/usr/lib/wine/wine64"
+# For every x86-64 processor.
+CPU = ["--cpu", "x86-64"]
 # What each target needs to be built, and in which of Debian's packages that is.
 NEEDS = {
+    "linux-x64": {},
     "linux-arm64": {},
     "wasm": {"wasm-opt": "binaryen"},
     "windows-x64": {f"{MINGW}-gcc": "gcc-mingw-w64-x86-64", f"{MINGW}-windres": "binutils-mingw-w64-x86-64",
@@ -71,7 +83,9 @@ def kit_that_keeps(rt, code):
     """A kit, made of links to another, whose compiler keeps a copy of the code that it compiles last. Yields its
     command."""
     kit = os.path.dirname(os.path.dirname(rt))
-    with tempfile.TemporaryDirectory() as room:
+    with tempfile.TemporaryDirectory() as above:
+        # what the kit keeps beside its folder goes with it
+        room = os.path.join(above, "kit")
         for part in ("", "bin", "toolchain", "toolchain/bin"):
             os.makedirs(os.path.join(room, part), exist_ok=True)
             for name in os.listdir(os.path.join(kit, part)):
@@ -91,7 +105,7 @@ def kit_that_keeps(rt, code):
 
 def archive_of_kit(rt, out, words):
     """Proves what has changed of the crates, and writes the archive by `rt lib`. The archive for Linux on x86-64
-    stays as it is."""
+    stays as it is. Returns the lines of the log that say what was proved, and how much of it in this run."""
     kept = f"{BUILT}.kept"
     if os.path.exists(BUILT):
         os.replace(BUILT, kept)
@@ -100,11 +114,11 @@ def archive_of_kit(rt, out, words):
         proofs = re.findall(r"^logic=proved .*", said, re.M)
         if not proofs:
             raise Failed(f"no proof of pe_c: {said[-2000:]}")
-        os.replace(BUILT, out)
+        shutil.move(BUILT, out)
     finally:
         if os.path.exists(kept):
             os.replace(kept, BUILT)
-    return proofs[-1]
+    return "\n".join([proofs[-1], *re.findall(r"^crate pe_c: modules loaded=\d+ checked=\d+$", said, re.M)[-1:]])
 
 
 # ---- the library, of code
@@ -186,12 +200,12 @@ def finish_windows(folder):
         run(["llvm-dlltool", "-m", "i386:x86-64", "-d", exports, "-D", dll, "-l", os.path.join(folder, library)])
 
 
-FINISH = {"linux-arm64": lambda folder: None, "wasm": finish_wasm, "windows-x64": finish_windows}
+FINISH = {"linux-x64": lambda folder: None, "linux-arm64": lambda folder: None, "wasm": finish_wasm, "windows-x64": finish_windows}
 
 
 def build(target, folder, code=None, words=()):
     """Builds the files of a target into a folder: of proved crates, by `rt lib` with these words more, or of the text
-    of LLVM code, which is not proved. Returns the line that says what was proved, or "not proved"."""
+    of LLVM code, which is not proved. Returns the lines that say what was proved, or "not proved"."""
     lacking = missing(NEEDS[target])
     if lacking:
         raise Failed(f"{target}: programs of the Debian packages {', '.join(lacking)} are missing")
@@ -203,14 +217,65 @@ def build(target, folder, code=None, words=()):
         kept = os.path.join(folder, "module.bc")
         rt = find_rt()
         with kit_that_keeps(rt, kept) as own:
-            proof = archive_of_kit(own, os.path.join(folder, "linux.a"), ["--cpu", "x86-64", *words])
+            proof = archive_of_kit(own, os.path.join(folder, "linux.a"), [*CPU, *words])
         archive_of_code(target, Compiler(rt).text(kept), archive, "-O3")
         os.remove(kept)
     elif code is None:
-        proof = archive_of_kit(find_rt(), archive, ["--target", TRIPLES[target], *words])
+        own = CPU if target == "linux-x64" else ["--target", TRIPLES[target]]
+        proof = archive_of_kit(find_rt(), archive, [*own, *words])
     else:
         archive_of_code(target, code, archive)
     FINISH[target](folder)
     with open(os.path.join(folder, "PROOF"), "w", encoding="utf-8") as file:
         file.write(f"{proof}\n")
     return proof
+
+
+# ---- plain C
+
+WASM2C = ["/usr/include/wasm-rt.h", "/usr/share/wabt/wasm2c/wasm-rt-impl.c", "/usr/share/wabt/wasm2c/wasm-rt-impl.h"]
+PORTABLE = """The library pe_c, compiled to WebAssembly and translated to C by wasm2c: for systems that it is not compiled for.
+
+The code of the library is proved. No proof covers the compilation to WebAssembly, binaryen's lowering of the module's memory to
+32 bits, the translation by wasm2c, its run-time (wasm-rt-impl.c) or the C compiler.
+
+    cc -std=gnu11 -O2 -DWASM_RT_MEMCHECK_SIGNAL_HANDLER=0 -c pe_c.c wasm-rt-impl.c
+
+It is not the interface of pe.h. A call NAME of pe.h is Z_pe_cZ_NAME. Its first parameter is an instance, which
+Z_pe_c_instantiate makes after wasm_rt_init and Z_pe_c_init_module. Pointers are offsets in the memory of the instance, as numbers
+of 64 bits: what a call reads is copied into that memory first, behind the offset that Z_pe_cZ___heap_base points to where the
+module has one, and what it writes is copied out. The memory has less than 4 GiB, and wasm_rt_grow_memory makes it larger. What a
+call does wrong there reaches no other memory: an access beyond it ends in wasm_rt_trap. An instance is for one thread at a time.
+"""
+
+
+def make_portable(wasm, folder):
+    """Writes the C that wasm2c makes of the module of a folder, with its run-time, into another folder."""
+    lacking = missing({"wasm2c": "wabt"})
+    if lacking:
+        raise Failed(f"a program of the Debian package {lacking[0]} is missing")
+    os.makedirs(folder, exist_ok=True)
+    run(["wasm2c", os.path.realpath(os.path.join(wasm, "pe_c.wasm")), "-n", "pe_c", "-o", "pe_c.c"], cwd=folder)
+    for path in WASM2C:
+        shutil.copy(path, folder)
+    with open(os.path.join(folder, "README"), "w", encoding="utf-8") as file:
+        file.write(PORTABLE)
+
+
+def build_all(folder, words=(), say=print):
+    """Builds every target, each into a folder of its own, of one proof. Says of each what was proved and what it took. The
+    code that is compiled for Windows has to be that of the archive for Linux."""
+    for target in TRIPLES:
+        before, start = resource.getrusage(resource.RUSAGE_CHILDREN), time.monotonic()
+        proof = build(target, os.path.join(folder, target), None, words)
+        after = resource.getrusage(resource.RUSAGE_CHILDREN)
+        spent = after.ru_utime + after.ru_stime - before.ru_utime - before.ru_stime
+        say(f"{target}: {time.monotonic() - start:.0f} s by the clock, {spent:.0f} s of a processor\n{proof}")
+    check_code(os.path.join(folder, "linux-x64", "libpe_c.a"), os.path.join(folder, "windows-x64"))
+
+
+def check_code(archive, windows):
+    """Fails where the archive is not the one that the kit made of the code that was compiled for Windows."""
+    with open(archive, "rb") as one, open(os.path.join(windows, "linux.a"), "rb") as other:
+        if one.read() != other.read():
+            raise Failed(f"{windows} is not of the code of {archive}: build both anew")

@@ -1,8 +1,9 @@
 // The page: files that are dropped or chosen are read one after the other, each by an instance of the module of its
-// own, and shown by the facts of facts.mjs. Texts of a file, which may be hostile, reach the page as text alone, and
-// never as markup.
+// own, and shown by the facts of facts.mjs. Two files are compared too, by diff.mjs: two that come at once, or a second
+// one that comes beside the first. Texts of a file, which may be hostile, reach the page as text alone, and never as markup.
 import { Library } from './library.mjs';
 import { factsOf } from './facts.mjs';
+import { addHashes, differences, escaped } from './diff.mjs';
 import { module as encoded } from './module.mjs';
 
 const LARGEST = 2 ** 31 - 2 ** 26, ROWS = 500, PERMISSIVE = 1;
@@ -11,10 +12,7 @@ const compiled = WebAssembly.compile(Uint8Array.from(atob(encoded), (it) => it.c
 
 // ---- parts of the page
 
-/** Characters that would hide or turn around what follows are shown by their numbers. */
-const HIDDEN = /[\u0000-\u001f\u007f-\u00a0\u00ad\u061c\u180e\u200b-\u200f\u2028-\u202f\u205f-\u2069\ufeff\ufff9-\ufffb]/g;
-const shown = (text) => String(text).replace(HIDDEN, (it) => `\\u{${it.charCodeAt(0).toString(16)}}`);
-const textOf = (name) => (name === null ? '' : typeof name === 'string' ? shown(name) : `bytes ${name.hex}`);
+const textOf = (name) => (name === null ? '' : escaped(name));
 const hex = (number) => `0x${number.toString(16)}`;
 const count = (number, what) => `${number.toLocaleString('en')} ${what}${number === 1 ? '' : 's'}`;
 const named = ({ number, name }) => name ?? hex(number);
@@ -81,7 +79,7 @@ function overview(to, { headers, version, debug }) {
     ['Checksum', headers.checksum_state && `${hex(headers.checksum)}, ${headers.checksum_state}`],
     ['File version', version.fixed?.file_version],
     ['Product version', version.fixed?.product_version],
-    ...Object.entries(version.texts).map(([name, text]) => [name, shown(text)]),
+    ...Object.entries(version.texts).map(([name, text]) => [name, escaped(text)]),
     ['PDB', debug.pdb && textOf(debug.pdb.name)],
     ['PDB key', debug.pdb?.key],
     ['PDB in the image', debug.embedded_pdb && count(debug.embedded_pdb.size, 'byte')],
@@ -136,7 +134,7 @@ function exported(to, facts) {
     it.names.map(textOf).join(', '), textOf(it.forwarder)]), [0, 1]));
 }
 
-const label = (it) => (it.name === null ? `#${it.id}` : shown(it.name));
+const label = (it) => (it.name === null ? `#${it.id}` : escaped(it.name));
 
 function others(to, facts) {
   const lists = [
@@ -181,7 +179,7 @@ function show(to, facts) {
 /** Reads a file and shows it. Returns its facts, or null where it cannot be read. */
 async function read(file) {
   const article = add(byId('found'), 'article');
-  add(article, 'h2', shown(file.name));
+  add(article, 'h2', escaped(file.name));
   add(article, 'p', `${file.size.toLocaleString('en')} bytes`, 'faint');
   if (file.size > LARGEST) {
     add(article, 'p', 'This file is too large for a page: it reads files up to 2 GB. The program pe reads larger ones.', 'bad');
@@ -204,28 +202,88 @@ async function read(file) {
   }
 }
 
-/** Reads files one after the other. For tests, their facts are `window.facts`. */
-async function readAll(files) {
-  byId('found').textContent = '';
-  document.body.removeAttribute('data-done');
-  window.facts = [];
-  const from = performance.now();
-  for (const [i, file] of [...files].entries()) {
-    byId('state').textContent = `Reading ${i + 1} of ${files.length}`;
-    window.facts.push(await read(file));
+// ---- two files
+
+const PARTS = { sections: 'Sections', imports: 'Imports', delay_imports: 'Delay imports', exports: 'Exports', version: 'Version' };
+const SIGNS = { removed: '\u2212', added: '+', changed: '~' };
+
+/** A table for each part in which something differs, above all that is shown of the files. */
+function showDifferences(names, found) {
+  const article = document.createElement('article');
+  byId('found').prepend(article);
+  article.id = 'differences';
+  add(article, 'h2', `From ${names.map(escaped).join(' to ')}`);
+  if (!found.length) add(article, 'p', 'Sections, imports, exports and version information are the same.');
+  for (const [part, title] of Object.entries(PARTS)) {
+    const rows = found.filter((it) => it.part === part).map((it) => [SIGNS[it.change], it.name, it.before ?? '', it.after ?? '']);
+    if (!rows.length) continue;
+    add(article, 'h3', `${title}: ${count(rows.length, 'difference')}`);
+    table(article, ['', 'Name', 'Before', 'After'], rows);
   }
+}
+
+/** Compares two files that were read. Returns what differs, or null where a file cannot be read again. */
+async function compare(pair) {
+  try {
+    for (const { file, facts } of pair) await addHashes(facts, new Uint8Array(await file.arrayBuffer()));
+  } catch (error) {
+    add(byId('found'), 'p', `The files could not be compared: ${error.message}`, 'bad');
+    return null;
+  }
+  const found = differences(...pair.map((it) => it.facts));
+  showDifferences(pair.map((it) => it.file.name), found);
+  return found;
+}
+
+// ---- all files
+
+const isImage = ({ facts }) => facts !== null && !facts.error;
+// The only file that is shown, beside which another can come; and the number of the run that reads files.
+let alone = [], runs = 0;
+
+/** Reads files one after the other, beside those that are shown already. For tests, the facts of all are `window.facts`, and
+ * what differs between two is `window.differences`. */
+async function readAll(files, shown = []) {
+  const all = [...shown], own = runs += 1, from = performance.now();
+  if (!shown.length) byId('found').textContent = '';
+  byId('beside').hidden = true;
+  document.body.removeAttribute('data-done');
+  for (const [i, file] of files.entries()) {
+    byId('state').textContent = `Reading ${i + 1} of ${files.length}`;
+    const facts = await read(file);
+    // other files came meanwhile
+    if (own !== runs) return;
+    all.push({ file, facts });
+  }
+  window.facts = all.map((it) => it.facts);
+  window.differences = all.length === 2 && all.every(isImage) ? await compare(all) : null;
+  alone = all.length === 1 && isImage(all[0]) ? all : [];
+  byId('beside').hidden = !alone.length;
   byId('state').textContent = `${count(files.length, 'file')}, read in ${Math.round(performance.now() - from).toLocaleString('en')} ms`;
   document.body.dataset.done = 'yes';
 }
 
-byId('files').addEventListener('change', (event) => readAll(event.target.files));
+const boxOf = (event) => byId(!byId('beside').hidden && byId('beside').contains(event.target) ? 'beside' : 'drop');
+const leave = () => ['drop', 'beside'].forEach((it) => byId(it).classList.remove('over'));
+
+/** The files that were chosen. The same can be chosen again. */
+function chosen({ target }) {
+  const files = [...target.files];
+  target.value = '';
+  return files;
+}
+
+byId('files').addEventListener('change', (event) => readAll(chosen(event)));
+byId('other').addEventListener('change', (event) => readAll(chosen(event), alone));
 addEventListener('dragover', (event) => {
   event.preventDefault();
-  byId('drop').classList.add('over');
+  leave();
+  boxOf(event).classList.add('over');
 });
-addEventListener('dragleave', () => byId('drop').classList.remove('over'));
+addEventListener('dragleave', leave);
 addEventListener('drop', (event) => {
   event.preventDefault();
-  byId('drop').classList.remove('over');
-  if (event.dataTransfer.files.length) readAll(event.dataTransfer.files);
+  leave();
+  const files = [...event.dataTransfer.files];
+  if (files.length) readAll(files, boxOf(event).id === 'beside' ? alone : []);
 });

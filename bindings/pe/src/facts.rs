@@ -33,7 +33,6 @@ use pe_c::{Error, Image};
 use serde::ser::SerializeMap;
 use serde::{Serialize, Serializer};
 use std::fmt;
-use std::os::unix::ffi::OsStrExt;
 use std::path::Path;
 
 /// The version of the JSON that `docs/JSON.md` describes. It grows when a field changes its meaning or goes away.
@@ -140,9 +139,9 @@ impl Origin {
     }
 }
 
-/// The bytes of a path that is not UTF-8.
+/// The bytes of a path that is not UTF-8: under Windows those of WTF-8, which has half of a surrogate pair as three bytes.
 fn hex_of_path(path: &Path) -> Option<String> {
-    path.to_str().is_none().then(|| hex_of(path.as_os_str().as_bytes()))
+    path.to_str().is_none().then(|| hex_of(path.as_os_str().as_encoded_bytes()))
 }
 
 /// Why something is refused: the library's number, name and text.

@@ -3,9 +3,9 @@
 //! few.
 
 use crate::arguments::{Arguments, Files};
+use crate::system::{ask_for_large_pages, is_folder, is_loop, Progress};
 use crate::Status;
 use clap::CommandFactory;
-use indicatif::{ProgressBar, ProgressStyle};
 use pe_c::{Error, Image, Mode};
 use rayon::prelude::*;
 use std::cell::Cell;
@@ -95,7 +95,7 @@ impl Skipped {
 
 /// Whether a link leads nowhere, or in a circle.
 fn is_lost(error: &io::Error) -> bool {
-    error.kind() == io::ErrorKind::NotFound || error.raw_os_error() == Some(libc::ELOOP)
+    error.kind() == io::ErrorKind::NotFound || is_loop(error)
 }
 
 impl Iterator for Below<'_> {
@@ -140,33 +140,11 @@ fn found<'a>(named: &'a Files, skipped: &'a Skipped) -> impl Iterator<Item = Fou
 }
 
 /// A sign that work goes on, where standard error is a terminal and standard output is none.
-fn progress(is_recursive: bool) -> ProgressBar {
+fn progress(is_recursive: bool) -> Progress {
     if !is_recursive || io::stdout().is_terminal() {
-        return ProgressBar::hidden();
+        return Progress::hidden();
     }
-    let bar = ProgressBar::new_spinner();
-    if let Ok(style) = ProgressStyle::with_template("{spinner} {pos} files, {per_sec}, {elapsed}") {
-        bar.set_style(style);
-    }
-    bar
-}
-
-/// A page of memory.
-const PAGE: usize = 1 << 12;
-/// A large page, which the system fills at once.
-const LARGE_PAGE: usize = 1 << 21;
-
-/// Asks the system for large pages in the memory that a vector has and does not use yet. It may give them to a program that
-/// asks for them alone. To fill many small pages takes longer than all else that is done with a large file.
-fn ask_for_large_pages(bytes: &mut Vec<u8>) {
-    let room = bytes.spare_capacity_mut();
-    let start = room.as_ptr().align_offset(PAGE);
-    if room.len() < start.saturating_add(LARGE_PAGE) {
-        return;
-    }
-    let room = &mut room[start..];
-    // SAFETY: these are whole pages of the vector's own memory, and the advice changes nothing that is in them.
-    unsafe { libc::madvise(room.as_mut_ptr().cast(), room.len() / PAGE * PAGE, libc::MADV_HUGEPAGE) };
+    Progress::shown()
 }
 
 /// As `fs::read`, into large pages. `-` is standard input. A pipe or a device by another name is refused, since it may never
@@ -219,9 +197,9 @@ pub fn each(named: &Files, out: &mut dyn Write, report: impl Fn(&Path, &[u8]) ->
                 None => skipped.put(&found.path, "it is no image"),
             }
         }
-        bar.inc(some.len() as u64);
+        bar.add(some.len());
     }
-    bar.finish_and_clear();
+    bar.end();
     if skipped.count.get() > 0 {
         eprintln!("pe: {} skipped, no images", crate::facts::counted(skipped.count.get(), "file"));
     }
@@ -247,22 +225,22 @@ fn write(
         Ok(_) => Ok(None),
         Err(error) => {
             let name = found.path.to_string_lossy();
-            eprintln!("pe: {}: {error}{}", crate::escape::escaped(&name), hint(&name, &error));
+            eprintln!("pe: {}: {error}{}", crate::escape::escaped(&name), hint(&found.path, &error));
             Ok(Some(Status::FileError))
         }
     }
 }
 
 /// What was meant by a folder, or by the name of a file that is not there.
-fn hint(name: &str, error: &io::Error) -> String {
-    if error.raw_os_error() == Some(libc::EISDIR) {
+fn hint(path: &Path, error: &io::Error) -> String {
+    if is_folder(error, path) {
         return "; -r reads the files below it".to_string();
     }
     if error.kind() != io::ErrorKind::NotFound {
         return String::new();
     }
-    let commands = Arguments::command();
-    let meant = commands.get_subcommands().map(|it| it.get_name()).find(|it| is_like(name, it));
+    let (name, commands) = (path.to_string_lossy(), Arguments::command());
+    let meant = commands.get_subcommands().map(|it| it.get_name()).find(|it| is_like(&name, it));
     meant.map_or(String::new(), |it| format!("; is the command `{it}` meant?"))
 }
 

@@ -18,6 +18,7 @@ mod page;
 mod show;
 mod sign;
 mod summary;
+mod system;
 mod tables;
 mod unwind;
 

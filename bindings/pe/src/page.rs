@@ -1,5 +1,6 @@
 //! The text of a page: headings, rows and tables, with colours where standard output is a terminal.
 
+use crate::system::{columns_of_terminal, has_colours};
 use crate::tables::Table;
 use std::fmt::{self, Display, Write};
 use std::io::{self, IsTerminal};
@@ -20,7 +21,7 @@ impl Style {
         let is_terminal = io::stdout().is_terminal();
         let named = std::env::var("COLUMNS").ok().and_then(|it| it.parse().ok()).filter(|it| *it > 0);
         let width = named.or_else(|| if is_terminal { columns_of_terminal() } else { None });
-        Style { has_colours: is_terminal && !is_refused, width: width.unwrap_or(usize::MAX) }
+        Style { has_colours: is_terminal && !is_refused && has_colours(), width: width.unwrap_or(usize::MAX) }
     }
 
     fn between(self, code: &str, text: &str) -> String {
@@ -30,14 +31,6 @@ impl Style {
             text.to_string()
         }
     }
-}
-
-/// The columns of the terminal that is standard output.
-fn columns_of_terminal() -> Option<usize> {
-    let mut size = libc::winsize { ws_row: 0, ws_col: 0, ws_xpixel: 0, ws_ypixel: 0 };
-    // SAFETY: the request writes a record of this type, which is lent for the call.
-    let status = unsafe { libc::ioctl(libc::STDOUT_FILENO, libc::TIOCGWINSZ, &mut size) };
-    (status == 0 && size.ws_col > 0).then_some(usize::from(size.ws_col))
 }
 
 /// The width of the first column of a summary.
