@@ -1,0 +1,9 @@
+pub mod Refusals
+pub mod Tables
+pub mod Records
+pub mod Dumps
+pub mod Lists
+pub mod Streams
+pub mod Pieces
+pub mod Contexts
+pub mod Memory64

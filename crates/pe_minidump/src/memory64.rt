@@ -1,0 +1,145 @@
+//! The memory of a full dump, stream 9 (`MINIDUMP_MEMORY64_LIST`): the number of pieces and the offset of the first byte, 8 bytes
+//! each, then entries of 16 bytes (`MINIDUMP_MEMORY_DESCRIPTOR64`), an address and a size. The bytes of each piece follow those of the
+//! piece before it, so they are found by going over all pieces: an iterator keeps the sum.
+//!
+//! <https://learn.microsoft.com/windows/win32/api/minidumpapiset/ns-minidumpapiset-minidump_memory64_list>
+
+ghost use Rattle.std.specs.Prelude.{◌≡◌, ◌+◌, ◌*◌, ◌/◌, ◌-◌, ◌^◌, ◌<◌, ◌≤◌, length, nat_lt, if◌then◌else◌, IfOk, IfSome, None, Option, Some};
+ghost use Rattle.std.specs.Iterator.{UpTo, YieldsFirst, YieldsFirstBy, item_count};
+ghost use Rattle.std.specs.Iterator.SizeHint.{IsWithinCount};
+ghost use Rattle.std.specs.Option.{option_map};
+ghost use Rattle.pe_minidump.specs.Dumps.{dump_view, read_stream};
+ghost use Rattle.pe_minidump.specs.Memory64.{Listed64, memory64_of, piece64, pieces_from, size_of_first, size_of_piece};
+ghost use Rattle.pe_minidump.specs.Pieces.{piece_view};
+ghost use Rattle.pe_minidump.specs.Refusals.{DumpReturns};
+
+use crate::dump::Dump;
+use crate::error::{DumpError, Result};
+use crate::location::require_fields;
+use crate::memory::{MemoryPiece, piece};
+use crate::stream_type::MEMORY64_LIST_STREAM;
+use pe_core::read_u64;
+
+/// The size of the fields before the entries in bytes.
+const SIZE_OF_HEAD: usize = 16;
+
+/// The size of an entry in bytes.
+const SIZE_OF_RANGE: usize = 16;
+
+/// The pieces of memory of a full dump.
+#[derive(Clone, Copy, Debug)]
+pub struct Memory64List<'a> {
+    file: &'a [u8],
+    ranges: &'a [u8],
+    base_rva: u64,
+    ghost fits: { base_rva + size_of_first ranges.now (length ranges.now / 16) < 2 ^ 64 },
+}
+
+/// Where the bytes of all pieces end, from `base` on. `None` if that passes offset 2^64 - 1.
+#[tactic(auto, using(crate::proofs::Memory64::first_more, crate::proofs::Memory64::first_rises), unfolding(crate::specs::Memory64::size_of_first))]
+fn end_of_pieces(ranges: &[u8], base: u64) -> Option<u64>
+    ensures { result ≡ (if nat_lt (base + size_of_first ranges.now (length ranges.now / 16)) (2 ^ 64)
+        then Some (base + size_of_first ranges.now (length ranges.now / 16)) else None) }
+{
+    let mut end = base;
+    for index in 0..ranges.len() / SIZE_OF_RANGE {
+        end = end.checked_add(read_u64(ranges, SIZE_OF_RANGE * index + 8))?;
+    }
+    Some(end)
+}
+
+impl<'a> Memory64List<'a> {
+    /// The list of a stream. Errors, in order: `Short`; `ListSize`; `Location` if the bytes of the pieces pass offset 2^64 - 1.
+    #[tactic(auto, unfolding(crate::specs::Memory64::memory64_of))]
+    fn parse(file: &'a [u8], stream: &'a [u8]) -> Result<Memory64List<'a>>
+        ensures { DumpReturns {Y = Listed64} (λ l. record { base_rva = l.base_rva; ranges = l.ranges.now }) result (memory64_of stream.entry.now) }
+        ensures file { IfOk result (λ l. l.file.now ≡ file.entry.now) }
+    {
+        require_fields(stream, SIZE_OF_HEAD)?;
+        let (count, base_rva) = (read_u64(stream, 0), read_u64(stream, 8));
+        let ranges = &stream[SIZE_OF_HEAD..];
+        if ranges.len() as u128 != 16 * u128::from(count) {
+            return Err(DumpError::ListSize {
+                count,
+                size: stream.len(),
+            });
+        }
+        if end_of_pieces(ranges, base_rva).is_none() {
+            return Err(DumpError::Location {
+                rva: base_rva,
+                size: u64::MAX,
+                length: file.len(),
+            });
+        }
+        Ok(Memory64List {
+            file,
+            ranges,
+            base_rva,
+        })
+    }
+
+    /// The number of pieces.
+    pub fn len(&self) -> usize
+        ensures { result ≡ length self.now.ranges.now / 16 }
+    {
+        self.ranges.len() / SIZE_OF_RANGE
+    }
+
+    /// The pieces in the order of the list.
+    pub fn iter(&self) -> Memory64Pieces<'a>
+        ensures { pieces_from result.list.file.now result.list.ranges.now result.list.base_rva result.next
+            ≡ pieces_from self.now.file.now self.now.ranges.now self.now.base_rva 0 }
+    {
+        Memory64Pieces {
+            list: *self,
+            next: 0,
+            offset: self.base_rva,
+        }
+    }
+}
+
+/// The pieces that are left of a list.
+#[derive(Clone, Debug, Drop)]
+pub struct Memory64Pieces<'a> {
+    list: Memory64List<'a>,
+    next: usize,
+    offset: u64,
+    ghost at: { offset ≡ list.base_rva + size_of_first list.ranges.now next },
+}
+
+impl<'a> Iterator for Memory64Pieces<'a> {
+    type Item = MemoryPiece<'a>;
+
+    ghost next_gives = { YieldsFirstBy piece_view (λ s. pieces_from s.list.file.now s.list.ranges.now s.list.base_rva s.next) };
+
+    ghost remaining = { item_count (λ s. pieces_from s.list.file.now s.list.ranges.now s.list.base_rva s.next) };
+
+    #[tactic(auto, using(crate::proofs::Memory64::pieces_more, crate::proofs::Memory64::pieces_none, crate::proofs::Memory64::first_more, crate::proofs::Memory64::first_rises))]
+    fn next(&mut self) -> Option<MemoryPiece<'a>> {
+        if self.list.len() <= self.next {
+            return None;
+        }
+        let entry = SIZE_OF_RANGE * self.next;
+        let size = read_u64(self.list.ranges, entry + 8);
+        let first = piece(self.list.file, read_u64(self.list.ranges, entry), self.offset, size);
+        self.offset += size;
+        self.next += 1;
+        Some(first)
+    }
+}
+
+impl<'a> Dump<'a> {
+    /// The pieces of memory of a full dump (`Memory64ListStream`); `None` without such a stream. Errors, in order: `Location`; `Short`
+    /// if the stream has fewer than 16 bytes; `ListSize` if it has another size than so many entries; `Location` if the bytes of the
+    /// pieces pass offset 2^64 - 1. It reads each entry once.
+    pub fn memory64_list(&self) -> Result<Option<Memory64List<'a>>>
+        ensures { DumpReturns {Y = Option Listed64} (option_map (λ l. record { base_rva = l.base_rva; ranges = l.ranges.now })) result
+            (read_stream memory64_of (dump_view self.now) 9) }
+        ensures file { IfOk result (λ found. IfSome found (λ l. l.file.now ≡ self.now.bytes.now)) }
+    {
+        match self.stream(MEMORY64_LIST_STREAM)? {
+            Some(stream) => Ok(Some(Memory64List::parse(self.bytes, stream)?)),
+            None => Ok(None),
+        }
+    }
+}
