@@ -1,2 +1,5 @@
 pub mod Tables
-pub mod Memory64
+pub mod Sums
+pub mod Firsts
+pub mod Streams
+pub mod Registers

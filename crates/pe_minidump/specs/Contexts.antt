@@ -11,9 +11,9 @@ use Rattle.pe_minidump.specs.declared.context_x64.ContextX64.{ContextX64}
 unfoldable pub context_x64 : List ℕ → Result ContextX64 DumpRefusal
 context_x64 b =
     outcome (
-      (holds b 0 1232, ContextSize)
-      ∷ (le b 48 4 / 0x100000 % 2 == 1, Machine)
-      ∷ (le b 48 4 % 4 == 3, ContextFlags) ∷ []
+    (holds b 0 1232, ContextSize)
+    ∷ (le b 48 4 / 0x100000 % 2 == 1, Machine)
+    ∷ (le b 48 4 % 4 == 3, ContextFlags) ∷ []
     ) (record {
       context_flags = le b 48 4;
       eflags = le b 68 4;
@@ -26,9 +26,9 @@ context_x64 b =
 unfoldable pub context_arm64 : List ℕ → Result ContextArm64 DumpRefusal
 context_arm64 b =
     outcome (
-      (holds b 0 912, ContextSize)
-      ∷ (le b 0 4 / 0x400000 % 2 == 1, Machine)
-      ∷ (le b 0 4 % 4 == 3, ContextFlags) ∷ []
+    (holds b 0 912, ContextSize)
+    ∷ (le b 0 4 / 0x400000 % 2 == 1, Machine)
+    ∷ (le b 0 4 % 4 == 3, ContextFlags) ∷ []
     ) (record {
       context_flags = le b 0 4;
       cpsr = le b 4 4;

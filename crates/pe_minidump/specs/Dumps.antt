@@ -5,7 +5,7 @@ use Rattle.pe_core.specs.Bytes.{le, holds, range}
 use Rattle.pe_core.specs.Refusals.{outcome, ◌>>=◌}
 use Rattle.pe_minidump.specs.Records.{dump_header, directory_entry}
 use Rattle.pe_minidump.specs.Refusals.{DumpRefusal, Short, Signature, Version, Directory, Location, Text}
-use Rattle.pe_minidump.specs.Tables.{records}
+use Rattle.pe_minidump.specs.Tables.{record_of, records}
 use Rattle.pe_minidump.specs.declared.dump.DirectoryEntry.{DirectoryEntry}
 use Rattle.pe_minidump.specs.declared.dump.Dump.{Dump}
 use Rattle.pe_minidump.specs.declared.dump.DumpHeader.{DumpHeader}
@@ -27,15 +27,19 @@ directory_bytes b h = outcome ((holds b h.stream_directory_rva (12 * h.number_of
 unfoldable pub dump_of : List ℕ → Result DumpView DumpRefusal
 dump_of b =
     outcome (
-      (holds b 0 32, Short)
-      ∷ (le b 0 4 == 0x504D444D, Signature)
-      ∷ (le b 4 4 % 65536 == 0xA793, Version)
-      ∷ (holds b (le b 12 4) (12 * le b 8 4), Directory) ∷ []
+    (holds b 0 32, Short)
+    ∷ (le b 0 4 == 0x504D444D, Signature)
+    ∷ (le b 4 4 % 65536 == 0xA793, Version)
+    ∷ (holds b (le b 12 4) (12 * le b 8 4), Directory) ∷ []
     ) (record { bytes = b; header = dump_header b 0; directory = range b (le b 12 4) (12 * le b 8 4) })
 
 -- the entries of the directory
 abbrev pub directory_of : DumpView → List DirectoryEntry
 directory_of d = records directory_entry d.directory 12 (length d.directory / 12)
+
+-- the entry with an index
+abbrev pub entry_at : DumpView → ℕ → Option DirectoryEntry
+entry_at d i = record_of directory_entry d.directory 12 (length d.directory / 12) i
 
 -- the bytes that stand so many bytes from an offset on
 abbrev pub located : List ℕ → ℕ → ℕ → Result (List ℕ) DumpRefusal

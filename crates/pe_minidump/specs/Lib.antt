@@ -7,3 +7,4 @@ pub mod Streams
 pub mod Pieces
 pub mod Contexts
 pub mod Memory64
+pub mod Registers

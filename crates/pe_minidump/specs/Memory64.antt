@@ -32,7 +32,7 @@ pub record Listed64 : Type 0 where
 unfoldable pub memory64_of : List ℕ → Result Listed64 DumpRefusal
 memory64_of b =
     outcome (
-      (holds b 0 16, Short)
-      ∷ (length b == 16 + 16 * le b 0 8, ListSize)
-      ∷ (nat_lt (le b 8 8 + size_of_first (drop 16 b) (le b 0 8)) (2 ^ 64), Location) ∷ []
+    (holds b 0 16, Short)
+    ∷ (length b == 16 + 16 * le b 0 8, ListSize)
+    ∷ (nat_lt (le b 8 8 + size_of_first (drop 16 b) (le b 0 8)) (2 ^ 64), Location) ∷ []
     ) (record { base_rva = le b 8 8; ranges = drop 16 b })

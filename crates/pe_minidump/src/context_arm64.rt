@@ -1,6 +1,6 @@
-//! The context of a thread on ARM64 (`ARM64_NT_CONTEXT`), 912 bytes. Its flags say which parts were saved, as on x64; the bit of the
-//! floating point registers is another one. Old versions of Breakpad wrote contexts of another layout, with flags 80000000h: these
-//! are refused as those of another machine.
+//! The context of a thread on ARM64 (`ARM64_NT_CONTEXT`), 912 bytes. Its flags say which parts were saved, as on x64; the
+//! bit of the floating point registers is another one. Old versions of Breakpad wrote contexts of another layout, with flags
+//! 80000000h: these are refused as those of another machine.
 //!
 //! <https://learn.microsoft.com/windows/win32/api/winnt/ns-winnt-arm64_nt_context>
 
@@ -127,8 +127,9 @@ fn vectors_of(bytes: &[u8]) -> [u128; 32]
 }
 
 impl ContextArm64 {
-    /// The registers that a context of ARM64 has. Errors, in order: `ContextSize` if it has fewer than 912 bytes, as that of a thread
-    /// without a context; `Machine` if it is one of another machine; `ContextFlags` if control or integer registers were not saved.
+    /// The registers that a context of ARM64 has. Errors, in order: `ContextSize` if it has fewer than 912 bytes, as that of
+    /// a thread without a context; `Machine` if it is one of another machine; `ContextFlags` if control or integer registers
+    /// were not saved.
     #[tactic(auto, unfolding(crate::specs::Contexts::context_arm64))]
     pub fn parse(bytes: &[u8]) -> Result<ContextArm64>
         ensures { DumpReturns (λ c. c) result (context_arm64 bytes.now) }
@@ -148,7 +149,11 @@ impl ContextArm64 {
             x: integers_of(bytes),
             sp: read_u64(bytes, 256),
             pc: read_u64(bytes, 264),
-            v: if has_vectors { Some(vectors_of(bytes)) } else { None },
+            v: if has_vectors {
+                Some(vectors_of(bytes))
+            } else {
+                None
+            },
         })
     }
 }

@@ -118,7 +118,11 @@ fn directory_bytes<'a>(bytes: &'a [u8], header: &DumpHeader) -> Result<&'a [u8]>
     ensures { DumpReturns (λ s. s.now) result (directory_bytes bytes.entry.now header.now) }
 {
     let (rva, count) = (header.stream_directory_rva, header.number_of_streams);
-    match located(bytes, u64::from(rva), SIZE_OF_ENTRY as u64 * u64::from(count)) {
+    match located(
+        bytes,
+        u64::from(rva),
+        SIZE_OF_ENTRY as u64 * u64::from(count),
+    ) {
         Ok(directory) => Ok(directory),
         Err(_) => Err(DumpError::Directory {
             rva,
@@ -181,7 +185,11 @@ impl<'a> Dump<'a> {
     pub fn located(&self, location: Location) -> Result<&'a [u8]>
         ensures { DumpReturns (λ s. s.now) result (located self.now.bytes.now location.rva location.size) }
     {
-        located(self.bytes, u64::from(location.rva), u64::from(location.size))
+        located(
+            self.bytes,
+            u64::from(location.rva),
+            u64::from(location.size),
+        )
     }
 
     /// The bytes of the stream of a kind: those of the first entry of the kind. `None` if the directory has no such entry.

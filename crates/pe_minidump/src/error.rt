@@ -14,12 +14,9 @@ pub enum DumpError {
     Version(u32),
     /// The directory does not lie in the file: its offset, the number of its entries, and how many bytes the file has.
     #[error("directory of {count} entries at offset {rva:#x} passes the end of the file, {length} bytes")]
-    Directory {
-        rva: u32,
-        count: u32,
-        length: usize,
-    },
-    /// Bytes that do not lie in the file: their offset and size, and how many bytes the file has.
+    Directory { rva: u32, count: u32, length: usize },
+    /// Bytes that do not lie in the file: their offset and size, and how many bytes the file has. The size is 2^64 - 1 for the
+    /// pieces of a full dump, if their offsets pass 64 bits.
     #[error("{size} bytes at offset {rva:#x} pass the end of the file, {length} bytes")]
     Location { rva: u64, size: u64, length: usize },
     /// The number of entries of a list, which do not have the size of its stream.

@@ -1,6 +1,6 @@
-//! The exception that a dump was written for, stream 6: `MINIDUMP_EXCEPTION_STREAM` of 168 bytes, with the thread that raised it, the
-//! `MINIDUMP_EXCEPTION` and where the context stands. This context is that of the crash: a caller takes it before that of the thread.
-//! Some writers leave the record empty where they are asked for a dump and nothing crashed.
+//! The exception that a dump was written for, stream 6: `MINIDUMP_EXCEPTION_STREAM` of 168 bytes, with the thread that
+//! raised it, the `MINIDUMP_EXCEPTION` and where the context stands. This context is that of the crash: a caller takes it
+//! before that of the thread. Some writers leave the record empty where they are asked for a dump and nothing crashed.
 //!
 //! <https://learn.microsoft.com/windows/win32/api/minidumpapiset/ns-minidumpapiset-minidump_exception_stream>
 
@@ -108,8 +108,8 @@ fn exception_of(stream: &[u8]) -> Result<Exception>
 }
 
 impl<'a> Dump<'a> {
-    /// The exception (`ExceptionStream`); `None` without such a stream. Errors, in order: `Location`; `Short` if the stream has fewer
-    /// than 168 bytes.
+    /// The exception (`ExceptionStream`); `None` without such a stream. Errors, in order: `Location`; `Short` if the stream
+    /// has fewer than 168 bytes.
     pub fn exception(&self) -> Result<Option<Exception>>
         ensures { DumpReturns (λ e. e) result (exception (dump_view self.now)) }
     {

@@ -66,9 +66,9 @@ impl DumpRecord for Handle {
 }
 
 impl<'a> Dump<'a> {
-    /// The handles (`HandleDataStream`); `None` without such a stream. Errors, in order:
-    /// `Location`; `Short` if the header is truncated; `EntrySize` if its entries have fewer than 32 bytes; `ListSize` if the entries do
-    /// not all lie in the stream, or start in the header.
+    /// The handles (`HandleDataStream`); `None` without such a stream. Errors, in order: `Location`; `Short` if the header
+    /// is truncated; `EntrySize` if its entries have fewer than 32 bytes; `ListSize` if the entries do not all lie in the
+    /// stream, or start in the header.
     pub fn handles(&self) -> Result<Option<Table<'a, Handle>>>
         ensures { DumpReturns (option_map (λ t. records handle_descriptor t.bytes.now t.stride t.count)) result
             (handles (dump_view self.now)) }

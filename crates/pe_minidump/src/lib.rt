@@ -3,7 +3,7 @@
 //! to streams, one of each kind: threads, modules, pieces of memory, the exception, the system.
 //!
 //! A caller takes a `Dump` of the bytes of a file and asks it for streams. Each is read alone: one that is damaged is refused,
-//! and leaves all others as they are. No call copies or allocates but those that take an allocator.
+//! and leaves all others as they are. No call copies bytes or allocates.
 //!
 //! Every call is proved to return what its definition in `specs/` says, for every byte string.
 #![tactic(auto)]
@@ -15,6 +15,7 @@ mod dump;
 mod error;
 mod exception;
 mod handle;
+pub mod laws;
 mod list;
 mod location;
 mod memory;
@@ -38,8 +39,8 @@ pub use exception::{Exception, ExceptionRecord};
 pub use handle::Handle;
 pub use location::Location;
 pub use memory::{MemoryDescriptor, MemoryPiece, MemoryRange};
-pub use memory64::{Memory64List, Memory64Pieces};
 pub use memory_region::MemoryRegion;
+pub use memory64::{Memory64List, Memory64Pieces};
 pub use module::{FixedFileInfo, Module};
 pub use stream_type::{
     BREAKPAD_INFO_STREAM, CRASHPAD_INFO_STREAM, EXCEPTION_STREAM, FUNCTION_TABLE_STREAM,

@@ -1,6 +1,6 @@
-//! The two forms of lists that streams of a minidump have. In one the number of entries comes first, and the entries follow it;
-//! some writers put 4 bytes between, so that the entries stand at a multiple of 8. In the other a header says how many bytes it has
-//! itself, how many each entry has, and how many entries there are.
+//! The two forms of lists that streams of a minidump have. In one the number of entries comes first, and the entries follow
+//! it; some writers put 4 bytes between, so that the entries stand at a multiple of 8. In the other a header says how many
+//! bytes it has itself, how many each entry has, and how many entries there are.
 
 ghost use Rattle.std.specs.Prelude.{◌≡◌, ◌≤◌, length};
 ghost use Rattle.pe_minidump.specs.Lists.{counted_list, headed_list, list_with};
@@ -31,8 +31,9 @@ pub(crate) fn counted_list<E: DumpRecord>(stream: &[u8]) -> Result<Table<'_, E>>
     Ok(Table::new(&stream[stream.len() - size..], E::SIZE, count))
 }
 
-/// A list whose header of at least `head` bytes, which are there, starts with its own size and that of an entry. Errors, in order:
-/// `EntrySize` if entries are smaller than their fields; `ListSize` if the entries start in the header, or pass the stream's end.
+/// A list whose header of at least `head` bytes, which are there, starts with its own size and that of an entry. Errors, in
+/// order: `EntrySize` if entries are smaller than their fields; `ListSize` if the entries start in the header, or pass the
+/// stream's end.
 #[tactic(auto, unfolding(crate::specs::Lists::list_with))]
 fn list_with<E: DumpRecord>(stream: &[u8], head: usize, count: u64) -> Result<Table<'_, E>>
     requires fields { 8 ≤ head }

@@ -1,5 +1,7 @@
 //! Where the parts of a minidump stand: as many bytes from an offset of the file on as a location says
-//! ([`MINIDUMP_LOCATION_DESCRIPTOR`](https://learn.microsoft.com/windows/win32/api/minidumpapiset/ns-minidumpapiset-minidump_location_descriptor)).
+//! (`MINIDUMP_LOCATION_DESCRIPTOR`).
+//!
+//! <https://learn.microsoft.com/windows/win32/api/minidumpapiset/ns-minidumpapiset-minidump_location_descriptor>
 
 ghost use Rattle.std.specs.Prelude.{◌≡◌, ◌+◌, ◌≤◌, ◌∷◌, [], length};
 ghost use Rattle.pe_core.specs.Bytes.{holds, range};

@@ -1,6 +1,7 @@
-//! The memory of a dump. Stream 5 (`MINIDUMP_MEMORY_LIST`) lists pieces of 16 bytes (`MINIDUMP_MEMORY_DESCRIPTOR`), each with its
-//! address and where its bytes stand in the file. They stand in no order, and may overlap. Stream 9 (`MINIDUMP_MEMORY64_LIST`), of
-//! dumps of all memory, lists pieces of 16 bytes too (`MINIDUMP_MEMORY_DESCRIPTOR64`), whose bytes stand one after the other.
+//! The memory of a dump. Stream 5 (`MINIDUMP_MEMORY_LIST`) lists pieces of 16 bytes (`MINIDUMP_MEMORY_DESCRIPTOR`), each
+//! with its address and where its bytes stand in the file. They stand in no order, and may overlap. Stream 9
+//! (`MINIDUMP_MEMORY64_LIST`), of dumps of all memory, lists pieces of 16 bytes too (`MINIDUMP_MEMORY_DESCRIPTOR64`), whose
+//! bytes stand one after the other.
 //!
 //! A file that was truncated ends in such bytes: a piece has those that there are, and says how many are lost.
 //!
@@ -139,8 +140,8 @@ pub(crate) fn piece(file: &[u8], start: u64, offset: u64, size: u64) -> MemoryPi
 
 impl<'a> Dump<'a> {
     /// The pieces of memory (`MemoryListStream`); `None` without such a stream. Errors, in order: `Location`; `Short` if the
-    /// number of entries is truncated; `ListSize` if the stream has another size than so many entries, with 4 bytes before them or 8.
-    /// `piece` has the bytes of an entry.
+    /// number of entries is truncated; `ListSize` if the
+    /// stream has another size than the number and so many entries, with 4 bytes between them or none. `piece` has the bytes of an entry.
     pub fn memory_list(&self) -> Result<Option<Table<'a, MemoryDescriptor>>>
         ensures { DumpReturns (option_map (λ t. records memory_descriptor t.bytes.now t.stride t.count)) result
             (memory_list (dump_view self.now)) }

@@ -1,6 +1,6 @@
-//! The memory of a full dump, stream 9 (`MINIDUMP_MEMORY64_LIST`): the number of pieces and the offset of the first byte, 8 bytes
-//! each, then entries of 16 bytes (`MINIDUMP_MEMORY_DESCRIPTOR64`), an address and a size. The bytes of each piece follow those of the
-//! piece before it, so they are found by going over all pieces: an iterator keeps the sum.
+//! The memory of a full dump, stream 9 (`MINIDUMP_MEMORY64_LIST`): the number of pieces and the offset of the first byte, 8
+//! bytes each, then entries of 16 bytes (`MINIDUMP_MEMORY_DESCRIPTOR64`), an address and a size. The bytes of each piece
+//! follow those of the piece before it, so they are found by going over all pieces: an iterator keeps the sum.
 //!
 //! <https://learn.microsoft.com/windows/win32/api/minidumpapiset/ns-minidumpapiset-minidump_memory64_list>
 
@@ -36,7 +36,7 @@ pub struct Memory64List<'a> {
 }
 
 /// Where the bytes of all pieces end, from `base` on. `None` if that passes offset 2^64 - 1.
-#[tactic(auto, using(crate::proofs::Memory64::first_more, crate::proofs::Memory64::first_rises), unfolding(crate::specs::Memory64::size_of_first))]
+#[tactic(auto, using(crate::proofs::Sums::first_more, crate::proofs::Sums::end_passes), unfolding(crate::specs::Memory64::size_of_first))]
 fn end_of_pieces(ranges: &[u8], base: u64) -> Option<u64>
     ensures { result ≡ (if nat_lt (base + size_of_first ranges.now (length ranges.now / 16)) (2 ^ 64)
         then Some (base + size_of_first ranges.now (length ranges.now / 16)) else None) }
@@ -52,8 +52,9 @@ impl<'a> Memory64List<'a> {
     /// The list of a stream. Errors, in order: `Short`; `ListSize`; `Location` if the bytes of the pieces pass offset 2^64 - 1.
     #[tactic(auto, unfolding(crate::specs::Memory64::memory64_of))]
     fn parse(file: &'a [u8], stream: &'a [u8]) -> Result<Memory64List<'a>>
-        ensures { DumpReturns {Y = Listed64} (λ l. record { base_rva = l.base_rva; ranges = l.ranges.now }) result (memory64_of stream.entry.now) }
-        ensures file { IfOk result (λ l. l.file.now ≡ file.entry.now) }
+        ensures list { DumpReturns {Y = Listed64}
+            (λ l. record { base_rva = l.base_rva; ranges = l.ranges.now }) result (memory64_of stream.entry.now) }
+        ensures of_file { IfOk result (λ l. l.file.now ≡ file.entry.now) }
     {
         require_fields(stream, SIZE_OF_HEAD)?;
         let (count, base_rva) = (read_u64(stream, 0), read_u64(stream, 8));
@@ -85,7 +86,29 @@ impl<'a> Memory64List<'a> {
         self.ranges.len() / SIZE_OF_RANGE
     }
 
+    /// The piece with an index, whose bytes start at an offset.
+    fn piece(&self, index: usize, offset: u64) -> MemoryPiece<'a>
+        requires inside { index < length self.now.ranges.now / 16 }
+        requires at { offset ≡ self.now.base_rva + size_of_first self.now.ranges.now index }
+        ensures { piece_view result ≡ piece64 self.now.file.now self.now.ranges.now self.now.base_rva index }
+    {
+        let entry = SIZE_OF_RANGE * index;
+        let start = read_u64(self.ranges, entry);
+        piece(self.file, start, offset, read_u64(self.ranges, entry + 8))
+    }
+
+    /// The offset after the bytes of the piece with an index, which start at an offset.
+    #[tactic(auto, using(crate::proofs::Sums::first_more))]
+    fn offset_after(&self, index: usize, offset: u64) -> u64
+        requires inside { index < length self.now.ranges.now / 16 }
+        requires at { offset ≡ self.now.base_rva + size_of_first self.now.ranges.now index }
+        ensures { result ≡ self.now.base_rva + size_of_first self.now.ranges.now (index + 1) }
+    {
+        offset + read_u64(self.ranges, SIZE_OF_RANGE * index + 8)
+    }
+
     /// The pieces in the order of the list.
+    #[tactic(auto, unfolding(crate::specs::Memory64::size_of_first))]
     pub fn iter(&self) -> Memory64Pieces<'a>
         ensures { pieces_from result.list.file.now result.list.ranges.now result.list.base_rva result.next
             ≡ pieces_from self.now.file.now self.now.ranges.now self.now.base_rva 0 }
@@ -99,7 +122,7 @@ impl<'a> Memory64List<'a> {
 }
 
 /// The pieces that are left of a list.
-#[derive(Clone, Debug, Drop)]
+#[derive(Debug, Drop)]
 pub struct Memory64Pieces<'a> {
     list: Memory64List<'a>,
     next: usize,
@@ -114,28 +137,27 @@ impl<'a> Iterator for Memory64Pieces<'a> {
 
     ghost remaining = { item_count (λ s. pieces_from s.list.file.now s.list.ranges.now s.list.base_rva s.next) };
 
-    #[tactic(auto, using(crate::proofs::Memory64::pieces_more, crate::proofs::Memory64::pieces_none, crate::proofs::Memory64::first_more, crate::proofs::Memory64::first_rises))]
+    #[tactic(auto, using(crate::proofs::Sums::pieces_more, crate::proofs::Sums::pieces_none))]
     fn next(&mut self) -> Option<MemoryPiece<'a>> {
         if self.list.len() <= self.next {
             return None;
         }
-        let entry = SIZE_OF_RANGE * self.next;
-        let size = read_u64(self.list.ranges, entry + 8);
-        let first = piece(self.list.file, read_u64(self.list.ranges, entry), self.offset, size);
-        self.offset += size;
+        let first = self.list.piece(self.next, self.offset);
+        self.offset = self.list.offset_after(self.next, self.offset);
         self.next += 1;
         Some(first)
     }
 }
 
 impl<'a> Dump<'a> {
-    /// The pieces of memory of a full dump (`Memory64ListStream`); `None` without such a stream. Errors, in order: `Location`; `Short`
-    /// if the stream has fewer than 16 bytes; `ListSize` if it has another size than so many entries; `Location` if the bytes of the
-    /// pieces pass offset 2^64 - 1. It reads each entry once.
+    /// The pieces of memory of a full dump (`Memory64ListStream`); `None` without such a stream. Errors, in order:
+    /// `Location`; `Short` if the stream has fewer than 16 bytes; `ListSize` if it has another size than so many entries;
+    /// `Location` if the bytes of the pieces pass offset 2^64 - 1. It reads each entry once.
     pub fn memory64_list(&self) -> Result<Option<Memory64List<'a>>>
-        ensures { DumpReturns {Y = Option Listed64} (option_map (λ l. record { base_rva = l.base_rva; ranges = l.ranges.now })) result
+        ensures list { DumpReturns {Y = Option Listed64}
+            (option_map (λ l. record { base_rva = l.base_rva; ranges = l.ranges.now })) result
             (read_stream memory64_of (dump_view self.now) 9) }
-        ensures file { IfOk result (λ found. IfSome found (λ l. l.file.now ≡ self.now.bytes.now)) }
+        ensures of_file { IfOk result (λ found. IfSome found (λ l. l.file.now ≡ self.now.bytes.now)) }
     {
         match self.stream(MEMORY64_LIST_STREAM)? {
             Some(stream) => Ok(Some(Memory64List::parse(self.bytes, stream)?)),

@@ -15,7 +15,7 @@ ghost use Rattle.pe_minidump.specs.Tables.{records};
 
 use crate::dump::Dump;
 use crate::error::Result;
-use crate::list::{headed_list_64};
+use crate::list::headed_list_64;
 use crate::stream_type::MEMORY_INFO_LIST_STREAM;
 use crate::table::{DumpRecord, Table};
 use pe_core::{read_u32, read_u64};
@@ -66,9 +66,9 @@ impl DumpRecord for MemoryRegion {
 }
 
 impl<'a> Dump<'a> {
-    /// The regions of memory (`MemoryInfoListStream`); `None` without such a stream. Errors, in order:
-    /// `Location`; `Short` if the header is truncated; `EntrySize` if its entries have fewer than 48 bytes; `ListSize` if the entries do
-    /// not all lie in the stream, or start in the header.
+    /// The regions of memory (`MemoryInfoListStream`); `None` without such a stream. Errors, in order: `Location`; `Short`
+    /// if the header is truncated; `EntrySize` if its entries have fewer than 48 bytes; `ListSize` if the entries do not all
+    /// lie in the stream, or start in the header.
     pub fn memory_regions(&self) -> Result<Option<Table<'a, MemoryRegion>>>
         ensures { DumpReturns (option_map (λ t. records memory_region t.bytes.now t.stride t.count)) result
             (memory_regions (dump_view self.now)) }

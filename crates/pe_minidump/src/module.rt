@@ -127,7 +127,8 @@ impl DumpRecord for Module {
 
 impl<'a> Dump<'a> {
     /// The modules (`ModuleListStream`); `None` without such a stream. Errors, in order: `Location`; `Short` if the number
-    /// of entries is truncated; `ListSize` if the stream has another size than so many entries, with 4 bytes before them or none.
+    /// of entries is truncated; `ListSize` if the
+    /// stream has another size than the number and so many entries, with 4 bytes between them or none.
     pub fn modules(&self) -> Result<Option<Table<'a, Module>>>
         ensures { DumpReturns (option_map (λ t. records module_entry t.bytes.now t.stride t.count)) result
             (modules (dump_view self.now)) }

@@ -163,15 +163,27 @@ fn misc_of(stream: &[u8]) -> Result<MiscInfo>
     Ok(MiscInfo {
         size_of_info: read_u32(stream, 0),
         flags1,
-        process_id: if is_set(flags1, 1) { Some(read_u32(stream, 8)) } else { None },
-        process_times: if is_set(flags1, 2) { Some(times_of(stream)) } else { None },
-        processor_power: if has_power { Some(power_of(stream)) } else { None },
+        process_id: if is_set(flags1, 1) {
+            Some(read_u32(stream, 8))
+        } else {
+            None
+        },
+        process_times: if is_set(flags1, 2) {
+            Some(times_of(stream))
+        } else {
+            None
+        },
+        processor_power: if has_power {
+            Some(power_of(stream))
+        } else {
+            None
+        },
     })
 }
 
 impl<'a> Dump<'a> {
-    /// The system (`SystemInfoStream`); `None` without such a stream. Errors, in order: `Location`; `Short` if the stream has fewer
-    /// than 56 bytes.
+    /// The system (`SystemInfoStream`); `None` without such a stream. Errors, in order: `Location`; `Short` if the stream
+    /// has fewer than 56 bytes.
     pub fn system_info(&self) -> Result<Option<SystemInfo>>
         ensures { DumpReturns (λ s. s) result (system (dump_view self.now)) }
     {
@@ -181,8 +193,8 @@ impl<'a> Dump<'a> {
         }
     }
 
-    /// What is known of the process (`MiscInfoStream`); `None` without such a stream. Errors, in order: `Location`; `Short` if the
-    /// stream has fewer than 24 bytes.
+    /// What is known of the process (`MiscInfoStream`); `None` without such a stream. Errors, in order: `Location`; `Short`
+    /// if the stream has fewer than 24 bytes.
     pub fn misc_info(&self) -> Result<Option<MiscInfo>>
         ensures { DumpReturns (λ m. m) result (misc (dump_view self.now)) }
     {

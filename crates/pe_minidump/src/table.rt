@@ -55,7 +55,7 @@ impl<'a, E: DumpRecord> Copy for Table<'a, E> {}
 /// Shows the number of records.
 impl<'a, E: DumpRecord> fmt::Debug for Table<'a, E> {
     fn fmt<W: fmt::Write>(&self, f: &mut fmt::Formatter<W>) -> fmt::Result {
-        f.debug_struct(E::LIST).field("count", &self.count).finish()
+        f.debug_struct(E::LIST).field("count", &self.len()).finish()
     }
 }
 
@@ -85,14 +85,14 @@ impl<'a, E: DumpRecord> Table<'a, E> {
     pub fn is_empty(&self) -> bool
         ensures { result ≡ (self.now.count == 0) }
     {
-        self.count == 0
+        self.len() == 0
     }
 
     /// The record with this index. `None` if it is not below `len()`.
     pub fn get(&self, index: usize) -> Option<E>
         ensures { result ≡ record_of E.record_at self.now.bytes.now self.now.stride self.now.count index }
     {
-        if index < self.count {
+        if index < self.len() {
             Some(self.known(index))
         } else {
             None
@@ -131,7 +131,7 @@ impl<'a, E: DumpRecord> fmt::Debug for Records<'a, E> {
     fn fmt<W: fmt::Write>(&self, f: &mut fmt::Formatter<W>) -> fmt::Result {
         f.debug_struct(E::LIST)
             .field("next", &self.next)
-            .field("count", &self.table.count)
+            .field("count", &self.table.len())
             .finish()
     }
 }
@@ -145,7 +145,7 @@ impl<'a, E: DumpRecord> Iterator for Records<'a, E> {
 
     #[tactic(auto, using(crate::proofs::Tables::records_more, crate::proofs::Tables::records_none))]
     fn next(&mut self) -> Option<E> {
-        if self.table.count <= self.next {
+        if self.table.len() <= self.next {
             return None;
         }
         let record = self.table.known(self.next);
@@ -168,9 +168,10 @@ impl<'a, E: DumpRecord> Iterator for Records<'a, E> {
 impl<'a, E: DumpRecord> ExactSizeIterator for Records<'a, E> {
     #[tactic(auto, using(crate::proofs::Tables::count_of_records))]
     fn len(&self) -> usize
-        ensures left { result ≡ length (records_from E.record_at self.now.table.bytes.now self.now.table.stride self.now.table.count self.now.next) }
+        ensures left { result ≡ length (records_from E.record_at self.now.table.bytes.now
+            self.now.table.stride self.now.table.count self.now.next) }
         ensures count { result ≡ self.now.table.count - self.now.next }
     {
-        self.table.count.saturating_sub(self.next)
+        self.table.len().saturating_sub(self.next)
     }
 }

@@ -1,9 +1,9 @@
-//! The strings of a dump (`MINIDUMP_STRING`): paths of modules, names of threads, the name of a service pack. 4 bytes say how many
-//! bytes follow, which are UTF-16, little-endian; a zero after them is not counted. The offset of a string is from the start of the
-//! file.
+//! The strings of a dump (`MINIDUMP_STRING`): paths of modules, names of threads, the name of a service pack. 4 bytes say
+//! how many bytes follow, which are UTF-16, little-endian; a zero after them is not counted. The offset of a string is from
+//! the start of the file.
 //!
-//! They come from the process that crashed, and from whoever wrote the file: a path may lead anywhere, and a text may have control
-//! characters.
+//! They come from the process that crashed, and from whoever wrote the file: a path may lead anywhere, and a text may have
+//! control characters.
 //!
 //! <https://learn.microsoft.com/windows/win32/api/minidumpapiset/ns-minidumpapiset-minidump_string>
 
@@ -20,8 +20,8 @@ use pe_core::read_u32;
 const SIZE_OF_LENGTH: u64 = 4;
 
 impl<'a> Dump<'a> {
-    /// The string at an offset of the file, as bytes in UTF-16LE. Errors, in order: `Location` if its length does not lie in the file;
-    /// `Text` if it is odd; `Location` if the bytes do not.
+    /// The string at an offset of the file, as bytes in UTF-16LE. Errors, in order: `Location` if its length does not lie in
+    /// the file; `Text` if it is odd; `Location` if the bytes do not.
     pub fn text(&self, rva: u64) -> Result<&'a [u8]>
         ensures { DumpReturns (λ s. s.now) result (text_at self.now.bytes.now rva) }
     {

@@ -1,5 +1,5 @@
 //! The threads of a process, stream 3: `MINIDUMP_THREAD_LIST`, entries of 48 bytes (`MINIDUMP_THREAD`). The context has the
-//! registers of the thread: [`context_x64`](crate::ContextX64) reads that of x64. The thread that crashed has two: the one
+//! registers of the thread: `ContextX64` reads that of x64. The thread that crashed has two: the one
 //! of the exception is that of the crash, and the one here may be that of the code which wrote the dump.
 //!
 //! <https://learn.microsoft.com/windows/win32/api/minidumpapiset/ns-minidumpapiset-minidump_thread_list>
@@ -18,9 +18,9 @@ use crate::dump::Dump;
 use crate::error::Result;
 use crate::list::counted_list;
 use crate::location::Location;
+use crate::memory::MemoryDescriptor;
 use crate::stream_type::THREAD_LIST_STREAM;
 use crate::table::{DumpRecord, Table};
-use crate::memory::MemoryDescriptor;
 use pe_core::{read_u32, read_u64};
 
 /// A thread (`MINIDUMP_THREAD`), 48 bytes.
@@ -37,7 +37,7 @@ pub struct Thread {
     pub priority: u32,
     /// The address of its environment block (`TEB`).
     pub teb: u64,
-    /// The memory of its stack. It may be empty: the memory lists then have what there is of it.
+    /// The memory of its stack. It may be empty, and in a full dump its RVA may be 0: the memory lists have what there is of it.
     pub stack: MemoryDescriptor,
     /// Where its context stands. No bytes where it has none, as the thread that writes a dump of its own process.
     pub thread_context: Location,
@@ -70,7 +70,8 @@ impl DumpRecord for Thread {
 
 impl<'a> Dump<'a> {
     /// The threads (`ThreadListStream`); `None` without such a stream. Errors, in order: `Location`; `Short` if the number
-    /// of entries is truncated; `ListSize` if the stream has another size than so many entries, with 4 bytes before them or none.
+    /// of entries is truncated; `ListSize` if the
+    /// stream has another size than the number and so many entries, with 4 bytes between them or none.
     pub fn threads(&self) -> Result<Option<Table<'a, Thread>>>
         ensures { DumpReturns (option_map (λ t. records thread t.bytes.now t.stride t.count)) result
             (threads (dump_view self.now)) }

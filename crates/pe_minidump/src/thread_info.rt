@@ -75,9 +75,9 @@ impl DumpRecord for ThreadInfo {
 }
 
 impl<'a> Dump<'a> {
-    /// More on the threads (`ThreadInfoListStream`); `None` without such a stream. Errors, in order:
-    /// `Location`; `Short` if the header is truncated; `EntrySize` if its entries have fewer than 64 bytes; `ListSize` if the entries do
-    /// not all lie in the stream, or start in the header.
+    /// More on the threads (`ThreadInfoListStream`); `None` without such a stream. Errors, in order: `Location`; `Short` if
+    /// the header is truncated; `EntrySize` if its entries have fewer than 64 bytes; `ListSize` if the entries do not all
+    /// lie in the stream, or start in the header.
     pub fn thread_infos(&self) -> Result<Option<Table<'a, ThreadInfo>>>
         ensures { DumpReturns (option_map (λ t. records thread_info t.bytes.now t.stride t.count)) result
             (thread_infos (dump_view self.now)) }

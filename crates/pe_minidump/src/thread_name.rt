@@ -50,8 +50,9 @@ impl DumpRecord for ThreadName {
 }
 
 impl<'a> Dump<'a> {
-    /// The names of threads (`ThreadNamesStream`); `None` without such a stream. Errors, in order: `Location`; `Short` if the number
-    /// of entries is truncated; `ListSize` if the stream has another size than so many entries, with 4 bytes before them or none.
+    /// The names of threads (`ThreadNamesStream`); `None` without such a stream. Errors, in order: `Location`; `Short` if
+    /// the number of entries is truncated; `ListSize` if the
+    /// stream has another size than the number and so many entries, with 4 bytes between them or none.
     pub fn thread_names(&self) -> Result<Option<Table<'a, ThreadName>>>
         ensures { DumpReturns (option_map (λ t. records thread_name t.bytes.now t.stride t.count)) result
             (thread_names (dump_view self.now)) }

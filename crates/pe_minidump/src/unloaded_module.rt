@@ -61,9 +61,9 @@ impl DumpRecord for UnloadedModule {
 }
 
 impl<'a> Dump<'a> {
-    /// Unloaded modules (`UnloadedModuleListStream`); `None` without such a stream. Errors, in order:
-    /// `Location`; `Short` if the header is truncated; `EntrySize` if its entries have fewer than 24 bytes; `ListSize` if the entries do
-    /// not all lie in the stream, or start in the header.
+    /// Unloaded modules (`UnloadedModuleListStream`); `None` without such a stream. Errors, in order: `Location`; `Short` if
+    /// the header is truncated; `EntrySize` if its entries have fewer than 24 bytes; `ListSize` if the entries do not all
+    /// lie in the stream, or start in the header.
     pub fn unloaded_modules(&self) -> Result<Option<Table<'a, UnloadedModule>>>
         ensures { DumpReturns (option_map (λ t. records unloaded_module t.bytes.now t.stride t.count)) result
             (unloaded_modules (dump_view self.now)) }

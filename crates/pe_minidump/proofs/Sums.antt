@@ -1,5 +1,5 @@
 -- Sums of the sizes of pieces, and the pieces that are left of a list.
-use Rattle.std.proofs.Common.{◌≡◌, ℕ, zero, suc, ◌+◌, ◌-◌, ◌*◌, ◌/◌, ◌<◌, ◌≤◌, List, [], ◌∷◌, map, length, refl, ap, subst, sym, ◌∙◌, arith, ⊎_elim}
+use Rattle.std.proofs.Common.{◌≡◌, ℕ, zero, suc, ◌+◌, ◌-◌, ◌*◌, ◌/◌, ◌^◌, ◌<◌, ◌≤◌, List, [], ◌∷◌, map, length, refl, ap, subst, sym, ◌∙◌, arith, ⊎_elim}
 use Rattle.std.specs.List.{range_with_len}
 use Rattle.std.proofs.lemmas.List.{length-map}
 use Rattle.std.proofs.lemmas.List.FromFn.{length-range_with_len}
@@ -40,3 +40,29 @@ pieces_none file ranges base i h =
 pub count_of_pieces : (file ranges : List ℕ) (base i : ℕ) → length (pieces_from file ranges base i) ≡ length ranges / 16 - i
 count_of_pieces file ranges base i =
     length-map (range_with_len i (length ranges / 16 - i)) (λ k. piece64 file ranges base k) ∙ length-range_with_len i (length ranges / 16 - i)
+
+-- ---- offsets
+
+pub first_offset : (file ranges : List ℕ) (base : ℕ) → (piece64 file ranges base 0).offset ≡ base
+first_offset file ranges base =
+    let none : size_of_first ranges 0 ≡ 0 = unfold size_of_first in refl in
+    omega (arith, none)
+
+pub next_offset : (file ranges : List ℕ) (base i : ℕ) → (piece64 file ranges base (i + 1)).offset ≡ (piece64 file ranges base i).offset + size_of_piece ranges i
+next_offset file ranges base i =
+    let one : size_of_first ranges (i + 1) ≡ size_of_first ranges i + size_of_piece ranges i = first_more ranges i in
+    omega (arith, one)
+
+-- the end of a piece is below 2 ^ 64 if that of the last is
+pub end_fits : (ranges : List ℕ) (base offset size i : ℕ) → base + size_of_first ranges (length ranges / 16) < 2 ^ 64 → i < length ranges / 16 → offset ≡ base + size_of_first ranges i → size ≡ size_of_piece ranges i → offset + size < 2 ^ 64
+end_fits ranges base offset size i fits inside at is =
+    let one : size_of_first ranges (i + 1) ≡ size_of_first ranges i + size_of_piece ranges i = first_more ranges i in
+    let more : size_of_first ranges (i + 1) ≤ size_of_first ranges (length ranges / 16) = first_rises ranges (i + 1) (length ranges / 16) (omega (arith, inside)) in
+    omega (arith, fits, at, is, one, more)
+
+-- where one piece ends past 2 ^ 64 the last does
+pub end_passes : (ranges : List ℕ) (base end size i : ℕ) → i < length ranges / 16 → end ≡ base + size_of_first ranges i → size ≡ size_of_piece ranges i → 2 ^ 64 ≤ end + size → 2 ^ 64 ≤ base + size_of_first ranges (length ranges / 16)
+end_passes ranges base end size i inside at is passes =
+    let one : size_of_first ranges (i + 1) ≡ size_of_first ranges i + size_of_piece ranges i = first_more ranges i in
+    let more : size_of_first ranges (i + 1) ≤ size_of_first ranges (length ranges / 16) = first_rises ranges (i + 1) (length ranges / 16) (omega (arith, inside)) in
+    omega (arith, passes, at, is, one, more)
