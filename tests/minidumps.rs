@@ -3,7 +3,7 @@
 
 use crate::images::image;
 use pe_minidump::{
-    ContextArm64, ContextX64, Dump, DumpError, EXCEPTION_STREAM, FUNCTION_TABLE_STREAM, Location,
+    AddressIndex, AddressRange, ContextArm64, ContextX64, Dump, DumpError, EXCEPTION_STREAM, FUNCTION_TABLE_STREAM, Location,
     MemoryDescriptor, ProcessTimes, ProcessorPower,
 };
 use std::alloc::{AllocError, Global};
@@ -540,6 +540,65 @@ fn reads_contexts_of_arm64(rt: HostRuntime) -> Result<(), Fail> {
     assert!(rt; refused(ContextArm64::parse(&bytes), DumpError::Machine(0x8000_0007)));
     let size = DumpError::ContextSize { size: 911, needed: 912 };
     assert!(rt; refused(ContextArm64::parse(bytes.get(..911).unwrap_or_default()), size));
+    Ok(())
+}
+
+fn range(start: u64, size: u64) -> AddressRange {
+    AddressRange { start, size }
+}
+
+/// Ranges in no order that overlap: the first that has an address counts. The third is hidden by the second, the fourth is
+/// empty, the last passes the last address.
+#[test]
+fn finds_the_first_range_with_an_address(rt: HostRuntime) -> Result<(), Fail> {
+    let ranges = [
+        range(0x500, 0x10),
+        range(0x100, 0x500),
+        range(0x300, 0x300),
+        range(0x50, 0),
+        range(0x5F8, 0x20),
+        range(u64::MAX - 1, 8),
+    ];
+    let index = AddressIndex::new(rt.alloc(), &ranges)?;
+    for (address, want) in [
+        (0, None),
+        (0x50, None),
+        (0xFF, None),
+        (0x100, Some(1)),
+        (0x4FF, Some(1)),
+        (0x500, Some(0)),
+        (0x50F, Some(0)),
+        (0x510, Some(1)),
+        (0x5FF, Some(1)),
+        (0x600, Some(4)),
+        (0x617, Some(4)),
+        (0x618, None),
+        (u64::MAX - 2, None),
+        (u64::MAX - 1, Some(5)),
+        (u64::MAX, Some(5)),
+    ] {
+        assert_eq!(rt; index.find(address), want);
+    }
+    assert_eq!(rt; AddressIndex::new(rt.alloc(), &[])?.find(0), None);
+    Ok(())
+}
+
+/// 10,000 ranges, each of 64 addresses more than its distance from the next, from the highest down: the one with the lower index
+/// counts. A list that is gone through for each range would take too long.
+#[test]
+fn index_of_many_ranges(rt: HostRuntime) -> Result<(), Fail> {
+    let mut ranges = Vec::new(rt.alloc());
+    for index in 0..10_000u64 {
+        ranges.push(range(1000 * (10_000 - index), 1064))?;
+    }
+    let index = AddressIndex::new(rt.alloc(), &ranges)?;
+    for number in 0..10_000u64 {
+        let start = 1000 * (10_000 - number);
+        assert_eq!(rt; index.find(start + 500), Some(number as usize));
+        let first = if number == 0 { 0 } else { number - 1 };
+        assert_eq!(rt; index.find(start + 1000), Some(first as usize));
+    }
+    assert_eq!(rt; index.find(999), None);
     Ok(())
 }
 

@@ -3,3 +3,5 @@ pub mod Sums
 pub mod Firsts
 pub mod Streams
 pub mod Registers
+pub mod IndexCuts
+pub mod IndexHalves

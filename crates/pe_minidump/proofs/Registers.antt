@@ -23,7 +23,7 @@ none_spelled : (b : List ℕ) (p w : ℕ) → spelled w (registers b p w 0) ≡ 
 none_spelled b p w = unfold registers in unfold each in let none : p + 0 - p ≡ 0 = omega arith in rw none refl
 
 registers_spelled : (b : List ℕ) (p w n : ℕ) → AreBytes b → p + w * n ≤ length b → spelled w (registers b p w n) ≡ range b p (w * n)
-registers_spelled b p w zero small h = none_spelled b p w
+registers_spelled b p w zero small h = let none : w * 0 ≡ 0 = omega arith in rw none (none_spelled b p w)
 registers_spelled b p w (suc n) small h =
     let size : w * suc n ≡ w * n + w = omega arith in
     let before : spelled w (registers b p w n) ≡ range b p (w * n) = registers_spelled b p w n small (omega (arith, h, size)) in

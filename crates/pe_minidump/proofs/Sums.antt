@@ -59,10 +59,3 @@ end_fits ranges base offset size i fits inside at is =
     let one : size_of_first ranges (i + 1) ≡ size_of_first ranges i + size_of_piece ranges i = first_more ranges i in
     let more : size_of_first ranges (i + 1) ≤ size_of_first ranges (length ranges / 16) = first_rises ranges (i + 1) (length ranges / 16) (omega (arith, inside)) in
     omega (arith, fits, at, is, one, more)
-
--- where one piece ends past 2 ^ 64 the last does
-pub end_passes : (ranges : List ℕ) (base end size i : ℕ) → i < length ranges / 16 → end ≡ base + size_of_first ranges i → size ≡ size_of_piece ranges i → 2 ^ 64 ≤ end + size → 2 ^ 64 ≤ base + size_of_first ranges (length ranges / 16)
-end_passes ranges base end size i inside at is passes =
-    let one : size_of_first ranges (i + 1) ≡ size_of_first ranges i + size_of_piece ranges i = first_more ranges i in
-    let more : size_of_first ranges (i + 1) ≤ size_of_first ranges (length ranges / 16) = first_rises ranges (i + 1) (length ranges / 16) (omega (arith, inside)) in
-    omega (arith, passes, at, is, one, more)

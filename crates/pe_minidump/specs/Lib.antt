@@ -8,3 +8,4 @@ pub mod Pieces
 pub mod Contexts
 pub mod Memory64
 pub mod Registers
+pub mod AddressIndexes

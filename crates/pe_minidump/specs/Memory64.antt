@@ -34,5 +34,5 @@ memory64_of b =
     outcome (
     (holds b 0 16, Short)
     ∷ (length b == 16 + 16 * le b 0 8, ListSize)
-    ∷ (nat_lt (le b 8 8 + size_of_first (drop 16 b) (le b 0 8)) (2 ^ 64), Location) ∷ []
+    ∷ (nat_lt (le b 8 8 + size_of_first (drop 16 b) (length (drop 16 b) / 16)) (2 ^ 64), Location) ∷ []
     ) (record { base_rva = le b 8 8; ranges = drop 16 b })

@@ -8,6 +8,7 @@
 //! Every call is proved to return what its definition in `specs/` says, for every byte string.
 #![tactic(auto)]
 
+mod address_index;
 mod context_arm64;
 mod context_bytes;
 mod context_x64;
@@ -31,6 +32,7 @@ mod thread_info;
 mod thread_name;
 mod unloaded_module;
 
+pub use address_index::{AddressIndex, AddressRange};
 pub use context_arm64::ContextArm64;
 pub use context_x64::ContextX64;
 pub use dump::{DirectoryEntry, Dump, DumpHeader, MINIDUMP_SIGNATURE, MINIDUMP_VERSION};

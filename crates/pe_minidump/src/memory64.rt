@@ -35,17 +35,17 @@ pub struct Memory64List<'a> {
     ghost fits: { base_rva + size_of_first ranges.now (length ranges.now / 16) < 2 ^ 64 },
 }
 
-/// Where the bytes of all pieces end, from `base` on. `None` if that passes offset 2^64 - 1.
-#[tactic(auto, using(crate::proofs::Sums::first_more, crate::proofs::Sums::end_passes), unfolding(crate::specs::Memory64::size_of_first))]
-fn end_of_pieces(ranges: &[u8], base: u64) -> Option<u64>
-    ensures { result ≡ (if nat_lt (base + size_of_first ranges.now (length ranges.now / 16)) (2 ^ 64)
-        then Some (base + size_of_first ranges.now (length ranges.now / 16)) else None) }
+/// Where the bytes of all pieces end, from `base` on.
+#[tactic(auto, using(crate::proofs::Sums::first_more), unfolding(crate::specs::Memory64::size_of_first))]
+fn end_of_pieces(ranges: &[u8], base: u64) -> u128
+    ensures { result ≡ base + size_of_first ranges.now (length ranges.now / 16) }
 {
-    let mut end = base;
-    for index in 0..ranges.len() / SIZE_OF_RANGE {
-        end = end.checked_add(read_u64(ranges, SIZE_OF_RANGE * index + 8))?;
+    let count = ranges.len() / SIZE_OF_RANGE;
+    let mut end = u128::from(base);
+    for index in 0..count {
+        end += u128::from(read_u64(ranges, SIZE_OF_RANGE * index + 8));
     }
-    Some(end)
+    end
 }
 
 impl<'a> Memory64List<'a> {
@@ -65,7 +65,7 @@ impl<'a> Memory64List<'a> {
                 size: stream.len(),
             });
         }
-        if end_of_pieces(ranges, base_rva).is_none() {
+        if end_of_pieces(ranges, base_rva) > u128::from(u64::MAX) {
             return Err(DumpError::Location {
                 rva: base_rva,
                 size: u64::MAX,
