@@ -12,9 +12,8 @@ use pe_resource::ResourceEntry;
 use pe_unwind::{Arm64UnwindCode, Register, UnwindCode, UnwindOperation};
 use pe_uses::{
     Crash, arm64_codes, backtrace, contents_of_type, crash_of, delayed_dlls, digest_input,
-    file_version,
-    first_data_entry, first_tls_callback, frame_at, frames_at, import_names, module_of, symbol_key,
-    version_strings, without_time_stamp,
+    file_version, first_data_entry, first_tls_callback, frame_at, frames_at, import_names,
+    module_of, symbol_key, version_strings, without_time_stamp,
 };
 use std::alloc::Global;
 use std::test::Fail;
