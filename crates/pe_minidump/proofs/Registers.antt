@@ -10,17 +10,19 @@ use Rattle.pe_core.proofs.NumberBytes.{bytes_of-le, range_join}
 use Rattle.pe_core.proofs.Ranges.{inside_if_held}
 use Rattle.pe_minidump.specs.Contexts.{context_arm64, context_x64}
 use Rattle.pe_minidump.specs.Registers.{AreArm64, AreX64, StandAt, spelled}
-use Rattle.pe_minidump.specs.Refusals.{DumpRefusal}
+use Rattle.pe_minidump.specs.Refusals.{DumpRefusal, ContextFlags, ContextSize, Machine}
+use Rattle.pe_minidump.specs.declared.context_arm64.ContextArm64.{ContextArm64}
+use Rattle.pe_minidump.specs.declared.context_x64.ContextX64.{ContextX64}
 
 -- n registers of w bytes from offset p on
-registers : List ℕ → ℕ → ℕ → ℕ → List ℕ
+abbrev registers : List ℕ → ℕ → ℕ → ℕ → List ℕ
 registers b p w n = each (λ k. le b (p + w * k) w) n
 
 one_more : (b : List ℕ) (p w n : ℕ) → registers b p w (suc n) ≡ registers b p w n ++ le b (p + w * n) w ∷ []
-one_more b p w n = unfold registers in unfold each in refl
+one_more b p w n = unfold each in refl
 
 none_spelled : (b : List ℕ) (p w : ℕ) → spelled w (registers b p w 0) ≡ range b p 0
-none_spelled b p w = unfold registers in unfold each in let none : p + 0 - p ≡ 0 = omega arith in rw none refl
+none_spelled b p w = unfold each in let none : p + 0 - p ≡ 0 = omega arith in rw none refl
 
 registers_spelled : (b : List ℕ) (p w n : ℕ) → AreBytes b → p + w * n ≤ length b → spelled w (registers b p w n) ≡ range b p (w * n)
 registers_spelled b p w zero small h = let none : w * 0 ≡ 0 = omega arith in rw none (none_spelled b p w)
@@ -49,22 +51,37 @@ if_saved true w xs bytes e = e
 pub x64_spelled : (b : List ℕ) → AreBytes b → IfOk (context_x64 b) (AreX64 b)
 unfolding context_x64
 x64_spelled b small =
-    three_tests (AreX64 b) _ _ _ _ _ _ _ (λ held.
+    let c : ContextX64 = record {
+      context_flags = le b 48 4;
+      eflags = le b 68 4;
+      general = registers b 120 8 16;
+      rip = le b 248 8;
+      xmm = if le b 48 4 / 8 % 2 == 1 then Some (registers b 416 16 16) else None;
+    } in
+    three_tests (AreX64 b) (holds b 0 1232) (le b 48 4 / 0x100000 % 2 == 1) (le b 48 4 % 4 == 3) ContextSize Machine ContextFlags c (λ held.
     let h : 0 + 1232 ≤ length b = inside_if_held b 0 1232 held in
     record {
       general = registers_spelled b 120 8 16 small (omega (arith, h));
       rip = bytes_of-le b 248 8 small (omega (arith, h));
-      xmm = if_saved _ 16 _ _ (registers_spelled b 416 16 16 small (omega (arith, h)));
+      xmm = if_saved (le b 48 4 / 8 % 2 == 1) 16 (registers b 416 16 16) (range b 416 256) (registers_spelled b 416 16 16 small (omega (arith, h)));
     })
 
 pub arm64_spelled : (b : List ℕ) → AreBytes b → IfOk (context_arm64 b) (AreArm64 b)
 unfolding context_arm64
 arm64_spelled b small =
-    three_tests (AreArm64 b) _ _ _ _ _ _ _ (λ held.
+    let c : ContextArm64 = record {
+      context_flags = le b 0 4;
+      cpsr = le b 4 4;
+      x = registers b 8 8 31;
+      sp = le b 256 8;
+      pc = le b 264 8;
+      v = if le b 0 4 / 4 % 2 == 1 then Some (registers b 272 16 32) else None;
+    } in
+    three_tests (AreArm64 b) (holds b 0 912) (le b 0 4 / 0x400000 % 2 == 1) (le b 0 4 % 4 == 3) ContextSize Machine ContextFlags c (λ held.
     let h : 0 + 912 ≤ length b = inside_if_held b 0 912 held in
     record {
       x = registers_spelled b 8 8 31 small (omega (arith, h));
       sp = bytes_of-le b 256 8 small (omega (arith, h));
       pc = bytes_of-le b 264 8 small (omega (arith, h));
-      v = if_saved _ 16 _ _ (registers_spelled b 272 16 32 small (omega (arith, h)));
+      v = if_saved (le b 0 4 / 4 % 2 == 1) 16 (registers b 272 16 32) (range b 272 512) (registers_spelled b 272 16 32 small (omega (arith, h)));
     })
