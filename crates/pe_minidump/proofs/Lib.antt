@@ -5,3 +5,4 @@ pub mod Streams
 pub mod Registers
 pub mod IndexCuts
 pub mod IndexHalves
+pub mod IndexFirsts

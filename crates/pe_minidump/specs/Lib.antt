@@ -9,3 +9,4 @@ pub mod Contexts
 pub mod Memory64
 pub mod Registers
 pub mod AddressIndexes
+pub mod Ranges

@@ -1,11 +1,13 @@
 //! What the definitions that contracts cite say together.
 
-ghost use Rattle.std.specs.Prelude.{◌≡◌, ℕ, ◌+◌, ◌<◌, ◌==◌, false, List, IfOk, None, Some, Ok};
+ghost use Rattle.std.specs.Prelude.{◌≡◌, ℕ, ◌+◌, ◌<◌, ◌==◌, false, List, length, slice_index_or, IfOk, None, Some, Ok};
 ghost use Rattle.pe_core.specs.Bytes.{AreBytes};
+ghost use Rattle.pe_minidump.specs.AddressIndexes.{IsFirstWith, first_index, has_address};
 ghost use Rattle.pe_minidump.specs.Contexts.{context_arm64, context_x64};
 ghost use Rattle.pe_minidump.specs.Dumps.{DumpView, entry_at, entry_bytes, stream};
 ghost use Rattle.pe_minidump.specs.Memory64.{piece64, size_of_piece};
 ghost use Rattle.pe_minidump.specs.Registers.{AreArm64, AreX64};
+ghost use Rattle.pe_minidump.specs.declared.address_index.AddressRange.{AddressRange};
 ghost use Rattle.pe_minidump.specs.declared.dump.DirectoryEntry.{DirectoryEntry};
 
 /// The stream of a kind is that of the first entry of the kind, also where others of the kind follow it. Where no entry is of a
@@ -32,4 +34,12 @@ pub fn offsets_are_sums()
 pub fn contexts_are_read()
     ensures x64 { (b : List ℕ) → AreBytes b → IfOk (context_x64 b) (AreX64 b) }
     ensures arm64 { (b : List ℕ) → AreBytes b → IfOk (context_arm64 b) (AreArm64 b) }
+{}
+
+/// What an `AddressIndex` finds is the first range in the order of the list that has the address; where it finds none, none has it.
+/// So the module of an address is the first one that has it, and a byte of memory is that of the first piece that has it.
+pub fn index_is_list()
+    ensures found { (ranges : List AddressRange) (x i : ℕ) → first_index 0 ranges x ≡ Some i → IsFirstWith x ranges i }
+    ensures none { (ranges : List AddressRange) (x : ℕ) → first_index 0 ranges x ≡ None →
+        (j : ℕ) (d : AddressRange) → j < length ranges → has_address x (slice_index_or ranges j d) ≡ false }
 {}

@@ -8,9 +8,11 @@
 //! <https://learn.microsoft.com/windows/win32/api/minidumpapiset/ns-minidumpapiset-minidump_memory_descriptor>
 //! <https://learn.microsoft.com/windows/win32/api/minidumpapiset/ns-minidumpapiset-minidump_memory64_list>
 
-ghost use Rattle.std.specs.Prelude.{◌≡◌, ◌+◌, ◌≤◌, drop, length};
+ghost use Rattle.std.specs.Prelude.{◌≡◌, ◌+◌, ◌*◌, ◌≤◌, drop, length, IfOk};
 ghost use Rattle.std.proofs.Common.{arith};
 ghost use Rattle.std.specs.Option.{option_map};
+ghost use Rattle.pe_core.specs.Rows.{each};
+ghost use Rattle.pe_minidump.specs.Ranges.{piece_range};
 ghost use Rattle.pe_minidump.specs.Dumps.{dump_view};
 ghost use Rattle.pe_minidump.specs.Pieces.{bytes_from, piece, piece_view};
 ghost use Rattle.pe_minidump.specs.Records.{memory_descriptor, memory_range};
@@ -18,6 +20,7 @@ ghost use Rattle.pe_minidump.specs.Refusals.{DumpReturns};
 ghost use Rattle.pe_minidump.specs.Streams.{memory_list};
 ghost use Rattle.pe_minidump.specs.Tables.{records};
 
+use crate::address_index::AddressRange;
 use crate::dump::Dump;
 use crate::error::Result;
 use crate::list::counted_list;
@@ -25,6 +28,7 @@ use crate::location::Location;
 use crate::stream_type::MEMORY_LIST_STREAM;
 use crate::table::{DumpRecord, Table};
 use pe_core::read_u64;
+use std::alloc::{AllocError, Allocator};
 
 /// A piece of memory (`MINIDUMP_MEMORY_DESCRIPTOR`), 16 bytes.
 #[repr(C)]
@@ -160,5 +164,29 @@ impl<'a> Dump<'a> {
         let location = descriptor.memory;
         let (offset, size) = (u64::from(location.rva), u64::from(location.size));
         piece(self.bytes, descriptor.start_of_memory_range, offset, size)
+    }
+}
+
+impl<'a> Dump<'a> {
+    /// The addresses of the bytes that the file has of the pieces of a list, in its order, of which an `AddressIndex` is made. Error:
+    /// memory runs out.
+    #[tactic(auto, unfolding(pe_core::specs::Rows::each))]
+    pub fn ranges<A: Allocator>(
+        &self,
+        alloc: A,
+        list: &Table<'_, MemoryDescriptor>,
+    ) -> std::result::Result<Vec<AddressRange, A>, AllocError>
+        ensures { IfOk result (λ v. v.items ≡ each
+            (λ k. piece_range self.now.bytes.now (memory_descriptor list.now.bytes.now (list.now.stride * k))) list.now.count) }
+    {
+        let mut ranges = Vec::new(alloc);
+        for index in 0..list.len() {
+            let piece = self.piece(list.known(index));
+            ranges.push(AddressRange {
+                start: piece.start,
+                size: piece.bytes.len() as u64,
+            })?;
+        }
+        Ok(ranges)
     }
 }

@@ -5,7 +5,9 @@
 //! <https://learn.microsoft.com/windows/win32/api/minidumpapiset/ns-minidumpapiset-minidump_module_list>
 //! <https://learn.microsoft.com/windows/win32/api/minidumpapiset/ns-minidumpapiset-minidump_module>
 
-ghost use Rattle.std.specs.Prelude.{◌≡◌, ◌+◌, ◌≤◌, length};
+ghost use Rattle.std.specs.Prelude.{◌≡◌, ◌+◌, ◌*◌, ◌≤◌, length, IfOk};
+ghost use Rattle.pe_core.specs.Rows.{each};
+ghost use Rattle.pe_minidump.specs.Ranges.{module_range};
 ghost use Rattle.std.proofs.Common.{arith};
 ghost use Rattle.std.specs.Option.{option_map};
 ghost use Rattle.pe_minidump.specs.Dumps.{dump_view};
@@ -14,6 +16,7 @@ ghost use Rattle.pe_minidump.specs.Refusals.{DumpReturns};
 ghost use Rattle.pe_minidump.specs.Streams.{modules};
 ghost use Rattle.pe_minidump.specs.Tables.{records};
 
+use crate::address_index::AddressRange;
 use crate::dump::Dump;
 use crate::error::Result;
 use crate::list::counted_list;
@@ -21,6 +24,7 @@ use crate::location::Location;
 use crate::stream_type::MODULE_LIST_STREAM;
 use crate::table::{DumpRecord, Table};
 use pe_core::{read_u32, read_u64};
+use std::alloc::{AllocError, Allocator};
 
 /// The version of a module (`VS_FIXEDFILEINFO`), 52 bytes.
 #[repr(C)]
@@ -137,5 +141,27 @@ impl<'a> Dump<'a> {
             Some(stream) => Ok(Some(counted_list(stream)?)),
             None => Ok(None),
         }
+    }
+}
+
+impl<'a> Table<'a, Module> {
+    /// The addresses of the modules in the order of the list, of which an `AddressIndex` is made. Error: memory runs out.
+    #[tactic(auto, unfolding(pe_core::specs::Rows::each))]
+    pub fn ranges<A: Allocator>(
+        &self,
+        alloc: A,
+    ) -> std::result::Result<Vec<AddressRange, A>, AllocError>
+        ensures { IfOk result (λ v. v.items ≡ each
+            (λ k. module_range (module_entry self.now.bytes.now (self.now.stride * k))) self.now.count) }
+    {
+        let mut ranges = Vec::new(alloc);
+        for index in 0..self.len() {
+            let module = self.known(index);
+            ranges.push(AddressRange {
+                start: module.base_of_image,
+                size: u64::from(module.size_of_image),
+            })?;
+        }
+        Ok(ranges)
     }
 }

@@ -100,7 +100,7 @@ impl<'a, E: DumpRecord> Table<'a, E> {
     }
 
     /// The record with an index that the list is known to have.
-    fn known(&self, index: usize) -> E
+    pub(crate) fn known(&self, index: usize) -> E
         requires { index < self.now.count }
         ensures { result ≡ E.record_at self.now.bytes.now (self.now.stride * index) }
     {
