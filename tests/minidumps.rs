@@ -2,9 +2,10 @@
 //! obj2yaml 14.0.6 prints of them; all others are made by hand from minidumpapiset.h and winnt.h.
 
 use crate::images::image;
+use crate::refusing::Refusing;
 use pe_minidump::{
     AddressIndex, AddressRange, ContextArm64, ContextX64, Dump, DumpError, EXCEPTION_STREAM,
-    FUNCTION_TABLE_STREAM, Location, MemoryDescriptor, ProcessTimes, ProcessorPower,
+    FUNCTION_TABLE_STREAM, Location, MemoryDescriptor, ProcessTimes, ProcessorPower, module_ranges,
 };
 use std::alloc::{AllocError, Global};
 use std::test::Fail;
@@ -279,6 +280,8 @@ fn reads_modules(rt: HostRuntime) -> Result<(), Fail> {
         (0x6_0001, 0x1DB1_5DFB)
     );
     assert_eq!(rt; (version.file_flags_mask, version.file_type), (0x3F, 2));
+    let ranges = module_ranges(rt.alloc(), &modules)?;
+    assert_eq!(rt; ranges.as_slice(), &[range(0x1_7000_0000, 0x36_1000)]);
     Ok(())
 }
 
@@ -363,6 +366,11 @@ fn truncated_memory_is_kept(rt: HostRuntime) -> Result<(), Fail> {
     assert_eq!(rt;
         (second.start, second.offset, second.bytes, second.lost),
         (0x2000, 96, none, 7)
+    );
+    let ranges = dump.memory_ranges(rt.alloc(), &list)?;
+    assert_eq!(rt;
+        ranges.as_slice(),
+        &[range(0x1_0000_1000, 3), range(0x2000, 0)]
     );
     Ok(())
 }
@@ -991,6 +999,26 @@ fn index_of_many_ranges(rt: HostRuntime) -> Result<(), Fail> {
         assert_eq!(rt; index.find(start + 1000), Some(first as usize));
     }
     assert_eq!(rt; index.find(999), None);
+    Ok(())
+}
+
+/// Each request for memory refused: three of one range each, and two of merged lists.
+#[test]
+fn index_needs_memory(rt: HostRuntime) -> Result<(), Fail> {
+    let ranges = [range(0x500, 0x10), range(0x100, 0x500), range(0x300, 0x300)];
+    let mut refusals = 0;
+    for k in 0..10 {
+        let refusing = Refusing::new(rt.alloc(), k);
+        let is_made = match AddressIndex::new(&refusing, &ranges) {
+            Ok(index) => index.find(0x500) == Some(0),
+            Err(_) => false,
+        };
+        assert_eq!(rt; is_made, !refusing.has_refused());
+        if refusing.has_refused() {
+            refusals += 1;
+        }
+    }
+    assert_eq!(rt; refusals, 5);
     Ok(())
 }
 

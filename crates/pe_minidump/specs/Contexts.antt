@@ -1,5 +1,5 @@
 -- The registers that contexts have. Which parts were saved, the flags say.
-use Rattle.std.specs.Prelude.{ℕ, ◌+◌, ◌*◌, ◌/◌, ◌%◌, ◌==◌, List, [], ◌∷◌, Option, Some, None, Result, if◌then◌else◌}
+use Rattle.std.specs.Prelude.{ℕ, ◌+◌, ◌*◌, ◌/◌, ◌%◌, ◌==◌, List, [], ◌∷◌, Some, None, Result, if◌then◌else◌}
 use Rattle.pe_core.specs.Bytes.{le, holds}
 use Rattle.pe_core.specs.Refusals.{outcome}
 use Rattle.pe_core.specs.Rows.{each}

@@ -1,5 +1,5 @@
 -- What each stream of a dump says: none without the stream, or a refusal.
-use Rattle.std.specs.Prelude.{ℕ, ◌+◌, ◌*◌, ◌/◌, ◌%◌, ◌==◌, List, [], ◌∷◌, length, nat_le, Option, Some, None, Result, if◌then◌else◌}
+use Rattle.std.specs.Prelude.{ℕ, ◌/◌, ◌%◌, ◌==◌, List, [], ◌∷◌, length, nat_le, Option, Some, None, Result, if◌then◌else◌}
 use Rattle.pe_core.specs.Bytes.{le, holds}
 use Rattle.pe_core.specs.Refusals.{outcome}
 use Rattle.pe_minidump.specs.Dumps.{DumpView, read_stream}

@@ -43,7 +43,7 @@ pub use location::Location;
 pub use memory::{MemoryDescriptor, MemoryPiece, MemoryRange};
 pub use memory_region::MemoryRegion;
 pub use memory64::{Memory64List, Memory64Pieces};
-pub use module::{FixedFileInfo, Module};
+pub use module::{FixedFileInfo, Module, module_ranges};
 pub use stream_type::{
     BREAKPAD_INFO_STREAM, CRASHPAD_INFO_STREAM, EXCEPTION_STREAM, FUNCTION_TABLE_STREAM,
     HANDLE_DATA_STREAM, MEMORY_INFO_LIST_STREAM, MEMORY_LIST_STREAM, MEMORY64_LIST_STREAM,

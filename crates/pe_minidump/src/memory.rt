@@ -171,7 +171,7 @@ impl<'a> Dump<'a> {
     /// The addresses of the bytes that the file has of the pieces of a list, in its order, of which an `AddressIndex` is made. Error:
     /// memory runs out.
     #[tactic(auto, unfolding(pe_core::specs::Rows::each))]
-    pub fn ranges<A: Allocator>(
+    pub fn memory_ranges<A: Allocator>(
         &self,
         alloc: A,
         list: &Table<'_, MemoryDescriptor>,

@@ -144,24 +144,22 @@ impl<'a> Dump<'a> {
     }
 }
 
-impl<'a> Table<'a, Module> {
-    /// The addresses of the modules in the order of the list, of which an `AddressIndex` is made. Error: memory runs out.
-    #[tactic(auto, unfolding(pe_core::specs::Rows::each))]
-    pub fn ranges<A: Allocator>(
-        &self,
-        alloc: A,
-    ) -> std::result::Result<Vec<AddressRange, A>, AllocError>
-        ensures { IfOk result (λ v. v.items ≡ each
-            (λ k. module_range (module_entry self.now.bytes.now (self.now.stride * k))) self.now.count) }
-    {
-        let mut ranges = Vec::new(alloc);
-        for index in 0..self.len() {
-            let module = self.known(index);
-            ranges.push(AddressRange {
-                start: module.base_of_image,
-                size: u64::from(module.size_of_image),
-            })?;
-        }
-        Ok(ranges)
+/// The addresses of the modules of a list, in its order, of which an `AddressIndex` is made. Error: memory runs out.
+#[tactic(auto, unfolding(pe_core::specs::Rows::each))]
+pub fn module_ranges<A: Allocator>(
+    alloc: A,
+    list: &Table<'_, Module>,
+) -> std::result::Result<Vec<AddressRange, A>, AllocError>
+    ensures { IfOk result (λ v. v.items ≡ each
+        (λ k. module_range (module_entry list.now.bytes.now (list.now.stride * k))) list.now.count) }
+{
+    let mut ranges = Vec::new(alloc);
+    for index in 0..list.len() {
+        let module = list.known(index);
+        ranges.push(AddressRange {
+            start: module.base_of_image,
+            size: u64::from(module.size_of_image),
+        })?;
     }
+    Ok(ranges)
 }

@@ -2,7 +2,7 @@ use Rattle.std.proofs.Common.{◌≡◌, ◌*◌}
 use Rattle.pe_core.specs.Rows.{each}
 use Rattle.pe_minidump.specs.Ranges.{piece_range}
 use Rattle.pe_minidump.specs.Records.{memory_descriptor}
-use Rattle.pe_minidump.proofs.dump.Dump.ranges.Given as goal
+use Rattle.pe_minidump.proofs.dump.Dump.memory_ranges.Given as goal
 
 -- the ranges are those of the pieces before the one with this index
 abbrev pub invariant-loop-index : goal.invariant-loop-index
