@@ -44,6 +44,8 @@ mod jumps;
 #[cfg(test)]
 mod load_configs;
 #[cfg(test)]
+mod minidumps;
+#[cfg(test)]
 mod plans;
 #[cfg(test)]
 mod refusal_numbers;

@@ -2,7 +2,7 @@
 
 use crate::directories::image_of;
 use crate::directory_lists::{entries_of, two_dlls};
-use crate::images::{put, resources, with_debug, with_functions};
+use crate::images::{image, put, resources, with_debug, with_functions};
 use crate::resource_leaves::version_and_manifest;
 use crate::version_blocks::page;
 use pe_core::ByteRange;
@@ -11,9 +11,9 @@ use pe_image::{PE, ParseOptions};
 use pe_resource::ResourceEntry;
 use pe_unwind::{Arm64UnwindCode, Register, UnwindCode, UnwindOperation};
 use pe_uses::{
-    arm64_codes, backtrace, contents_of_type, delayed_dlls, digest_input, file_version,
-    first_data_entry, first_tls_callback, frame_at, frames_at, import_names, module_of, symbol_key,
-    version_strings, without_time_stamp,
+    Crash, arm64_codes, backtrace, contents_of_type, crash_of, delayed_dlls, digest_input,
+    file_version, first_data_entry, first_tls_callback, frame_at, frames_at, import_names,
+    module_of, symbol_key, version_strings, without_time_stamp,
 };
 use std::alloc::Global;
 use std::test::Fail;
@@ -406,5 +406,43 @@ fn finds_all_strings(rt: HostRuntime) -> Result<(), Fail> {
         let damaged = page(alloc, &[(damage, &[5, 0])])?;
         assert_eq!(rt; version_strings(alloc, &damaged)?.len(), count);
     }
+    Ok(())
+}
+
+/// A dump with the exception and the context of a thread, and two modules, of which the second has its instruction pointer.
+#[test]
+fn finds_what_crashed(rt: HostRuntime) -> Result<(), Fail> {
+    let mut bytes = image(
+        rt.alloc(),
+        0x700,
+        &[
+            (0, b"MDMP\x93\xA7\0\0\x02\0\0\0\x20\0\0\0"),
+            (0x20, b"\x06\0\0\0\xA8\0\0\0\x40\0\0\0"),
+            (0x2C, b"\x04\0\0\0\xDC\0\0\0\0\x01\0\0"),
+            // The exception: its thread, its code, where its context stands.
+            (0x40, b"\x24"),
+            (0x48, b"\x05\0\0\xC0"),
+            (0xE0, b"\xD0\x04\0\0\0\x02"),
+            // Modules at 140000000h and 170000000h, each with its size and where its name is.
+            (0x100, b"\x02\0\0\0\0\0\0\x40\x01\0\0\0\0\x10"),
+            (0x118, b"\x11"),
+            (0x170, b"\0\0\0\x70\x01\0\0\0\0\x20"),
+            (0x184, b"\x22"),
+            // The context: its flags, rsp, rip.
+            (0x230, b"\x03\0\x10"),
+            (0x298, b"\x60\xE1\x21"),
+            (0x2F8, b"\x33\x15\0\x70\x01"),
+        ],
+    )?;
+    let crash = Crash {
+        code: 0xC000_0005,
+        thread_id: 0x24,
+        rip: 0x1_7000_1533,
+        rsp: 0x21_E160,
+        module: Some((0x22, 0x1533)),
+    };
+    assert_eq!(rt; crash_of(&bytes)?, Some(crash));
+    put(&mut bytes, &[(0x20, &[7])]);
+    assert_eq!(rt; crash_of(&bytes)?, None);
     Ok(())
 }

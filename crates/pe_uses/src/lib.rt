@@ -4,6 +4,7 @@
 mod arm64;
 mod delay_imports;
 mod directories;
+mod dumps;
 mod frames;
 mod imports;
 mod leaves;
@@ -19,6 +20,7 @@ mod writing;
 pub use arm64::arm64_codes;
 pub use delay_imports::delayed_dlls;
 pub use directories::first_tls_callback;
+pub use dumps::{Crash, crash_of};
 pub use frames::{Frame, frame_at, frame_of};
 pub use imports::import_names;
 pub use leaves::contents_of_type;

@@ -1,0 +1,8 @@
+pub mod Tables
+pub mod Sums
+pub mod Firsts
+pub mod Streams
+pub mod Registers
+pub mod IndexCuts
+pub mod IndexHalves
+pub mod IndexFirsts

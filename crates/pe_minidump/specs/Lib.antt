@@ -1,0 +1,12 @@
+pub mod Refusals
+pub mod Tables
+pub mod Records
+pub mod Dumps
+pub mod Lists
+pub mod Streams
+pub mod Pieces
+pub mod Contexts
+pub mod Memory64
+pub mod Registers
+pub mod AddressIndexes
+pub mod Ranges
