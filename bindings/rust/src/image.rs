@@ -37,7 +37,7 @@ pub enum Layout {
 }
 
 /// The library's number for a way to read.
-fn number_of(mode: Mode, layout: Layout) -> u32 {
+pub(crate) fn number_of(mode: Mode, layout: Layout) -> u32 {
     let mode = match mode {
         Mode::Strict => 0,
         Mode::Permissive => sys::PERMISSIVE,

@@ -36,3 +36,5 @@ pub mod LeafRuns
 pub mod VersionBlockParts
 pub mod DebugAlone
 pub mod DebugParts
+pub mod SymbolRuns
+pub mod Failures
