@@ -118,7 +118,7 @@ enum {
     PE_C_RESOURCE_BOUNDS = 28,      /* resource data ends past the bytes that hold it */
     PE_C_RESOURCE_CYCLE = 29,       /* loop in the resource tree */
     PE_C_RESOURCE_STRING = 30,      /* version string value missing, or its length above 32,767 */
-    PE_C_TE_SIZE = 31,              /* stripped size smaller than the TE header; never returned */
+    PE_C_TE_SIZE = 31,              /* stripped size smaller than the TE header */
     PE_C_NO_OPTIONAL_HEADER = 32,   /* image has no optional header */
     PE_C_WRITE_ALIGNMENT = 33,      /* alignment cannot be written; never returned */
     PE_C_WRITE_SYMBOLS = 34,        /* images with COFF symbols cannot be written; never returned */
@@ -433,7 +433,7 @@ typedef struct {
     uint64_t next;                  /* the index of the next symbol's entry */
 } pe_c_symbol_walk;
 
-PE_C_SIZE(pe_c_symbol_entry, 56);
+PE_C_SIZE(pe_c_symbol_entry, 48);
 PE_C_SIZE(pe_c_symbol_walk, 24);
 
 /* Reads the header of an object, the 20 bytes at its start. Any bytes are such a header: look at `machine`.

@@ -97,7 +97,10 @@ fn header_of_an_object(rt: HostRuntime) -> Result<(), Fail> {
     assert_eq!(rt; (answer, numbers), (DONE, [0x8664, 3, 0, 0xA6, 12, 0, 4]));
     put(&mut bytes, &[(4, &[1, 2, 3, 4]), (16, &[5, 6])]);
     let (answer, numbers, _) = header_of(&bytes[..20]);
-    assert_eq!(rt; (answer, numbers), (DONE, [0x8664, 3, 0x0403_0201, 0xA6, 12, 0x0605, 4]));
+    assert_eq!(rt;
+        (answer, numbers),
+        (DONE, [0x8664, 3, 0x0403_0201, 0xA6, 12, 0x0605, 4])
+    );
     let (answer, numbers, _) = header_of(&bytes[..19]);
     assert_eq!(rt; (answer, numbers), (SHORT, [9; 7]));
     Ok(())
@@ -124,8 +127,14 @@ fn sections_of_an_object(rt: HostRuntime) -> Result<(), Fail> {
     };
     let [first, second, third, last] = room;
     assert_eq!(rt; first, text);
-    assert_eq!(rt; (second.name, second.characteristics), (*b".data\0\0\0", 0xC050_0040));
-    assert_eq!(rt; (third.name, third.characteristics), (*b".bss\0\0\0\0", 0xC050_0080));
+    assert_eq!(rt;
+        (second.name, second.characteristics),
+        (*b".data\0\0\0", 0xC050_0040)
+    );
+    assert_eq!(rt;
+        (third.name, third.characteristics),
+        (*b".bss\0\0\0\0", 0xC050_0080)
+    );
     assert_eq!(rt; last, other);
     // An optional header moves them.
     put(&mut bytes, &[(0x10, &[40])]);
@@ -136,7 +145,10 @@ fn sections_of_an_object(rt: HostRuntime) -> Result<(), Fail> {
     };
     assert_eq!(rt; pe_c_coff_sections(&bytes, &two, &mut room), DONE);
     let [first, second, third, _] = room;
-    assert_eq!(rt; (first.name, second.name, third.name), (*b".data\0\0\0", *b".bss\0\0\0\0", *b".bss\0\0\0\0"));
+    assert_eq!(rt;
+        (first.name, second.name, third.name),
+        (*b".data\0\0\0", *b".bss\0\0\0\0", *b".bss\0\0\0\0")
+    );
     // 20 bytes and three headers of 40.
     let mut room = [other; 3];
     assert_eq!(rt; pe_c_coff_sections(&bytes[..139], &coff, &mut room), SHORT);
@@ -174,29 +186,55 @@ fn tables_of_an_object(rt: HostRuntime) -> Result<(), Fail> {
     let no_walk = [offset, length, 9];
     let both = (DONE, walk, DONE, [STRINGS, SIZE_OF_STRINGS]);
     assert_eq!(rt; tables_of(&bytes, &coff), both);
-    assert_eq!(rt; tables_of(&bytes[..0x193], &coff), (DONE, walk, STRING_TABLE, UNTOUCHED));
-    assert_eq!(rt; tables_of(&bytes[..0x181], &coff), (DONE, walk, STRING_TABLE, UNTOUCHED));
-    assert_eq!(rt; tables_of(&bytes[..0x17E], &coff), (DONE, walk, NOTHING, UNTOUCHED));
-    assert_eq!(rt; tables_of(&bytes[..0x17D], &coff), (SHORT, no_walk, SHORT, UNTOUCHED));
+    assert_eq!(rt;
+        tables_of(&bytes[..0x193], &coff),
+        (DONE, walk, STRING_TABLE, UNTOUCHED)
+    );
+    assert_eq!(rt;
+        tables_of(&bytes[..0x181], &coff),
+        (DONE, walk, STRING_TABLE, UNTOUCHED)
+    );
+    assert_eq!(rt;
+        tables_of(&bytes[..0x17E], &coff),
+        (DONE, walk, NOTHING, UNTOUCHED)
+    );
+    assert_eq!(rt;
+        tables_of(&bytes[..0x17D], &coff),
+        (SHORT, no_walk, SHORT, UNTOUCHED)
+    );
     let none = CoffFields {
         pointer_to_symbol_table: 0,
         ..coff
     };
-    assert_eq!(rt; tables_of(&bytes, &none), (NOTHING, no_walk, NOTHING, UNTOUCHED));
-    for (pointer, count) in [(405, 0), (u32::MAX, 0), (0xA6, u32::MAX), (u32::MAX, u32::MAX)] {
+    assert_eq!(rt;
+        tables_of(&bytes, &none),
+        (NOTHING, no_walk, NOTHING, UNTOUCHED)
+    );
+    for (pointer, count) in [
+        (405, 0),
+        (u32::MAX, 0),
+        (0xA6, u32::MAX),
+        (u32::MAX, u32::MAX),
+    ] {
         let past = CoffFields {
             pointer_to_symbol_table: pointer,
             number_of_symbol_table: count,
             ..coff
         };
-        assert_eq!(rt; tables_of(&bytes, &past), (SHORT, no_walk, SHORT, UNTOUCHED));
+        assert_eq!(rt;
+            tables_of(&bytes, &past),
+            (SHORT, no_walk, SHORT, UNTOUCHED)
+        );
     }
     let at_end = CoffFields {
         pointer_to_symbol_table: 404,
         number_of_symbol_table: 0,
         ..coff
     };
-    assert_eq!(rt; tables_of(&bytes, &at_end), (DONE, [404, 0, 0], NOTHING, UNTOUCHED));
+    assert_eq!(rt;
+        tables_of(&bytes, &at_end),
+        (DONE, [404, 0, 0], NOTHING, UNTOUCHED)
+    );
     Ok(())
 }
 
@@ -244,7 +282,11 @@ fn symbol_of(bytes: &[u8], table: &Range, index: u64) -> (u32, ([u8; 8], [u64; 9
 /// What llvm-readobj prints of each, by the index that objdump prints.
 const WANTED: [([u8; 8], [u64; 9], i16); 7] = [
     (*b".file\0\0\0", [0xB8, 18, 0, 0, 0, 0, 103, 1, 0], -2),
-    (*b"\0\0\0\0\x04\0\0\0", [0xDC, 18, 2, 1, 4, 0x20, 2, 1, 0], 1),
+    (
+        *b"\0\0\0\0\x04\0\0\0",
+        [0xDC, 18, 2, 1, 4, 0x20, 2, 1, 0],
+        1,
+    ),
     (*b".text\0\0\0", [0x100, 18, 4, 0, 0, 0, 3, 1, 0], 1),
     (*b".data\0\0\0", [0x124, 18, 6, 0, 0, 0, 3, 1, 0], 2),
     (*b".bss\0\0\0\0", [0x148, 18, 8, 0, 0, 0, 3, 1, 0], 3),
@@ -262,14 +304,20 @@ fn symbols_of_an_object(rt: HostRuntime) -> Result<(), Fail> {
         assert_eq!(rt; pe_c_next_symbol(&bytes, &mut walk, &mut out), DONE);
         assert_eq!(rt; parts(out), (name, numbers, section));
         let [_, _, index, ..] = numbers;
-        assert_eq!(rt; symbol_of(&bytes, &table, index), (DONE, (name, numbers, section)));
+        assert_eq!(rt;
+            symbol_of(&bytes, &table, index),
+            (DONE, (name, numbers, section))
+        );
     }
     // The end, twice: the walk stays there.
     for _ in 0..2 {
         let mut out = NO_SYMBOL;
         assert_eq!(rt; pe_c_next_symbol(&bytes, &mut walk, &mut out), NOTHING);
         assert_eq!(rt; parts(out), UNCHANGED);
-        assert_eq!(rt; (of_range(walk.table), walk.next), ([SYMBOLS, 18 * ENTRIES], 12));
+        assert_eq!(rt;
+            (of_range(walk.table), walk.next),
+            ([SYMBOLS, 18 * ENTRIES], 12)
+        );
     }
     for index in [12, 13, 1 << 32, 1 << 63, u64::MAX] {
         assert_eq!(rt; symbol_of(&bytes, &table, index), (NOTHING, UNCHANGED));
@@ -313,8 +361,14 @@ fn tables_outside_the_bytes(rt: HostRuntime) -> Result<(), Fail> {
         assert_eq!(rt; (of_range(walk.table), walk.next), ([0, 0], u64::MAX));
         assert_eq!(rt; pe_c_next_symbol(&bytes, &mut walk, &mut out), NOTHING);
         assert_eq!(rt; parts(out), UNCHANGED);
-        assert_eq!(rt; name_of(&bytes, &lie, &range(STRINGS, 22), 0), (SHORT, UNTOUCHED));
-        assert_eq!(rt; name_of(&bytes, &range(SYMBOLS, 216), &lie, 0), (SHORT, UNTOUCHED));
+        assert_eq!(rt;
+            name_of(&bytes, &lie, &range(STRINGS, 22), 0),
+            (SHORT, UNTOUCHED)
+        );
+        assert_eq!(rt;
+            name_of(&bytes, &range(SYMBOLS, 216), &lie, 0),
+            (SHORT, UNTOUCHED)
+        );
     }
     let mut walk = SymbolWalk {
         table: range(0, SIZE as u64),
@@ -341,13 +395,25 @@ fn names_of_symbols(rt: HostRuntime) -> Result<(), Fail> {
     assert_eq!(rt; name_of(&bytes, &table, &strings, 2), (DONE, [0x182, 17]));
     assert_eq!(rt; name_of(&bytes, &table, &strings, 11), (DONE, [0x16C, 7]));
     assert_eq!(rt; name_of(&bytes, &table, &strings, 12), (NOTHING, UNTOUCHED));
-    assert_eq!(rt; name_of(&bytes, &table, &range(0, 0), 10), (DONE, [0x15A, 4]));
+    assert_eq!(rt;
+        name_of(&bytes, &table, &range(0, 0), 10),
+        (DONE, [0x15A, 4])
+    );
     // Not terminated, and inside the size field.
-    assert_eq!(rt; name_of(&bytes, &table, &range(STRINGS, 21), 2), (STRING_TABLE, UNTOUCHED));
-    assert_eq!(rt; name_of(&bytes, &table, &range(0, 0), 2), (STRING_TABLE, UNTOUCHED));
+    assert_eq!(rt;
+        name_of(&bytes, &table, &range(STRINGS, 21), 2),
+        (STRING_TABLE, UNTOUCHED)
+    );
+    assert_eq!(rt;
+        name_of(&bytes, &table, &range(0, 0), 2),
+        (STRING_TABLE, UNTOUCHED)
+    );
     for offset in [0, 3, 22, 0xFF] {
         put(&mut bytes, &[(0xCE, &[offset])]);
-        assert_eq!(rt; name_of(&bytes, &table, &strings, 2), (STRING_TABLE, UNTOUCHED));
+        assert_eq!(rt;
+            name_of(&bytes, &table, &strings, 2),
+            (STRING_TABLE, UNTOUCHED)
+        );
     }
     // The end of another string, and the empty one.
     put(&mut bytes, &[(0xCE, &[16])]);
@@ -358,7 +424,10 @@ fn names_of_symbols(rt: HostRuntime) -> Result<(), Fail> {
     put(&mut bytes, &[(0x15A, b"fivefive")]);
     assert_eq!(rt; name_of(&bytes, &table, &strings, 10), (DONE, [0x15A, 8]));
     put(&mut bytes, &[(0x15A, b"five\xFFive")]);
-    assert_eq!(rt; name_of(&bytes, &table, &strings, 10), (STRING_TABLE, UNTOUCHED));
+    assert_eq!(rt;
+        name_of(&bytes, &table, &strings, 10),
+        (STRING_TABLE, UNTOUCHED)
+    );
     put(&mut bytes, &[(0x15A, b"fiv\0\xFFive")]);
     assert_eq!(rt; name_of(&bytes, &table, &strings, 10), (DONE, [0x15A, 3]));
     Ok(())

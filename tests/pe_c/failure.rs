@@ -1,8 +1,6 @@
 //! Why headers are refused: where, and by which number. Offsets are those of winnt.h, and every number is worked out by hand.
 
-use super::made::{
-    BAD_MAGIC, HEADER_POINTER, MAPPED, PERMISSIVE, SHORT, STRICT, in_mode,
-};
+use super::made::{BAD_MAGIC, HEADER_POINTER, MAPPED, PERMISSIVE, SHORT, STRICT, in_mode};
 use crate::failure::{Failure, pe_c_image_failure, pe_c_te_failure};
 use crate::image::{Image, pe_c_image};
 use crate::results::{DONE, NOTHING};
@@ -62,24 +60,48 @@ fn failures_of_images(rt: HostRuntime) -> Result<(), Fail> {
     assert_eq!(rt; image_failure(&bytes[..0x180], STRICT), NONE);
     // Fewer directories need fewer bytes, and more than 16 need no more.
     put(&mut bytes, &[(0xFC, &[3])]);
-    assert_eq!(rt; image_failure(&bytes[..0x117], STRICT), (DONE, SHORT, [0x100, 24, 0]));
+    assert_eq!(rt;
+        image_failure(&bytes[..0x117], STRICT),
+        (DONE, SHORT, [0x100, 24, 0])
+    );
     put(&mut bytes, &[(0xFC, &[0xFF, 0xFF])]);
-    assert_eq!(rt; image_failure(&bytes[..0x17F], STRICT), (DONE, SHORT, [0x100, 128, 0]));
+    assert_eq!(rt;
+        image_failure(&bytes[..0x17F], STRICT),
+        (DONE, SHORT, [0x100, 128, 0])
+    );
     // PE32 has 96 bytes of fields.
     put(&mut bytes, &[(0x91, &[1]), (0xEC, &[2])]);
-    assert_eq!(rt; image_failure(&bytes[..0xFF], STRICT), (DONE, SHORT, [0xF0, 16, 0]));
-    assert_eq!(rt; image_failure(&bytes[..0xEF], STRICT), (DONE, SHORT, [0x90, 96, 0]));
+    assert_eq!(rt;
+        image_failure(&bytes[..0xFF], STRICT),
+        (DONE, SHORT, [0xF0, 16, 0])
+    );
+    assert_eq!(rt;
+        image_failure(&bytes[..0xEF], STRICT),
+        (DONE, SHORT, [0x90, 96, 0])
+    );
     put(&mut bytes, &[(0x90, &[0x07, 0x03])]);
-    assert_eq!(rt; image_failure(&bytes, STRICT), (DONE, BAD_MAGIC, [0x90, 2, 0x307]));
+    assert_eq!(rt;
+        image_failure(&bytes, STRICT),
+        (DONE, BAD_MAGIC, [0x90, 2, 0x307])
+    );
     // Without an optional header nothing of it is read.
     put(&mut bytes, &[(0x8C, &[0])]);
     assert_eq!(rt; image_failure(&bytes, STRICT), NONE);
     put(&mut bytes, &[(0x7B, &[0x12])]);
-    assert_eq!(rt; image_failure(&bytes, STRICT), (DONE, BAD_MAGIC, [0x78, 4, 0x1200_4550]));
+    assert_eq!(rt;
+        image_failure(&bytes, STRICT),
+        (DONE, BAD_MAGIC, [0x78, 4, 0x1200_4550])
+    );
     put(&mut bytes, &[(0x3C, &[0xFE, 0xFF, 0xFF, 0xFF])]);
-    assert_eq!(rt; image_failure(&bytes, STRICT), (DONE, SHORT, [0xFFFF_FFFE, 4, 0]));
+    assert_eq!(rt;
+        image_failure(&bytes, STRICT),
+        (DONE, SHORT, [0xFFFF_FFFE, 4, 0])
+    );
     put(&mut bytes, &[(0, b"NE")]);
-    assert_eq!(rt; image_failure(&bytes, STRICT), (DONE, BAD_MAGIC, [0, 2, 0x454E]));
+    assert_eq!(rt;
+        image_failure(&bytes, STRICT),
+        (DONE, BAD_MAGIC, [0, 2, 0x454E])
+    );
     Ok(())
 }
 

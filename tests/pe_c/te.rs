@@ -89,13 +89,19 @@ fn header_of_a_te_image(rt: HostRuntime) {
     assert_eq!(rt; te.reloc_dir, directory(0x2B2A_2928 - 0x16EE, 0x2F2E_2D2C));
     assert_eq!(rt; te.debug_dir, directory(0x3332_3130 - 0x16EE, 0x3736_3534));
     // No debug directory stays none, and what is below the stripped bytes wraps.
-    put(&mut bytes, &[(8, &[1, 0, 0, 0]), (24, &[0; 16]), (6, &[40, 0])]);
+    put(
+        &mut bytes,
+        &[(8, &[1, 0, 0, 0]), (24, &[0; 16]), (6, &[40, 0])],
+    );
     let (_, te) = image_of(&bytes);
     assert_eq!(rt; (te.rva_offset, te.entry_point), (0, 1));
     put(&mut bytes, &[(6, &[42, 0])]);
     let (_, te) = image_of(&bytes);
     assert_eq!(rt; (te.rva_offset, te.entry_point), (2, u32::MAX));
-    assert_eq!(rt; (te.reloc_dir, te.debug_dir), (directory(0xFFFF_FFFE, 0), directory(0, 0)));
+    assert_eq!(rt;
+        (te.reloc_dir, te.debug_dir),
+        (directory(0xFFFF_FFFE, 0), directory(0, 0))
+    );
     // Errors in their order: too few bytes, the signature, the stripped size.
     put(&mut bytes, &[(6, &[39])]);
     let (answer, te) = image_of(&bytes);
@@ -111,16 +117,31 @@ fn header_of_a_te_image(rt: HostRuntime) {
 #[test]
 fn sections_of_a_te_image(rt: HostRuntime) -> Result<(), Fail> {
     let mut bytes = te(rt.alloc())?;
-    put(&mut bytes, &[(40, b".text"), (48, &[7]), (56, &[8]), (64, &[9]), (76, &[10])]);
+    put(
+        &mut bytes,
+        &[
+            (40, b".text"),
+            (48, &[7]),
+            (56, &[8]),
+            (64, &[9]),
+            (76, &[10]),
+        ],
+    );
     let (_, te) = image_of(&bytes);
     let [other] = sections();
     let mut room = [other; 2];
     assert_eq!(rt; pe_c_te_sections(&bytes, &te, &mut room), DONE);
     let [first, second] = room;
     assert_eq!(rt; (first.name, second), (*b".text\0\0\0", other));
-    assert_eq!(rt; (first.virtual_address, first.pointer_to_raw_data), (0x1000, 0x50));
+    assert_eq!(rt;
+        (first.virtual_address, first.pointer_to_raw_data),
+        (0x1000, 0x50)
+    );
     assert_eq!(rt; (first.virtual_size, first.size_of_raw_data), (7, 8));
-    assert_eq!(rt; (first.pointer_to_relocations, first.characteristics), (9, 10));
+    assert_eq!(rt;
+        (first.pointer_to_relocations, first.characteristics),
+        (9, 10)
+    );
     let mut room = [other; 2];
     let fewer = TeImage {
         rva_offset: 0x1101,
@@ -128,7 +149,10 @@ fn sections_of_a_te_image(rt: HostRuntime) -> Result<(), Fail> {
     };
     assert_eq!(rt; pe_c_te_sections(&bytes, &fewer, &mut room), DONE);
     let [first, _] = room;
-    assert_eq!(rt; (first.virtual_address, first.pointer_to_raw_data), (u32::MAX, 0xFFFF_F04F));
+    assert_eq!(rt;
+        (first.virtual_address, first.pointer_to_raw_data),
+        (u32::MAX, 0xFFFF_F04F)
+    );
     let mut room = [other; 2];
     assert_eq!(rt; pe_c_te_sections(&bytes[..79], &te, &mut room), SHORT);
     let three = TeImage {
@@ -204,9 +228,15 @@ fn debug_entries_of_a_te_image(rt: HostRuntime) -> Result<(), Fail> {
     assert_eq!(rt; te.debug_dir, directory(0x50, 0x38));
     assert_eq!(rt; entries_of(&bytes, &te), (DONE, [0x50, 0x38]));
     let mut walk = range(0x50, 0x38);
-    assert_eq!(rt; step(&bytes, &te, &mut walk), (DONE, CODEVIEW, [0x6C, 0x1C]));
+    assert_eq!(rt;
+        step(&bytes, &te, &mut walk),
+        (DONE, CODEVIEW, [0x6C, 0x1C])
+    );
     assert_eq!(rt; step(&bytes, &te, &mut walk), (DONE, REPRO, [0x88, 0]));
-    assert_eq!(rt; step(&bytes, &te, &mut walk), (NOTHING, NO_ENTRY, [0x88, 0]));
+    assert_eq!(rt;
+        step(&bytes, &te, &mut walk),
+        (NOTHING, NO_ENTRY, [0x88, 0])
+    );
     assert_eq!(rt; first_of(&bytes, &te, 2), (DONE, CODEVIEW));
     assert_eq!(rt; first_of(&bytes, &te, 16), (DONE, REPRO));
     assert_eq!(rt; first_of(&bytes, &te, 13), (NOTHING, NO_ENTRY));
@@ -216,9 +246,15 @@ fn debug_entries_of_a_te_image(rt: HostRuntime) -> Result<(), Fail> {
         spare: 9,
         name: untouched(),
     };
-    assert_eq!(rt; pe_c_symbol_key_of(&bytes, MAPPED, &CODEVIEW, &mut key), DONE);
+    assert_eq!(rt;
+        pe_c_symbol_key_of(&bytes, MAPPED, &CODEVIEW, &mut key),
+        DONE
+    );
     assert_eq!(rt; (key.age, of_range(key.name)), (9, [0xA8, 6]));
-    assert_eq!(rt; key.guid, *b"\x10\x11\x12\x13\x14\x15\x16\x17\x18\x19\x1A\x1B\x1C\x1D\x1E\x1F");
+    assert_eq!(rt;
+        key.guid,
+        *b"\x10\x11\x12\x13\x14\x15\x16\x17\x18\x19\x1A\x1B\x1C\x1D\x1E\x1F"
+    );
     // A truncated entry, and a walk outside the bytes.
     let mut walk = range(0x6C, 27);
     assert_eq!(rt; step(&bytes, &te, &mut walk), (SHORT, NO_ENTRY, [0, 0]));
@@ -239,11 +275,27 @@ fn debug_directories_of_te_images(rt: HostRuntime) -> Result<(), Fail> {
     for (debug, entries, first) in [
         (having(0, 0), (NOTHING, UNTOUCHED), (NOTHING, NO_ENTRY)),
         // One entry, and a truncated one.
-        (having(0x50, 0x37), (DONE, [0x50, 0x37]), (NOTHING, NO_ENTRY)),
+        (
+            having(0x50, 0x37),
+            (DONE, [0x50, 0x37]),
+            (NOTHING, NO_ENTRY),
+        ),
         (having(0xAE, 0), (DONE, [0xAE, 0]), (NOTHING, NO_ENTRY)),
-        (having(0x50, 0x5F), (DEBUG_BOUNDS, UNTOUCHED), (DEBUG_BOUNDS, NO_ENTRY)),
-        (having(0xAF, 0), (DEBUG_BOUNDS, UNTOUCHED), (DEBUG_BOUNDS, NO_ENTRY)),
-        (having(u32::MAX, u32::MAX), (DEBUG_BOUNDS, UNTOUCHED), (DEBUG_BOUNDS, NO_ENTRY)),
+        (
+            having(0x50, 0x5F),
+            (DEBUG_BOUNDS, UNTOUCHED),
+            (DEBUG_BOUNDS, NO_ENTRY),
+        ),
+        (
+            having(0xAF, 0),
+            (DEBUG_BOUNDS, UNTOUCHED),
+            (DEBUG_BOUNDS, NO_ENTRY),
+        ),
+        (
+            having(u32::MAX, u32::MAX),
+            (DEBUG_BOUNDS, UNTOUCHED),
+            (DEBUG_BOUNDS, NO_ENTRY),
+        ),
     ] {
         assert_eq!(rt; entries_of(&bytes, &debug), entries);
         assert_eq!(rt; first_of(&bytes, &debug, 16), first);

@@ -22,9 +22,11 @@ use core::iter::FusedIterator;
 /// let mut names = Vec::new();
 /// for symbol in object.symbols()?.into_iter().flatten() {
 ///     let symbol = symbol?;
-///     names.push((symbol.name()?, symbol.section_number));
+///     if symbol.section_number == 1 {
+///         names.push((symbol.name()?, symbol.value));
+///     }
 /// }
-/// assert_eq!(names, [(b".text".as_slice(), 1), (b"longer_than_eight".as_slice(), 1)]);
+/// assert_eq!(names, [(b"longer_than_eight".as_slice(), 1), (b".text", 0)]);
 /// # Ok::<(), pe_c::Error>(())
 /// ```
 #[derive(Clone)]

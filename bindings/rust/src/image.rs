@@ -140,6 +140,8 @@ errors! {
     RESOURCE_CYCLE = 29;
     /// Version string value missing, or its length above 32,767.
     RESOURCE_STRING = 30;
+    /// Stripped size smaller than the TE header.
+    TE_SIZE = 31;
     /// Image has no optional header.
     NO_OPTIONAL_HEADER = 32;
     /// Write does not fit the buffer.

@@ -1152,7 +1152,7 @@ BoundForwarder, 24 {
 });
 record!(
 /// A COFF symbol, `IMAGE_SYMBOL`, with what its entry says of others.
-SymbolEntry, 56 {
+SymbolEntry, 48 {
     /// Its auxiliary records, 18 bytes each, up to the end of the table.
     auxiliary: Range,
     /// The index of its entry in the table; auxiliary records count.

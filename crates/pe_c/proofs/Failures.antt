@@ -66,7 +66,7 @@ fields : {X : Type 0} (b : List ℕ) (p : ℕ) (x : X) → Explains (outcome (op
 unfolding optional_header_tests
 fields b p x =
     last (optional_header_tests b p) (optional_failures b p) x refl
-    (refl, refl, refl, refl, refl, refl, ap (λ (n : ℕ). holds b (p + fields_size b p) (8 * kept n)) (count_by b p (is_pe32_plus b p) refl), refl, tt)
+    (refl, refl, (refl, refl, (refl, refl, (ap (λ (n : ℕ). holds b (p + fields_size b p) (8 * kept n)) (count_by b p (is_pe32_plus b p) refl), refl, tt))))
 
 unless_none : {X : Type 0} (b : List ℕ) (p : ℕ) (x : X) (t u : Bool) → t ≡ u → Explains (outcome (if t then [] else optional_header_tests b p) x) (if u then None else first_failure (optional_failures b p))
 unless_none b p x true true e = tt
@@ -92,9 +92,9 @@ headers b mode =
     let p = le b 60 4 in
     let optional = if le b (p + 4 + 16) 2 == 0 then [] else optional_header_tests b (p + 24) in
     explained (dos_tests b mode) (pe_tests b p ++ optional) (dos_failures b mode) (or_later (first_failure (pe_failures b p)) (optional_failure b (p + 24))) (header b)
-    (refl, refl, refl, refl, refl, refl, tt)
+    (refl, refl, (refl, refl, (refl, refl, tt)))
     (explained (pe_tests b p) optional (pe_failures b p) (optional_failure b (p + 24)) (header b)
-    (refl, refl, refl, refl, refl, refl, tt)
+    (refl, refl, (refl, refl, (refl, refl, tt)))
     (unless_none b (p + 24) (header b) (le b (p + 4 + 16) 2 == 0) (le b (p + 24 - 4) 2 == 0) (ap (λ (q : ℕ). le b q 2 == 0) (omega arith))))
 
 pub failures_of_images : (b : List ℕ) (mode : ℕ) → Explains (image_at b mode) (image_failure b mode)
@@ -104,7 +104,7 @@ failures_of_images b mode = mapped (header_at b (mode_of_number mode)) (image_fa
 
 te_headers : (b : List ℕ) → Explains (te_header_of b) (first_failure (te_failures b))
 unfolding te_header_of te_tests te_failures
-te_headers b = last (te_tests b) (te_failures b) (reduced_header (te_header b 0)) refl (refl, refl, refl, refl, refl, refl, tt)
+te_headers b = last (te_tests b) (te_failures b) (reduced_header (te_header b 0)) refl (refl, refl, (refl, refl, (refl, refl, tt)))
 
 pub failures_of_te_images : (b : List ℕ) → Explains (te_image_at b) (first_failure (te_failures b))
 failures_of_te_images b = mapped (te_header_of b) (first_failure (te_failures b)) te_image_of (te_headers b)

@@ -38,3 +38,4 @@ pub mod DebugAlone
 pub mod DebugParts
 pub mod SymbolRuns
 pub mod Failures
+pub mod SymbolTexts

@@ -21,3 +21,12 @@ pub fn walks_give_the_symbols()
         bytes_at b walk.table ≡ Err refusal →
         ReturnsItems (StepsSymbols b) walk (Err refusal ∷ []) }
 {}
+
+/// The range that `pe_c_symbol_name` returns lies in the bytes, and is the name of the symbol in that entry.
+#[tactic(auto, using(crate::proofs::SymbolTexts::names_are_parts))]
+pub fn ranges_of_symbol_names()
+    ensures { (b : List ℕ) (table strings : Range) (index : ℕ) (t s : List ℕ) (r : Range) →
+        bytes_at b table ≡ Ok t → bytes_at b strings ≡ Ok s →
+        symbol_name_at b table strings index ≡ Ok (Some r) →
+        (name : List ℕ) × (symbol_name (symbol_in t index) s ≡ Ok name) × IsRange b r name }
+{}
