@@ -358,14 +358,14 @@ fn read_by_lies(bytes: &[u8], random: &mut Random, seen: &mut Seen) {
     call!(pe_c_te_first_debug_entry(&te, few % 24), DebugEntry);
     call!(pe_c_image_failure(few), Failure);
     call!(pe_c_te_failure(), Failure);
-    let mut entries = range;
+    let (mut entries, mut headers) = (range, sections);
     for _ in 0..MOST {
         let mut entry = sys::DebugEntry::default();
         // SAFETY: as above.
         unsafe {
             sys::pe_c_next_te_debug_entry(start, length, &te, &mut entries, &mut entry);
-            sys::pe_c_coff_sections(start, length, &coff, room.as_mut_ptr(), room.len());
-            sys::pe_c_te_sections(start, length, &te, room.as_mut_ptr(), room.len());
+            sys::pe_c_coff_sections(start, length, &coff, headers.as_mut_ptr(), headers.len());
+            sys::pe_c_te_sections(start, length, &te, headers.as_mut_ptr(), headers.len());
         }
     }
     call!(pe_c_rich_header(), RichHeader);

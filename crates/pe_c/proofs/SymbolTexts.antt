@@ -1,5 +1,5 @@
 -- The range of a symbol's name is the name.
-use Rattle.std.proofs.Common.{◌≡◌, ℕ, ◌+◌, ◌*◌, ◌<◌, ◌≤◌, Bool, true, false, List, length, take, Option, Some, None, Result, Ok, Err, refl, sym, ap, subst, ◌∙◌, arith}
+use Rattle.std.proofs.Common.{◌≡◌, ℕ, zero, suc, ◌+◌, ◌-◌, ◌*◌, ◌<◌, ◌≤◌, Bool, true, false, List, [], ◌∷◌, length, take, drop, Option, Some, None, Result, Ok, Err, refl, sym, ap, subst, ◌∙◌, arith}
 use Rattle.std.specs.Prelude.{◌==◌, ◌/◌, nat_le, nat_lt, slice_index, if◌then◌else◌}
 use Rattle.std.specs.List.{before_first, position_or_len}
 use Rattle.std.specs.Str.{is_utf8}
@@ -34,8 +34,16 @@ within b r t part q e is =
 
 -- ---- a name in the 8 bytes of an entry
 
-front : (b : List ℕ) (p n m : ℕ) → p + n ≤ length b → range b p (length (take m (range b p n))) ≡ take m (range b p n)
-front b p n m h = grind (arith, places)
+prefix : (xs : List ℕ) (m n : ℕ) → take (length (take m (take n xs))) xs ≡ take m (take n xs)
+prefix xs zero n = refl
+prefix xs (suc m) zero = refl
+prefix [] (suc m) (suc n) = refl
+prefix (x ∷ xs) (suc m) (suc n) = ap (λ (ys : List ℕ). x ∷ ys) (prefix xs m n)
+
+front : (b : List ℕ) (p n m : ℕ) → range b p (length (take m (range b p n))) ≡ take m (range b p n)
+front b p n m =
+    let size : p + length (take m (range b p n)) - p ≡ length (take m (range b p n)) = omega arith in
+    ap (λ (k : ℕ). take k (drop p b)) size ∙ prefix (drop p b) m (p + n - p)
 
 shorter : (b : List ℕ) (p n m : ℕ) → p + n ≤ length b → length (take m (range b p n)) ≤ n
 shorter b p n m h = grind (arith, places)
@@ -51,7 +59,7 @@ inline t p name h e =
     let m = position_or_len (λ c. c == 0) (range t p 8) in
     let is : take m (range t p 8) ≡ name = tested (before_first (λ c. c == 0) (range t p 8)) name (is_utf8 (before_first (λ c. c == 0) (range t p 8))) refl e in
     subst (λ (x : List ℕ). IsRange t (record { offset = p; length = length x }) x) is
-    (record { inside = (let short : length (take m (range t p 8)) ≤ 8 = shorter t p 8 m h in omega (arith, h, short)); same = front t p 8 m h })
+    (record { inside = (let short : length (take m (range t p 8)) ≤ 8 = shorter t p 8 m h in omega (arith, h, short)); same = front t p 8 m })
 
 -- ---- a name in the string table
 
