@@ -262,12 +262,7 @@ fn name_range(
     }
 }
 
-fn symbol_name_at(
-    bytes: &[u8],
-    table: &Range,
-    strings: &Range,
-    index: u64,
-) -> Result<Option<Range>>
+fn symbol_name_at(bytes: &[u8], table: &Range, strings: &Range, index: u64) -> Result<Option<Range>>
     ensures { answer_of result ≡ symbol_name_at bytes.now table.now strings.now index }
 {
     let entries = slice_of(bytes, table)?;

@@ -200,11 +200,7 @@ pub extern "C" fn pe_c_next_te_debug_entry(
 }
 
 #[tactic(auto, unfolding(crate::specs::Te::te_first_entry, pe_records::specs::DebugDirectory::directory_table))]
-fn te_first_entry(
-    bytes: &[u8],
-    te: &TeImage,
-    data_type: u32,
-) -> Result<Option<ImageDebugDirectory>>
+fn te_first_entry(bytes: &[u8], te: &TeImage, data_type: u32) -> Result<Option<ImageDebugDirectory>>
     ensures { answer_of result ≡ te_first_entry bytes.now te.now data_type }
 {
     if is_absent(te.debug_dir) {
