@@ -1,14 +1,13 @@
 -- A failure of headers is the refusal of the call that reads them.
-use Rattle.std.proofs.Common.{◌≡◌, ℕ, ◌+◌, ◌-◌, ◌*◌, Bool, true, false, List, [], ◌∷◌, ◌++◌, Option, Some, None, Result, Ok, Err, refl, sym, ap, subst, ◌∙◌, arith}
+use Rattle.std.proofs.Common.{◌≡◌, ℕ, ◌+◌, ◌-◌, ◌*◌, Bool, true, false, List, [], ◌∷◌, ◌++◌, Option, Some, None, Result, Ok, Err, refl, ap, subst, arith}
 use Rattle.std.specs.Prelude.{◌==◌, ◌||◌, nat_le, if◌then◌else◌}
 use Rattle.pe_core.specs.Bytes.{le, holds}
 use Rattle.pe_core.specs.Directories.{kept}
-use Rattle.pe_core.specs.Header.{HeaderView, directories_offset, header, header_at, header_tests, is_pe32_plus, optional_header, optional_header_tests}
+use Rattle.pe_core.specs.Header.{header, header_at, header_tests, is_pe32_plus, optional_header, optional_header_tests}
 use Rattle.pe_core.specs.Options.{is_permissive}
 use Rattle.pe_core.specs.Records.{coff_header, dos_header, te_header, windows_fields_32, windows_fields_64}
-use Rattle.pe_core.specs.Refusals.{Refusal, Short, BadMagic, HeaderPointer, TeSize, outcome, ◌>>=◌}
+use Rattle.pe_core.specs.Refusals.{Refusal, Short, BadMagic, HeaderPointer, outcome, ◌>>=◌}
 use Rattle.pe_core.specs.TeImages.{reduced_header, te_header_of, te_tests}
-use Rattle.pe_core.specs.declared.header.TeHeader.{TeHeader}
 use Rattle.pe_core.specs.declared.options.ParseMode.{ParseMode}
 use Rattle.pe_c.specs.Failures.{Explains, dos_failures, fields_size, first_failure, header_failure, image_failure, optional_failure, optional_failures, or_later, pe_failures, te_failures}
 use Rattle.pe_c.specs.HandsOut.{result_number}

@@ -39,3 +39,4 @@ pub mod DebugParts
 pub mod SymbolRuns
 pub mod Failures
 pub mod SymbolTexts
+pub mod TeRanges

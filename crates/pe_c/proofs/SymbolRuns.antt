@@ -1,9 +1,9 @@
 -- A walk over symbols returns those of its table.
-use Rattle.std.proofs.Common.{◌≡◌, ℕ, ◌+◌, ◌<◌, ◌≤◌, Bool, true, false, List, [], ◌∷◌, map, Option, Some, None, Result, Ok, Err, refl, sym, ap, subst, ◌∙◌, arith}
-use Rattle.std.specs.Prelude.{nat_lt, if◌then◌else◌}
+use Rattle.std.proofs.Common.{◌≡◌, ℕ, ◌+◌, ◌<◌, ◌≤◌, true, false, List, [], ◌∷◌, map, Option, Some, None, Result, Ok, Err, refl, sym, ap, subst, ◌∙◌, arith}
+use Rattle.std.specs.Prelude.{nat_lt}
 use Rattle.std.proofs.lemmas.Bool.Decides.{nat_tests}
 use Rattle.pe_core.specs.Refusals.{Refusal}
-use Rattle.pe_core.specs.Symbols.{AreSymbols, SymbolItem, item_in, row_count, symbol_in}
+use Rattle.pe_core.specs.Symbols.{AreSymbols, SymbolItem, row_count, symbol_in}
 use Rattle.pe_c.proofs.LeftBytes.{bytes_there, nothing_there}
 use Rattle.pe_c.proofs.Runs.{Makes, gives_first, gives_nothing, gives_refusal}
 use Rattle.pe_c.specs.Coff.{StepsSymbols, symbol_at, symbol_reported, symbol_with, symbols_after}
@@ -11,7 +11,6 @@ use Rattle.pe_c.specs.Ranges.{bytes_at, no_bytes}
 use Rattle.pe_c.specs.Runs.{ReturnsItems, IsOver}
 use Rattle.pe_c.specs.declared.coff.Symbol.{Symbol}
 use Rattle.pe_c.specs.declared.coff.SymbolWalk.{SymbolWalk}
-use Rattle.pe_c.specs.declared.ranges.Range.{Range}
 
 -- ---- one step
 

@@ -1,14 +1,14 @@
 -- The range of a symbol's name is the name.
 use Rattle.std.proofs.Common.{◌≡◌, ℕ, zero, suc, ◌+◌, ◌-◌, ◌*◌, ◌<◌, ◌≤◌, Bool, true, false, List, [], ◌∷◌, length, take, drop, Option, Some, None, Result, Ok, Err, refl, sym, ap, subst, ◌∙◌, arith}
-use Rattle.std.specs.Prelude.{◌==◌, ◌/◌, nat_le, nat_lt, slice_index, if◌then◌else◌}
+use Rattle.std.specs.Prelude.{◌==◌, nat_le, nat_lt, slice_index, if◌then◌else◌}
 use Rattle.std.specs.List.{before_first, position_or_len}
 use Rattle.std.specs.Str.{is_utf8}
 use Rattle.std.proofs.lemmas.Bool.Decides.{nat_tests}
 use Rattle.std.proofs.lemmas.List.{places}
-use Rattle.pe_core.proofs.Ranges.{length_range, range_in_range}
-use Rattle.pe_core.specs.Bytes.{holds, le, range}
+use Rattle.pe_core.proofs.Ranges.{range_in_range}
+use Rattle.pe_core.specs.Bytes.{holds, range}
 use Rattle.pe_core.specs.Refusals.{Refusal, StringTable, ◌>>=◌}
-use Rattle.pe_core.specs.Symbols.{inline_name, or_no_text, row_count, string_at, string_offset, symbol, symbol_in, symbol_name}
+use Rattle.pe_core.specs.Symbols.{or_no_text, row_count, string_at, string_offset, symbol, symbol_in, symbol_name}
 use Rattle.pe_core.specs.Text.{text_at, text_of}
 use Rattle.pe_core.specs.declared.symbol.Symbol.{Symbol}
 use Rattle.pe_c.proofs.ExportParts.{text_stands}

@@ -1,10 +1,9 @@
 -- What calls return of COFF objects, and of the COFF symbols of images.
 use Rattle.std.specs.Prelude.{◌≡◌, ℕ, ◌+◌, ◌-◌, ◌*◌, ◌==◌, min, List, length, nat_lt, slice_index, Option, Some, None, Result, Ok, Err, if◌then◌else◌}
 use Rattle.std.specs.Option.{option_map}
-use Rattle.pe_core.specs.Bytes.{le, record_at}
+use Rattle.pe_core.specs.Bytes.{record_at}
 use Rattle.pe_core.specs.Records.{coff_header}
 use Rattle.pe_core.specs.Refusals.{Refusal, ◌>>=◌}
-use Rattle.pe_core.specs.Sections.{sections_at}
 use Rattle.pe_core.specs.Strings.{strings_of, strings_offset}
 use Rattle.pe_core.specs.Symbols.{SymbolItem, row_count, symbol_in, symbol_name, symbols_of}
 use Rattle.pe_core.specs.Symbols as symbols

@@ -1,5 +1,5 @@
 -- What calls return of TE images. (This project's profile.)
-use Rattle.std.specs.Prelude.{◌≡◌, ℕ, List, [], length, nat_le, Option, Some, None, Result, Ok, if◌then◌else◌}
+use Rattle.std.specs.Prelude.{ℕ, List, [], length, nat_le, Option, Some, None, Result, Ok, if◌then◌else◌}
 use Rattle.pe_core.specs.Options.{te_options}
 use Rattle.pe_core.specs.Records.{section_table}
 use Rattle.pe_core.specs.Refusals.{Refusal, ◌>>=◌}

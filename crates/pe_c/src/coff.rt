@@ -8,7 +8,7 @@
 
 ghost use Rattle.std.specs.Prelude.{◌≡◌, ◌+◌, ◌*◌, ◌≤◌, ◌<◌, ◌^◌, IfOk, IfSome};
 ghost use Rattle.pe_core.specs.Refusals.{answer_of};
-ghost use Rattle.pe_c.specs.Coff.{PutsObjectSections, auxiliary_of, coff_header_of, coff_strings_at, name_range, object_at, string_offset_of, symbol_at, symbol_name_at, symbol_with, symbols_after, symbols_at};
+ghost use Rattle.pe_c.specs.Coff.{PutsObjectSections, coff_header_of, coff_strings_at, name_range, object_at, symbol_at, symbol_name_at, symbol_with, symbols_after, symbols_at};
 ghost use Rattle.pe_c.specs.HandsOut.{HandsOut, HandsOutIf};
 
 use crate::headers::{CoffFields, coff_fields};

@@ -12,7 +12,7 @@ ghost use Rattle.pe_core.specs.Rows.{rows};
 ghost use Rattle.pe_core.specs.TeImages.{reduced, reduced_section};
 ghost use Rattle.pe_records.specs.DebugDirectory.{debug_entry_at};
 ghost use Rattle.pe_c.specs.HandsOut.{HandsOut, HandsOutIf};
-ghost use Rattle.pe_c.specs.Te.{PutsTeSections, te_debug_range, te_first_entry, te_image_at, te_image_of, te_section};
+ghost use Rattle.pe_c.specs.Te.{PutsTeSections, te_debug_range, te_first_entry, te_image_at, te_section};
 ghost use Rattle.pe_c.specs.Walks.{next_of, walk_of};
 
 use crate::image::is_absent;
