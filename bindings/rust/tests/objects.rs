@@ -87,9 +87,10 @@ fn te_images_are_read() {
 
 #[test]
 fn refusals_have_numbers() {
+    // Its PE signature is at 0x40, and the COFF header follows it.
     let failure = Image::failure(&SMALL[..70], Mode::Strict, Layout::File).unwrap();
-    assert_eq!((failure.error, failure.value, failure.needed), (Error::SHORT, None, 4));
-    assert_eq!(failure.to_string(), format!("truncated: 4 bytes needed at offset {:#x}", failure.offset));
+    assert_eq!((failure.error, failure.value, failure.needed), (Error::SHORT, None, 20));
+    assert_eq!(failure.to_string(), "truncated: 20 bytes needed at offset 0x44");
     assert_eq!(Image::failure(SMALL, Mode::Strict, Layout::File), None);
     let mut bytes = te_image();
     bytes[6..8].copy_from_slice(&[0x27, 0]);
