@@ -103,7 +103,8 @@ impl<'a> Coff<'a> {
     /// Those of [`Coff::symbols`].
     pub fn long_section_name(&self, section: &Section) -> Result<Option<&'a [u8]>, Error> {
         let Some(table) = ask_of_bytes(self.bytes, sys::pe_c_coff_strings, &self.header)? else { return Ok(None) };
-        let name: Option<sys::Range> = look(self.bytes, sys::pe_c_long_section_name, &table, section as *const Section)?;
+        let name: Option<sys::Range> =
+            look(self.bytes, sys::pe_c_long_section_name, &table, section as *const Section)?;
         name.map(|range| bytes_of(range, self.bytes)).transpose()
     }
 }

@@ -17,7 +17,8 @@ fn objects_are_read() {
     assert_eq!(object.string_table(), Ok(Some(b"\x16\0\0\0longer_than_eight\0".as_slice())));
     assert_eq!(object.long_section_name(&object.sections()[0]), Ok(None));
     let symbols = object.symbols().unwrap().unwrap();
-    let found: Vec<_> = symbols.clone().map(|it| it.map(|it| (it.index, it.name().unwrap(), it.section_number))).collect();
+    let found: Vec<_> =
+        symbols.clone().map(|it| it.map(|it| (it.index, it.name().unwrap(), it.section_number))).collect();
     let wanted: [(u64, &[u8], i16); 7] = [
         (0, b".file", -2),
         (2, b"longer_than_eight", 1),
@@ -32,7 +33,10 @@ fn objects_are_read() {
     assert_eq!((file.storage_class, file.auxiliary()), (103, b"b.s\0\0\0\0\0\0\0\0\0\0\0\0\0\0\0".as_slice()));
     assert!(symbols.get(12).is_none());
     let shown = format!("{:?}", symbols.get(2).unwrap());
-    assert!(shown.starts_with("Symbol { index: 2, name: Ok(\"longer_than_eight\"), value: 1, section_number: 1,"), "{shown}");
+    assert!(
+        shown.starts_with("Symbol { index: 2, name: Ok(\"longer_than_eight\"), value: 1, section_number: 1,"),
+        "{shown}"
+    );
 }
 
 #[test]

@@ -3,10 +3,10 @@
 
 use super::{bytes_at, short, slice, string_table_size, text, Range, Refusal};
 use crate::error;
-#[cfg(feature = "te")]
-use crate::pe::{data_directories::DataDirectory, header::TeHeader};
 use crate::pe::header::{CoffHeader, SIZEOF_STRING_TABLE_SIZE};
 use crate::pe::symbol::{self, SymbolTable};
+#[cfg(feature = "te")]
+use crate::pe::{data_directories::DataDirectory, header::TeHeader};
 use crate::strtab::Strtab;
 use pe_c::sys;
 

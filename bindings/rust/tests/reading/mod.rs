@@ -2,9 +2,9 @@
 #![allow(dead_code)]
 
 use pe_c::{
-    Arm64Function, Arm64Functions, Arm64Record, Arm64Registers, Arm64Unwinding, Coff, Error, Frames, Function, Functions,
-    Handler, Image, Layout, Mode, Module, Placement, Registers, ResourceName, Stack, StepError, Symbols, Te, UnwindRecord,
-    VersionBlocks, VersionName,
+    Arm64Function, Arm64Functions, Arm64Record, Arm64Registers, Arm64Unwinding, Coff, Error, Frames, Function,
+    Functions, Handler, Image, Layout, Mode, Module, Placement, Registers, ResourceName, Stack, StepError, Symbols, Te,
+    UnwindRecord, VersionBlocks, VersionName,
 };
 
 /// What was read.
