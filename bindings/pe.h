@@ -118,7 +118,7 @@ enum {
     PE_C_RESOURCE_BOUNDS = 28,      /* resource data ends past the bytes that hold it */
     PE_C_RESOURCE_CYCLE = 29,       /* loop in the resource tree */
     PE_C_RESOURCE_STRING = 30,      /* version string value missing, or its length above 32,767 */
-    PE_C_TE_SIZE = 31,              /* stripped size smaller than the TE header; never returned */
+    PE_C_TE_SIZE = 31,              /* stripped size smaller than the TE header */
     PE_C_NO_OPTIONAL_HEADER = 32,   /* image has no optional header */
     PE_C_WRITE_ALIGNMENT = 33,      /* alignment cannot be written; never returned */
     PE_C_WRITE_SYMBOLS = 34,        /* images with COFF symbols cannot be written; never returned */
@@ -400,6 +400,82 @@ uint32_t pe_c_string_table(const uint8_t *bytes, size_t length, const pe_c_image
 uint32_t pe_c_long_section_name(const uint8_t *bytes, size_t length, const pe_c_range *table,
                                 const pe_c_section *section, pe_c_range *out) PE_C_RESULT(3, 4, 5);
 
+/* ---- COFF objects and COFF symbols
+ *
+ * An object, the output of a compiler, starts with the COFF header; the section headers follow it. Images of mingw-w64 and Go
+ * have COFF symbols too: their header is the field `coff` of pe_c_headers_info. The symbol table has entries of 18 bytes, each a
+ * symbol or an auxiliary record of the symbol before. The string table after it has the names of more than 8 bytes.
+ * https://learn.microsoft.com/windows/win32/debug/pe-format#coff-symbol-table
+ *
+ *     pe_c_coff(bytes, length, &coff);
+ *     pe_c_coff_sections(bytes, length, &coff, sections, entries);
+ *     pe_c_coff_symbols(bytes, length, &coff, &walk);
+ *     while (pe_c_next_symbol(bytes, length, &walk, &symbol) == PE_C_DONE)
+ *         pe_c_symbol_name(bytes, length, &walk.table, &strings, symbol.index, &name); */
+
+/* A COFF symbol, IMAGE_SYMBOL, with what its entry says of others. */
+typedef struct {
+    pe_c_range auxiliary;           /* its auxiliary records, 18 bytes each, up to the end of the table */
+    uint64_t index;                 /* of its entry in the table; auxiliary records count */
+    uint8_t name[8];                /* padded with zeros; or 4 zeros, and the offset of a longer name in the string table */
+    uint32_t value;                 /* by the storage class, for instance an offset in the section */
+    uint32_t string_offset;         /* of the name in the string table, from its size field; 0 where `name` has the name */
+    int16_t section_number;         /* from 1; 0 IMAGE_SYM_UNDEFINED, -1 _ABSOLUTE, -2 _DEBUG */
+    uint16_t type;                  /* IMAGE_SYM_TYPE_ and IMAGE_SYM_DTYPE_ */
+    uint8_t storage_class;          /* IMAGE_SYM_CLASS_ */
+    uint8_t number_of_aux_symbols;  /* auxiliary records that follow */
+    uint16_t spare;                 /* 0 */
+} pe_c_symbol_entry;
+
+/* A walk over symbols, which skips auxiliary records. */
+typedef struct {
+    pe_c_range table;               /* the symbol table */
+    uint64_t next;                  /* the index of the next symbol's entry */
+} pe_c_symbol_walk;
+
+PE_C_SIZE(pe_c_symbol_entry, 48);
+PE_C_SIZE(pe_c_symbol_walk, 24);
+
+/* Reads the header of an object, the 20 bytes at its start. Any bytes are such a header: look at `machine`.
+ * Error: PE_C_SHORT. */
+uint32_t pe_c_coff(const uint8_t *bytes, size_t length, pe_c_coff_header *out) PE_C_RESULT(3);
+
+/* Writes the section headers of an object to the start of the array, coff->number_of_sections of them. They follow the
+ * optional header, which objects usually do not have. The rest of the array is unchanged, and all of it after an error.
+ * Errors: PE_C_ROOM where the array is smaller; PE_C_SHORT where the section headers are truncated. */
+uint32_t pe_c_coff_sections(const uint8_t *bytes, size_t length, const pe_c_coff_header *coff, pe_c_section *room,
+                            size_t entries) PE_C_RESULT(3);
+
+/* Returns a walk over the symbols of an object or of an image, with the range of their table. PE_C_NOTHING where the header's
+ * pointer to them is 0.
+ * Error: PE_C_SHORT where the table is truncated; a pointer past the end of the bytes is that even with 0 entries. */
+uint32_t pe_c_coff_symbols(const uint8_t *bytes, size_t length, const pe_c_coff_header *coff, pe_c_symbol_walk *out)
+    PE_C_RESULT(3, 4);
+
+/* Returns the string table of an object or of an image, from its size field on. PE_C_NOTHING where the header's pointer to the
+ * symbols is 0, and where the bytes end after these.
+ * Errors: PE_C_SHORT where the symbols are truncated; PE_C_STRING_TABLE where the string table is. */
+uint32_t pe_c_coff_strings(const uint8_t *bytes, size_t length, const pe_c_coff_header *coff, pe_c_range *out)
+    PE_C_RESULT(3, 4);
+
+/* Reads the symbol in an entry of a symbol table. PE_C_NOTHING past the last entry. Auxiliary records have entries of their own,
+ * and nothing in these says that they are no symbols.
+ * Error: PE_C_SHORT where the table is not inside the bytes. */
+uint32_t pe_c_symbol(const uint8_t *bytes, size_t length, const pe_c_range *table, uint64_t index, pe_c_symbol_entry *out)
+    PE_C_RESULT(3, 5);
+
+/* Reads the next symbol of a walk.
+ * Error: PE_C_SHORT where the table is not inside the bytes. */
+uint32_t pe_c_next_symbol(const uint8_t *bytes, size_t length, pe_c_symbol_walk *walk, pe_c_symbol_entry *out)
+    PE_C_RESULT(3, 4);
+
+/* Returns the name of the symbol in an entry of a symbol table: UTF-8, not NUL-terminated, in the entry or in the string table.
+ * A name there is read to its end. PE_C_NOTHING past the last entry. Without a string table pass an empty range.
+ * Errors: PE_C_SHORT where the symbol table, then where the string table is not inside the bytes; PE_C_STRING_TABLE where no
+ * string is at the offset, NUL-terminated and UTF-8, or where the name in the entry is not UTF-8. */
+uint32_t pe_c_symbol_name(const uint8_t *bytes, size_t length, const pe_c_range *table, const pe_c_range *strings,
+                          uint64_t index, pe_c_range *out) PE_C_RESULT(3, 4, 6);
+
 /* ---- the Rich header
  *
  * Microsoft's linker writes it between the DOS stub and the PE header: which tools made the objects of the image. Microsoft
@@ -619,6 +695,82 @@ uint32_t pe_c_pdb_checksum_of(const uint8_t *bytes, size_t length, uint32_t mode
  * is not NUL-terminated, or its padding to a multiple of 4 bytes is truncated. */
 uint32_t pe_c_next_pogo_entry(const uint8_t *bytes, size_t length, pe_c_range *walk, pe_c_pogo_entry *out)
     PE_C_RESULT(3, 4);
+
+/* ---- TE images
+ *
+ * Firmware keeps of an image the sections and a header of 40 bytes. RVAs and file offsets in the file still count from the start
+ * of the headers that were stripped: the calls here subtract how many bytes the file is shorter, so an RVA is a file offset.
+ * https://uefi.org/specs/PI/1.8/V1_TE_Image.html
+ *
+ *     pe_c_te(bytes, length, &te);
+ *     pe_c_te_first_debug_entry(bytes, length, &te, 2, &entry);
+ *     pe_c_symbol_key_of(bytes, length, PE_C_MAPPED, &entry, &key); */
+
+/* The header of a TE image, EFI_TE_IMAGE_HEADER. Its RVAs are reduced by rva_offset. */
+typedef struct {
+    uint64_t image_base;            /* preferred virtual address of the image */
+    uint32_t entry_point;           /* RVA */
+    uint32_t base_of_code;          /* RVA */
+    pe_c_directory reloc_dir;       /* the base relocations */
+    pe_c_directory debug_dir;       /* the debug directory; both fields are 0 where it is absent */
+    uint32_t rva_offset;            /* how many bytes the file is shorter: stripped_size less 40 */
+    uint16_t signature;             /* 0x5A56, "VZ" */
+    uint16_t machine;               /* IMAGE_FILE_MACHINE_ */
+    uint16_t stripped_size;         /* bytes of headers that were stripped */
+    uint8_t number_of_sections;
+    uint8_t subsystem;              /* IMAGE_SUBSYSTEM_ */
+    uint32_t spare;                 /* 0 */
+} pe_c_te_image;
+
+PE_C_SIZE(pe_c_te_image, 48);
+
+/* Reads the header of a TE image, the 40 bytes at its start.
+ * Errors: PE_C_SHORT; PE_C_BAD_MAGIC; PE_C_TE_SIZE where fewer than 40 bytes were stripped. */
+uint32_t pe_c_te(const uint8_t *bytes, size_t length, pe_c_te_image *out) PE_C_RESULT(3);
+
+/* Writes the section headers of a TE image to the start of the array, te->number_of_sections of them, their RVAs and raw
+ * pointers reduced by te->rva_offset. The rest of the array is unchanged, and all of it after an error.
+ * Errors: PE_C_ROOM where the array is smaller; PE_C_SHORT where the section headers are truncated. */
+uint32_t pe_c_te_sections(const uint8_t *bytes, size_t length, const pe_c_te_image *te, pe_c_section *room, size_t entries)
+    PE_C_RESULT(3);
+
+/* Returns the entries of the debug directory as a walk for pe_c_next_te_debug_entry. PE_C_NOTHING where the directory is absent.
+ * Error: PE_C_DEBUG_BOUNDS. */
+uint32_t pe_c_te_debug_entries(const uint8_t *bytes, size_t length, const pe_c_te_image *te, pe_c_range *out)
+    PE_C_RESULT(3, 4);
+
+/* Reads the next entry, the RVA and the file offset of its record reduced by te->rva_offset. The calls that take an entry read
+ * its record with PE_C_MAPPED.
+ * Error: PE_C_SHORT where an entry is truncated. */
+uint32_t pe_c_next_te_debug_entry(const uint8_t *bytes, size_t length, const pe_c_te_image *te, pe_c_range *walk,
+                                  pe_c_debug_entry *out) PE_C_RESULT(3, 4, 5);
+
+/* Returns the first entry of a type, as pe_c_next_te_debug_entry does. PE_C_NOTHING where there is none, and where the directory
+ * is absent. A truncated last entry is none.
+ * Error: PE_C_DEBUG_BOUNDS. */
+uint32_t pe_c_te_first_debug_entry(const uint8_t *bytes, size_t length, const pe_c_te_image *te, uint32_t data_type,
+                                   pe_c_debug_entry *out) PE_C_RESULT(3, 5);
+
+/* ---- why headers are refused
+ *
+ * A result is one number. These calls return with it where the error is, and the number that stands there. */
+
+/* What is wrong with headers. */
+typedef struct {
+    uint64_t offset;                /* of the bytes that are truncated, or of the number that is refused */
+    uint64_t needed;                /* bytes that are needed there */
+    uint64_t value;                 /* the number that is refused; 0 where the bytes are truncated */
+    uint32_t result;                /* PE_C_SHORT, _BAD_MAGIC, _HEADER_POINTER, _TE_SIZE */
+    uint32_t spare;                 /* 0 */
+} pe_c_failure;
+
+PE_C_SIZE(pe_c_failure, 32);
+
+/* Returns why pe_c_image refuses the bytes in this mode. PE_C_NOTHING where it does not. It never returns an error. */
+uint32_t pe_c_image_failure(const uint8_t *bytes, size_t length, uint32_t mode, pe_c_failure *out) PE_C_RESULT(4);
+
+/* Returns why pe_c_te refuses the bytes. PE_C_NOTHING where it does not. It never returns an error. */
+uint32_t pe_c_te_failure(const uint8_t *bytes, size_t length, pe_c_failure *out) PE_C_RESULT(3);
 
 /* ---- certificates
  *

@@ -8,7 +8,7 @@ import { abi, calls, constants, records, results, version } from './layouts.mjs'
 export { abi, calls, constants, records, results, version };
 
 const PAGE = 65536;
-const WIDTHS = { uint8_t: 1, uint16_t: 2, uint32_t: 4, uint64_t: 8, size_t: 8 };
+const WIDTHS = { uint8_t: 1, uint16_t: 2, uint32_t: 4, uint64_t: 8, size_t: 8, int16_t: 2 };
 const utf8 = new TextDecoder('utf-8'), utf16 = new TextDecoder('utf-16le');
 const aligned = (at) => Math.ceil(at / 16) * 16;
 const width = (type) => WIDTHS[type] ?? records[type][0];
@@ -99,6 +99,7 @@ class Memory {
     switch (type) {
       case 'uint8_t': return view.getUint8(0);
       case 'uint16_t': return view.getUint16(0, true);
+      case 'int16_t': return view.getInt16(0, true);
       case 'uint32_t': return view.getUint32(0, true);
       case 'uint64_t': case 'size_t': return view.getBigUint64(0, true);
     }
@@ -117,6 +118,7 @@ class Memory {
     switch (type) {
       case 'uint8_t': return view.setUint8(0, Number(value));
       case 'uint16_t': return view.setUint16(0, Number(value), true);
+      case 'int16_t': return view.setInt16(0, Number(value), true);
       case 'uint32_t': return view.setUint32(0, Number(value), true);
       case 'uint64_t': case 'size_t': return view.setBigUint64(0, BigInt(value), true);
     }

@@ -408,10 +408,49 @@ static void headers(const struct file *file)
         WALK(ITEMS, pe_c_next_rich_entry, entry, BYTES, rich.key, &rich.entries, &entry) {}
 }
 
+/* ---- COFF symbols, of an object or an image */
+
+static void symbols(const struct file *file, const pe_c_coff_header *coff)
+{
+    pe_c_symbol_walk walk = PE_C_EMPTY;
+    pe_c_range strings = PE_C_EMPTY, name = PE_C_EMPTY;
+    pe_c_symbol_entry symbol = PE_C_EMPTY;
+    CALL(pe_c_coff_strings, strings, BYTES, coff, &strings);
+    if (!IS_DONE(pe_c_coff_symbols, walk, BYTES, coff, &walk))
+        return;
+    WALK(ITEMS, pe_c_next_symbol, symbol, BYTES, &walk, &symbol) {
+        CALL(pe_c_symbol_name, name, BYTES, &walk.table, &strings, symbol.index, &name);
+        CALL(pe_c_symbol, symbol, BYTES, &walk.table, symbol.index + 1, &symbol);
+    }
+}
+
+/* The file as a COFF object and as a TE image, whatever it is. */
+static void others(struct file *file)
+{
+    pe_c_coff_header coff = PE_C_EMPTY;
+    pe_c_te_image te = PE_C_EMPTY;
+    pe_c_range entries = PE_C_EMPTY;
+    pe_c_debug_entry entry = PE_C_EMPTY;
+    pe_c_failure failure = PE_C_EMPTY;
+    if (IS_DONE(pe_c_coff, coff, BYTES, &coff)) {
+        CALL(pe_c_coff_sections, sections, BYTES, &coff, sections, SECTIONS);
+        symbols(file, &coff);
+    }
+    CALL(pe_c_te_failure, failure, BYTES, &failure);
+    CALL(pe_c_te, te, BYTES, &te);
+    CALL(pe_c_te_sections, sections, BYTES, &te, sections, SECTIONS);
+    CALL(pe_c_te_debug_entries, entries, BYTES, &te, &entries);
+    WALK(ITEMS, pe_c_next_te_debug_entry, entry, BYTES, &te, &entries, &entry) {}
+    CALL(pe_c_te_first_debug_entry, entry, BYTES, &te, 2, &entry);
+}
+
 static void in_mode(struct file *file, uint32_t mode)
 {
     pe_c_headers_info all = PE_C_EMPTY;
-    CALL(pe_c_headers, all, BYTES, mode, &all);
+    pe_c_failure failure = PE_C_EMPTY;
+    CALL(pe_c_image_failure, failure, BYTES, mode, &failure);
+    if (IS_DONE(pe_c_headers, all, BYTES, mode, &all))
+        symbols(file, &all.coff);
     if (!IS_DONE(pe_c_image, file->image, BYTES, mode, &file->image))
         return;
     file->count = file->image.number_of_sections;
@@ -469,6 +508,7 @@ void all_calls(const uint8_t *bytes, size_t length, uint8_t *room, size_t room_l
         sections[i] = (pe_c_section)PE_C_EMPTY;
     make_stack();
     texts();
+    others(&file);
     for (uint32_t mode = 0; mode < 4; mode++)
         in_mode(&file, mode);
 }

@@ -4,10 +4,12 @@
 //! the contract of a call says what it returns for each. So a function of goblin that takes a directory alone is the call over
 //! a record with that directory.
 //!
-//! What no call returns is read in `plain`, and nowhere else. `tools/try_goblin --check` looks for reads elsewhere.
+//! What no call returns is read in `plain`, and nowhere else; `objects` has what an offset comes with. `tools/try_goblin --check` looks for reads elsewhere.
 
+mod objects;
 mod plain;
 
+pub(crate) use objects::*;
 pub(crate) use plain::*;
 
 use crate::error;
@@ -329,6 +331,12 @@ macro_rules! calls_of_bytes {
 calls_of_bytes! {
     image: pe_c_image(mode: u32) -> ImageInfo;
     headers: pe_c_headers(mode: u32) -> sys::Headers;
+    image_failure: pe_c_image_failure(mode: u32) -> sys::Failure;
+    coff: pe_c_coff() -> sys::CoffHeader;
+    coff_symbols: pe_c_coff_symbols(header: &sys::CoffHeader) -> sys::SymbolWalk;
+    coff_strings: pe_c_coff_strings(header: &sys::CoffHeader) -> Range;
+    symbol_at: pe_c_symbol(table: &Range, index: u64) -> sys::SymbolEntry;
+    symbol_name: pe_c_symbol_name(table: &Range, strings: &Range, index: u64) -> Range;
     string_table: pe_c_string_table(info: &ImageInfo) -> Range;
     long_section_name: pe_c_long_section_name(table: &Range, section: &Section) -> Range;
     rich_header: pe_c_rich_header() -> sys::RichHeader;
@@ -357,6 +365,12 @@ calls_of_bytes! {
     fixed_version_in: pe_c_fixed_version_in(content: &Range) -> sys::Version;
     version_text_in: pe_c_version_text_in(content: &Range, name: u32) -> Range;
     next_relocation_block: pe_c_next_relocation_block(walk: &mut Range) -> sys::RelocationBlock;
+}
+
+#[cfg(feature = "te")]
+calls_of_bytes! {
+    te: pe_c_te() -> sys::TeHeader;
+    te_failure: pe_c_te_failure() -> sys::Failure;
 }
 
 /// Makes methods of calls that take an image first.

@@ -11,7 +11,7 @@ mod made;
 mod reading;
 
 use pe_c::{sys, Image, Layout, Mode};
-use reading::{read_all, Seen};
+use reading::{read_all, read_others, Seen};
 use std::ffi::c_void;
 use std::ops::Range;
 use std::time::Instant;
@@ -333,6 +333,41 @@ fn read_by_lies(bytes: &[u8], random: &mut Random, seen: &mut Seen) {
     }
     call!(pe_c_fixed_version_in(&range), Version);
     call!(pe_c_version_text_in(&range, few % 16), Range);
+    let coff = sys::CoffHeader {
+        pointer_to_symbol_table: random.edge(number) as u32,
+        number_of_symbol_table: random.edge(number / 18) as u32,
+        number_of_sections: (few >> 3) as u16 % 4,
+        size_of_optional_header: random.edge(number) as u16,
+        ..sys::CoffHeader::default()
+    };
+    let te = sys::TeHeader {
+        debug_dir: directory,
+        rva_offset: few,
+        number_of_sections: few as u8 % 4,
+        ..sys::TeHeader::default()
+    };
+    call!(pe_c_coff(), CoffHeader);
+    call!(pe_c_coff_symbols(&coff), SymbolWalk);
+    let strings = call!(pe_c_coff_strings(&coff), Range);
+    call!(pe_c_symbol(&range, index), SymbolEntry);
+    walk!(pe_c_next_symbol(sys::SymbolWalk { table: range, next: index }), SymbolEntry);
+    call!(pe_c_symbol_name(&range, &strings, index), Range);
+    call!(pe_c_symbol_name(&strings, &range, index), Range);
+    call!(pe_c_te(), TeHeader);
+    call!(pe_c_te_debug_entries(&te), Range);
+    call!(pe_c_te_first_debug_entry(&te, few % 24), DebugEntry);
+    call!(pe_c_image_failure(few), Failure);
+    call!(pe_c_te_failure(), Failure);
+    let (mut entries, mut headers) = (range, sections);
+    for _ in 0..MOST {
+        let mut entry = sys::DebugEntry::default();
+        // SAFETY: as above.
+        unsafe {
+            sys::pe_c_next_te_debug_entry(start, length, &te, &mut entries, &mut entry);
+            sys::pe_c_coff_sections(start, length, &coff, headers.as_mut_ptr(), headers.len());
+            sys::pe_c_te_sections(start, length, &te, headers.as_mut_ptr(), headers.len());
+        }
+    }
     call!(pe_c_rich_header(), RichHeader);
     call!(pe_c_string_table(&image), Range);
     call!(pe_c_long_section_name(&range, &section), Range);
@@ -415,7 +450,7 @@ fn main() {
     let read = names.iter().filter_map(|name| std::fs::read(name).ok());
     let mut files: Vec<Vec<u8>> = read.filter(|bytes| (64..=ROOM).contains(&bytes.len())).collect();
     if files.is_empty() {
-        files = made::all().into_iter().map(|(_, bytes)| bytes).collect();
+        files = made::all().into_iter().map(|(_, bytes)| bytes).chain([made::object(), made::te_image()]).collect();
     }
     let files: Vec<_> = files.into_iter().map(|bytes| (hot_offsets(&bytes), bytes)).collect();
     let memory = fenced();
@@ -432,6 +467,9 @@ fn main() {
             let most = [1, 1, 2, 4, 8, 64][random.below(6)];
             seen.add(read_all(input, mode, layout, most));
             if random.below(4) == 0 {
+                let mut others = Seen::up_to(most);
+                read_others(input, &mut others);
+                seen.add(others);
                 read_by_lies(input, &mut random, &mut seen);
             }
             inputs += 1;

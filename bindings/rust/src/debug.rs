@@ -192,7 +192,7 @@ pub struct PdbChecksum<'a> {
     pub checksum: &'a [u8],
 }
 
-fn key_of(key: sys::Key, bytes: &[u8]) -> Result<SymbolKey<'_>, Error> {
+pub(crate) fn key_of(key: sys::Key, bytes: &[u8]) -> Result<SymbolKey<'_>, Error> {
     Ok(SymbolKey { guid: Guid(key.guid), age: key.age, name_bytes: bytes_of(key.name, bytes)? })
 }
 

@@ -37,7 +37,7 @@ pub enum Layout {
 }
 
 /// The library's number for a way to read.
-fn number_of(mode: Mode, layout: Layout) -> u32 {
+pub(crate) fn number_of(mode: Mode, layout: Layout) -> u32 {
     let mode = match mode {
         Mode::Strict => 0,
         Mode::Permissive => sys::PERMISSIVE,
@@ -140,6 +140,8 @@ errors! {
     RESOURCE_CYCLE = 29;
     /// Version string value missing, or its length above 32,767.
     RESOURCE_STRING = 30;
+    /// Stripped size smaller than the TE header.
+    TE_SIZE = 31;
     /// Image has no optional header.
     NO_OPTIONAL_HEADER = 32;
     /// Write does not fit the buffer.

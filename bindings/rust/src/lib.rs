@@ -85,9 +85,11 @@ mod arm64;
 mod bound_imports;
 mod certificates;
 mod clr;
+mod coff;
 mod debug;
 mod delay_imports;
 mod exports;
+mod failure;
 mod frames;
 mod image;
 mod imports;
@@ -100,6 +102,7 @@ mod signing;
 mod stack_walk;
 mod symbol_server;
 pub mod sys;
+mod te;
 mod tls;
 mod version;
 mod version_blocks;
@@ -113,9 +116,11 @@ pub use arm64::{
 pub use bound_imports::{BoundForwarder, BoundForwarders, BoundImport, BoundImports};
 pub use certificates::{Certificate, Certificates};
 pub use clr::{Clr, Metadata, MetadataStream, MetadataStreams};
+pub use coff::{Coff, Symbol, Symbols};
 pub use debug::{DebugEntries, EmbeddedPdb, Pdb20, PdbChecksum, Pogo, PogoEntries, PogoEntry, Repro, SymbolKey};
 pub use delay_imports::{DelayImport, DelayImports, DelayedFunction, DelayedFunctions};
 pub use exports::{AddressTable, Export, Exported, Exports};
+pub use failure::Failure;
 pub use frames::{MemoryList, Stack, StepError};
 pub use image::{DirectoryIndex, Error, Image, Layout, Mode};
 pub use imports::{Import, Imports, Libraries, Library};
@@ -128,8 +133,9 @@ pub use stack_walk::{End, Frame, Frames, MachineRegisters, Module, WalkMemory, W
 pub use symbol_server::{Guid, SymbolPath};
 pub use sys::{
     Arm64Function, Arm64Packed, Arm64Registers, Arm64Scope, CoffHeader, DebugEntry, Directory, DosHeader, Function,
-    Headers, ImageInfo, MemoryPiece, OptionalHeader, Registers, Scope, Section, VcFeatures,
+    Headers, ImageInfo, MemoryPiece, OptionalHeader, Registers, Scope, Section, SymbolEntry, TeHeader, VcFeatures,
 };
+pub use te::{Te, TeDebugEntries};
 pub use tls::{Tls, TlsCallbacks};
 pub use version::{FixedVersion, Text, VersionName};
 pub use version_blocks::{VersionBlock, VersionBlocks, VersionLanguage};

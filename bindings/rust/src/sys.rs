@@ -1150,6 +1150,80 @@ BoundForwarder, 24 {
     /// 0.
     spare: u32,
 });
+record!(
+/// A COFF symbol, `IMAGE_SYMBOL`, with what its entry says of others.
+SymbolEntry, 48 {
+    /// Its auxiliary records, 18 bytes each, up to the end of the table.
+    auxiliary: Range,
+    /// The index of its entry in the table; auxiliary records count.
+    index: u64,
+    /// Padded with zeros; or four zeros, and the offset of a longer name in the string table.
+    name: [u8; 8],
+    /// By the storage class, for instance an offset in the section.
+    value: u32,
+    /// The offset of the name in the string table, from its size field; 0 where `name` has the name.
+    string_offset: u32,
+    /// From 1. 0 is `IMAGE_SYM_UNDEFINED`, -1 `IMAGE_SYM_ABSOLUTE`, -2 `IMAGE_SYM_DEBUG`.
+    section_number: i16,
+    /// `IMAGE_SYM_TYPE_` and `IMAGE_SYM_DTYPE_`.
+    kind: u16,
+    /// `IMAGE_SYM_CLASS_`.
+    storage_class: u8,
+    /// How many auxiliary records follow.
+    number_of_aux_symbols: u8,
+    /// 0.
+    spare: u16,
+});
+record!(
+/// A walk over symbols.
+SymbolWalk, 24 {
+    /// The symbol table.
+    table: Range,
+    /// The index of the next symbol's entry.
+    next: u64,
+});
+record!(
+/// The header of a TE image. Its RVAs are reduced by `rva_offset`.
+TeHeader, 48 {
+    /// The preferred virtual address of the image.
+    image_base: u64,
+    /// RVA of the entry point.
+    entry_point: u32,
+    /// RVA of the code.
+    base_of_code: u32,
+    /// The base relocations.
+    reloc_dir: Directory,
+    /// The debug directory. Both fields are 0 where it is absent.
+    debug_dir: Directory,
+    /// How many bytes the file is shorter: `stripped_size` less 40.
+    rva_offset: u32,
+    /// 0x5A56, "VZ".
+    signature: u16,
+    /// `IMAGE_FILE_MACHINE_`.
+    machine: u16,
+    /// Bytes of headers that were stripped.
+    stripped_size: u16,
+    /// The number of section headers.
+    number_of_sections: u8,
+    /// `IMAGE_SUBSYSTEM_`.
+    subsystem: u8,
+    /// 0.
+    spare: u32,
+});
+record!(
+/// What is wrong with headers.
+Failure, 32 {
+    /// File offset of the bytes that are truncated, or of the number that is refused.
+    offset: u64,
+    /// Bytes that are needed there.
+    needed: u64,
+    /// The number that is refused; 0 where the bytes are truncated.
+    value: u64,
+    /// The number of the error.
+    result: u32,
+    /// 0.
+    spare: u32,
+});
 
 /// Declares calls that take an image first, after their names more parameters, and then `out`.
 macro_rules! calls_of_an_image {
@@ -1177,6 +1251,22 @@ extern "C" {
     pub fn pe_c_abi_3() -> u32;
     /// Writes the text of a result to the start of the array, truncated at its end. Returns the length of the whole text.
     pub fn pe_c_text(number: u32, room: *mut u8, length: usize) -> usize;
+    /// Writes the section headers of a COFF object to the start of an array.
+    pub fn pe_c_coff_sections(
+        bytes: *const u8,
+        length: usize,
+        coff: *const CoffHeader,
+        room: *mut Section,
+        entries: usize,
+    ) -> u32;
+    /// Writes the section headers of a TE image to the start of an array.
+    pub fn pe_c_te_sections(
+        bytes: *const u8,
+        length: usize,
+        te: *const TeHeader,
+        room: *mut Section,
+        entries: usize,
+    ) -> u32;
     /// Writes the section headers to the start of an array.
     pub fn pe_c_sections(
         bytes: *const u8,
@@ -1359,6 +1449,30 @@ calls_of_bytes! {
     pe_c_next_bound_forwarder(table: *const Range, walk: *mut Range) -> BoundForwarder;
     /// Returns the next block of version information.
     pe_c_next_version_block(walk: *mut Range) -> VersionBlock;
+    /// Reads the header of a COFF object.
+    pe_c_coff() -> CoffHeader;
+    /// Returns a walk over the symbols of an object or an image.
+    pe_c_coff_symbols(coff: *const CoffHeader) -> SymbolWalk;
+    /// Returns the string table of an object or an image.
+    pe_c_coff_strings(coff: *const CoffHeader) -> Range;
+    /// Returns the symbol in an entry of a symbol table.
+    pe_c_symbol(table: *const Range, index: u64) -> SymbolEntry;
+    /// Returns the next symbol.
+    pe_c_next_symbol(walk: *mut SymbolWalk) -> SymbolEntry;
+    /// Returns the name of the symbol in an entry.
+    pe_c_symbol_name(table: *const Range, strings: *const Range, index: u64) -> Range;
+    /// Reads the header of a TE image.
+    pe_c_te() -> TeHeader;
+    /// Returns the entries of the debug directory of a TE image, as a walk.
+    pe_c_te_debug_entries(te: *const TeHeader) -> Range;
+    /// Returns the next of these entries.
+    pe_c_next_te_debug_entry(te: *const TeHeader, walk: *mut Range) -> DebugEntry;
+    /// Returns the first of these entries that has a type.
+    pe_c_te_first_debug_entry(te: *const TeHeader, data_type: u32) -> DebugEntry;
+    /// Returns why `pe_c_image` refuses the bytes in a mode.
+    pe_c_image_failure(mode: u32) -> Failure;
+    /// Returns why `pe_c_te` refuses the bytes.
+    pe_c_te_failure() -> Failure;
     /// Returns the next block of base relocations.
     pe_c_next_relocation_block(walk: *mut Range) -> RelocationBlock;
     /// Returns the next relocation of a block.

@@ -36,3 +36,7 @@ pub mod LeafRuns
 pub mod VersionBlockParts
 pub mod DebugAlone
 pub mod DebugParts
+pub mod SymbolRuns
+pub mod Failures
+pub mod SymbolTexts
+pub mod TeRanges

@@ -6,8 +6,9 @@ use Rattle.std.proofs.lemmas.List.{drop-set-lt, take-append-drop}
 use Rattle.std.proofs.lemmas.Grind.{drop_more_same}
 use Rattle.pe_core.specs.Rows.{each}
 use Rattle.pe_core.specs.declared.section_table.SectionTable.{SectionTable}
-use Rattle.pe_c.specs.Images.{PutsIf, PutsSections}
-use Rattle.pe_c.specs.declared.image.Image.{Image}
+use Rattle.pe_c.specs.Images.{PutsIf, PutsSectionsAt}
+use Rattle.pe_c.specs.Te.{PutsTeSections}
+use Rattle.pe_c.specs.declared.te.TeImage.{TeImage}
 
 pub kept_more : {X : Type 0} (xs ys : List X) (i : ℕ) (y : X) → drop i xs ≡ drop i ys → drop (i + 1) (slice_set xs i y) ≡ drop (i + 1) ys
 kept_more xs ys i y e = rw (drop-set-lt (i + 1) xs i y (omega arith)) (drop_more_same xs ys i e)
@@ -20,6 +21,10 @@ by_room : (fits : Bool) (room : List SectionTable) → fits ≡ true → PutsIf 
 by_room true room e = (refl, refl)
 by_room false room e = absurd cc
 
-pub no_sections : (b : List ℕ) (image : Image) (room : List SectionTable) → image.number_of_sections ≡ 0 → PutsSections b image 0 room room
+pub no_sections : (b : List ℕ) (offset count : ℕ) (room : List SectionTable) → count ≡ 0 → PutsSectionsAt b offset count 0 room room
 unfolding each
-no_sections b image room e = rw e (by_room (nat_le 0 (length room)) room (grind (arith, nat_tests)))
+no_sections b offset count room e = rw e (by_room (nat_le 0 (length room)) room (grind (arith, nat_tests)))
+
+pub no_te_sections : (b : List ℕ) (te : TeImage) (room : List SectionTable) → te.number_of_sections ≡ 0 → PutsTeSections b te 0 room room
+unfolding each
+no_te_sections b te room e = rw e (by_room (nat_le 0 (length room)) room (grind (arith, nat_tests)))

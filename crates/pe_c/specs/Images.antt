@@ -126,7 +126,10 @@ abbrev pub PutsIf : Bool → ℕ → List SectionTable → List SectionTable →
 PutsIf false number old new sections = (number ≡ 101) × (new ≡ old)
 PutsIf true number old new sections = PutsRows number old new sections
 
+-- what reading so many section headers from an offset on into a room returns
+abbrev pub PutsSectionsAt : List ℕ → ℕ → ℕ → ℕ → List SectionTable → List SectionTable → Type 0
+PutsSectionsAt b offset count number old new = PutsIf (nat_le count (length old)) number old new (sections_at b offset count)
+
 -- what reading the sections of an image into a room returns
 abbrev pub PutsSections : List ℕ → Image → ℕ → List SectionTable → List SectionTable → Type 0
-PutsSections b image number old new =
-    PutsIf (nat_le image.number_of_sections (length old)) number old new (sections_at b image.sections_offset image.number_of_sections)
+PutsSections b image number old new = PutsSectionsAt b image.sections_offset image.number_of_sections number old new

@@ -33,3 +33,6 @@ pub mod Overlays
 pub mod Headers
 pub mod DebugLaws
 pub mod Maps
+pub mod Coff
+pub mod Te
+pub mod Failures

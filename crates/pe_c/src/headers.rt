@@ -243,7 +243,8 @@ fn dos_fields(header: &DosHeader) -> DosFields
     }
 }
 
-fn coff_fields(header: &CoffHeader) -> CoffFields
+/// The fields of a COFF header.
+pub fn coff_fields(header: &CoffHeader) -> CoffFields
     ensures { result ≡ coff_fields header.now }
 {
     CoffFields {

@@ -10,7 +10,7 @@ ghost use Rattle.pe_core.specs.Refusals.{answer_of};
 ghost use Rattle.pe_core.specs.Records.{section_table};
 ghost use Rattle.pe_core.specs.Rows.{rows};
 ghost use Rattle.pe_c.specs.HandsOut.{HandsOut, HandsOutIf};
-ghost use Rattle.pe_c.specs.Images.{all_directories, certificate_entry, directories_at, directory, or_absent, is_absent, image_info_of, image_at, map_of_image, with_optional, PutsSections};
+ghost use Rattle.pe_c.specs.Images.{all_directories, certificate_entry, directories_at, directory, or_absent, is_absent, image_info_of, image_at, map_of_image, with_optional, PutsSections, PutsSectionsAt};
 
 use crate::results::{DONE, NOTHING, ROOM, hand_out, number_of, options};
 use pe_core::{
@@ -288,16 +288,11 @@ fn put_sections(bytes: &[u8], offset: usize, count: usize, room: &mut [SectionTa
     }
 }
 
-/// Writes the section headers to the start of `room`. The rest of `room` is unchanged, and all of it after an error.
-///
-/// Errors: `ROOM` where `room` has fewer entries than the image has sections; `SHORT` where the section headers are
-/// truncated.
-#[unsafe(no_mangle)]
-pub extern "C" fn pe_c_sections(bytes: &[u8], image: &Image, room: &mut [SectionTable]) -> u32
-    ensures { PutsSections bytes.now image.now result room.old room.new }
+/// Writes so many section headers, which start at a file offset, to the start of `room`, and returns `DONE`. Errors: `ROOM`
+/// where `room` has fewer entries; `SHORT`.
+pub fn sections_into(bytes: &[u8], offset: usize, count: usize, room: &mut [SectionTable]) -> u32
+    ensures { PutsSectionsAt bytes.now offset count result room.old room.new }
 {
-    let count = usize::from(image.number_of_sections);
-    let offset = image.sections_offset as usize;
     if room.len() < count {
         return ROOM;
     }
@@ -312,6 +307,18 @@ pub extern "C" fn pe_c_sections(bytes: &[u8], image: &Image, room: &mut [Section
         }
         Err(error) => number_of(&error),
     }
+}
+
+/// Writes the section headers to the start of `room`. The rest of `room` is unchanged, and all of it after an error.
+///
+/// Errors: `ROOM` where `room` has fewer entries than the image has sections; `SHORT` where the section headers are
+/// truncated.
+#[unsafe(no_mangle)]
+pub extern "C" fn pe_c_sections(bytes: &[u8], image: &Image, room: &mut [SectionTable]) -> u32
+    ensures { PutsSections bytes.now image.now result room.old room.new }
+{
+    let count = usize::from(image.number_of_sections);
+    sections_into(bytes, image.sections_offset as usize, count, room)
 }
 
 /// Returns the file offset of an RVA, by the first section that covers it: `NOTHING` where none does, or the file

@@ -1,8 +1,11 @@
 //! Laws over the definitions of `specs/`. Each is the contract of a function that does nothing, so that a caller's
 //! proof can cite it by calling the function.
 
+pub mod coff;
 pub mod debug;
 pub mod directories;
+pub mod failures;
+pub mod te;
 pub mod version_blocks;
 pub mod walks;
 

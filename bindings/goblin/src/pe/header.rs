@@ -313,22 +313,13 @@ impl CoffHeader {
 
     /// The symbols, or `None` where the header names none. Error: `Scroll` where they are truncated.
     pub fn symbols<'a>(&self, bytes: &'a [u8]) -> error::Result<Option<SymbolTable<'a>>> {
-        match self.pointer_to_symbol_table as usize {
-            0 => Ok(None),
-            at => SymbolTable::parse(bytes, at, self.number_of_symbol_table as usize).map(Some),
-        }
+        Ok(raw::symbols_of(bytes, self)?.map(SymbolTable::of))
     }
 
     /// The string table after the symbols, without its size field, or `None` where there are no symbols or the file ends
     /// after them. Errors: `Scroll` where its size is truncated, `Malformed` where its texts are.
     pub fn strings<'a>(&self, bytes: &'a [u8]) -> error::Result<Option<Strtab<'a>>> {
-        let at = self.pointer_to_symbol_table as usize;
-        let at = at + SymbolTable::size(self.number_of_symbol_table as usize);
-        if self.pointer_to_symbol_table == 0 || at == bytes.len() {
-            return Ok(None);
-        }
-        let size = raw::string_table_size(bytes, at)?.max(SIZEOF_STRING_TABLE_SIZE as u32) as usize;
-        Strtab::parse(bytes, at + SIZEOF_STRING_TABLE_SIZE, size - SIZEOF_STRING_TABLE_SIZE, 0).map(Some)
+        raw::strings_of(bytes, self)
     }
 }
 
@@ -371,9 +362,10 @@ impl<'a> Header<'a> {
 
     /// The same with the library's record of them.
     pub(crate) fn with_info(bytes: &'a [u8], opts: &ParseOptions) -> error::Result<(Self, ImageInfo)> {
-        let found = raw::image(bytes, raw::mode_of(opts)).map_err(|it| it.of_headers(bytes))?;
+        let mode = raw::mode_of(opts);
+        let found = raw::image(bytes, mode).map_err(|it| it.of_headers(bytes, mode))?;
         let info = found.ok_or_else(|| error::Error::Malformed("no headers".to_owned()))?;
-        let found = raw::headers(bytes, raw::mode_of(opts)).map_err(|it| it.of_headers(bytes))?;
+        let found = raw::headers(bytes, mode).map_err(|it| it.of_headers(bytes, mode))?;
         let headers = found.ok_or_else(|| error::Error::Malformed("no headers".to_owned()))?;
         let header = Header {
             dos_header: (&headers.dos).into(),
@@ -442,17 +434,7 @@ impl TeHeader {
     /// Reads the header at an offset, and moves the offset; its RVAs are those of the file as it is. Errors: `Scroll` where it
     /// is truncated; `BadMagic`; `Malformed` where the stripped size is below its own.
     pub fn parse(bytes: &[u8], offset: &mut usize) -> error::Result<Self> {
-        let mut header = raw::te_header(bytes, *offset)?;
-        if header.signature != TE_MAGIC {
-            return Err(error::Error::BadMagic(header.signature.into()));
-        }
-        let by = header.rva_offset()?;
-        for rva in [&mut header.entry_point, &mut header.base_of_code, &mut header.reloc_dir.virtual_address] {
-            *rva = rva.wrapping_sub(by);
-        }
-        if header.debug_dir != Default::default() {
-            header.debug_dir.virtual_address = header.debug_dir.virtual_address.wrapping_sub(by);
-        }
+        let header = raw::te_header(bytes, *offset)?;
         *offset += SIZEOF_TE_HEADER;
         Ok(header)
     }

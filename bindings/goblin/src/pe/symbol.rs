@@ -221,6 +221,11 @@ pub struct SymbolTable<'a> {
 }
 
 impl<'a> SymbolTable<'a> {
+    /// The symbols of a table that the library found.
+    pub(crate) fn of(symbols: &'a [u8]) -> SymbolTable<'a> {
+        SymbolTable { symbols }
+    }
+
     /// So many symbols at an offset. Error: `Scroll` where they are truncated.
     pub fn parse(bytes: &'a [u8], offset: usize, number: usize) -> error::Result<SymbolTable<'a>> {
         Ok(SymbolTable { symbols: raw::bytes_at(bytes, offset, Self::size(number))? })

@@ -6,12 +6,12 @@ use super::{slice, Range, Refusal};
 use crate::error;
 use crate::pe::data_directories::DataDirectory;
 use crate::pe::export::ExportDirectoryTable;
-use crate::pe::header::{CoffHeader, DosHeader};
+use crate::pe::header::DosHeader;
 use crate::pe::import::Bitfield;
 use crate::pe::optional_header as optional;
 use crate::pe::relocation::Relocation;
 use crate::pe::resource::{ImageResourceDirectory, ResourceDataEntry, ResourceEntry};
-use crate::pe::symbol::{self, Symbol};
+use crate::pe::symbol;
 use scroll::{ctx::TryFromCtx, Pread};
 
 /// So many bytes at an offset that a caller names.
@@ -83,32 +83,7 @@ pub(crate) fn dos_header(bytes: &[u8]) -> error::Result<DosHeader> {
     record(bytes, 0)
 }
 
-/// Of an object.
-pub(crate) fn coff_header(bytes: &[u8], at: usize) -> error::Result<CoffHeader> {
-    record(bytes, at)
-}
-
 pub(crate) fn data_directory(bytes: &[u8], at: usize) -> error::Result<DataDirectory> {
-    record(bytes, at)
-}
-
-/// The magic number for which pe_c_image refused the bytes: the refusal has no numbers.
-pub(crate) fn bad_magic(bytes: &[u8]) -> error::Result<u64> {
-    let dos: u16 = record(bytes, 0)?;
-    if dos != crate::pe::header::DOS_MAGIC {
-        return Ok(dos.into());
-    }
-    let at = record::<u32>(bytes, crate::pe::header::PE_POINTER_OFFSET as usize)? as usize;
-    let signature: u32 = record(bytes, at)?;
-    if signature != crate::pe::header::PE_MAGIC {
-        return Ok(signature.into());
-    }
-    Ok(record::<u16>(bytes, at + 24)?.into())
-}
-
-/// The fields of a TE header, in the order of the format: no call reads TE images.
-#[cfg(feature = "te")]
-pub(crate) fn te_header(bytes: &[u8], at: usize) -> error::Result<crate::pe::header::TeHeader> {
     record(bytes, at)
 }
 
@@ -256,18 +231,10 @@ pub(crate) fn relocation_word(bytes: &[u8], at: usize) -> error::Result<u16> {
     record(bytes, at)
 }
 
-// ---- objects: no call reads COFF objects, but for their section headers
+// ---- objects: no call reads relocations and auxiliary records of symbols
 
 pub(crate) fn coff_relocation(table: &[u8], at: usize) -> Option<Relocation> {
     record(table, at).ok()
-}
-
-/// A symbol, and its name where that stands in the symbol itself.
-pub(crate) fn symbol(table: &[u8], at: usize) -> error::Result<(Option<&str>, Symbol)> {
-    let symbol: Symbol = record(table, at)?;
-    let name = table.get(at..at + 8).filter(|it| it[0] != 0);
-    let name = name.and_then(|it| it.split(|it| *it == 0).next());
-    Ok((name.and_then(|it| core::str::from_utf8(it).ok()), symbol))
 }
 
 /// The offset in the string table without its size field that a name of four zeros and a number is.
@@ -284,26 +251,7 @@ where
     record(table, index.checked_mul(symbol::COFF_SYMBOL_SIZE)?).ok()
 }
 
-/// The size of a string table, which its first field is.
+/// The size of a string table, which its first field is: for the error of one that is truncated.
 pub(crate) fn string_table_size(bytes: &[u8], at: usize) -> error::Result<u32> {
     record(bytes, at)
-}
-
-impl Refusal {
-    /// The error of pe_c_image, in goblin's variant.
-    pub fn of_headers(self, bytes: &[u8]) -> error::Error {
-        match self {
-            Refusal::BAD_MAGIC => match bad_magic(bytes) {
-                Ok(magic) => error::Error::BadMagic(magic),
-                Err(short) => short,
-            },
-            Refusal::SHORT if bytes.len() < 2 => {
-                error::Error::Malformed("cannot parse DOS signature (offset 0x0)".to_owned())
-            }
-            Refusal::SHORT if bytes.len() < 64 => {
-                error::Error::Malformed("cannot parse PE header pointer (offset 0x3c)".to_owned())
-            }
-            other => other.into(),
-        }
-    }
 }

@@ -66,7 +66,7 @@ class Kind(enum.IntEnum):
     RESOURCE_STRING = 30
     """version string value missing, or its length above 32,767"""
     TE_SIZE = 31
-    """stripped size smaller than the TE header; never returned"""
+    """stripped size smaller than the TE header"""
     NO_OPTIONAL_HEADER = 32
     """image has no optional header"""
     WRITE_ALIGNMENT = 33

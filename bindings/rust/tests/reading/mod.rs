@@ -2,9 +2,9 @@
 #![allow(dead_code)]
 
 use pe_c::{
-    Arm64Function, Arm64Functions, Arm64Record, Arm64Registers, Arm64Unwinding, Error, Frames, Function, Functions,
-    Handler, Image, Layout, Mode, Module, Placement, Registers, ResourceName, Stack, StepError, UnwindRecord,
-    VersionBlocks, VersionName,
+    Arm64Function, Arm64Functions, Arm64Record, Arm64Registers, Arm64Unwinding, Coff, Error, Frames, Function,
+    Functions, Handler, Image, Layout, Mode, Module, Placement, Registers, ResourceName, Stack, StepError, Symbols, Te,
+    UnwindRecord, VersionBlocks, VersionName,
 };
 
 /// What was read.
@@ -109,6 +109,47 @@ fn read_debug(image: &Image, seen: &mut Seen) {
                 assert_eq!(entry.name_bytes.last(), Some(&0));
                 seen.touch(entry.name_bytes);
             }
+        }
+    }
+}
+
+/// Reads symbols, their names and their auxiliary records.
+fn read_symbols(symbols: Option<Symbols>, seen: &mut Seen) {
+    let Some(symbols) = symbols else { return };
+    for symbol in symbols.clone().take(seen.most) {
+        let Some(symbol) = seen.item(symbol) else { continue };
+        if let Some(name) = seen.item(symbol.name()) {
+            seen.touch(name);
+        }
+        seen.touch(symbol.auxiliary());
+        assert_eq!(symbols.get(symbol.index).map(|it| *it), Some(*symbol));
+    }
+}
+
+/// Reads the bytes as a COFF object and as a TE image, whatever they are.
+pub fn read_others(bytes: &[u8], seen: &mut Seen) {
+    if let Some(object) = seen.item(Coff::parse(bytes)) {
+        for section in object.sections().iter().take(seen.most) {
+            if let Some(name) = seen.keep(object.long_section_name(section)) {
+                seen.touch(name);
+            }
+        }
+        if let Some(table) = seen.keep(object.string_table()) {
+            seen.touch(table);
+        }
+        read_symbols(seen.keep(object.symbols()), seen);
+    }
+    let te = Te::parse(bytes);
+    if let Err(error) = te {
+        assert!(Te::failure(bytes).map_or(true, |it| it.error == error));
+    }
+    if let Some(te) = seen.item(te) {
+        assert_eq!((Te::failure(bytes), te.sections().len()), (None, te.header().number_of_sections.into()));
+        for entry in seen.keep(te.debug_entries()).into_iter().flatten().take(seen.most) {
+            seen.item(entry);
+        }
+        if let Some(key) = seen.keep(te.symbol_key()) {
+            seen.touch(key.name_bytes);
         }
     }
 }
@@ -472,5 +513,6 @@ pub fn read_all(bytes: &[u8], mode: Mode, layout: Layout, most: usize) -> Seen {
     read_leaves(&image, &mut seen);
     read_bound_imports(&image, &mut seen);
     read_names(&image, &mut seen);
+    read_symbols(seen.keep(image.symbols()), &mut seen);
     seen
 }

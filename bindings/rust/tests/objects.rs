@@ -1,0 +1,115 @@
+//! COFF objects, COFF symbols of images, TE images, and why headers are refused.
+
+mod made;
+mod reading;
+
+use made::{object, te_image, with_long_section_name, OFFSET, SMALL};
+use pe_c::{Coff, Error, Image, Layout, Mode, Te};
+use reading::{read_others, Seen};
+
+#[test]
+fn objects_are_read() {
+    let bytes = object();
+    let object = Coff::parse(&bytes).unwrap();
+    assert_eq!((object.header().machine, object.header().number_of_symbol_table), (0x8664, 12));
+    let names: Vec<_> = object.sections().iter().map(|it| it.name()).collect();
+    assert_eq!(names, [b".text".as_slice(), b".data", b".bss"]);
+    assert_eq!(object.string_table(), Ok(Some(b"\x16\0\0\0longer_than_eight\0".as_slice())));
+    assert_eq!(object.long_section_name(&object.sections()[0]), Ok(None));
+    let symbols = object.symbols().unwrap().unwrap();
+    let found: Vec<_> =
+        symbols.clone().map(|it| it.map(|it| (it.index, it.name().unwrap(), it.section_number))).collect();
+    let wanted: [(u64, &[u8], i16); 7] = [
+        (0, b".file", -2),
+        (2, b"longer_than_eight", 1),
+        (4, b".text", 1),
+        (6, b".data", 2),
+        (8, b".bss", 3),
+        (10, b"five", -1),
+        (11, b"outside", 0),
+    ];
+    assert_eq!(found, wanted.map(Ok));
+    let file = symbols.get(0).unwrap();
+    assert_eq!((file.storage_class, file.auxiliary()), (103, b"b.s\0\0\0\0\0\0\0\0\0\0\0\0\0\0\0".as_slice()));
+    assert!(symbols.get(12).is_none());
+    let shown = format!("{:?}", symbols.get(2).unwrap());
+    assert!(
+        shown.starts_with("Symbol { index: 2, name: Ok(\"longer_than_eight\"), value: 1, section_number: 1,"),
+        "{shown}"
+    );
+}
+
+#[test]
+fn damaged_objects_are_refused() {
+    let bytes = object();
+    assert_eq!(Coff::parse(&bytes[..19]).unwrap_err(), Error::SHORT);
+    assert_eq!(Coff::parse(&bytes[..139]).unwrap_err(), Error::SHORT);
+    let cut = |length: usize| Coff::parse(&bytes[..length]).unwrap().symbols().map(|it| it.is_some());
+    assert_eq!(cut(0x17D), Err(Error::SHORT));
+    assert_eq!(cut(0x17E), Ok(true));
+    assert_eq!(cut(0x193), Err(Error::STRING_TABLE));
+    // Without a string table a long name has no text.
+    let short = Coff::parse(&bytes[..0x17E]).unwrap().symbols().unwrap().unwrap();
+    assert_eq!(short.get(2).unwrap().name(), Err(Error::STRING_TABLE));
+    assert_eq!(short.get(10).unwrap().name(), Ok(b"five".as_slice()));
+    assert_eq!(Coff::parse(&[0; 20]).unwrap().symbols().unwrap().map(|it| it.count()), None);
+}
+
+#[test]
+fn symbols_of_images_are_read() {
+    let mut bytes = with_long_section_name();
+    let at = OFFSET as usize + 0x200;
+    bytes[at..at + 18].copy_from_slice(b"\0\0\0\0\x10\0\0\0\x34\x12\0\0\x01\0\x20\0\x02\0");
+    let image = Image::parse(&bytes, Mode::Strict).unwrap();
+    let mut symbols = image.symbols().unwrap().unwrap();
+    let symbol = symbols.next().unwrap().unwrap();
+    assert_eq!((symbol.name(), symbol.value, symbol.kind), (Ok(b".debug_line".as_slice()), 0x1234, 0x20));
+    assert!(symbols.next().is_none() && symbols.next().is_none());
+    assert!(Image::parse(SMALL, Mode::Strict).unwrap().symbols().unwrap().is_none());
+    let module = Image::parse_as(&bytes, Mode::Strict, Layout::Mapped).unwrap();
+    assert!(module.symbols().unwrap().is_none());
+}
+
+#[test]
+fn te_images_are_read() {
+    let bytes = te_image();
+    let te = Te::parse(&bytes).unwrap();
+    let header = te.header();
+    assert_eq!((header.machine, header.subsystem, header.rva_offset), (0x8664, 10, 0x100));
+    assert_eq!((header.entry_point, header.debug_dir.virtual_address), (0x1000, 0x50));
+    assert_eq!((te.sections().len(), te.sections()[0].virtual_address), (1, 0x1000));
+    let entries: Vec<_> = te.debug_entries().unwrap().unwrap().map(Result::unwrap).collect();
+    assert_eq!((entries.len(), entries[0].address_of_raw_data, entries[0].data_type), (1, 0x70, 2));
+    assert_eq!(te.first_debug_entry(2), Ok(Some(entries[0])));
+    assert_eq!(te.first_debug_entry(13), Ok(None));
+    let key = te.symbol_key().unwrap().unwrap();
+    assert_eq!((key.name_bytes, key.age), (b"a.pdb\0".as_slice(), 9));
+    assert_eq!(Te::failure(&bytes), None);
+    assert_eq!(Te::parse(&bytes[..79]).unwrap_err(), Error::SHORT);
+    assert_eq!(Te::parse(&bytes[..0x6B]).unwrap().symbol_key().unwrap_err(), Error::DEBUG_BOUNDS);
+}
+
+#[test]
+fn refusals_have_numbers() {
+    // Its PE signature is at 0x40, and the COFF header follows it.
+    let failure = Image::failure(&SMALL[..70], Mode::Strict, Layout::File).unwrap();
+    assert_eq!((failure.error, failure.value, failure.needed), (Error::SHORT, None, 20));
+    assert_eq!(failure.to_string(), "truncated: 20 bytes needed at offset 0x44");
+    assert_eq!(Image::failure(SMALL, Mode::Strict, Layout::File), None);
+    let mut bytes = te_image();
+    bytes[6..8].copy_from_slice(&[0x27, 0]);
+    assert_eq!(Te::parse(&bytes).unwrap_err(), Error::TE_SIZE);
+    let failure = Te::failure(&bytes).unwrap();
+    assert_eq!((failure.error, failure.offset, failure.value), (Error::TE_SIZE, 6, Some(39)));
+    assert_eq!(failure.to_string(), "stripped size smaller than the TE header: 0x27 at offset 0x6");
+}
+
+/// Each object and TE image truncated everywhere.
+#[test]
+fn truncated_ones_are_read() {
+    for bytes in [object(), te_image()] {
+        for length in 0..=bytes.len() {
+            read_others(&bytes[..length], &mut Seen::up_to(64));
+        }
+    }
+}

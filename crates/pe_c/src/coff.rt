@@ -1,0 +1,297 @@
+//! COFF objects, the output of a compiler, and the COFF symbols that images of mingw-w64 and Go have too. An object starts
+//! with the COFF header; the section headers follow it. The header says where the symbol table is: entries of 18 bytes, each
+//! a symbol or an auxiliary record of the symbol before. The string table with the longer names follows it.
+//! https://learn.microsoft.com/windows/win32/debug/pe-format#coff-symbol-table
+//!
+//! A linker or a symbol dumper starts with the header: of an object by `pe_c_coff`, of an image by `pe_c_headers`. Sections,
+//! symbols and strings are a call each, so that one damaged table does not cost the others.
+
+ghost use Rattle.std.specs.Prelude.{◌≡◌, ◌+◌, ◌*◌, ◌≤◌, ◌<◌, ◌^◌, IfOk, IfSome};
+ghost use Rattle.pe_core.specs.Refusals.{answer_of};
+ghost use Rattle.pe_c.specs.Coff.{PutsObjectSections, coff_header_of, coff_strings_at, name_range, object_at, symbol_at, symbol_name_at, symbol_with, symbols_after, symbols_at};
+ghost use Rattle.pe_c.specs.HandsOut.{HandsOut, HandsOutIf};
+
+use crate::headers::{CoffFields, coff_fields};
+use crate::image::sections_into;
+use crate::ranges::{NO_BYTES, Range, slice_of};
+use crate::results::{hand_out, hand_out_some};
+use pe_core::{CoffHeader, Result, SIZE_OF_SYMBOL, SectionTable, Strtab, read_u32};
+
+/// The size of a COFF header in bytes.
+const SIZE_OF_COFF_HEADER: usize = 20;
+
+/// A COFF symbol, `IMAGE_SYMBOL` of winnt.h, with what its entry says of others.
+#[repr(C)]
+#[derive(Clone, Copy)]
+pub struct Symbol {
+    /// Its auxiliary records, 18 bytes each, up to the end of the table.
+    pub auxiliary: Range,
+    /// The index of its entry; auxiliary records count.
+    pub index: u64,
+    /// The name, padded with zeros; or four zeros, and the offset of a longer name in the string table, 4 bytes.
+    pub name: [u8; 8],
+    /// Its meaning depends on the storage class, for instance an offset in the section.
+    pub value: u32,
+    /// The offset of the name in the string table, from its size field; 0 where the name is in `name`.
+    pub string_offset: u32,
+    /// The number of the section, from 1. 0, -1 and -2 say that there is none (`IMAGE_SYM_UNDEFINED`, `_ABSOLUTE`,
+    /// `_DEBUG`).
+    pub section_number: i16,
+    /// `IMAGE_SYM_TYPE_*` and `IMAGE_SYM_DTYPE_*` of winnt.h.
+    pub typ: u16,
+    /// `IMAGE_SYM_CLASS_*` of winnt.h.
+    pub storage_class: u8,
+    /// How many auxiliary records follow.
+    pub number_of_aux_symbols: u8,
+    /// 0.
+    pub spare: u16,
+}
+
+/// A walk over symbols, which skips auxiliary records.
+#[repr(C)]
+#[derive(Clone, Copy)]
+pub struct SymbolWalk {
+    /// The symbol table, entries of 18 bytes.
+    pub table: Range,
+    /// The index of the next symbol's entry.
+    pub next: u64,
+}
+
+fn object_at(bytes: &[u8]) -> Result<CoffFields>
+    ensures { answer_of result ≡ object_at bytes.now }
+{
+    Ok(coff_fields(&CoffHeader::parse(bytes, 0)?))
+}
+
+/// Reads the header of a COFF object, the 20 bytes at its start. Any bytes are such a header: a caller looks at `machine`.
+///
+/// Error: `SHORT`.
+#[unsafe(no_mangle)]
+pub extern "C" fn pe_c_coff(bytes: &[u8], out: &mut CoffFields) -> u32
+    ensures { HandsOut result out.old out.new (object_at bytes.now) }
+{
+    hand_out(object_at(bytes), out)
+}
+
+/// Writes the section headers of an object to the start of `room`, `number_of_sections` of them, which follow the optional
+/// header that objects usually don't have. The rest of `room` is unchanged, and all of it after an error.
+///
+/// Errors: `ROOM` where `room` has fewer entries than the object has sections; `SHORT` where the section headers are
+/// truncated.
+#[unsafe(no_mangle)]
+pub extern "C" fn pe_c_coff_sections(
+    bytes: &[u8],
+    coff: &CoffFields,
+    room: &mut [SectionTable],
+) -> u32
+    ensures { PutsObjectSections bytes.now coff.now result room.old room.new }
+{
+    let offset = SIZE_OF_COFF_HEADER + usize::from(coff.size_of_optional_header);
+    sections_into(bytes, offset, usize::from(coff.number_of_sections), room)
+}
+
+fn coff_header_of(coff: &CoffFields) -> CoffHeader
+    ensures { result ≡ coff_header_of coff.now }
+{
+    CoffHeader {
+        machine: coff.machine,
+        number_of_sections: coff.number_of_sections,
+        time_date_stamp: coff.time_date_stamp,
+        pointer_to_symbol_table: coff.pointer_to_symbol_table,
+        number_of_symbol_table: coff.number_of_symbol_table,
+        size_of_optional_header: coff.size_of_optional_header,
+        characteristics: coff.characteristics,
+    }
+}
+
+fn symbols_at(bytes: &[u8], coff: &CoffFields) -> Result<Option<SymbolWalk>>
+    ensures { answer_of result ≡ symbols_at bytes.now coff.now }
+{
+    match coff_header_of(coff).symbols(bytes)? {
+        Some(table) => Ok(Some(SymbolWalk {
+            table: Range {
+                offset: u64::from(coff.pointer_to_symbol_table),
+                length: table.bytes.len() as u64,
+            },
+            next: 0,
+        })),
+        None => Ok(None),
+    }
+}
+
+/// Returns a walk over the symbols of an object or of an image, with the range of their table: `NOTHING` where the header's
+/// pointer to them is 0.
+///
+/// Error: `SHORT` where the table is truncated; a pointer past the end of the bytes is `SHORT` even with 0 entries.
+#[unsafe(no_mangle)]
+pub extern "C" fn pe_c_coff_symbols(bytes: &[u8], coff: &CoffFields, out: &mut SymbolWalk) -> u32
+    ensures { HandsOutIf result out.old out.new (symbols_at bytes.now coff.now) }
+{
+    hand_out_some(symbols_at(bytes, coff), out)
+}
+
+fn coff_strings_at(bytes: &[u8], coff: &CoffFields) -> Result<Option<Range>>
+    ensures { answer_of result ≡ coff_strings_at bytes.now coff.now }
+{
+    match coff_header_of(coff).strings(bytes)? {
+        Some(table) => Ok(Some(Range {
+            offset: u64::from(coff.pointer_to_symbol_table)
+                + SIZE_OF_SYMBOL as u64 * u64::from(coff.number_of_symbol_table),
+            length: table.bytes.len() as u64,
+        })),
+        None => Ok(None),
+    }
+}
+
+/// Returns the string table of an object or of an image, from its size field on, which follows the symbols: `NOTHING` where
+/// the header's pointer to these is 0, or where the bytes end after them.
+///
+/// Errors: `SHORT` where the symbols are truncated; `STRING_TABLE` where the string table is.
+#[unsafe(no_mangle)]
+pub extern "C" fn pe_c_coff_strings(bytes: &[u8], coff: &CoffFields, out: &mut Range) -> u32
+    ensures { HandsOutIf result out.old out.new (coff_strings_at bytes.now coff.now) }
+{
+    hand_out_some(coff_strings_at(bytes, coff), out)
+}
+
+/// The symbol in an entry of a table that has so many entries.
+fn symbol_with(table: &Range, rows: u64, index: u64, symbol: &pe_core::Symbol) -> Symbol
+    requires inside { index < rows }
+    requires small { table.now.offset + 18 * rows ≤ 2 ^ 63 }
+    ensures { result ≡ symbol_with table.now rows index symbol.now }
+{
+    let auxiliary = u64::from(symbol.number_of_aux_symbols).min(rows - (index + 1));
+    let string_offset = if symbol.name[0] == 0 {
+        read_u32(&symbol.name, 4)
+    } else {
+        0
+    };
+    Symbol {
+        auxiliary: Range {
+            offset: table.offset + SIZE_OF_SYMBOL as u64 * (index + 1),
+            length: SIZE_OF_SYMBOL as u64 * auxiliary,
+        },
+        index,
+        name: symbol.name,
+        value: symbol.value,
+        string_offset,
+        section_number: symbol.section_number,
+        typ: symbol.typ,
+        storage_class: symbol.storage_class,
+        number_of_aux_symbols: symbol.number_of_aux_symbols,
+        spare: 0,
+    }
+}
+
+fn symbol_at(bytes: &[u8], table: &Range, index: u64) -> Result<Option<Symbol>>
+    ensures symbol { answer_of result ≡ symbol_at bytes.now table.now index }
+    ensures small { IfOk result (λ o. IfSome o (λ s. index < 2 ^ 62)) }
+{
+    let entries = slice_of(bytes, table)?;
+    let rows = entries.len() / SIZE_OF_SYMBOL;
+    if rows as u64 <= index {
+        return Ok(None);
+    }
+    let symbol = pe_core::Symbol::parse(entries, SIZE_OF_SYMBOL * index as usize)?;
+    Ok(Some(symbol_with(table, rows as u64, index, &symbol)))
+}
+
+/// Reads the symbol in an entry of a symbol table: `NOTHING` past the last entry. Auxiliary records have entries of their
+/// own, and nothing in these says that they are none of symbols: `pe_c_next_symbol` skips them.
+///
+/// Error: `SHORT` where the table is not inside the bytes.
+#[unsafe(no_mangle)]
+pub extern "C" fn pe_c_symbol(bytes: &[u8], table: &Range, index: u64, out: &mut Symbol) -> u32
+    ensures { HandsOutIf result out.old out.new (symbol_at bytes.now table.now index) }
+{
+    hand_out_some(symbol_at(bytes, table, index), out)
+}
+
+fn next_symbol(bytes: &[u8], walk: &mut SymbolWalk) -> Result<Option<Symbol>>
+    ensures symbol { answer_of result ≡ symbol_at bytes.now walk.old.table walk.old.next }
+    ensures walk { walk.new
+        ≡ symbols_after walk.old (symbol_at bytes.now walk.old.table walk.old.next) }
+{
+    let SymbolWalk { table, next } = *walk;
+    match symbol_at(bytes, &table, next) {
+        Ok(Some(symbol)) => {
+            walk.next = next + 1 + u64::from(symbol.number_of_aux_symbols);
+            Ok(Some(symbol))
+        }
+        Ok(None) => Ok(None),
+        Err(error) => {
+            walk.table = NO_BYTES;
+            Err(error)
+        }
+    }
+}
+
+/// Reads the next symbol: `NOTHING` at the end of the walk. Its auxiliary records are skipped.
+///
+/// Error: `SHORT` where the table is not inside the bytes. After it the walk is over.
+#[unsafe(no_mangle)]
+pub extern "C" fn pe_c_next_symbol(bytes: &[u8], walk: &mut SymbolWalk, out: &mut Symbol) -> u32
+    ensures symbol { HandsOutIf result out.old out.new
+        (symbol_at bytes.now walk.old.table walk.old.next) }
+    ensures walk { walk.new
+        ≡ symbols_after walk.old (symbol_at bytes.now walk.old.table walk.old.next) }
+{
+    hand_out_some(next_symbol(bytes, walk), out)
+}
+
+/// The range of the name of the symbol in an entry.
+fn name_range(
+    table: &Range,
+    strings: &Range,
+    index: u64,
+    symbol: &pe_core::Symbol,
+    name: &str,
+) -> Range
+    requires inside { table.now.offset + 18 * index ≤ 2 ^ 63 }
+    requires small { strings.now.offset ≤ 2 ^ 63 }
+    ensures { result ≡ name_range table.now strings.now index symbol.now name.now }
+{
+    let offset = if symbol.name[0] == 0 {
+        strings.offset + u64::from(read_u32(&symbol.name, 4))
+    } else {
+        table.offset + SIZE_OF_SYMBOL as u64 * index
+    };
+    Range {
+        offset,
+        length: name.len() as u64,
+    }
+}
+
+fn symbol_name_at(bytes: &[u8], table: &Range, strings: &Range, index: u64) -> Result<Option<Range>>
+    ensures { answer_of result ≡ symbol_name_at bytes.now table.now strings.now index }
+{
+    let entries = slice_of(bytes, table)?;
+    let texts = Strtab {
+        bytes: slice_of(bytes, strings)?,
+    };
+    if (entries.len() / SIZE_OF_SYMBOL) as u64 <= index {
+        return Ok(None);
+    }
+    let symbol = pe_core::Symbol::parse(entries, SIZE_OF_SYMBOL * index as usize)?;
+    let name = symbol.name(&texts)?;
+    Ok(Some(name_range(table, strings, index, &symbol, name)))
+}
+
+/// Returns the name of the symbol in an entry of a symbol table, in UTF-8 without its final zero: in the entry itself, or in
+/// the string table at `strings`, where it is read to its end. `NOTHING` past the last entry.
+///
+/// Errors: `SHORT` where one of the tables is not inside the bytes; `STRING_TABLE` where the string table has no
+/// NUL-terminated string there, or the name is not UTF-8.
+#[unsafe(no_mangle)]
+pub extern "C" fn pe_c_symbol_name(
+    bytes: &[u8],
+    table: &Range,
+    strings: &Range,
+    index: u64,
+    out: &mut Range,
+) -> u32
+    ensures { HandsOutIf result out.old out.new
+        (symbol_name_at bytes.now table.now strings.now index) }
+{
+    hand_out_some(symbol_name_at(bytes, table, strings, index), out)
+}

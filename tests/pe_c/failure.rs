@@ -1,0 +1,157 @@
+//! Why headers are refused: where, and by which number. Offsets are those of winnt.h, and every number is worked out by hand.
+
+use super::made::{BAD_MAGIC, HEADER_POINTER, MAPPED, PERMISSIVE, SHORT, STRICT, in_mode};
+use crate::failure::{Failure, pe_c_image_failure, pe_c_te_failure};
+use crate::image::{Image, pe_c_image};
+use crate::results::{DONE, NOTHING};
+use pe_images::{headers_alone, pointer_below_64, put, te};
+use std::test::Fail;
+
+/// Fewer than 40 bytes were stripped.
+const TE_SIZE: u32 = 31;
+
+const NO_FAILURE: Failure = Failure {
+    offset: 9,
+    needed: 9,
+    value: 9,
+    result: 9,
+    spare: 9,
+};
+
+/// The answer, and the error, offset, bytes and value.
+fn image_failure(bytes: &[u8], mode: u32) -> (u32, u32, [u64; 3]) {
+    let mut out = NO_FAILURE;
+    let answer = pe_c_image_failure(bytes, mode, &mut out);
+    (answer, out.result, [out.offset, out.needed, out.value])
+}
+
+fn te_failure(bytes: &[u8]) -> (u32, u32, [u64; 3]) {
+    let mut out = NO_FAILURE;
+    let answer = pe_c_te_failure(bytes, &mut out);
+    (answer, out.result, [out.offset, out.needed, out.value])
+}
+
+const NONE: (u32, u32, [u64; 3]) = (NOTHING, 9, [9; 3]);
+
+/// Headers of PE32+ at 0x78, in the order in which they are read: each change is put on top of those before it.
+#[test]
+fn failures_of_images(rt: HostRuntime) -> Result<(), Fail> {
+    let mut bytes = headers_alone(rt.alloc())?;
+    assert_eq!(rt; image_failure(&bytes, STRICT), NONE);
+    // The optional header is at 0x90: 112 bytes of fields, then 16 directories.
+    for (length, offset, needed) in [
+        (0x17F, 0x100, 128),
+        (0x100, 0x100, 128),
+        (0xFF, 0x90, 112),
+        (0x92, 0x90, 112),
+        (0x91, 0x90, 2),
+        (0x90, 0x90, 2),
+        (0x8F, 0x7C, 20),
+        (0x7C, 0x7C, 20),
+        (0x7B, 0x78, 4),
+        (0x40, 0x78, 4),
+        (0x3F, 0, 64),
+        (0, 0, 64),
+    ] {
+        let wanted = (DONE, SHORT, [offset, needed, 0]);
+        assert_eq!(rt; image_failure(&bytes[..length], STRICT), wanted);
+        assert_eq!(rt; image_failure(&bytes[..length], MAPPED), wanted);
+    }
+    assert_eq!(rt; image_failure(&bytes[..0x180], STRICT), NONE);
+    // Fewer directories need fewer bytes, and more than 16 need no more.
+    put(&mut bytes, &[(0xFC, &[3])]);
+    assert_eq!(rt;
+        image_failure(&bytes[..0x117], STRICT),
+        (DONE, SHORT, [0x100, 24, 0])
+    );
+    put(&mut bytes, &[(0xFC, &[0xFF, 0xFF])]);
+    assert_eq!(rt;
+        image_failure(&bytes[..0x17F], STRICT),
+        (DONE, SHORT, [0x100, 128, 0])
+    );
+    // PE32 has 96 bytes of fields.
+    put(&mut bytes, &[(0x91, &[1]), (0xEC, &[2])]);
+    assert_eq!(rt;
+        image_failure(&bytes[..0xFF], STRICT),
+        (DONE, SHORT, [0xF0, 16, 0])
+    );
+    assert_eq!(rt;
+        image_failure(&bytes[..0xEF], STRICT),
+        (DONE, SHORT, [0x90, 96, 0])
+    );
+    put(&mut bytes, &[(0x90, &[0x07, 0x03])]);
+    assert_eq!(rt;
+        image_failure(&bytes, STRICT),
+        (DONE, BAD_MAGIC, [0x90, 2, 0x307])
+    );
+    // Without an optional header nothing of it is read.
+    put(&mut bytes, &[(0x8C, &[0])]);
+    assert_eq!(rt; image_failure(&bytes, STRICT), NONE);
+    put(&mut bytes, &[(0x7B, &[0x12])]);
+    assert_eq!(rt;
+        image_failure(&bytes, STRICT),
+        (DONE, BAD_MAGIC, [0x78, 4, 0x1200_4550])
+    );
+    put(&mut bytes, &[(0x3C, &[0xFE, 0xFF, 0xFF, 0xFF])]);
+    assert_eq!(rt;
+        image_failure(&bytes, STRICT),
+        (DONE, SHORT, [0xFFFF_FFFE, 4, 0])
+    );
+    put(&mut bytes, &[(0, b"NE")]);
+    assert_eq!(rt;
+        image_failure(&bytes, STRICT),
+        (DONE, BAD_MAGIC, [0, 2, 0x454E])
+    );
+    Ok(())
+}
+
+#[test]
+fn failures_by_mode(rt: HostRuntime) -> Result<(), Fail> {
+    let bytes = pointer_below_64(rt.alloc())?;
+    let wanted = (DONE, HEADER_POINTER, [0x3C, 4, 0x30]);
+    assert_eq!(rt; image_failure(&bytes, STRICT), wanted);
+    assert_eq!(rt; image_failure(&bytes, MAPPED), wanted);
+    assert_eq!(rt; image_failure(&bytes, PERMISSIVE), NONE);
+    assert_eq!(rt; image_failure(&bytes, PERMISSIVE | MAPPED), NONE);
+    Ok(())
+}
+
+/// A failure is what the call that it stands for returns.
+#[test]
+fn failures_are_those_of_the_calls(rt: HostRuntime) -> Result<(), Fail> {
+    let mut bytes = headers_alone(rt.alloc())?;
+    let no_image: Image = in_mode(&super::made::image(0), STRICT);
+    for offset in 0..0x200 {
+        let was = bytes[offset];
+        bytes[offset] = was.wrapping_add(0x81);
+        for length in [0x200, offset] {
+            for mode in [STRICT, PERMISSIVE] {
+                let mut out = no_image;
+                let answer = pe_c_image(&bytes[..length], mode, &mut out);
+                let (found, result, _) = image_failure(&bytes[..length], mode);
+                let wanted = if answer == DONE {
+                    (NOTHING, 9)
+                } else {
+                    (DONE, answer)
+                };
+                assert_eq!(rt; (found, result), wanted);
+            }
+        }
+        bytes[offset] = was;
+    }
+    Ok(())
+}
+
+#[test]
+fn failures_of_te_images(rt: HostRuntime) -> Result<(), Fail> {
+    let mut bytes = te(rt.alloc())?;
+    assert_eq!(rt; te_failure(&bytes), NONE);
+    assert_eq!(rt; te_failure(&bytes[..40]), NONE);
+    assert_eq!(rt; te_failure(&bytes[..39]), (DONE, SHORT, [0, 40, 0]));
+    put(&mut bytes, &[(6, &[0x27, 0])]);
+    assert_eq!(rt; te_failure(&bytes), (DONE, TE_SIZE, [6, 2, 0x27]));
+    put(&mut bytes, &[(1, &[0x4D])]);
+    assert_eq!(rt; te_failure(&bytes), (DONE, BAD_MAGIC, [0, 2, 0x4D56]));
+    assert_eq!(rt; te_failure(&[]), (DONE, SHORT, [0, 40, 0]));
+    Ok(())
+}

@@ -1,0 +1,304 @@
+//! TE images: the header, the sections, the entries of the debug directory. The layout is `EFI_TE_IMAGE_HEADER` of the UEFI
+//! specification; every number is worked out by hand.
+
+use super::made::{
+    BAD_MAGIC, DEBUG_BOUNDS, MAPPED, SHORT, UNTOUCHED, directory, lies, of_range, range, sections,
+    untouched,
+};
+use crate::debug_records::{SymbolKey, pe_c_symbol_key_of};
+use crate::ranges::Range;
+use crate::results::{DONE, NOTHING, ROOM};
+use crate::te::{
+    TeImage, pe_c_next_te_debug_entry, pe_c_te, pe_c_te_debug_entries, pe_c_te_first_debug_entry,
+    pe_c_te_sections,
+};
+use pe_core::DataDirectory;
+use pe_images::{put, te, te_with_debug};
+use pe_records::ImageDebugDirectory;
+use std::test::Fail;
+
+/// Fewer than 40 bytes were stripped.
+const TE_SIZE: u32 = 31;
+
+const NO_IMAGE: TeImage = TeImage {
+    image_base: 9,
+    entry_point: 9,
+    base_of_code: 9,
+    reloc_dir: DataDirectory {
+        virtual_address: 9,
+        size: 9,
+    },
+    debug_dir: DataDirectory {
+        virtual_address: 9,
+        size: 9,
+    },
+    rva_offset: 9,
+    signature: 9,
+    machine: 9,
+    stripped_size: 9,
+    number_of_sections: 9,
+    subsystem: 9,
+    spare: 9,
+};
+
+fn image_of(bytes: &[u8]) -> (u32, TeImage) {
+    let mut out = NO_IMAGE;
+    let answer = pe_c_te(bytes, &mut out);
+    (answer, out)
+}
+
+fn numbers(te: &TeImage) -> [u64; 9] {
+    [
+        te.image_base,
+        u64::from(te.entry_point),
+        u64::from(te.base_of_code),
+        u64::from(te.rva_offset),
+        u64::from(te.machine),
+        u64::from(te.stripped_size),
+        u64::from(te.number_of_sections),
+        u64::from(te.subsystem),
+        u64::from(te.spare),
+    ]
+}
+
+/// Bytes that count up from 0x10, so that a field at offset 8 of 4 bytes is 0x1B1A1918; 0x1716 bytes were stripped, 0x16EE more
+/// than 40.
+#[test]
+fn header_of_a_te_image(rt: HostRuntime) {
+    let mut bytes = [0; 40];
+    for i in 0..40u8 {
+        bytes[usize::from(i)] = 0x10 + i;
+    }
+    assert_eq!(rt; image_of(&bytes).0, BAD_MAGIC);
+    put(&mut bytes, &[(0, b"VZ")]);
+    let (answer, te) = image_of(&bytes);
+    assert_eq!(rt; answer, DONE);
+    let wanted = [
+        0x2726_2524_2322_2120,
+        0x1B1A_1918 - 0x16EE,
+        0x1F1E_1D1C - 0x16EE,
+        0x16EE,
+        0x1312,
+        0x1716,
+        0x14,
+        0x15,
+        0,
+    ];
+    assert_eq!(rt; numbers(&te), wanted);
+    assert_eq!(rt; te.signature, 0x5A56);
+    assert_eq!(rt; te.reloc_dir, directory(0x2B2A_2928 - 0x16EE, 0x2F2E_2D2C));
+    assert_eq!(rt; te.debug_dir, directory(0x3332_3130 - 0x16EE, 0x3736_3534));
+    // No debug directory stays none, and what is below the stripped bytes wraps.
+    put(
+        &mut bytes,
+        &[(8, &[1, 0, 0, 0]), (24, &[0; 16]), (6, &[40, 0])],
+    );
+    let (_, te) = image_of(&bytes);
+    assert_eq!(rt; (te.rva_offset, te.entry_point), (0, 1));
+    put(&mut bytes, &[(6, &[42, 0])]);
+    let (_, te) = image_of(&bytes);
+    assert_eq!(rt; (te.rva_offset, te.entry_point), (2, u32::MAX));
+    assert_eq!(rt;
+        (te.reloc_dir, te.debug_dir),
+        (directory(0xFFFF_FFFE, 0), directory(0, 0))
+    );
+    // Errors in their order: too few bytes, the signature, the stripped size.
+    put(&mut bytes, &[(6, &[39])]);
+    let (answer, te) = image_of(&bytes);
+    assert_eq!(rt; (answer, numbers(&te)), (TE_SIZE, [9; 9]));
+    put(&mut bytes, &[(1, b"Y")]);
+    let (answer, te) = image_of(&bytes);
+    assert_eq!(rt; (answer, numbers(&te)), (BAD_MAGIC, [9; 9]));
+    let (answer, te) = image_of(&bytes[..39]);
+    assert_eq!(rt; (answer, numbers(&te)), (SHORT, [9; 9]));
+}
+
+/// One section at 0x1100 and, in the file, 0x150, of which 0x100 are not there.
+#[test]
+fn sections_of_a_te_image(rt: HostRuntime) -> Result<(), Fail> {
+    let mut bytes = te(rt.alloc())?;
+    put(
+        &mut bytes,
+        &[
+            (40, b".text"),
+            (48, &[7]),
+            (56, &[8]),
+            (64, &[9]),
+            (76, &[10]),
+        ],
+    );
+    let (_, te) = image_of(&bytes);
+    let [other] = sections();
+    let mut room = [other; 2];
+    assert_eq!(rt; pe_c_te_sections(&bytes, &te, &mut room), DONE);
+    let [first, second] = room;
+    assert_eq!(rt; (first.name, second), (*b".text\0\0\0", other));
+    assert_eq!(rt;
+        (first.virtual_address, first.pointer_to_raw_data),
+        (0x1000, 0x50)
+    );
+    assert_eq!(rt; (first.virtual_size, first.size_of_raw_data), (7, 8));
+    assert_eq!(rt;
+        (first.pointer_to_relocations, first.characteristics),
+        (9, 10)
+    );
+    let mut room = [other; 2];
+    let fewer = TeImage {
+        rva_offset: 0x1101,
+        ..te
+    };
+    assert_eq!(rt; pe_c_te_sections(&bytes, &fewer, &mut room), DONE);
+    let [first, _] = room;
+    assert_eq!(rt;
+        (first.virtual_address, first.pointer_to_raw_data),
+        (u32::MAX, 0xFFFF_F04F)
+    );
+    let mut room = [other; 2];
+    assert_eq!(rt; pe_c_te_sections(&bytes[..79], &te, &mut room), SHORT);
+    let three = TeImage {
+        number_of_sections: 3,
+        ..te
+    };
+    assert_eq!(rt; pe_c_te_sections(&bytes, &three, &mut room), ROOM);
+    let none = TeImage {
+        number_of_sections: 0,
+        ..te
+    };
+    assert_eq!(rt; pe_c_te_sections(&[], &none, &mut room), DONE);
+    assert_eq!(rt; room, [other; 2]);
+    Ok(())
+}
+
+fn entries_of(bytes: &[u8], te: &TeImage) -> (u32, [u64; 2]) {
+    let mut out = untouched();
+    let answer = pe_c_te_debug_entries(bytes, te, &mut out);
+    (answer, of_range(out))
+}
+
+const NO_ENTRY: ImageDebugDirectory = ImageDebugDirectory {
+    characteristics: 9,
+    time_date_stamp: 9,
+    major_version: 9,
+    minor_version: 9,
+    data_type: 9,
+    size_of_data: 9,
+    address_of_raw_data: 9,
+    pointer_to_raw_data: 9,
+};
+
+/// A CodeView entry at 0x50, whose record is at 0x90 by its RVA and nowhere by its file offset, and one of a time stamp.
+const CODEVIEW: ImageDebugDirectory = ImageDebugDirectory {
+    characteristics: 0,
+    time_date_stamp: 0,
+    major_version: 0,
+    minor_version: 0,
+    data_type: 2,
+    size_of_data: 30,
+    address_of_raw_data: 0x90,
+    pointer_to_raw_data: 0x1F00,
+};
+
+const REPRO: ImageDebugDirectory = ImageDebugDirectory {
+    characteristics: 0,
+    time_date_stamp: 0x1122_3344,
+    major_version: 0,
+    minor_version: 0,
+    data_type: 16,
+    size_of_data: 0,
+    address_of_raw_data: 0xFFFF_FF00,
+    pointer_to_raw_data: 0xFFFF_FF00,
+};
+
+fn first_of(bytes: &[u8], te: &TeImage, data_type: u32) -> (u32, ImageDebugDirectory) {
+    let mut out = NO_ENTRY;
+    let answer = pe_c_te_first_debug_entry(bytes, te, data_type, &mut out);
+    (answer, out)
+}
+
+fn step(bytes: &[u8], te: &TeImage, walk: &mut Range) -> (u32, ImageDebugDirectory, [u64; 2]) {
+    let mut out = NO_ENTRY;
+    let answer = pe_c_next_te_debug_entry(bytes, te, walk, &mut out);
+    (answer, out, of_range(*walk))
+}
+
+#[test]
+fn debug_entries_of_a_te_image(rt: HostRuntime) -> Result<(), Fail> {
+    let bytes = te_with_debug(rt.alloc())?;
+    let (_, te) = image_of(&bytes);
+    assert_eq!(rt; te.debug_dir, directory(0x50, 0x38));
+    assert_eq!(rt; entries_of(&bytes, &te), (DONE, [0x50, 0x38]));
+    let mut walk = range(0x50, 0x38);
+    assert_eq!(rt;
+        step(&bytes, &te, &mut walk),
+        (DONE, CODEVIEW, [0x6C, 0x1C])
+    );
+    assert_eq!(rt; step(&bytes, &te, &mut walk), (DONE, REPRO, [0x88, 0]));
+    assert_eq!(rt;
+        step(&bytes, &te, &mut walk),
+        (NOTHING, NO_ENTRY, [0x88, 0])
+    );
+    assert_eq!(rt; first_of(&bytes, &te, 2), (DONE, CODEVIEW));
+    assert_eq!(rt; first_of(&bytes, &te, 16), (DONE, REPRO));
+    assert_eq!(rt; first_of(&bytes, &te, 13), (NOTHING, NO_ENTRY));
+    let mut key = SymbolKey {
+        guid: [9; 16],
+        age: 9,
+        spare: 9,
+        name: untouched(),
+    };
+    assert_eq!(rt;
+        pe_c_symbol_key_of(&bytes, MAPPED, &CODEVIEW, &mut key),
+        DONE
+    );
+    assert_eq!(rt; (key.age, of_range(key.name)), (9, [0xA8, 6]));
+    assert_eq!(rt;
+        key.guid,
+        *b"\x10\x11\x12\x13\x14\x15\x16\x17\x18\x19\x1A\x1B\x1C\x1D\x1E\x1F"
+    );
+    // A truncated entry, and a walk outside the bytes.
+    let mut walk = range(0x6C, 27);
+    assert_eq!(rt; step(&bytes, &te, &mut walk), (SHORT, NO_ENTRY, [0, 0]));
+    for mut lie in lies(0xAE) {
+        assert_eq!(rt; step(&bytes, &te, &mut lie), (SHORT, NO_ENTRY, [0, 0]));
+    }
+    Ok(())
+}
+
+#[test]
+fn debug_directories_of_te_images(rt: HostRuntime) -> Result<(), Fail> {
+    let bytes = te_with_debug(rt.alloc())?;
+    let (_, te) = image_of(&bytes);
+    let having = |address: u32, size: u32| TeImage {
+        debug_dir: directory(address, size),
+        ..te
+    };
+    for (debug, entries, first) in [
+        (having(0, 0), (NOTHING, UNTOUCHED), (NOTHING, NO_ENTRY)),
+        // One entry, and a truncated one.
+        (
+            having(0x50, 0x37),
+            (DONE, [0x50, 0x37]),
+            (NOTHING, NO_ENTRY),
+        ),
+        (having(0xAE, 0), (DONE, [0xAE, 0]), (NOTHING, NO_ENTRY)),
+        (
+            having(0x50, 0x5F),
+            (DEBUG_BOUNDS, UNTOUCHED),
+            (DEBUG_BOUNDS, NO_ENTRY),
+        ),
+        (
+            having(0xAF, 0),
+            (DEBUG_BOUNDS, UNTOUCHED),
+            (DEBUG_BOUNDS, NO_ENTRY),
+        ),
+        (
+            having(u32::MAX, u32::MAX),
+            (DEBUG_BOUNDS, UNTOUCHED),
+            (DEBUG_BOUNDS, NO_ENTRY),
+        ),
+    ] {
+        assert_eq!(rt; entries_of(&bytes, &debug), entries);
+        assert_eq!(rt; first_of(&bytes, &debug, 16), first);
+    }
+    Ok(())
+}
