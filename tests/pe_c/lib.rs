@@ -26,6 +26,7 @@ mod rich_header;
 mod section_names;
 mod signing;
 mod stack_frames;
+mod stack_walks;
 mod tls;
 mod unwinding;
 mod version;

@@ -36,3 +36,7 @@ pub mod LeafRuns
 pub mod VersionBlockParts
 pub mod DebugAlone
 pub mod DebugParts
+pub mod ViewedModules
+pub mod WalkFrames
+pub mod NextFrames
+pub mod FrameRuns

@@ -38,6 +38,7 @@ mod rich_header;
 mod section_names;
 mod signing;
 mod stack_frames;
+mod stack_walk;
 mod texts;
 mod tls;
 mod unwinding;
