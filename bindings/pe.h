@@ -983,6 +983,51 @@ typedef struct {
     uint64_t length;                /* bytes; those past the last address have none */
 } pe_c_memory_piece;
 
+/* A module of a process on x64: its image, which has size_of_image bytes where it is loaded. What the view leads to stays
+ * readable as long as the record is passed. */
+typedef struct {
+    pe_c_view image;
+    pe_c_range table;               /* of pe_c_function_table; all 0 where that returned PE_C_NOTHING: leaf functions alone */
+    uint64_t base;                  /* address where it is loaded */
+} pe_c_module;
+
+/* How a frame of a walk was found. */
+enum {
+    PE_C_WAY_TOP = 0,               /* it is the top frame */
+    PE_C_WAY_RECORDS = 1,           /* by the unwind records of the function that it called */
+    PE_C_WAY_LEAF = 2,              /* it called a leaf function */
+    PE_C_WAY_INTERRUPT = 3,         /* an interrupt stopped it: the records before it show what the processor pushed */
+    PE_C_WAY_SCANNED = 4            /* by a scan of the stack, where no records led on: it may be wrong, and those after it */
+};
+
+/* Why a walk is over. */
+enum {
+    PE_C_END_BOUND = 0,             /* as many frames were returned as the caller wants */
+    PE_C_END_BOTTOM = 1,            /* the stack is whole: its last frame returns to 0, and no frame is found there */
+    PE_C_END_NO_MODULE = 2,         /* no module has the last instruction pointer, and no return address is found */
+    PE_C_END_NO_FUNCTION = 3,       /* no function covers the call in the last frame */
+    PE_C_END_RECORDS = 4,           /* an unwind record of the last function cannot be read: `error` says why */
+    PE_C_END_LONG_CHAIN = 5,        /* more than 32 of them are chained */
+    PE_C_END_STEP = 6               /* the step from the last frame is refused: `error` and `address` as in pe_c_step */
+};
+
+/* A walk of a stack, and the frame that was returned last. For a walk from the start set the registers to those of the thread,
+ * `remaining` to how many frames are wanted at most, and all else to 0. */
+typedef struct {
+    pe_c_registers registers;       /* inside the function of the frame */
+    uint64_t remaining;             /* how many frames follow at most; 0 once the walk is over */
+    uint64_t address;               /* of a walk that is over, as `address` of a frame; else 0 */
+    uint32_t has_returned;          /* 0 before the first call, else 1 */
+    uint32_t way;                   /* PE_C_WAY_* */
+    uint32_t has_called;            /* 1 where the function of the frame has called: rip is the return address. 0 where rip is the
+                                       instruction that is about to run */
+    uint32_t end;                   /* PE_C_END_* of a walk that is over */
+    uint32_t error;                 /* a result, for PE_C_END_RECORDS, _LONG_CHAIN and _STEP; else 0 */
+    uint32_t spare;                 /* 0 */
+} pe_c_stack_walk;
+
+PE_C_SIZE(pe_c_module, 64);
+PE_C_SIZE(pe_c_stack_walk, 432);
 PE_C_SIZE(pe_c_function, 12);
 PE_C_SIZE(pe_c_walk, 24);
 PE_C_SIZE(pe_c_record, 72);
@@ -1094,6 +1139,31 @@ uint32_t pe_c_step_pieces(const uint8_t *bytes, size_t length, const pe_c_image_
 uint32_t pe_c_leaf_pieces(const uint8_t *memory, size_t memory_length, const pe_c_memory_piece *pieces,
                           size_t piece_count, pe_c_frame *frame) PE_C_RESULT(5);
 
+/* Returns the next frame of a stack walk on x64, in the walk: first the top frame, and then the caller of each, through the
+ * modules of a process. PE_C_NOTHING where the walk is over: walk->end says why. The caller keeps the walk between two calls,
+ * and may copy it.
+ *
+ * An address is that of the first module that has it: by binary search in modules in ascending order that do not overlap, in any
+ * others in turn. `memory` and `pieces` are as in pe_c_step_pieces; a stack in one piece is a list of one. They are tested in each
+ * call, and may differ from call to call.
+ *
+ * In each frame the function is looked up by rip, or by the byte before it where the function has called. Its epilogs are known by
+ * their code in the image, and a jump out of it is followed. In the top frame, and in one that was interrupted, the caller may have
+ * no records: then it is found by the return address at rsp, if a call ends there, else by the first of 128 words from rsp on that
+ * is after a call in an executable section. Only past an interrupt may the stack pointer not rise.
+ * Errors, which change nothing: PE_C_SHORT where the table of a module is not inside its bytes, or a piece not inside the
+ * memory. */
+uint32_t pe_c_next_frame(const pe_c_module *modules, size_t module_count, const uint8_t *memory, size_t memory_length,
+                         const pe_c_memory_piece *pieces, size_t piece_count, pe_c_stack_walk *walk) PE_C_RESULT(7);
+
+/* The same for several frames in one call, which tests the modules and the pieces once: each of `frames` is the walk as it is
+ * after a frame, and `count` how many there are. PE_C_NOTHING where the walk was over before all were filled: the others stay
+ * unchanged.
+ * Errors, which change nothing: those of pe_c_next_frame. */
+uint32_t pe_c_next_frames(const pe_c_module *modules, size_t module_count, const uint8_t *memory, size_t memory_length,
+                          const pe_c_memory_piece *pieces, size_t piece_count, pe_c_stack_walk *walk,
+                          pe_c_stack_walk *frames, size_t frame_count, uint64_t *count) PE_C_RESULT(7, 10);
+
 /* ---- ARM64 functions and unwind records
  *
  * The exception directory of an ARM64 image is a table of functions too. The unwind data of a function is packed into its
@@ -1204,15 +1274,16 @@ typedef struct {
     uint64_t pc;
 } pe_c_arm64_registers;
 
-/* A frame of a stack walk. A caller sets all fields but `address`.
- * A step changes `registers`, or after an error `address`. */
+/* A frame of a stack walk. A caller sets all fields but `address` and `interrupted`.
+ * A step changes `registers` and `interrupted`, or after an error `address`. */
 typedef struct {
     pe_c_arm64_registers registers; /* inside the function; after a step those of its caller */
     uint64_t stack_start;           /* address of the first byte of the stack that is passed */
     uint64_t address;               /* the one that PE_C_MISSING, _BAD_ADDRESS or _NOT_RISING speaks of */
     pe_c_arm64_function function;   /* the one that pe_c_find_arm64_function returned */
     uint32_t rva;                   /* pc less the address where the image is loaded */
-    uint32_t spare;                 /* 0 */
+    uint32_t interrupted;           /* after a step 1 where no call left the caller: its pc is the instruction that is about to
+                                       run. Else 0 */
 } pe_c_arm64_frame;
 
 PE_C_SIZE(pe_c_arm64_function, 8);
@@ -1280,8 +1351,9 @@ uint32_t pe_c_next_arm64_code(const uint8_t *bytes, size_t length, pe_c_arm64_wa
  * The stack is one piece of memory: `stack_length` bytes that start at the address frame->stack_start. After PE_C_MISSING
  * a caller reads a piece that has the eight bytes at frame->address, and makes the same call again.
  *
- * In the top frame frame->rva is that of the instruction which is about to run: look the function up by it. In every other
- * frame it is that of a return address, which may lie at the end of the function: look the function up by frame->rva - 4.
+ * In the top frame, and after a step that set frame->interrupted to 1, frame->rva is that of the instruction which is about to run:
+ * look the function up by it. In every other frame it is that of a return address, which may lie at the end of the function: look
+ * the function up by frame->rva - 4.
  * Where no function covers the address, call pe_c_leaf_arm64, in the top frame alone. A step may leave the stack pointer
  * where it is, before a prolog has moved it: end a walk where one does so in any other frame.
  *

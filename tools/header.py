@@ -17,12 +17,14 @@ IMAGE = ("bytes", "length", "image", "sections", "count")
 
 @dataclasses.dataclass(frozen=True)
 class Field:
-    """A field of a record: its offset in bytes, and how many values an array has, or 0. A pointer is one to constant values."""
+    """A field of a record: its offset in bytes, and how many values an array has, or 0. A pointer is one to constant values; a
+    record may have some inside."""
     name: str
     type: str
     offset: int
     count: int
     is_pointer: bool = False
+    has_pointers: bool = False
 
     def kind(self):
         """Its type in C, but for const and the length of an array."""
@@ -38,7 +40,7 @@ class Record:
     fields: tuple
 
     def has_pointers(self):
-        return any(it.is_pointer for it in self.fields)
+        return any(it.has_pointers for it in self.fields)
 
 
 @dataclasses.dataclass(frozen=True)
@@ -102,7 +104,8 @@ class Header:
                 for one in names.split(","):
                     field, count = re.fullmatch(r"\s*(\w+)(?:\[(\d+)\])?", one).groups()
                     offset = -(-end // align) * align
-                    fields.append(Field(field, kind, offset, int(count or 0), bool(star)))
+                    has_pointers = bool(star) or kind in records and records[kind].has_pointers()
+                    fields.append(Field(field, kind, offset, int(count or 0), bool(star), has_pointers))
                     end, most = offset + size * int(count or 1), max(most, align)
             records[name] = Record(name, -(-end // most) * most, most, tuple(fields))
         reckoned = {name: it.size for name, it in records.items()}

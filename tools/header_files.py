@@ -90,9 +90,10 @@ def checked_c(header):
 # ---- JavaScript
 
 
-# What the JavaScript passes itself, and calls that it makes in ways of its own.
+# What the JavaScript passes itself, and calls that it makes in ways of its own or not at all: a walk of a stack is over several
+# images.
 PASSED = {"image", "sections", "count", "view"}
-OWN_WAYS = re.compile(r"pe_c_(image|sections|text|abi_\d+)")
+OWN_WAYS = re.compile(r"pe_c_(image|sections|text|abi_\d+|next_frames?)")
 
 
 def js_parameters(call):

@@ -1,9 +1,9 @@
 #include "pe.h"
 
 /* The registers of the caller of an ARM64 frame, in place: by the image, which is loaded at `base` and has the frame's pc,
- * and a piece of the thread's stack from address frame->stack_start on. `is_call` is 0 in the top frame. In every other it
- * is 1: its pc is a return address, so the call before it is looked up. PE_C_NOTHING where no function has made that call,
- * and PE_C_NOT_RISING where a function that called has left the stack pointer where it is. */
+ * and a piece of the thread's stack from address frame->stack_start on. `is_call` is 0 in the top frame, and in one that
+ * no call left. In every other it is 1: its pc is a return address, so the call before it is looked up. PE_C_NOTHING where no
+ * function has made that call, and PE_C_NOT_RISING where a function that called has left the stack pointer where it is. */
 uint32_t arm64_caller_of(const uint8_t *bytes, size_t length, const pe_c_image_info *image, const pe_c_section *sections,
                          uint64_t base, const uint8_t *stack, size_t stack_length, uint32_t is_call,
                          pe_c_arm64_frame *frame)
@@ -61,7 +61,8 @@ int main(int argc, char **argv)
         printf("%" PRIx64 " %" PRIx64 "\n", frame.registers.pc, frame.registers.sp);
         if (frame.registers.pc - base > UINT32_MAX)
             return 0;
-        result = arm64_caller_of(bytes, length, &image, sections, base, stack, stack_length, depth > 0, &frame);
+        uint32_t is_call = depth > 0 && !frame.interrupted;
+        result = arm64_caller_of(bytes, length, &image, sections, base, stack, stack_length, is_call, &frame);
     }
     if (result == PE_C_MISSING)
         printf("memory is missing at %" PRIx64 "\n", frame.address);

@@ -19,35 +19,8 @@ static pe_c_memory_piece pieces[MOST_PIECES];
 static pe_c_image_info image = PE_C_EMPTY;
 static pe_c_section sections[MOST_SECTIONS];
 
-/* The registers of the caller of a frame, in place. `is_call` is 1 where its rip is a return address; it is set to that of the
- * caller. PE_C_NOTHING where no function has made that call. */
-static uint32_t caller_of(uint64_t base, uint32_t *is_call, pe_c_frame *frame)
-{
-    size_t count = image.number_of_sections, code_length = 0;
-    uint64_t offset = 0;
-    uint32_t interrupted = 0;
-    pe_c_range table = PE_C_EMPTY;
-    frame->rva = (uint32_t)(frame->registers.rip - base);
-    uint32_t result = pe_c_function_table(bytes, length, &image, sections, count, &table);
-    if (result == PE_C_DONE)
-        result = pe_c_find_function(bytes, length, &table, frame->rva - *is_call, &frame->function);
-    if (result == PE_C_NOTHING && !*is_call) {
-        *is_call = 1;
-        return pe_c_leaf_pieces(memory, memory_length, pieces, piece_count, frame);
-    }
-    if (result != PE_C_DONE)
-        return result;
-    /* The code tells whether the top frame, or one that an interrupt stopped, is in an epilog. */
-    if (!*is_call && pe_c_offset(&image, sections, count, frame->rva, &offset) == PE_C_DONE && offset < length) {
-        code_length = frame->function.end - frame->rva;
-        if (code_length > length - offset)
-            code_length = 0;
-    }
-    result = pe_c_step_pieces(bytes, length, &image, sections, count, code_length ? bytes + offset : NULL, code_length,
-                              memory, memory_length, pieces, piece_count, frame, &interrupted);
-    *is_call = !interrupted;
-    return result;
-}
+/* Why a walk is over, by PE_C_END_*. */
+static const char *const ends[] = {"bound", "bottom", "no module", "no function", "records", "long chain", "step"};
 
 int main(int argc, char **argv)
 {
@@ -65,18 +38,18 @@ int main(int argc, char **argv)
     uint32_t result = pe_c_image(bytes, length, PE_C_PERMISSIVE, &image);
     if (result == PE_C_DONE)
         result = pe_c_sections(bytes, length, &image, sections, MOST_SECTIONS);
-    uint64_t base = strtoull(argv[2], NULL, 16);
-    uint32_t is_call = 0;
-    pe_c_frame frame = PE_C_EMPTY;
-    frame.registers.rip = strtoull(argv[3], NULL, 16);
-    frame.registers.general[4] = strtoull(argv[4], NULL, 16);
-    for (uint32_t depth = 0; result == PE_C_DONE && depth < MOST_FRAMES; depth++) {
-        printf("%" PRIx64 "\n", frame.registers.rip);
-        if (frame.registers.rip - base > UINT32_MAX)
-            return 0;
-        result = caller_of(base, &is_call, &frame);
-    }
-    if (result == PE_C_MISSING)
-        printf("memory is missing at %" PRIx64 "\n", frame.address);
+    pe_c_module module = {{bytes, length, &image, sections, image.number_of_sections}, {0, 0}, strtoull(argv[2], NULL, 16)};
+    if (result == PE_C_DONE)
+        result = pe_c_function_table(bytes, length, &image, sections, image.number_of_sections, &module.table);
+    if (result != PE_C_DONE && result != PE_C_NOTHING)
+        return status_of(result);
+    pe_c_stack_walk walk = PE_C_EMPTY;
+    walk.registers.rip = strtoull(argv[3], NULL, 16);
+    walk.registers.general[4] = strtoull(argv[4], NULL, 16);
+    walk.remaining = MOST_FRAMES;
+    while ((result = pe_c_next_frame(&module, 1, memory, memory_length, pieces, piece_count, &walk)) == PE_C_DONE)
+        printf("%" PRIx64 "\n", walk.registers.rip);
+    if (result == PE_C_NOTHING)
+        puts(ends[walk.end]);
     return status_of(result);
 }

@@ -126,6 +126,21 @@ static void step_x64(const struct file *file, const pe_c_function *function, int
     CALL(pe_c_leaf_pieces, other, stack, sizeof stack, pieces, 3, &other);
 }
 
+static void walk_stack(const struct file *file, const pe_c_range *table, const pe_c_function *function, int way)
+{
+    const pe_c_module modules[] = {{{BYTES, &file->image, sections, file->count}, *table, file->image.base}};
+    pe_c_stack_walk walk = PE_C_EMPTY, other, frames[6];
+    uint64_t filled = 0;
+    walk.registers = made_frame(file, function, way).registers;
+    walk.remaining = INNER;
+    other = walk;
+    for (int i = 0; i < 6; i++)
+        frames[i] = walk;
+    WALK(INNER + 1, pe_c_next_frame, walk, modules, 1, stack, sizeof stack, pieces, 3, &walk) {}
+    CALL(pe_c_next_frames, frames, modules, 1, stack, sizeof stack, pieces, 3, &other, frames, 6, &filled);
+    add(filled);
+}
+
 static void record_x64(const struct file *file, pe_c_record *record)
 {
     pe_c_code code = PE_C_EMPTY;
@@ -153,8 +168,10 @@ static void walk_x64(const struct file *file)
         WALK(RECORDS, pe_c_next_record, record, IMAGE, &table, &plan, &record)
             record_x64(file, &record);
         CALL(pe_c_unwind_record, record, IMAGE, &table, function.unwind, &record);
-        for (int way = 0; way < 4; way++)
+        for (int way = 0; way < 4; way++) {
             step_x64(file, &function, way);
+            walk_stack(file, &table, &function, way);
+        }
     }
 }
 

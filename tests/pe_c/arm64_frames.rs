@@ -73,8 +73,20 @@ fn frame_at(
             unwind_data,
         },
         rva: 0x5000 + 4 * place,
-        spare: 0x55,
+        interrupted: 0x55,
     }
+}
+
+/// The same after a step to a caller that has called.
+fn left_at(
+    unwind_data: u32,
+    place: u32,
+    registers: Arm64FrameRegisters,
+    stack_start: u64,
+) -> Arm64StackFrame {
+    let mut frame = frame_at(unwind_data, place, registers, stack_start);
+    frame.interrupted = 0;
+    frame
 }
 
 fn fields_of(registers: &Arm64FrameRegisters) -> ([u64; 31], [u64; 8], u64, u64) {
@@ -95,7 +107,7 @@ fn numbers_of(frame: &Arm64StackFrame) -> (([u64; 31], [u64; 8], u64, u64), [u64
     (
         fields_of(&frame.registers),
         [frame.stack_start, frame.address],
-        [begin_address, unwind_data, frame.rva, frame.spare],
+        [begin_address, unwind_data, frame.rva, frame.interrupted],
     )
 }
 
@@ -127,6 +139,9 @@ fn with_records(alloc: Global) -> Result<Vec<u8>, AllocError> {
             (0x50, &[0, 4, 0x20, 8, 0x01, 0xE3, 0xE3, 0xE0]),
             // a version of 1
             (0x60, &[0, 4, 0x24, 8, 0xE4, 0xE3, 0xE3, 0xE3]),
+            // a frame that the processor pushed, and the mark of a call that is cleared
+            (0x70, &[0, 4, 0x20, 8, 0xE9, 0xE4, 0xE3, 0xE3]),
+            (0x80, &[0, 4, 0x20, 8, 0xEC, 0xE4, 0xE3, 0xE3]),
         ],
     )
 }
@@ -167,7 +182,7 @@ fn steps_undo_a_prolog(rt: HostRuntime) -> Result<(), Fail> {
     registers.floats[1] = 5;
     let mut frame = frame_at(0x1010, 5, registers, start);
     assert_eq!(rt; step(&bytes, &stack, &mut frame), DONE);
-    let wanted = frame_at(0x1010, 5, caller, start);
+    let wanted = left_at(0x1010, 5, caller, start);
     assert_eq!(rt; numbers_of(&frame), numbers_of(&wanted));
     // Before the first instruction nothing has run.
     let mut frame = frame_at(0x1010, 0, changed(ENTRY, &[]), start);
@@ -178,6 +193,28 @@ fn steps_undo_a_prolog(rt: HostRuntime) -> Result<(), Fail> {
     let mut frame = frame_at(0x1020, 8, changed(ENTRY - 32, &[(19, 1)]), ENTRY - 32);
     assert_eq!(rt; step(&bytes, &words, &mut frame), DONE);
     assert_eq!(rt; fields_of(&frame.registers), fields_of(&caller));
+    Ok(())
+}
+
+/// A step says where no call left the caller. A pushed frame has its stack pointer and its instruction pointer.
+#[test]
+fn steps_tell_interrupts(rt: HostRuntime) -> Result<(), Fail> {
+    let bytes = with_records(rt.alloc())?;
+    let stack = stack_of(rt.alloc(), &[0x7_0000, 0x1_2345])?;
+    let registers = changed(ENTRY, &[]);
+    let mut pushed = registers;
+    pushed.sp = 0x7_0000;
+    pushed.pc = 0x1_2345;
+    for (data, caller) in [(0x1070, pushed), (0x1080, of_caller())] {
+        let mut frame = frame_at(data, 9, registers, ENTRY);
+        assert_eq!(rt; step(&bytes, &stack, &mut frame), DONE, "of {data:#x}");
+        assert_eq!(rt;
+            fields_of(&frame.registers),
+            fields_of(&caller),
+            "of {data:#x}"
+        );
+        assert_eq!(rt; frame.interrupted, 1, "of {data:#x}");
+    }
     Ok(())
 }
 
@@ -197,7 +234,7 @@ fn steps_undo_packed_data(rt: HostRuntime) -> Result<(), Fail> {
     ] {
         let mut frame = frame_at(data, place, registers, ENTRY - 16);
         assert_eq!(rt; step(&bytes, &stack, &mut frame), DONE, "at {place}");
-        let wanted = frame_at(data, place, caller, ENTRY - 16);
+        let wanted = left_at(data, place, caller, ENTRY - 16);
         assert_eq!(rt; numbers_of(&frame), numbers_of(&wanted), "at {place}");
     }
     Ok(())
@@ -273,7 +310,7 @@ fn leaves_a_leaf(rt: HostRuntime) {
     assert_eq!(rt; pe_c_leaf_arm64(&mut frame), DONE);
     assert_eq!(rt;
         numbers_of(&frame),
-        numbers_of(&frame_at(7, 8, of_caller(), 9))
+        numbers_of(&left_at(7, 8, of_caller(), 9))
     );
 }
 
@@ -312,8 +349,11 @@ fn steps_read_memory_in_pieces(rt: HostRuntime) -> Result<(), Fail> {
             &mut frame,
         );
         assert_eq!(rt; answer, number);
-        let left = if number == DONE { caller } else { registers };
-        let mut wanted = frame_at(data, 3, left, 0);
+        let mut wanted = if number == DONE {
+            left_at(data, 3, caller, 0)
+        } else {
+            frame_at(data, 3, registers, 0)
+        };
         wanted.address = address;
         assert_eq!(rt; numbers_of(&frame), numbers_of(&wanted));
     }

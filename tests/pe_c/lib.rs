@@ -28,6 +28,7 @@ mod rich_header;
 mod section_names;
 mod signing;
 mod stack_frames;
+mod stack_walks;
 mod te;
 mod tls;
 mod unwinding;

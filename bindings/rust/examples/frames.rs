@@ -1,20 +1,16 @@
-use pe_c::{End, Frame, Frames, Image, MachineRegisters, Module, Stack};
+use pe_c::{End, Frame, Frames, Image, MachineRegisters, MemoryList, MemoryPiece, Module, Stack};
 
 /// The frames of a thread, from the top frame outwards, at most 1,000, and why there are no more: on x64 by `Registers`, on ARM64
-/// by `Arm64Registers`. The images are those of the thread's process, each with the address where it is loaded, in ascending
-/// order.
+/// by `Arm64Registers`. The images are those of the thread's process, each with the address where it is loaded.
 pub fn backtrace<R: MachineRegisters>(
     images: &[(u64, Image<'_>)],
     registers: R,
     stack: Stack<'_>,
-) -> (Vec<Frame<R>>, Option<End>) {
-    let module = |address| {
-        let index = images.partition_point(|(base, _)| *base <= address).checked_sub(1)?;
-        let (base, image) = images.get(index)?;
-        Some(Module { image, base: *base })
-    };
-    let mut frames = Frames::new(registers, 1000, module, |_| Some(stack));
-    (frames.by_ref().collect(), frames.end())
+) -> Result<(Vec<Frame<R>>, Option<End>), pe_c::Error> {
+    let modules = images.iter().map(|(base, image)| Module::new(image, *base)).collect::<Result<Vec<_>, _>>()?;
+    let pieces = [MemoryPiece { start: stack.start, offset: 0, length: stack.bytes.len() as u64 }];
+    let mut frames = Frames::new(registers, 1000, &modules, MemoryList::new(stack.bytes, &pieces)?);
+    Ok((frames.by_ref().collect(), frames.end()))
 }
 
 fn main() -> Result<(), Box<dyn std::error::Error>> {
@@ -29,7 +25,7 @@ fn main() -> Result<(), Box<dyn std::error::Error>> {
     let stack = Stack { start: 0x2_0000, bytes: &bytes };
     let mut registers = pe_c::Registers { rip: *rip, ..Default::default() };
     registers.set_rsp(stack.start);
-    let (frames, end) = backtrace(&[(*base, image)], registers, stack);
+    let (frames, end) = backtrace(&[(*base, image)], registers, stack)?;
     for frame in frames {
         println!("{:x}", frame.registers.rip);
     }

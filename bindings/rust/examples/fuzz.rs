@@ -409,6 +409,26 @@ fn read_by_lies(bytes: &[u8], random: &mut Random, seen: &mut Seen) {
         let leaf = sys::pe_c_leaf(start, length, &mut frame);
         seen.refusals += u64::from(step != 0) + u64::from(leaf != 0);
     }
+    let view = sys::View { bytes: start, length, image: &image, sections: first, count };
+    let table = call_of_image!(pe_c_function_table(), Range);
+    let piece = sys::MemoryPiece { start: random.edge(number), offset: 0, length: length as u64 };
+    let lie = sys::MemoryPiece { offset: range.offset, length: range.length, ..piece };
+    for (table, pieces) in [(table, [piece; 2]), (range, [piece; 2]), (table, [piece, lie])] {
+        let modules = [sys::Module { image: view, table, base: image.base }; 2];
+        let registers = sys::Registers { rip: image.base.wrapping_add(u64::from(few % 96)), ..frame.registers };
+        let mut walk = sys::StackWalk { registers, remaining: u64::from(few % 32), way: few % 8, ..Default::default() };
+        let (mut frames, mut filled) = ([sys::StackWalk::default(); 3], 0);
+        for _ in 0..MOST {
+            // SAFETY: as above. The bytes of the image stand for memory.
+            unsafe {
+                let (list, many) = (pieces.as_ptr(), pieces.len());
+                sys::pe_c_next_frame(modules.as_ptr(), 2, start, length, list, many, &mut walk);
+                let room = frames.as_mut_ptr();
+                sys::pe_c_next_frames(modules.as_ptr(), 2, start, length, list, many, &mut walk, room, 3, &mut filled);
+            }
+            assert!(filled <= 3);
+        }
+    }
     let mut frame = sys::Arm64Frame {
         registers: sys::Arm64Registers {
             general: [random.edge(number); 31],

@@ -97,7 +97,7 @@ impl fmt::Display for StepError {
 impl core::error::Error for StepError {}
 
 /// The registers after a step, by the number that it returned, or its error with the address that it speaks of.
-fn stepped<R>(number: u32, registers: R, address: u64) -> Result<R, StepError> {
+pub(crate) fn stepped<R>(number: u32, registers: R, address: u64) -> Result<R, StepError> {
     let error = Error::with_number(number);
     match error {
         _ if number == sys::DONE => Ok(registers),
@@ -279,7 +279,8 @@ impl Arm64Functions<'_, '_> {
         stepped(number, frame.registers, frame.address)
     }
 
-    /// The same over memory in pieces.
+    /// The frame of a function's caller over memory in pieces: its registers, as [`step`](Arm64Functions::step) returns them, and
+    /// how they were found, by [`Way::Interrupt`] where the codes say that no call left them, else by [`Way::Records`].
     ///
     /// # Errors
     ///
@@ -290,11 +291,13 @@ impl Arm64Functions<'_, '_> {
         rva: u32,
         registers: &Arm64Registers,
         memory: MemoryList<'_>,
-    ) -> Result<Arm64Registers, StepError> {
+    ) -> Result<Frame<Arm64Registers>, StepError> {
         let registers = *registers;
         let mut frame = sys::Arm64Frame { registers, function, rva, ..Default::default() };
         let number = self.image().step_arm64_pieces(memory, &mut frame);
-        stepped(number, frame.registers, frame.address)
+        let registers = stepped(number, frame.registers, frame.address)?;
+        let (way, has_called) = if frame.interrupted == 0 { (Way::Records, true) } else { (Way::Interrupt, false) };
+        Ok(Frame { registers, way, has_called })
     }
 }
 

@@ -129,7 +129,7 @@ pub use relocations::{Relocation, RelocationBlock, RelocationBlocks, Relocations
 pub use resources::{ResourceLeaf, ResourceLeaves, ResourceName};
 pub use rich_header::{RichEntries, RichEntry, RichHeader};
 pub use signing::{Checksum, DigestRanges, Placement};
-pub use stack_walk::{End, Frame, Frames, MachineRegisters, Module, WalkMemory, Way};
+pub use stack_walk::{End, Frame, Frames, MachineRegisters, Module, Way};
 pub use symbol_server::{Guid, SymbolPath};
 pub use sys::{
     Arm64Function, Arm64Packed, Arm64Registers, Arm64Scope, CoffHeader, DebugEntry, Directory, DosHeader, Function,

@@ -531,6 +531,41 @@ Frame, 424 {
     /// `rip` less the address where the image is loaded; [`pe_c_leaf`] does not read it.
     rva: u32,
 });
+/// A module of a process on x64: its image, which has as many bytes where it is loaded as `size_of_image` says. What the view leads
+/// to stays readable as long as the record is passed.
+#[repr(C)]
+#[derive(Clone, Copy, Debug)]
+pub struct Module {
+    /// The image.
+    pub image: View,
+    /// The range of its function table; all 0 where it has none.
+    pub table: Range,
+    /// The address where it is loaded.
+    pub base: u64,
+}
+
+record!(
+/// A walk of a stack on x64, and the frame that was returned last.
+StackWalk, 432 {
+    /// Inside the function of the frame; before the first call those of the thread.
+    registers: Registers,
+    /// How many frames follow at most; 0 once the walk is over.
+    remaining: u64,
+    /// Of a walk that is over the address that its error speaks of, or 0.
+    address: u64,
+    /// 0 before the first call, else 1.
+    has_returned: u32,
+    /// How the frame was found, by the numbers of [`Way`](crate::Way) from 0 on.
+    way: u32,
+    /// 1 where the function of the frame has called, else 0.
+    has_called: u32,
+    /// Why the walk is over, by the numbers of [`End`](crate::End) from 0 on.
+    end: u32,
+    /// Of a walk that is over the number of its error, or 0.
+    error: u32,
+    /// 0.
+    spare: u32,
+});
 record!(
 /// A piece of memory: its address, and where in a memory that is passed its bytes are, as a minidump has it.
 MemoryPiece, 24 {
@@ -652,8 +687,8 @@ Arm64Frame, 360 {
     function: Arm64Function,
     /// `pc` less the address where the image is loaded; [`pe_c_leaf_arm64`] does not read it.
     rva: u32,
-    /// 0.
-    spare: u32,
+    /// After a step 1 where no call left the caller, else 0.
+    interrupted: u32,
 });
 record!(
 /// A walk over exports.
@@ -1314,6 +1349,29 @@ extern "C" {
         piece_count: usize,
         frame: *mut Frame,
         interrupted: *mut u32,
+    ) -> u32;
+    /// Returns the next frame of a stack walk on x64, in the walk.
+    pub fn pe_c_next_frame(
+        modules: *const Module,
+        module_count: usize,
+        memory: *const u8,
+        memory_length: usize,
+        pieces: *const MemoryPiece,
+        piece_count: usize,
+        walk: *mut StackWalk,
+    ) -> u32;
+    /// Fills `frames` with the next frames of a stack walk on x64, each the walk as it is after that frame.
+    pub fn pe_c_next_frames(
+        modules: *const Module,
+        module_count: usize,
+        memory: *const u8,
+        memory_length: usize,
+        pieces: *const MemoryPiece,
+        piece_count: usize,
+        walk: *mut StackWalk,
+        frames: *mut StackWalk,
+        frame_count: usize,
+        count: *mut u64,
     ) -> u32;
     /// Finds the registers of an ARM64 function's caller, and writes them over those of the frame.
     pub fn pe_c_step_arm64(

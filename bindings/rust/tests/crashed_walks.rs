@@ -3,7 +3,7 @@
 mod made;
 
 use made::{Made, ADDRESS, CALL, EXCEPTIONS, X64};
-use pe_c::{End, Frames, Image, MemoryList, MemoryPiece, Mode, Module, Registers, Stack, StepError, Way};
+use pe_c::{End, Frames, Image, MemoryList, MemoryPiece, Mode, Module, Registers, StepError, Way};
 
 /// Where the image is loaded.
 const BASE: u64 = 0x1_8000_0000;
@@ -41,6 +41,7 @@ const OUTERMOST: [u64; 7] = [AFTER_CALL, 0, 0, 0, 0, 0xB0, 0];
 fn program(characteristics: u32) -> Vec<u8> {
     let mut made = Made::new(X64);
     made.characteristics = characteristics;
+    made.size_of_image = 0x2000;
     made.content.resize(0x80, 0);
     made.content[0x0B..0x10].copy_from_slice(&CALL);
     made.content[0x38..0x3A].copy_from_slice(&JUMP);
@@ -56,21 +57,20 @@ fn program(characteristics: u32) -> Vec<u8> {
 fn walk(characteristics: u32, rip: u64, rsp: u64, words: &[u64]) -> (Vec<Found>, End) {
     let file = program(characteristics);
     let image = Image::parse(&file, Mode::Permissive).unwrap();
-    let module =
-        |address: u64| (BASE..BASE + 0x2000).contains(&address).then_some(Module { image: &image, base: BASE });
+    let modules = [Module::new(&image, BASE).unwrap()];
     let mut registers = Registers { rip, ..Registers::default() };
     registers.set_rsp(rsp);
     let bytes: Vec<u8> = words.iter().flat_map(|word| word.to_le_bytes()).collect();
     let found = |frame: pe_c::Frame| (frame.registers.rip, frame.registers.rsp(), frame.way, frame.has_called);
-    let stack = Stack { start: STACK, bytes: &bytes };
-    let mut frames = Frames::new(registers, 100, module, |_| Some(stack));
+    let piece = [MemoryPiece { start: STACK, offset: 0, length: bytes.len() as u64 }];
+    let mut frames = Frames::new(registers, 100, &modules, MemoryList::new(&bytes, &piece).unwrap());
     let one = (frames.by_ref().map(found).collect(), frames.end().unwrap());
     let half = bytes.len() as u64 / 2;
     let pieces = [
         MemoryPiece { start: STACK + half, offset: half, length: bytes.len() as u64 - half },
         MemoryPiece { start: STACK, offset: 0, length: half },
     ];
-    let mut frames = Frames::over(registers, 100, module, MemoryList::new(&bytes, &pieces).unwrap());
+    let mut frames = Frames::new(registers, 100, &modules, MemoryList::new(&bytes, &pieces).unwrap());
     assert_eq!((frames.by_ref().map(found).collect(), frames.end().unwrap()), one);
     one
 }

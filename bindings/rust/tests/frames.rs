@@ -4,7 +4,7 @@ mod made;
 
 use pe_c::{
     sys, Arm64Registers, End, Error, Frame, Frames, Function, Image, MemoryList, MemoryPiece, Mode, Module, Registers,
-    Stack, StepError, WalkMemory, Way,
+    Stack, StepError, Way,
 };
 
 /// Where the image is loaded.
@@ -40,15 +40,18 @@ fn image_of(file: &[u8]) -> Image<'_> {
     Image::parse(file, Mode::Permissive).unwrap()
 }
 
+/// An image as a module.
+fn module<'m>(image: &'m Image<'m>, base: u64) -> Module<'m> {
+    Module::new(image, base).unwrap()
+}
+
 /// The bytes of a stack, from `ENTRY - 8` on.
 fn stack_of(bytes: &[u8]) -> Stack<'_> {
     Stack { start: ENTRY - 8, bytes }
 }
 
 /// All frames of a walk, and why it ended.
-fn all_of<'m>(
-    mut frames: Frames<impl FnMut(u64) -> Option<Module<'m>>, impl WalkMemory>,
-) -> (Vec<(u64, u64, Way)>, Option<End>) {
+fn all_of(mut frames: Frames<'_>) -> (Vec<(u64, u64, Way)>, Option<End>) {
     let found = frames.by_ref().map(|it| (it.registers.rip, it.registers.rsp(), it.way)).collect();
     assert_eq!(frames.next(), None);
     (found, frames.end())
@@ -58,8 +61,8 @@ fn all_of<'m>(
 fn walk(registers: Registers, most: usize, bytes: &[u8]) -> (Vec<(u64, u64, Way)>, Option<End>) {
     let file = made::with_calls();
     let image = image_of(&file);
-    let module = |address: u64| address.checked_sub(BASE).map(|_| Module { image: &image, base: BASE });
-    all_of(Frames::new(registers, most, module, |_| Some(stack_of(bytes))))
+    let pieces = [piece(ENTRY - 8, 0, bytes.len())];
+    all_of(Frames::new(registers, most, &[module(&image, BASE)], MemoryList::new(bytes, &pieces).unwrap()))
 }
 
 #[test]
@@ -92,8 +95,8 @@ fn a_leaf_function_is_the_top_frame_alone() {
     registers.set_rsp(ENTRY + 8);
     let both = vec![(BASE + 0x1100, ENTRY + 8, Way::Top), (1, ENTRY + 16, Way::Leaf)];
     assert_eq!(walk(registers, 100, &bytes), (both, Some(End::NoModule)));
-    // The image has no byte there, though its module was named; and no RVA is that large, though its low 32 bits are one of
-    // the leaf function: a wild pointer was called, if a call ends where it returns to.
+    // After the end of the module, and where the low 32 bits are those of the leaf function: a wild pointer was called, if a call
+    // ends where it returns to.
     for wild in [BASE + 0x6000, BASE + 0x1100 + (1 << 32)] {
         registers.rip = wild;
         registers.set_rsp(ENTRY);
@@ -169,25 +172,6 @@ fn a_step_says_why_there_is_no_caller() {
     assert_eq!((error, error.error()), (StepError::Missing(0x1000), Error::MISSING));
     assert_eq!(error.to_string(), "memory is missing: 0x1000");
     assert_eq!(registers().leaf(Stack { start: 0, bytes: &[] }), Err(StepError::Missing(ENTRY - 40)));
-}
-
-/// A step whose piece misses an address is made again over the piece of that address alone.
-#[test]
-fn a_walk_reads_the_piece_that_is_asked_for() {
-    let file = made::with_calls();
-    let image = image_of(&file);
-    let bytes = stack_bytes();
-    let module = |address: u64| address.checked_sub(BASE).map(|_| Module { image: &image, base: BASE });
-    let mut asked = Vec::new();
-    let memory = |address| {
-        asked.push(address);
-        (address >= ENTRY - 8).then_some(stack_of(&bytes))
-    };
-    let mut frames = Frames::new(registers(), 3, module, memory);
-    assert_eq!((frames.by_ref().count(), frames.end()), (2, Some(End::Bottom)));
-    // Then the words after the last return address, of which none leads on.
-    assert_eq!(asked[..5], [ENTRY - 40, ENTRY - 8, ENTRY + 8, OUTER + 8, OUTER + 8]);
-    assert_eq!(asked.iter().max(), Some(&(OUTER + 1024)));
 }
 
 #[test]
@@ -363,11 +347,9 @@ fn arm64_registers() -> Arm64Registers {
 fn arm64_walk(registers: Arm64Registers, most: usize, words: &[u64]) -> (Vec<Frame<Arm64Registers>>, Option<End>) {
     let (calls, others, bytes) = (made::with_arm64_calls(), arm64_bytes(), bytes_of(words));
     let images = [(CALLS, image_of(&calls)), (MORE_CALLS, image_of(&calls)), (OTHERS, image_of(&others))];
-    let module = |address: u64| {
-        let (base, image) = images.iter().rev().find(|(base, _)| *base <= address)?;
-        Some(Module { image, base: *base })
-    };
-    let mut frames = Frames::new(registers, most, module, |_| Some(Stack { start: SP, bytes: &bytes }));
+    let modules = images.each_ref().map(|(base, image)| module(image, *base));
+    let pieces = [piece(SP, 0, bytes.len())];
+    let mut frames = Frames::new(registers, most, &modules, MemoryList::new(&bytes, &pieces).unwrap());
     let found = frames.by_ref().collect();
     assert_eq!(frames.next(), None);
     (found, frames.end())
@@ -427,7 +409,7 @@ fn an_arm64_leaf_function_is_the_top_frame_alone() {
     let both = [(OTHERS + 0x1100, SP, Way::Top), (OTHERS + 0x1104, SP, Way::Leaf)];
     let (frames, end) = arm64_walk(registers, 100, &words);
     assert_eq!((arm64_pointers(&frames), end), (both.to_vec(), Some(End::NoFunction)));
-    // The image has no byte there, though its module was named.
+    // After the end of the module.
     registers.pc = OTHERS + 0x6000;
     let (frames, end) = arm64_walk(registers, 100, &words);
     assert_eq!((frames.len(), end), (1, Some(End::NoModule)));
@@ -464,23 +446,42 @@ fn an_arm64_walk_ends_where_the_stack_does_not_rise() {
     assert_eq!((frames.len(), end), (3, Some(End::Step(StepError::NotRising(SP + 24)))));
 }
 
-/// Two modules side by side: one at `BASE`, and one at `next`.
-fn side_by_side<'m>(first: &'m Image<'m>, second: &'m Image<'m>, next: u64) -> impl Fn(u64) -> Option<Module<'m>> {
-    move |address| match address {
-        _ if address < BASE => None,
-        _ if address < next => Some(Module { image: first, base: BASE }),
-        _ => Some(Module { image: second, base: next }),
-    }
+/// A frame past one that the processor pushed is looked up by its own address, here that of its function's first byte.
+#[test]
+fn an_arm64_walk_goes_past_an_interrupt() {
+    let mut made = made::Made::new(made::ARM64);
+    let table = made.next();
+    made.content.resize(16, 0);
+    // of 16 instructions each: a machine frame, and save_fplr_x of 16 bytes
+    let pushed = made.put(&[0x10, 0, 0x20, 8, 0xE9, 0xE4, 0xE3, 0xE3]);
+    let stored = made.put(&[0x10, 0, 0x20, 8, 0x81, 0xE4, 0xE3, 0xE3]);
+    let entries: Vec<u8> = [0x5000, pushed, 0x5040, stored].iter().flat_map(|word: &u32| word.to_le_bytes()).collect();
+    made.content[..16].copy_from_slice(&entries);
+    made.directory(made::EXCEPTIONS, table, 16);
+    let (file, bytes) = (made.image(), bytes_of(&[SP + 64, BASE + 0x5040]));
+    let image = image_of(&file);
+    let (modules, pieces) = ([module(&image, BASE)], [piece(SP, 0, bytes.len())]);
+    let mut registers = Arm64Registers { pc: BASE + 0x5010, sp: SP, ..Arm64Registers::default() };
+    registers.set_lr(0);
+    let mut frames = Frames::new(registers, 100, &modules, MemoryList::new(&bytes, &pieces).unwrap());
+    let found: Vec<_> = frames.by_ref().map(|it| (it.registers.pc, it.registers.sp, it.way, it.has_called)).collect();
+    let interrupted = (BASE + 0x5040, SP + 64, Way::Interrupt, false);
+    assert_eq!(found, [(BASE + 0x5010, SP, Way::Top, false), interrupted]);
+    assert_eq!(frames.end(), Some(End::Bottom));
 }
 
 /// A module may end with a call, so that the return address is the start of the next module.
 #[test]
 fn a_call_may_be_the_end_of_its_module() {
-    let (x64, arm64) = (made::with_calls(), made::with_arm64_calls());
+    let (mut x64, mut arm64) = (made::with_calls(), made::with_arm64_calls());
+    // The outer frame's function ends at 0x5020, as its module does. `SizeOfImage` is at 0x90.
+    x64[0x90..0x94].copy_from_slice(&0x5020u32.to_le_bytes());
+    arm64[0x90..0x94].copy_from_slice(&0x5040u32.to_le_bytes());
     let (x64, arm64) = (image_of(&x64), image_of(&arm64));
-    // The outer frame's function ends at 0x5020.
     let bytes = stack_bytes();
-    let frames = Frames::new(registers(), 9, side_by_side(&x64, &arm64, BASE + 0x5020), |_| Some(stack_of(&bytes)));
+    let pieces = [piece(ENTRY - 8, 0, bytes.len())];
+    let modules = [module(&x64, BASE), module(&arm64, BASE + 0x5020)];
+    let frames = Frames::new(registers(), 9, &modules, MemoryList::new(&bytes, &pieces).unwrap());
     assert_eq!(frames.map(|it| it.registers.rip).collect::<Vec<_>>(), [BASE + 0x500C, BASE + 0x5020]);
     // The second function ends at 0x5040, and called the first one.
     let next = BASE + 0x5040;
@@ -488,8 +489,9 @@ fn a_call_may_be_the_end_of_its_module() {
     registers.set_lr(next);
     registers.general[29] = SP + 32;
     let bytes = bytes_of(&[0; 6]);
-    let stack = Stack { start: SP, bytes: &bytes };
-    let frames = Frames::new(registers, 9, side_by_side(&arm64, &x64, next), |_| Some(stack));
+    let pieces = [piece(SP, 0, bytes.len())];
+    let modules = [module(&arm64, BASE), module(&x64, next)];
+    let frames = Frames::new(registers, 9, &modules, MemoryList::new(&bytes, &pieces).unwrap());
     let found: Vec<_> = frames.map(|it| (it.registers.pc, it.registers.sp)).collect();
     assert_eq!(found, [(BASE + 0x5000, SP), (next, SP)]);
 }
@@ -502,38 +504,20 @@ fn an_arm64_walk_says_which_unwind_data_are_refused() {
     assert_eq!((frames.len(), end), (1, Some(End::Step(StepError::Records(Error::BAD_OPERATION)))));
 }
 
-/// A step whose piece misses an address is made again over the piece of that address alone.
-#[test]
-fn an_arm64_walk_reads_the_piece_that_is_asked_for() {
-    let (file, words) = (made::with_arm64_calls(), arm64_stack());
-    let image = image_of(&file);
-    let module = |address: u64| address.checked_sub(MORE_CALLS).map(|_| Module { image: &image, base: MORE_CALLS });
-    let bytes = bytes_of(&words[10..]);
-    let mut asked = Vec::new();
-    let memory = |address| {
-        asked.push(address);
-        (address >= SP + 80).then_some(Stack { start: SP + 80, bytes: &bytes })
-    };
-    let mut registers = Arm64Registers { pc: MORE_CALLS + 0x5034, sp: SP + 48, ..Arm64Registers::default() };
-    registers.general[29] = SP + 80;
-    let frames: Vec<_> = Frames::new(registers, 2, module, memory).collect();
-    assert_eq!(arm64_pointers(&frames)[1], (OTHERS + 0x5118, SP + 96, Way::Records));
-    assert_eq!(asked[0], SP + 48);
-    assert!(asked.len() == 2 && (SP + 80..SP + 96).contains(&asked[1]), "{asked:x?}");
-}
-
 /// An image of one machine has no functions of the other.
 #[test]
 fn walks_on_the_other_machine_find_no_function() {
     let (x64, arm64) = (made::with_functions(), made::with_arm64_calls());
     let (x64, arm64) = (image_of(&x64), image_of(&arm64));
-    let memory = |_| Some(Stack { start: SP, bytes: &[0; 64] });
-    let module = |address| (address == BASE + 0x5004).then_some(Module { image: &arm64, base: BASE });
-    let mut frames = Frames::new(Registers { rip: BASE + 0x5004, ..Registers::default() }, 9, module, memory);
-    assert_eq!((frames.by_ref().count(), frames.end()), (1, Some(End::NoModule)));
-    let module = |address| (address == BASE + 0x5004).then_some(Module { image: &x64, base: BASE });
-    let mut frames = Frames::new(Arm64Registers { pc: BASE + 0x5004, ..Arm64Registers::default() }, 9, module, memory);
-    assert_eq!((frames.by_ref().count(), frames.end()), (1, Some(End::NoModule)));
+    let pieces = [piece(SP, 0, 64)];
+    let memory = MemoryList::new(&[0; 64], &pieces).unwrap();
+    let (modules, registers) = ([module(&arm64, BASE)], Registers { rip: BASE + 0x5004, ..Registers::default() });
+    let mut frames = Frames::new(registers, 9, &modules, memory);
+    assert_eq!((frames.by_ref().count(), frames.end()), (1, Some(End::Step(StepError::Missing(0)))));
+    let (modules, registers) =
+        ([module(&x64, BASE)], Arm64Registers { pc: BASE + 0x5004, ..Arm64Registers::default() });
+    let mut frames = Frames::new(registers, 9, &modules, memory);
+    assert_eq!((frames.by_ref().count(), frames.end()), (1, Some(End::Bottom)));
 }
 
 /// Any numbers in a frame on ARM64 are legal.
@@ -591,8 +575,7 @@ fn cut(bytes: &[u8], start: u64, lengths: &[usize]) -> (Vec<u8>, Vec<MemoryPiece
 fn walk_over(registers: Registers, memory: MemoryList<'_>) -> (Vec<(u64, u64, Way)>, Option<End>) {
     let file = made::with_calls();
     let image = image_of(&file);
-    let module = |address: u64| address.checked_sub(BASE).map(|_| Module { image: &image, base: BASE });
-    all_of(Frames::over(registers, 100, module, memory))
+    all_of(Frames::new(registers, 100, &[module(&image, BASE)], memory))
 }
 
 /// Words stand in pieces that touch inside of them, in any order.
@@ -716,17 +699,14 @@ fn a_step_over_a_piece_is_one_over_pieces() {
 fn an_arm64_walk_reads_memory_in_pieces() {
     let (calls, others) = (made::with_arm64_calls(), arm64_bytes());
     let images = [(CALLS, image_of(&calls)), (MORE_CALLS, image_of(&calls)), (OTHERS, image_of(&others))];
-    let module = |address: u64| {
-        let (base, image) = images.iter().rev().find(|(base, _)| *base <= address)?;
-        Some(Module { image, base: *base })
-    };
+    let modules = images.each_ref().map(|(base, image)| module(image, *base));
     let words = arm64_stack();
     let whole = arm64_walk(arm64_registers(), 100, &words);
     for lengths in [&[912][..], &[1], &[7, 30]] {
         let (memory, mut pieces) = cut(&bytes_of(&words), SP, lengths);
         let walk = |pieces: &[MemoryPiece]| {
             let list = MemoryList::new(&memory, pieces).unwrap();
-            let mut frames = Frames::over(arm64_registers(), 100, module, list);
+            let mut frames = Frames::new(arm64_registers(), 100, &modules, list);
             (frames.by_ref().collect::<Vec<_>>(), frames.end())
         };
         assert_eq!(walk(&pieces), whole);
@@ -751,7 +731,6 @@ fn an_interrupt_is_one_that_was_undone() {
     made.directory(made::EXCEPTIONS, table, 12);
     let file = made.image();
     let image = image_of(&file);
-    let module = |address: u64| address.checked_sub(BASE).map(|_| Module { image: &image, base: BASE });
     // rip, cs, the flags, rsp, ss.
     let bytes = bytes_of(&[0x1234, 0x33, 0, 0x100, 0x2B]);
     let pieces = [piece(ENTRY, 0, 40)];
@@ -759,9 +738,7 @@ fn an_interrupt_is_one_that_was_undone() {
     for (offset, found) in [(0, (0x1234, 0x100, Way::Interrupt)), (3, (0x1234, ENTRY + 8, Way::Records))] {
         let mut registers = Registers { rip: BASE + u64::from(start + offset), ..Registers::default() };
         registers.set_rsp(ENTRY);
-        let stack = Stack { start: ENTRY, bytes: &bytes };
         let of = |frame: Frame| (frame.registers.rip, frame.registers.rsp(), frame.way);
-        assert_eq!(Frames::new(registers, 9, module, |_| Some(stack)).nth(1).map(of), Some(found));
-        assert_eq!(Frames::over(registers, 9, module, list).nth(1).map(of), Some(found));
+        assert_eq!(Frames::new(registers, 9, &[module(&image, BASE)], list).nth(1).map(of), Some(found));
     }
 }

@@ -7,8 +7,8 @@ mod made;
 use facts::as_loaded;
 use made::*;
 use pe_c::{
-    Arm64Unwinding, DirectoryIndex, Error, Frames, Handler, Image, Layout, Mode, Module, Registers, Repro, Stack, Text,
-    VersionName, Way,
+    Arm64Unwinding, DirectoryIndex, Error, Frames, Handler, Image, Layout, MemoryList, MemoryPiece, Mode, Module,
+    Registers, Repro, Text, VersionName, Way,
 };
 
 fn strict(bytes: &[u8]) -> Image<'_> {
@@ -342,8 +342,9 @@ fn interrupts_stop_functions_at_their_start() {
     let stack: Vec<u8> = words.iter().flat_map(|it: &u64| it.to_le_bytes()).collect();
     let mut registers = Registers { rip: BASE + 0x5018, ..Registers::default() };
     registers.set_rsp(0x1_0000);
-    let module = |address: u64| (address >= BASE).then_some(Module { image: &image, base: BASE });
-    let frames = Frames::new(registers, 9, module, |_| Some(Stack { start: 0x1_0000, bytes: &stack }));
+    let modules = [Module::new(&image, BASE).unwrap()];
+    let pieces = [MemoryPiece { start: 0x1_0000, offset: 0, length: stack.len() as u64 }];
+    let frames = Frames::new(registers, 9, &modules, MemoryList::new(&stack, &pieces).unwrap());
     let found: Vec<_> = frames.map(|it| (it.registers.rip, it.registers.rsp(), it.way)).collect();
     let wanted = [
         (BASE + 0x5018, 0x1_0000, Way::Top),
@@ -372,8 +373,9 @@ fn only_the_top_frame_is_in_an_epilog() {
         let stack: Vec<u8> = words.iter().flat_map(|it| it.to_le_bytes()).collect();
         let mut registers = Registers { rip: BASE + u64::from(rva), ..Registers::default() };
         registers.set_rsp(rsp);
-        let module = |address: u64| (address >= BASE).then_some(Module { image: &image, base: BASE });
-        let frames = Frames::new(registers, 9, module, |_| Some(Stack { start: 0x1_0000, bytes: &stack }));
+        let modules = [Module::new(&image, BASE).unwrap()];
+        let pieces = [MemoryPiece { start: 0x1_0000, offset: 0, length: stack.len() as u64 }];
+        let frames = Frames::new(registers, 9, &modules, MemoryList::new(&stack, &pieces).unwrap());
         frames.map(|it| (it.registers.rip, it.registers.rsp(), it.registers.general[5], it.way)).collect()
     };
     let start = BASE + u64::from(code);

@@ -40,3 +40,7 @@ pub mod SymbolRuns
 pub mod Failures
 pub mod SymbolTexts
 pub mod TeRanges
+pub mod ViewedModules
+pub mod WalkFrames
+pub mod NextFrames
+pub mod FrameRuns

@@ -1,14 +1,14 @@
 -- One step of a stack walk on ARM64: the registers of a function's caller, by the function's unwind data in an image.
-use Rattle.std.specs.Prelude.{◌≡◌, ℕ, ◌-◌, ◌/◌, List, Option, Some, None, Result, Ok, Err}
+use Rattle.std.specs.Prelude.{◌≡◌, ℕ, ◌-◌, ◌/◌, Bool, if◌then◌else◌, List, Option, Some, None, Result, Ok, Err}
 use Rattle.pe_core.specs.Refusals.{Refusal, ◌>>=◌}
 use Rattle.pe_core.specs.declared.section_table.SectionTable.{SectionTable}
 use Rattle.pe_unwind.specs.Arm64Record.{Arm64InfoView}
 use Rattle.pe_unwind.specs.Arm64Unwinding.{info_of_function}
 use Rattle.pe_unwind.specs.ExceptionTable.{exception_at}
 use Rattle.pe_unwind.specs.declared.arm64.function.Arm64RuntimeFunction.{Arm64RuntimeFunction}
-use Rattle.pe_frame.specs.Arm64Packed.{stepped_packed}
-use Rattle.pe_frame.specs.Arm64Steps.{StepsArm64}
+use Rattle.pe_frame.specs.Arm64Steps.{StepsOutArm64}
 use Rattle.pe_frame.specs.Arm64Undoing.{put_pc, link_register}
+use Rattle.pe_frame.specs.Arm64Walks.{stepped_out_packed}
 use Rattle.pe_frame.specs.Memory.{stack_word}
 use Rattle.pe_frame.specs.MemoryLists.{memory_of}
 use Rattle.pe_frame.specs.declared.arm64.registers.Arm64Registers.{Arm64Registers}
@@ -52,11 +52,12 @@ abbrev pub at_arm64_address : Arm64StackFrame → Option ℕ → Arm64StackFrame
 at_arm64_address frame None = frame
 at_arm64_address frame (Some a) = record frame { address = a }
 
--- The number that a step returns, and the frame after it: the registers of the caller; or an error's number, with the
--- address that it speaks of. Nothing else of the frame changes.
-abbrev pub HandsOutArm64Caller : ℕ → Arm64StackFrame → Arm64StackFrame → Result Arm64Registers FrameError → Type 0
-HandsOutArm64Caller number old new (Ok u) = (number ≡ 0) × (new ≡ record old { registers = flat_arm64_registers u })
-HandsOutArm64Caller number old new (Err e) = (number ≡ error_number e) × (new ≡ at_arm64_address old (error_address e))
+-- The number that a step returns, and the frame after it: the registers of the caller, and whether no call left it; or an error's
+-- number, with the address that it speaks of. Nothing else of the frame changes.
+abbrev pub HandsOutArm64Left : ℕ → Arm64StackFrame → Arm64StackFrame → Result (Arm64Registers × Bool) FrameError → Type 0
+HandsOutArm64Left number old new (Ok u) =
+    (number ≡ 0) × (new ≡ record old { registers = flat_arm64_registers u.0; interrupted = if u.1 then 1 else 0 })
+HandsOutArm64Left number old new (Err e) = (number ≡ error_number e) × (new ≡ at_arm64_address old (error_address e))
 
 -- how many instructions before the frame's RVA its function has
 abbrev pub place_of : Arm64StackFrame → ℕ
@@ -66,12 +67,12 @@ place_of frame = (frame.rva - (frame.function).begin_address) / 4
 abbrev pub HandsOutArm64By : (ℕ → Option ℕ) → ℕ → Arm64StackFrame → Arm64StackFrame → Result (Option Arm64InfoView) Refusal → Type 0
 HandsOutArm64By memory number old new (Err refusal) = (number ≡ result_number refusal) × (new ≡ old)
 HandsOutArm64By memory number old new (Ok None) =
-    HandsOutArm64Caller number old new
-    (stepped_packed memory (old.function).unwind_data (place_of old) (arm64_registers_of old.registers))
+    HandsOutArm64Left number old new
+    (stepped_out_packed memory (old.function).unwind_data (place_of old) (arm64_registers_of old.registers))
 HandsOutArm64By memory number old new (Ok (Some info)) =
-    (caller : Result Arm64Registers FrameError)
-    × StepsArm64 memory info (place_of old) (arm64_registers_of old.registers) caller
-    × HandsOutArm64Caller number old new caller
+    (left : Result (Arm64Registers × Bool) FrameError)
+    × StepsOutArm64 memory info (place_of old) (arm64_registers_of old.registers) left
+    × HandsOutArm64Left number old new left
 
 -- what a call for a step returns, and the frame after it, over one piece of memory
 abbrev pub HandsOutArm64Step : List ℕ → Image → List SectionTable → List ℕ → ℕ → Arm64StackFrame → Arm64StackFrame → Type 0
@@ -89,4 +90,4 @@ HandsOutArm64StepPieces b image sections memory pieces number old new =
 abbrev pub left_arm64 : Arm64StackFrame → Arm64StackFrame
 left_arm64 frame =
     let g = arm64_registers_of frame.registers in
-    record frame { registers = flat_arm64_registers (put_pc g (link_register g)) }
+    record frame { registers = flat_arm64_registers (put_pc g (link_register g)); interrupted = 0 }

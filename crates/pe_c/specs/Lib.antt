@@ -18,6 +18,7 @@ pub mod Ranges
 pub mod Runs
 pub mod Signing
 pub mod StackFrames
+pub mod StackWalks
 pub mod Texts
 pub mod Unwinding
 pub mod Versions

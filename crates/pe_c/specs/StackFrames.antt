@@ -7,7 +7,6 @@ use Rattle.pe_core.specs.declared.section_table.SectionTable.{SectionTable}
 use Rattle.pe_unwind.specs.ExceptionTable.{ExceptionView}
 use Rattle.pe_unwind.specs.Links.{links_of}
 use Rattle.pe_unwind.specs.UnwindRecord.{UnwindInfoView}
-use Rattle.pe_unwind.specs.declared.function_table.RuntimeFunction.{RuntimeFunction}
 use Rattle.pe_plan.specs.ShortPlans.{PlansShort}
 use Rattle.pe_frame.specs.Jumps.{StepsInImage}
 use Rattle.pe_frame.specs.Memory.{stack_word}

@@ -5,6 +5,7 @@ pub mod coff;
 pub mod debug;
 pub mod directories;
 pub mod failures;
+pub mod frames;
 pub mod te;
 pub mod version_blocks;
 pub mod walks;

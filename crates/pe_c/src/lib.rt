@@ -40,6 +40,7 @@ mod rich_header;
 mod section_names;
 mod signing;
 mod stack_frames;
+mod stack_walk;
 mod te;
 mod texts;
 mod tls;

@@ -2,7 +2,7 @@
 //! and the memory of its stack. A walk makes it again and again, from the innermost frame outwards.
 //! https://learn.microsoft.com/cpp/build/exception-handling-x64
 
-ghost use Rattle.std.specs.Prelude.{◌≡◌, ◌<◌, Ok};
+ghost use Rattle.std.specs.Prelude.{◌≡◌, ◌<◌, Ok, length};
 ghost use Rattle.std.specs.Option.{option_map};
 ghost use Rattle.pe_core.specs.Refusals.{answer_by};
 ghost use Rattle.pe_core.specs.Rows.{each};
@@ -85,7 +85,8 @@ fn half(registers: &[u128; 16], index: usize) -> u64
 /// The halves of the XMM registers.
 #[tactic(auto, using(std::proofs::lemmas::List::take_more_set, std::proofs::lemmas::List::take_all), unfolding(pe_core::specs::Rows::each))]
 fn half_registers(registers: &[u128; 16]) -> [u64; 32]
-    ensures { result ≡ each (half_xmm registers.now) 32 }
+    ensures halves { result ≡ each (half_xmm registers.now) 32 }
+    ensures count { length registers.now ≡ 16 }
 {
     let mut halves = [0; 32];
     for i in 0..32 {
@@ -95,7 +96,7 @@ fn half_registers(registers: &[u128; 16]) -> [u64; 32]
 }
 
 /// The registers that a caller passes.
-fn registers_of(registers: &FrameRegisters) -> Registers
+pub fn registers_of(registers: &FrameRegisters) -> Registers
     ensures { result ≡ registers_of registers.now }
 {
     Registers {
@@ -106,8 +107,9 @@ fn registers_of(registers: &FrameRegisters) -> Registers
 }
 
 /// Registers as callers get them.
-fn flat_registers(registers: &Registers) -> FrameRegisters
-    ensures { result ≡ flat_registers registers.now }
+pub fn flat_registers(registers: &Registers) -> FrameRegisters
+    ensures flat { result ≡ flat_registers registers.now }
+    ensures xmm { length registers.now.xmm ≡ 16 }
 {
     FrameRegisters {
         general: registers.general,

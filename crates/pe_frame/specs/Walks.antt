@@ -19,6 +19,7 @@ use Rattle.pe_frame.specs.declared.modules.Module.{Module}
 use Rattle.pe_frame.specs.declared.registers.Registers.{Registers}
 use Rattle.pe_frame.specs.declared.walk.StackFrame.{StackFrame}
 use Rattle.pe_frame.specs.declared.walk.StackFrames.{StackFrames}
+use Rattle.pe_frame.specs.declared.walk.WalkPosition.{WalkPosition}
 use Rattle.pe_frame.specs.declared.walk.Way.{Way}
 use Rattle.pe_frame.specs.declared.walk.Way.TheVariants.{Top, Records, Leaf, Interrupt, Scanned}
 use Rattle.pe_frame.specs.declared.walk.WalkEnd.{WalkEnd}
@@ -210,16 +211,20 @@ IsWalk w frames end = IsWalkBy w.remaining w frames end
 
 -- ---- the iterator
 
--- where it is, by what its type of memory knows
-abbrev pub walk_of : {M : Type 0} → (M → ℕ → Option ℕ) → StackFrames M → WalkState
-walk_of word s = record {
-  memory = word s.memory.now;
-  modules = s.modules.modules.now;
-  frame = s.frame;
-  has_returned = s.has_returned;
-  remaining = s.remaining;
-  end = s.end;
+-- where it is over this memory and these modules
+abbrev pub state_of : (ℕ → Option ℕ) → List Module → WalkPosition → WalkState
+state_of memory modules p = record {
+  memory = memory;
+  modules = modules;
+  frame = p.frame;
+  has_returned = p.has_returned;
+  remaining = p.remaining;
+  end = p.end;
 }
+
+-- the same by what its type of memory knows
+abbrev pub walk_of : {M : Type 0} → (M → ℕ → Option ℕ) → StackFrames M → WalkState
+walk_of word s = state_of (word s.memory.now) s.modules.modules.now s.position
 
 -- a walk of at most so many frames, from the registers of a thread
 abbrev pub starting_walk : (ℕ → Option ℕ) → List Module → Registers → ℕ → WalkState

@@ -6,7 +6,7 @@ ghost use Rattle.std.specs.Option.{option_map};
 ghost use Rattle.pe_frame.specs.AddressRanges.{AreAscending, IsCountUpTo, Overlaps, has_address};
 
 /// What lies at a range of addresses.
-pub(crate) trait AddressRange {
+pub trait AddressRange {
     ghost start_of: { Self → ℕ };
 
     ghost size_of: { Self → ℕ };
@@ -22,7 +22,7 @@ pub(crate) trait AddressRange {
 
 /// The index of the first range that starts before the end of the one before it. `None` if the ranges are in ascending
 /// order.
-pub(crate) fn first_overlap<R: AddressRange>(ranges: &[R]) -> Option<usize>
+pub fn first_overlap<R: AddressRange>(ranges: &[R]) -> Option<usize>
     ensures { Overlaps R.start_of R.size_of ranges.now result }
 {
     let mut end: u128 = 0;
@@ -79,11 +79,7 @@ fn first_in_turn<R: AddressRange>(ranges: &[R], address: u64) -> Option<&R>
 }
 
 /// The first range that has an address: by binary search in ranges in ascending order, in any others in turn.
-pub(crate) fn first_with<R: AddressRange>(
-    ranges: &[R],
-    is_ascending: bool,
-    address: u64,
-) -> Option<&R>
+pub fn first_with<R: AddressRange>(ranges: &[R], is_ascending: bool, address: u64) -> Option<&R>
     requires { IsTrue is_ascending → AreAscending R.start_of R.size_of ranges.now }
     ensures { option_map (λ r. r.now) result
         ≡ find (has_address R.start_of R.size_of address) ranges.now }

@@ -26,11 +26,13 @@ mod memory;
 mod memory_list;
 mod memory_pieces;
 mod modules;
+mod process;
 mod record;
 mod registers;
 mod undo;
 mod walk;
 
+pub use address_ranges::{AddressRange, first_overlap, first_with};
 pub use arm64::{
     Arm64Registers, Arm64StackFrame, Arm64StackFrames, leaf_arm64, step_arm64, step_arm64_packed,
     step_out_arm64,
@@ -42,5 +44,8 @@ pub use memory::{Memory, Stack};
 pub use memory_list::{MemoryList, MemoryPiece};
 pub use memory_pieces::StackPieces;
 pub use modules::{Module, ModuleOrder, Modules};
+pub use process::{CallSites, LoadedModules};
 pub use registers::Registers;
-pub use walk::{StackFrame, StackFrames, WalkEnd, Way};
+pub use walk::{
+    StackFrame, StackFrames, WalkEnd, WalkPosition, Way, caller_in_module, caller_outside,
+};

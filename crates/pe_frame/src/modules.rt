@@ -1,10 +1,10 @@
 //! The modules of a process: images, each with the address where it is loaded.
 
-ghost use Rattle.std.specs.Prelude.{◌≡◌, ◌+◌, ◌-◌, ◌≤◌, MatchResult};
+ghost use Rattle.std.specs.Prelude.{◌≡◌, ◌+◌, ◌-◌, ◌≤◌, MatchResult, Some};
 ghost use Rattle.std.specs.List.{list_any};
 ghost use Rattle.std.specs.Option.{option_map};
 ghost use Rattle.pe_frame.specs.AddressRanges.{AreAscending, IsOverlap};
-ghost use Rattle.pe_frame.specs.Modules.{module_base, module_size, module_at, code_in, follows_call, is_after_call_in, is_after_call, is_after_call_arm64_in, is_after_call_arm64, executes, is_code_return};
+ghost use Rattle.pe_frame.specs.Modules.{module_base, module_size, module_at, code_in, follows_call, is_after_call_in, is_after_call, is_after_call_arm64_in, is_after_call_arm64, executes, is_code_return, is_code_return_of};
 
 use crate::address_ranges::{AddressRange, first_overlap, range_with};
 use crate::arm64::is_call_arm64;
@@ -103,7 +103,7 @@ impl<'a> Module<'a> {
 
     /// Whether an address, which may be the end of the module, is one after a call. In a module without exception data none
     /// is: leaf functions call nothing.
-    fn is_after_call(&self, address: u64) -> bool
+    pub fn is_after_call(&self, address: u64) -> bool
         requires { address ≤ self.now.base + self.now.size }
         ensures { result ≡ is_after_call_in self.now address }
     {
@@ -130,6 +130,15 @@ impl<'a> Module<'a> {
         ensures { result ≡ list_any (executes rva) self.now.sections.now }
     {
         self.sections.iter().any(|section| executes(section, rva))
+    }
+
+    /// Whether an address, which may be the end of the module, is one after a call in an executable section.
+    pub fn is_code_return(&self, address: u64) -> bool
+        requires { address ≤ self.now.base + self.now.size }
+        ensures { result ≡ is_code_return_of (Some self.now) address }
+    {
+        let last = address.saturating_sub(1);
+        self.is_executable(self.rva_of(last)) && self.is_after_call(address)
     }
 }
 
@@ -205,9 +214,7 @@ impl<'a> Modules<'a> {
     {
         let last = address.saturating_sub(1);
         match self.find(last) {
-            Some(module) => {
-                module.is_executable(module.rva_of(last)) && module.is_after_call(address)
-            }
+            Some(module) => module.is_code_return(address),
             None => false,
         }
     }

@@ -9,18 +9,20 @@
 //! dispatcher of exceptions saved the registers without a machine frame. After a call of a null pointer the frame is in no module:
 //! its return address is at the stack pointer, if a call ends at that. Where neither leads on, the stack is scanned.
 
-ghost use Rattle.std.specs.Prelude.{◌≡◌, ◌≤◌, ◌<◌, ◌+◌, ◌-◌, ◌^◌, Ok, Err, IfSome, IsTrue, true};
+ghost use Rattle.std.specs.Prelude.{◌≡◌, ◌≤◌, ◌<◌, ◌+◌, ◌-◌, ◌^◌, ℕ, List, Option, Ok, Err, IfSome, IsTrue, true};
 ghost use Rattle.std.specs.Option.{option_map};
 ghost use Rattle.std.specs.Iterator.{at_most};
 ghost use Rattle.pe_frame.specs.AddressRanges.{has_address};
 ghost use Rattle.pe_frame.specs.Modules.{module_base, module_size};
-ghost use Rattle.pe_frame.specs.Walks.{frame_of, lookup_address, code_of_frame, return_at, first_return, most_words, scanned, leaf_frame, without_records, is_bottom, after_leaf, leaf_caller, outside_caller, frame_after, CallsFound, CallsIn, Calls};
+ghost use Rattle.pe_frame.specs.Walks.{frame_of, lookup_address, code_of_frame, return_at, first_return, most_words, scanned, leaf_frame, without_records, is_bottom, after_leaf, leaf_caller, outside_caller, frame_after, CallsFound, CallsIn};
+ghost use Rattle.pe_frame.specs.declared.modules.Module.{Module};
 
 use crate::error::FrameError;
 use crate::frame::leaf;
 use crate::jump::{ImageFunctions, step_in_image};
 use crate::memory::{Memory, SIZE_OF_WORD};
 use crate::modules::{Module, Modules};
+use crate::process::{CallSites, LoadedModules};
 use crate::registers::{RSP, Registers};
 use pe_plan::ShortPlan;
 use pe_unwind::{ExceptionData, RuntimeFunction, search};
@@ -86,12 +88,12 @@ pub enum WalkEnd {
 }
 
 /// A frame with these registers, found in this way.
-fn frame_of(modules: &Modules<'_>, way: Way, registers: Registers) -> StackFrame
-    ensures { result ≡ frame_of modules.now.modules.now way registers }
+fn frame_of<L: CallSites>(modules: &L, way: Way, registers: Registers) -> StackFrame
+    ensures { result ≡ frame_of (L.list modules.now) way registers }
 {
     let has_called = match way {
         Way::Top => false,
-        Way::Records => modules.is_after_call(registers.rip),
+        Way::Records => modules.ends_call(registers.rip),
         Way::Leaf => true,
         Way::Interrupt => false,
         Way::Scanned => true,
@@ -103,30 +105,32 @@ fn frame_of(modules: &Modules<'_>, way: Way, registers: Registers) -> StackFrame
     }
 }
 
-/// The address by which the function of a frame is looked up.
-fn lookup_address(frame: &StackFrame) -> u64
-    ensures { result ≡ lookup_address frame.now }
-{
-    let size_of_call = if frame.has_called { 1 } else { 0 };
-    frame.registers.rip.saturating_sub(size_of_call)
+impl StackFrame {
+    /// The address by which the function of a frame is looked up: where it has called, that of the byte before the return address.
+    pub fn lookup_address(&self) -> u64
+        ensures { result ≡ lookup_address self.now }
+    {
+        let size_of_call = if self.has_called { 1 } else { 0 };
+        self.registers.rip.saturating_sub(size_of_call)
+    }
 }
 
 /// The return address into executable code that a word of the stack is, if it is one.
-fn return_at<M: Memory>(modules: &Modules<'_>, memory: &M, address: u64) -> Option<u64>
+fn return_at<L: CallSites, M: Memory>(modules: &L, memory: &M, address: u64) -> Option<u64>
     requires { address + 8 < 2 ^ 64 }
-    ensures { result ≡ return_at (M.word memory.now) modules.now.modules.now address }
+    ensures { result ≡ return_at (M.word memory.now) (L.list modules.now) address }
 {
     match memory.u64_at(address) {
-        Some(word) if modules.is_code_return(word) => Some(word),
+        Some(word) if modules.ends_code_call(word) => Some(word),
         _ => None,
     }
 }
 
 /// The first return address into executable code from an address of the stack on, and where it stands.
 #[tactic(auto, using(crate::proofs::Scans::next_word, crate::proofs::Scans::this_word, crate::proofs::Scans::past_the_end, crate::proofs::Scans::no_word))]
-fn first_return<M: Memory>(modules: &Modules<'_>, memory: &M, start: u64) -> Option<(u64, u64)>
+fn first_return<L: CallSites, M: Memory>(modules: &L, memory: &M, start: u64) -> Option<(u64, u64)>
     ensures value { result ≡ first_return most_words
-        (M.word memory.now) modules.now.modules.now start }
+        (M.word memory.now) (L.list modules.now) start }
     ensures room { IfSome result (λ found. found.0 + 8 < 2 ^ 64) }
 {
     let mut address = start;
@@ -144,12 +148,12 @@ fn first_return<M: Memory>(modules: &Modules<'_>, memory: &M, start: u64) -> Opt
 
 /// The frame that a scan of the stack finds.
 #[tactic(auto, using(crate::proofs::Scans::past_the_end))]
-fn scanned<M: Memory>(
-    modules: &Modules<'_>,
+fn scanned<L: CallSites, M: Memory>(
+    modules: &L,
     memory: &M,
     registers: &Registers,
 ) -> Option<StackFrame>
-    ensures { result ≡ scanned (M.word memory.now) modules.now.modules.now registers.now }
+    ensures { result ≡ scanned (M.word memory.now) (L.list modules.now) registers.now }
 {
     let pointer = registers.general[RSP];
     if pointer >= LAST_WORD {
@@ -164,11 +168,14 @@ fn scanned<M: Memory>(
 }
 
 /// The frame of the caller of a leaf function, if a call ends where it returns to.
-fn leaf_frame(modules: &Modules<'_>, popped: &Result<Registers, FrameError>) -> Option<StackFrame>
-    ensures { result ≡ leaf_frame modules.now.modules.now popped.now }
+fn leaf_frame<L: CallSites>(
+    modules: &L,
+    popped: &Result<Registers, FrameError>,
+) -> Option<StackFrame>
+    ensures { result ≡ leaf_frame (L.list modules.now) popped.now }
 {
     match popped {
-        Ok(registers) if modules.is_after_call(registers.rip) => {
+        Ok(registers) if modules.ends_call(registers.rip) => {
             Some(frame_of(modules, Way::Leaf, *registers))
         }
         _ => None,
@@ -176,12 +183,12 @@ fn leaf_frame(modules: &Modules<'_>, popped: &Result<Registers, FrameError>) -> 
 }
 
 /// The frame that is found from registers without records.
-fn without_records<M: Memory>(
-    modules: &Modules<'_>,
+fn without_records<L: CallSites, M: Memory>(
+    modules: &L,
     memory: &M,
     registers: &Registers,
 ) -> Option<StackFrame>
-    ensures { result ≡ without_records (M.word memory.now) modules.now.modules.now registers.now }
+    ensures { result ≡ without_records (M.word memory.now) (L.list modules.now) registers.now }
 {
     match leaf_frame(modules, &leaf(*registers, memory)) {
         Some(frame) => Some(frame),
@@ -190,18 +197,18 @@ fn without_records<M: Memory>(
 }
 
 /// Whether the registers of a caller are those of the bottom of the stack.
-fn is_bottom<M: Memory>(modules: &Modules<'_>, memory: &M, registers: &Registers) -> bool
-    ensures { result ≡ is_bottom (M.word memory.now) modules.now.modules.now registers.now }
+fn is_bottom<L: CallSites, M: Memory>(modules: &L, memory: &M, registers: &Registers) -> bool
+    ensures { result ≡ is_bottom (M.word memory.now) (L.list modules.now) registers.now }
 {
     registers.rip == 0 && without_records(modules, memory, registers).is_none()
 }
 
 /// The frame of the caller of a leaf function, whatever it returns to.
-fn after_leaf(
-    modules: &Modules<'_>,
+fn after_leaf<L: CallSites>(
+    modules: &L,
     popped: Result<Registers, FrameError>,
 ) -> Result<StackFrame, WalkEnd>
-    ensures { result ≡ after_leaf modules.now.modules.now popped }
+    ensures { result ≡ after_leaf (L.list modules.now) popped }
 {
     match popped {
         Ok(registers) if registers.rip == 0 => Err(WalkEnd::Bottom),
@@ -211,12 +218,12 @@ fn after_leaf(
 }
 
 /// The frame of the caller of a frame in no function.
-fn caller_of_leaf<M: Memory>(
-    modules: &Modules<'_>,
+fn caller_of_leaf<L: CallSites, M: Memory>(
+    modules: &L,
     frame: &StackFrame,
     memory: &M,
 ) -> Result<StackFrame, WalkEnd>
-    ensures { result ≡ leaf_caller (M.word memory.now) modules.now.modules.now frame.now }
+    ensures { result ≡ leaf_caller (M.word memory.now) (L.list modules.now) frame.now }
 {
     if frame.has_called {
         return Err(WalkEnd::NoFunction);
@@ -227,13 +234,13 @@ fn caller_of_leaf<M: Memory>(
     }
 }
 
-/// The frame of the caller of a frame in no module.
-fn caller_outside<M: Memory>(
-    modules: &Modules<'_>,
+/// The frame of the caller of a frame in no module, or why there is none.
+pub fn caller_outside<L: CallSites, M: Memory>(
+    modules: &L,
     frame: &StackFrame,
     memory: &M,
 ) -> Result<StackFrame, WalkEnd>
-    ensures { result ≡ outside_caller (M.word memory.now) modules.now.modules.now frame.now }
+    ensures { result ≡ outside_caller (M.word memory.now) (L.list modules.now) frame.now }
 {
     if frame.has_called {
         return Err(WalkEnd::NoModule);
@@ -267,12 +274,12 @@ fn code_of_frame<'a>(found: &FrameFunction<'a>, frame: &StackFrame, rva: u32) ->
 }
 
 /// What a step returned, as a frame.
-fn frame_after<M: Memory>(
-    modules: &Modules<'_>,
+fn frame_after<L: CallSites, M: Memory>(
+    modules: &L,
     memory: &M,
     left: Result<(Registers, bool), FrameError>,
 ) -> Result<StackFrame, WalkEnd>
-    ensures { result ≡ frame_after (M.word memory.now) modules.now.modules.now left }
+    ensures { result ≡ frame_after (M.word memory.now) (L.list modules.now) left }
 {
     match left {
         Ok((registers, true)) => Ok(frame_of(modules, Way::Interrupt, registers)),
@@ -287,15 +294,15 @@ fn frame_after<M: Memory>(
 }
 
 /// The frame of the caller, by the records of the function that lookup found. `rva` is that of the frame.
-fn caller_by_records<M: Memory>(
-    modules: &Modules<'_>,
+fn caller_by_records<L: CallSites, M: Memory>(
+    modules: &L,
     found: &FrameFunction<'_>,
     frame: &StackFrame,
     rva: u32,
     memory: &M,
 ) -> Result<StackFrame, WalkEnd>
     requires { rva ≡ frame.now.registers.rip - found.now.module.now.base }
-    ensures { CallsFound (M.word memory.now) modules.now.modules.now
+    ensures { CallsFound (M.word memory.now) (L.list modules.now)
         found.now.module.now found.now.exceptions.now
         frame.now (Some found.now.function) result }
 {
@@ -329,22 +336,22 @@ fn caller_by_records<M: Memory>(
     frame_after(modules, memory, left)
 }
 
-/// The frame of the caller, by the module that has the lookup address of the frame.
-fn caller_in_module<M: Memory>(
-    modules: &Modules<'_>,
+/// The frame of the caller of a frame, by the module that has its lookup address, or why there is none.
+pub fn caller_in_module<L: CallSites, M: Memory>(
+    modules: &L,
     module: &Module<'_>,
     frame: &StackFrame,
     memory: &M,
 ) -> Result<StackFrame, WalkEnd>
     requires { IsTrue (has_address module_base module_size (lookup_address frame.now) module.now) }
-    ensures { CallsIn (M.word memory.now) modules.now.modules.now
+    ensures { CallsIn (M.word memory.now) (L.list modules.now)
         frame.now (Some module.now) result }
 {
     let Some(exceptions) = module.exceptions else {
         return caller_of_leaf(modules, frame, memory);
     };
     let mut table = exceptions.table();
-    match search(&mut table, module.rva_of(lookup_address(frame))) {
+    match search(&mut table, module.rva_of(frame.lookup_address())) {
         Some(function) => {
             let found = FrameFunction {
                 module,
@@ -358,17 +365,80 @@ fn caller_in_module<M: Memory>(
     }
 }
 
-/// The frame of the caller of a frame, or why there is none.
-fn caller_of<M: Memory>(
-    modules: &Modules<'_>,
-    frame: &StackFrame,
-    memory: &M,
-) -> Result<StackFrame, WalkEnd>
-    ensures { Calls (M.word memory.now) modules.now.modules.now frame.now result }
-{
-    match modules.find(lookup_address(frame)) {
-        Some(module) => caller_in_module(modules, module, frame, memory),
-        None => caller_outside(modules, frame, memory),
+/// Where a walk is, without the modules and the memory that it is over. A caller may keep it between two frames.
+#[derive(Drop)]
+pub struct WalkPosition {
+    /// The frame that was returned last; before that of the top frame, the top frame.
+    pub frame: StackFrame,
+    /// Whether it was returned.
+    pub has_returned: bool,
+    /// How many frames follow at most; 0 once the walk is over.
+    pub remaining: usize,
+    /// Why the walk is over, once it is.
+    pub end: WalkEnd,
+}
+
+impl WalkPosition {
+    ghost use Rattle.pe_frame.specs.Walks.{Advances, Follows, state_of, starting_walk};
+
+    /// Before the first of at most `most` frames, from the registers of a thread.
+    pub fn starting(registers: Registers, most: usize) -> WalkPosition
+        ensures { (memory : ℕ → Option ℕ) (modules : List Module) →
+            state_of memory modules result ≡ starting_walk memory modules registers most }
+    {
+        WalkPosition {
+            frame: StackFrame {
+                registers,
+                way: Way::Top,
+                has_called: false,
+            },
+            has_returned: false,
+            remaining: most,
+            end: WalkEnd::Bound,
+        }
+    }
+
+    /// The frame that follows: the first as it is, and then the caller of each.
+    fn following<L: LoadedModules, M: Memory>(
+        &self,
+        modules: &L,
+        memory: &M,
+    ) -> Result<StackFrame, WalkEnd>
+        ensures { Follows (state_of (M.word memory.now) (L.modules modules.now) self.now) result }
+    {
+        if self.has_returned {
+            modules.caller_of(&self.frame, memory)
+        } else {
+            Ok(self.frame)
+        }
+    }
+
+    /// The next frame of the walk over these modules and this memory, as [`StackFrames`] returns it. `None` once the walk is over.
+    #[tactic(auto, using(crate::proofs::WholeWalks::advanced))]
+    pub fn next<L: LoadedModules, M: Memory>(
+        &mut self,
+        modules: &L,
+        memory: &M,
+    ) -> Option<StackFrame>
+        ensures { Advances (state_of (M.word memory.now) (L.modules modules.now) self.old) result
+            (state_of (M.word memory.now) (L.modules modules.now) self.new) }
+    {
+        if self.remaining == 0 {
+            return None;
+        }
+        match self.following(modules, memory) {
+            Ok(frame) => {
+                self.frame = frame;
+                self.has_returned = true;
+                self.remaining -= 1;
+                Some(frame)
+            }
+            Err(end) => {
+                self.remaining = 0;
+                self.end = end;
+                None
+            }
+        }
     }
 }
 
@@ -384,15 +454,11 @@ fn caller_of<M: Memory>(
 pub struct StackFrames<'a, M> {
     modules: Modules<'a>,
     memory: &'a M,
-    /// The frame that was returned last; before that of the top frame, the top frame.
-    frame: StackFrame,
-    has_returned: bool,
-    remaining: usize,
-    end: WalkEnd,
+    position: WalkPosition,
 }
 
 impl<'a, M: Memory> StackFrames<'a, M> {
-    ghost use Rattle.pe_frame.specs.Walks.{Follows, walk_of, starting_walk, end_of};
+    ghost use Rattle.pe_frame.specs.Walks.{walk_of, starting_walk, end_of};
 
     /// A walk of at most `most` frames, from the registers of a thread.
     pub fn new(
@@ -407,29 +473,15 @@ impl<'a, M: Memory> StackFrames<'a, M> {
         StackFrames {
             modules,
             memory,
-            frame: frame_of(&modules, Way::Top, registers),
-            has_returned: false,
-            remaining: most,
-            end: WalkEnd::Bound,
-        }
-    }
-
-    /// The frame that follows: the first as it is, and then the caller of each.
-    fn following(&self) -> Result<StackFrame, WalkEnd>
-        ensures { Follows (walk_of (M.word) self.now) result }
-    {
-        if self.has_returned {
-            caller_of(&self.modules, &self.frame, self.memory)
-        } else {
-            Ok(self.frame)
+            position: WalkPosition::starting(registers, most),
         }
     }
 
     /// How many frames it returns at most from here on. 0 once it is over.
     pub fn remaining(&self) -> usize
-        ensures { result ≡ self.now.remaining }
+        ensures { result ≡ self.now.position.remaining }
     {
-        self.remaining
+        self.position.remaining
     }
 
     /// Why the walk is over. `None` while a frame may follow. After as many frames as were asked for it is `Bound`, whether or
@@ -437,8 +489,8 @@ impl<'a, M: Memory> StackFrames<'a, M> {
     pub fn end(&self) -> Option<&WalkEnd>
         ensures { option_map (λ e. e.now) result ≡ end_of (walk_of (M.word) self.now) }
     {
-        if self.remaining == 0 {
-            Some(&self.end)
+        if self.position.remaining == 0 {
+            Some(&self.position.end)
         } else {
             None
         }
@@ -452,25 +504,9 @@ impl<'a, M: Memory> Iterator for StackFrames<'a, M> {
 
     ghost next_gives = { λ s r t. Advances (walk_of (M.word) s) r (walk_of (M.word) t) };
 
-    ghost remaining = { λ s. at_most s.remaining };
+    ghost remaining = { λ s. at_most s.position.remaining };
 
-    #[tactic(auto, using(crate::proofs::WholeWalks::advanced))]
     fn next(&mut self) -> Option<StackFrame> {
-        if self.remaining == 0 {
-            return None;
-        }
-        match self.following() {
-            Ok(frame) => {
-                self.frame = frame;
-                self.has_returned = true;
-                self.remaining -= 1;
-                Some(frame)
-            }
-            Err(end) => {
-                self.remaining = 0;
-                self.end = end;
-                None
-            }
-        }
+        self.position.next(&self.modules, self.memory)
     }
 }

@@ -3,8 +3,8 @@
 
 use pe_c::{
     Arm64Function, Arm64Functions, Arm64Record, Arm64Registers, Arm64Unwinding, Coff, Error, Frames, Function,
-    Functions, Handler, Image, Layout, Mode, Module, Placement, Registers, ResourceName, Stack, StepError, Symbols, Te,
-    UnwindRecord, VersionBlocks, VersionName,
+    Functions, Handler, Image, Layout, MemoryList, MemoryPiece, Mode, Module, Placement, Registers, ResourceName, Stack,
+    StepError, Symbols, Te, UnwindRecord, VersionBlocks, VersionName,
 };
 
 /// What was read.
@@ -232,8 +232,11 @@ fn step_out(image: &Image, functions: &Functions, function: Function, seen: &mut
             seen.item(answer.map_err(StepError::error));
         }
         registers.rip = rva.into();
-        let module = Module { image, base: 0 };
-        assert!(Frames::new(registers, 4, |_| Some(module), |_| Some(stack)).count() <= 4);
+        if let Ok(module) = Module::new(image, 0) {
+            let pieces = [MemoryPiece { start: 0x2_0000, offset: 0, length: STACK.len() as u64 }];
+            let memory = MemoryList::new(&STACK, &pieces).unwrap();
+            assert!(Frames::new(registers, 4, &[module], memory).count() <= 4);
+        }
     }
 }
 
@@ -290,8 +293,11 @@ fn step_out_arm64(image: &Image, functions: &Arm64Functions, function: Arm64Func
         }
         seen.item(answer.map_err(StepError::error));
         registers.pc = rva.into();
-        let module = Module { image, base: 0 };
-        assert!(Frames::new(registers, 4, |_| Some(module), |_| Some(stack)).count() <= 4);
+        if let Ok(module) = Module::new(image, 0) {
+            let pieces = [MemoryPiece { start: 0x2_0000, offset: 0, length: STACK.len() as u64 }];
+            let memory = MemoryList::new(&STACK, &pieces).unwrap();
+            assert!(Frames::new(registers, 4, &[module], memory).count() <= 4);
+        }
     }
 }
 

@@ -2,19 +2,20 @@
 //! image and the memory of its stack.
 //! https://learn.microsoft.com/cpp/build/arm64-exception-handling
 
-ghost use Rattle.std.specs.Prelude.{◌≡◌};
+ghost use Rattle.std.specs.Prelude.{◌≡◌, ◌-◌, ◌/◌};
 ghost use Rattle.std.specs.Option.{option_map};
 ghost use Rattle.pe_core.specs.Refusals.{answer_by};
 ghost use Rattle.pe_unwind.specs.Arm64Record.{info_view};
-ghost use Rattle.pe_c.specs.Arm64Frames.{arm64_registers_of, flat_arm64_registers, arm64_info_of, HandsOutArm64By, HandsOutArm64Caller, HandsOutArm64Step, HandsOutArm64StepPieces, left_arm64};
+ghost use Rattle.pe_frame.specs.Arm64Walks.{stepped_out_packed};
+ghost use Rattle.pe_c.specs.Arm64Frames.{arm64_registers_of, flat_arm64_registers, arm64_info_of, HandsOutArm64By, HandsOutArm64Left, HandsOutArm64Step, HandsOutArm64StepPieces, left_arm64};
 
 use crate::image::{EXCEPTION_TABLE, Image, directory};
 use crate::results::{DONE, number_of, options};
 use crate::stack_frames::reported;
 use pe_core::{Error, SectionTable};
 use pe_frame::{
-    Arm64Registers, FrameError, Memory, MemoryList, MemoryPiece, Stack, leaf_arm64, step_arm64,
-    step_arm64_packed,
+    Arm64Registers, FrameError, Memory, MemoryList, MemoryPiece, Stack, leaf_arm64,
+    step_arm64_packed, step_out_arm64,
 };
 use pe_unwind::{Arm64RuntimeFunction, Arm64UnwindInfo, ExceptionData};
 
@@ -46,8 +47,8 @@ pub struct Arm64StackFrame {
     pub function: Arm64RuntimeFunction,
     /// The instruction pointer less the address where the image is loaded.
     pub rva: u32,
-    /// 0.
-    pub spare: u32,
+    /// After a step 1 if no call left the registers of the caller, else 0.
+    pub interrupted: u32,
 }
 
 /// The registers that a caller passes.
@@ -97,13 +98,33 @@ fn info_of<'a>(
     }
 }
 
-/// Writes the caller's registers to a frame, or the address that an error speaks of.
-fn hand_out_caller(caller: Result<Arm64Registers, FrameError>, frame: &mut Arm64StackFrame) -> u32
-    ensures { HandsOutArm64Caller result frame.old frame.new caller }
+/// The registers of the caller by packed unwind data. No interrupt left them.
+fn step_out_packed<M: Memory>(
+    function: &Arm64RuntimeFunction,
+    rva: u32,
+    registers: Arm64Registers,
+    memory: &M,
+) -> Result<(Arm64Registers, bool), FrameError>
+    ensures { result ≡ stepped_out_packed (M.word memory.now)
+        function.now.unwind_data ((rva - function.now.begin_address) / 4) registers }
 {
-    match caller {
-        Ok(registers) => {
+    match step_arm64_packed(function, rva, registers, memory) {
+        Ok(left) => Ok((left, false)),
+        Err(error) => Err(error),
+    }
+}
+
+/// Writes the caller's registers to a frame, and whether no call left them, or the address that an error speaks of.
+fn hand_out_left(
+    left: Result<(Arm64Registers, bool), FrameError>,
+    frame: &mut Arm64StackFrame,
+) -> u32
+    ensures { HandsOutArm64Left result frame.old frame.new left }
+{
+    match left {
+        Ok((registers, is_interrupted)) => {
             frame.registers = flat_registers(&registers);
+            frame.interrupted = u32::from(is_interrupted);
             DONE
         }
         Err(error) => {
@@ -134,17 +155,18 @@ fn step_over<M: Memory>(
     };
     let (start, rva) = (function.begin_address, frame.rva);
     let registers = registers_of(&frame.registers);
-    let caller = match info {
-        Some(info) => step_arm64(&info, start, rva, registers, memory),
-        None => step_arm64_packed(&function, rva, registers, memory),
+    let left = match info {
+        Some(info) => step_out_arm64(&info, start, rva, registers, memory),
+        None => step_out_packed(&function, rva, registers, memory),
     };
-    hand_out_caller(caller, frame)
+    hand_out_left(left, frame)
 }
 
 /// Finds the registers of a function's caller, from those inside the function, and writes them over those of `frame`. It is
-/// `step_arm64` of pe_frame by the unwind record of the frame's function, or `step_arm64_packed` where its unwind data are
-/// packed. The function is the one that lookup found: by the RVA in the top frame and after an interrupt, by the RVA less
-/// four in every other. `stack` is memory from `stack_start` on.
+/// `step_out_arm64` of pe_frame by the unwind record of the frame's function, or `step_arm64_packed` where its unwind data are
+/// packed. The function is the one that lookup found: by the RVA in the top frame and where `interrupted` is 1, by the RVA less
+/// four in every other. `interrupted` of the frame is set to 1 if no call left the registers of the caller, which is then at the
+/// instruction that is about to run, else to 0. `stack` is memory from `stack_start` on.
 ///
 /// Errors: those of `pe_c_arm64_table`, then those of `pe_c_arm64_unwind_record`. Then `ARM64_CUT` of a code,
 /// `BAD_OPERATION`, `BAD_ADDRESS`, `MISSING` and `NOT_RISING`. Of these `BAD_ADDRESS`, `MISSING` and `NOT_RISING` set
@@ -196,5 +218,6 @@ pub extern "C" fn pe_c_leaf_arm64(frame: &mut Arm64StackFrame) -> u32
     ensures caller { frame.new ≡ left_arm64 frame.old }
 {
     frame.registers = flat_registers(&leaf_arm64(registers_of(&frame.registers)));
+    frame.interrupted = 0;
     DONE
 }

@@ -26,8 +26,8 @@ use crate::walk::StackFrames;
 pub fn walks_return_the_frames<M: Memory + 'static>()
     ensures { (s u : StackFrames M) (frames : List StackFrame) →
         YieldsThen ⟦<StackFrames<'static, M> as Iterator>⟧.next_gives s frames None u →
-        IsWalk (walk_of M.word s) frames u.end × (length frames ≤ s.remaining)
-        × (u.remaining ≡ 0) }
+        IsWalk (walk_of M.word s) frames u.position.end
+        × (length frames ≤ s.position.remaining) × (u.position.remaining ≡ 0) }
 {}
 
 /// There is a walk from each state (`exists`), whatever the function tables of the modules are: the frames from the state on, and

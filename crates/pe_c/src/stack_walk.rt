@@ -1,0 +1,428 @@
+//! Walks of a stack on x64, a frame a call: the walk of pe_frame, through the modules of a process, from the innermost frame
+//! outwards. The caller keeps the walk between two calls, and holds the modules and the memory.
+//! https://learn.microsoft.com/cpp/build/exception-handling-x64
+
+ghost use Rattle.std.specs.Prelude.{◌≡◌, ◌≤◌, ◌<◌, ◌+◌, ℕ, length, List, Option, Some, IfSome, IsTrue};
+ghost use Rattle.std.specs.List.{list_all};
+ghost use Rattle.std.specs.Option.{option_map};
+ghost use Rattle.pe_core.specs.Refusals.{answer_by};
+ghost use Rattle.pe_frame.specs.AddressRanges.{AreAscending, has_address};
+ghost use Rattle.pe_frame.specs.Modules.{is_after_call_of, is_code_return_of, module_at, module_base, module_size};
+ghost use Rattle.pe_frame.specs.Walks.{CallsIn, lookup_address};
+ghost use Rattle.pe_frame.specs.Walks as frames;
+ghost use Rattle.pe_frame.specs.declared.modules.Module.{Module};
+ghost use Rattle.pe_c.specs.StackWalks.{FillsFrames, HandsOutFrame, HandsOutFrames, HandsOutNext, after_end, after_frame, end_address, end_error, end_number, exceptions_of, has_table, module_of, module_with, modules_of, state_of, view_base, view_size, viewed, way_number, way_of};
+
+use crate::ranges::Range;
+use crate::results::{DONE, LONG_CHAIN, NOTHING, number_of, options};
+use crate::stack_frames::{FrameRegisters, flat_registers, registers_of, reported};
+use crate::view::View;
+use pe_core::{ByteRange, Error, Result};
+use pe_frame::{
+    AddressRange, CallSites, LoadedModules, Memory, MemoryList, MemoryPiece, Module, StackFrame,
+    WalkEnd, WalkPosition, Way, caller_in_module, caller_outside, first_overlap, first_with,
+};
+use pe_unwind::ExceptionData;
+
+/// A module of a process on x64: an image, and the addresses where it is loaded.
+#[repr(C)]
+#[derive(Clone, Copy)]
+pub struct ModuleView<'a> {
+    /// The image, which has `size_of_image` bytes where it is loaded.
+    pub image: View<'a>,
+    /// The range of its function table, as `pe_c_function_table` returns it. One of no bytes: it has leaf functions alone.
+    pub table: Range,
+    /// The address where it is loaded.
+    pub base: u64,
+}
+
+/// A walk of a stack, and the frame that was returned last.
+#[repr(C)]
+#[derive(Clone, Copy)]
+pub struct StackWalk {
+    /// The registers in the frame; before the first call those of the thread.
+    pub registers: FrameRegisters,
+    /// How many frames follow at most. 0 once the walk is over.
+    pub remaining: u64,
+    /// Of a walk that is over the address that its error speaks of, or 0.
+    pub address: u64,
+    /// 0 before the first call, else 1.
+    pub has_returned: u32,
+    /// How the frame was found: 0 the top frame, 1 records, 2 leaf, 3 interrupt, 4 scanned.
+    pub way: u32,
+    /// 1 where the function of the frame has called: `rip` is the return address. Else 0.
+    pub has_called: u32,
+    /// Why the walk is over: 0 bound, 1 bottom, 2 no module, 3 no function, 4 records, 5 long chain, 6 step.
+    pub end: u32,
+    /// Of a walk that is over the number of the error, for records, a long chain and a step, else 0.
+    pub error: u32,
+    /// 0.
+    pub spare: u32,
+}
+
+/// Whether the function table of a module lies in its bytes.
+fn has_table(view: &ModuleView<'_>) -> bool
+    ensures { result ≡ has_table view.now }
+{
+    let (length, table) = (view.image.bytes.len() as u64, &view.table);
+    table.length <= length && table.offset <= length - table.length
+}
+
+/// The exception data of a module.
+fn exceptions_of<'a>(view: &ModuleView<'a>) -> Option<ExceptionData<'a>>
+    requires { IsTrue (has_table view.now) }
+    ensures { result ≡ exceptions_of view.now }
+{
+    if view.table.length == 0 {
+        return None;
+    }
+    let table = ByteRange {
+        offset: view.table.offset as usize,
+        length: view.table.length as usize,
+    };
+    match ExceptionData::of_table(view.image.bytes, table, view.image.image.file_alignment) {
+        Ok(exceptions) => Some(exceptions),
+        Err(_) => None,
+    }
+}
+
+/// A module as pe_frame takes it, with its exception data.
+fn module_with<'a>(view: &ModuleView<'a>, exceptions: Option<&'a ExceptionData<'a>>) -> Module<'a>
+    ensures { result ≡ module_with view.now exceptions.entry }
+{
+    let View {
+        bytes,
+        image,
+        sections,
+    } = view.image;
+    Module {
+        base: view.base,
+        size: image.size_of_image,
+        bytes,
+        sections,
+        exceptions,
+        opts: options(image.mode),
+    }
+}
+
+/// Whether an address, which may be the end of a module, is one after a call in it.
+fn ends_call_in(view: &ModuleView<'_>, address: u64) -> bool
+    requires table { IsTrue (has_table view.now) }
+    requires near { address ≤ view.now.base + view.now.image.image.now.size_of_image }
+    ensures { result ≡ is_after_call_of (Some (module_of view.now)) address }
+{
+    let exceptions = exceptions_of(view);
+    module_with(view, exceptions.as_ref()).is_after_call(address)
+}
+
+/// The same in an executable section.
+fn ends_code_call_in(view: &ModuleView<'_>, address: u64) -> bool
+    requires table { IsTrue (has_table view.now) }
+    requires near { address ≤ view.now.base + view.now.image.image.now.size_of_image }
+    ensures { result ≡ is_code_return_of (Some (module_of view.now)) address }
+{
+    let exceptions = exceptions_of(view);
+    module_with(view, exceptions.as_ref()).is_code_return(address)
+}
+
+impl<'a> AddressRange for ModuleView<'a> {
+    ghost start_of = { view_base };
+
+    ghost size_of = { view_size };
+
+    fn start(&self) -> u64 {
+        self.base
+    }
+
+    fn size(&self) -> u64 {
+        u64::from(self.image.image.size_of_image)
+    }
+}
+
+/// Whether the function table of each module lies in its bytes.
+fn have_tables(views: &[ModuleView<'_>]) -> bool
+    ensures { result ≡ list_all has_table views.now }
+{
+    views.iter().all(|view| has_table(view))
+}
+
+/// The modules that a caller passes.
+#[derive(Clone, Copy)]
+struct ViewedModules<'a> {
+    views: &'a [ModuleView<'a>],
+    /// Whether they are in ascending order and do not overlap.
+    is_ascending: bool,
+    ghost ascending: { IsTrue is_ascending → AreAscending view_base view_size views.now },
+    ghost tables: { IsTrue (list_all has_table views.now) },
+}
+
+impl<'a> ViewedModules<'a> {
+    /// These modules. Error: `Short` if a function table does not lie in the bytes of its module.
+    fn new(views: &'a [ModuleView<'a>]) -> Result<ViewedModules<'a>>
+        ensures { answer_by (λ m. m.views.now) result ≡ viewed views.entry.now }
+    {
+        if !have_tables(views) {
+            // Callers get the error's number alone.
+            return Err(Error::Short { at: 0, needed: 0 });
+        }
+        let is_ascending = first_overlap(views).is_none();
+        Ok(ViewedModules {
+            views,
+            is_ascending,
+        })
+    }
+
+    /// The first module that has an address.
+    #[tactic(auto, using(crate::proofs::ViewedModules::found, crate::proofs::ViewedModules::tabled))]
+    fn find(&self, address: u64) -> Option<&'a ModuleView<'a>>
+        ensures found { option_map (λ v. module_of v.now) result
+            ≡ module_at (modules_of self.now.views.now) address }
+        ensures table { IfSome result (λ v. IsTrue (has_table v.now)) }
+    {
+        first_with(self.views, self.is_ascending, address)
+    }
+
+    /// The frame of the caller of a frame, by the module that has its lookup address, or why there is none.
+    fn caller_in<M: Memory>(
+        &self,
+        view: &ModuleView<'_>,
+        frame: &StackFrame,
+        memory: &M,
+    ) -> std::result::Result<StackFrame, WalkEnd>
+        requires table { IsTrue (has_table view.now) }
+        requires has { IsTrue (has_address module_base module_size
+            (lookup_address frame.now) (module_of view.now)) }
+        ensures { CallsIn (M.word memory.now) (modules_of self.now.views.now) frame.now
+            (Some (module_of view.now)) result }
+    {
+        let exceptions = exceptions_of(view);
+        let module = module_with(view, exceptions.as_ref());
+        caller_in_module(self, &module, frame, memory)
+    }
+}
+
+impl<'a> CallSites for ViewedModules<'a> {
+    ghost list = { λ m. modules_of m.views.now };
+
+    fn ends_call(&self, address: u64) -> bool {
+        match self.find(address.saturating_sub(1)) {
+            Some(view) => ends_call_in(view, address),
+            None => false,
+        }
+    }
+
+    fn ends_code_call(&self, address: u64) -> bool {
+        match self.find(address.saturating_sub(1)) {
+            Some(view) => ends_code_call_in(view, address),
+            None => false,
+        }
+    }
+}
+
+impl<'a> LoadedModules for ViewedModules<'a> {
+    ghost modules = { λ m. modules_of m.views.now };
+
+    fn caller_of<M: Memory>(
+        &self,
+        frame: &StackFrame,
+        memory: &M,
+    ) -> std::result::Result<StackFrame, WalkEnd> {
+        match self.find(frame.lookup_address()) {
+            Some(view) => self.caller_in(view, frame, memory),
+            None => caller_outside(self, frame, memory),
+        }
+    }
+}
+
+/// The number of a way.
+fn number_of_way(way: Way) -> u32
+    ensures { result ≡ way_number way }
+{
+    match way {
+        Way::Top => 0,
+        Way::Records => 1,
+        Way::Leaf => 2,
+        Way::Interrupt => 3,
+        Way::Scanned => 4,
+    }
+}
+
+/// The way with a number.
+#[tactic(auto, unfolding(crate::specs::StackWalks::way_of))]
+fn way_of(number: u32) -> Way
+    ensures { result ≡ way_of number }
+{
+    match number {
+        1 => Way::Records,
+        2 => Way::Leaf,
+        3 => Way::Interrupt,
+        4 => Way::Scanned,
+        _ => Way::Top,
+    }
+}
+
+/// The number of a reason why a walk is over.
+fn number_of_end(end: &WalkEnd) -> u32
+    ensures { result ≡ end_number end.now }
+{
+    match end {
+        WalkEnd::Bound => 0,
+        WalkEnd::Bottom => 1,
+        WalkEnd::NoModule => 2,
+        WalkEnd::NoFunction => 3,
+        WalkEnd::Records(_) => 4,
+        WalkEnd::LongChain => 5,
+        WalkEnd::Step(_) => 6,
+    }
+}
+
+/// The number of the error for which a walk is over, and the address that it speaks of.
+fn error_of_end(end: &WalkEnd) -> (u32, Option<u64>)
+    ensures { result ≡ (end_error end.now, end_address end.now) }
+{
+    match end {
+        WalkEnd::Records(error) => (number_of(error), None),
+        WalkEnd::LongChain => (LONG_CHAIN, None),
+        WalkEnd::Step(error) => reported(error),
+        _ => (0, None),
+    }
+}
+
+/// Where a walk is.
+fn position_of(walk: &StackWalk) -> WalkPosition
+    ensures { (memory : ℕ → Option ℕ) (modules : List Module) →
+        frames.state_of memory modules result ≡ state_of memory modules walk.now }
+{
+    WalkPosition {
+        frame: StackFrame {
+            registers: registers_of(&walk.registers),
+            way: way_of(walk.way),
+            has_called: walk.has_called != 0,
+        },
+        has_returned: walk.has_returned != 0,
+        remaining: walk.remaining as usize,
+        end: WalkEnd::Bound,
+    }
+}
+
+/// Writes a frame to a walk.
+fn hand_out_frame(frame: &StackFrame, walk: &mut StackWalk)
+    requires { 0 < walk.old.remaining }
+    ensures after { walk.new ≡ after_frame walk.old frame.now }
+    ensures xmm { length frame.now.registers.xmm ≡ 16 }
+{
+    walk.registers = flat_registers(&frame.registers);
+    walk.remaining -= 1;
+    walk.has_returned = 1;
+    walk.way = number_of_way(frame.way);
+    walk.has_called = u32::from(frame.has_called);
+}
+
+/// Writes to a walk why it is over.
+fn hand_out_end(end: &WalkEnd, walk: &mut StackWalk)
+    ensures { walk.new ≡ after_end walk.old end.now }
+{
+    let (error, address) = error_of_end(end);
+    walk.remaining = 0;
+    walk.end = number_of_end(end);
+    walk.error = error;
+    walk.address = address.unwrap_or(0);
+}
+
+/// The next frame of a walk over these modules and this memory.
+fn next_frame<M: Memory>(modules: &ViewedModules<'_>, memory: &M, walk: &mut StackWalk) -> u32
+    ensures { HandsOutNext (M.word memory.now) (modules_of modules.now.views.now) result
+        walk.old walk.new }
+{
+    if walk.remaining == 0 {
+        return NOTHING;
+    }
+    let mut position = position_of(walk);
+    match position.next(modules, memory) {
+        Some(frame) => {
+            hand_out_frame(&frame, walk);
+            DONE
+        }
+        None => {
+            hand_out_end(&position.end, walk);
+            NOTHING
+        }
+    }
+}
+
+/// Returns the next frame of a stack walk on x64, in `walk`: the top frame as it is, and then the caller of each, as `StackFrames`
+/// of pe_frame does. `NOTHING` where the walk is over: `end` of the walk says why.
+///
+/// The first module that has an address is that of the address: by binary search in modules in ascending order that do not overlap,
+/// in any others in turn. `memory` has the bytes of the stack, and `pieces` says where each is, as in `pe_c_step_pieces`.
+///
+/// Errors, which change nothing: `SHORT` if the function table of a module does not lie in its bytes, or a piece not in `memory`.
+#[unsafe(no_mangle)]
+pub extern "C" fn pe_c_next_frame(
+    modules: &[ModuleView<'_>],
+    memory: &[u8],
+    pieces: &[MemoryPiece],
+    walk: &mut StackWalk,
+) -> u32
+    ensures { HandsOutFrame modules.now memory.now pieces.now result walk.old walk.new }
+{
+    let modules = match ViewedModules::new(modules) {
+        Ok(modules) => modules,
+        Err(error) => return number_of(&error),
+    };
+    match MemoryList::new(memory, pieces) {
+        Ok(memory) => next_frame(&modules, &memory, walk),
+        Err(error) => number_of(&error),
+    }
+}
+
+/// The next frames of a walk: in each slot the walk as it is after a frame. Returns how many there are.
+#[tactic(auto, using(crate::proofs::NextFrames::none_yet, crate::proofs::NextFrames::one_more, crate::proofs::NextFrames::others_stay, crate::proofs::NextFrames::over_here, crate::proofs::NextFrames::all_filled))]
+fn next_frames<M: Memory>(
+    modules: &ViewedModules<'_>,
+    memory: &M,
+    walk: &mut StackWalk,
+    frames: &mut [StackWalk],
+) -> usize
+    ensures { FillsFrames (M.word memory.now) (modules_of modules.now.views.now) result
+        frames.old frames.new walk.old walk.new }
+{
+    for i in 0..frames.len() {
+        if next_frame(modules, memory, walk) == NOTHING {
+            return i;
+        }
+        frames[i] = *walk;
+    }
+    frames.len()
+}
+
+/// Fills `frames` with the next frames of a stack walk on x64: each is the walk as `pe_c_next_frame` leaves it after a frame. Sets
+/// `count` to how many there are. `NOTHING` where the walk was over before all were filled.
+///
+/// The modules and the pieces of memory are tested once a call.
+///
+/// Errors, which change nothing: those of `pe_c_next_frame`.
+#[unsafe(no_mangle)]
+pub extern "C" fn pe_c_next_frames(
+    modules: &[ModuleView<'_>],
+    memory: &[u8],
+    pieces: &[MemoryPiece],
+    walk: &mut StackWalk,
+    frames: &mut [StackWalk],
+    count: &mut u64,
+) -> u32
+    ensures { HandsOutFrames modules.now memory.now pieces.now result
+        (frames.old, count.old) (frames.new, count.new) walk.old walk.new }
+{
+    let modules = match ViewedModules::new(modules) {
+        Ok(modules) => modules,
+        Err(error) => return number_of(&error),
+    };
+    let memory = match MemoryList::new(memory, pieces) {
+        Ok(memory) => memory,
+        Err(error) => return number_of(&error),
+    };
+    let filled = next_frames(&modules, &memory, walk, frames);
+    *count = filled as u64;
+    if filled < frames.len() { NOTHING } else { DONE }
+}

@@ -1,0 +1,58 @@
+//! What a walk asks of the modules of a process, however a caller keeps them.
+
+ghost use Rattle.std.specs.Prelude.{◌≡◌, List};
+ghost use Rattle.pe_frame.specs.Modules.{is_after_call, is_code_return};
+ghost use Rattle.pe_frame.specs.Walks.{Calls};
+ghost use Rattle.pe_frame.specs.declared.modules.Module.{Module};
+
+use crate::memory::Memory;
+use crate::modules::Modules;
+use crate::walk::{StackFrame, WalkEnd, caller_in_module, caller_outside};
+
+/// The modules of a process, however they are kept, as a walk asks for the calls in their code.
+pub trait CallSites {
+    // The modules, of which the first that has an address is that of the address.
+    ghost list: { Self → List Module };
+
+    /// Whether an address is one after a call.
+    fn ends_call(&self, address: u64) -> bool
+        ensures { result ≡ is_after_call (list self.now) address };
+
+    /// Whether an address is one after a call in an executable section.
+    fn ends_code_call(&self, address: u64) -> bool
+        ensures { result ≡ is_code_return (list self.now) address };
+}
+
+/// The modules of a process, however they are kept, as a walk asks for the caller of a frame.
+pub trait LoadedModules {
+    // The modules, of which the first that has an address is that of the address.
+    ghost modules: { Self → List Module };
+
+    /// The frame of the caller of a frame, or why there is none: [`caller_in_module`] by the module that has the lookup address
+    /// of the frame, or [`caller_outside`] if none does.
+    fn caller_of<M: Memory>(&self, frame: &StackFrame, memory: &M) -> Result<StackFrame, WalkEnd>
+        ensures { Calls (M.word memory.now) (modules self.now) frame.now result };
+}
+
+impl<'a> CallSites for Modules<'a> {
+    ghost list = { λ m. m.modules.now };
+
+    fn ends_call(&self, address: u64) -> bool {
+        self.is_after_call(address)
+    }
+
+    fn ends_code_call(&self, address: u64) -> bool {
+        self.is_code_return(address)
+    }
+}
+
+impl<'a> LoadedModules for Modules<'a> {
+    ghost modules = { λ m. m.modules.now };
+
+    fn caller_of<M: Memory>(&self, frame: &StackFrame, memory: &M) -> Result<StackFrame, WalkEnd> {
+        match self.find(frame.lookup_address()) {
+            Some(module) => caller_in_module(self, module, frame, memory),
+            None => caller_outside(self, frame, memory),
+        }
+    }
+}

@@ -1,0 +1,344 @@
+//! Walks of a stack, a frame a call. The image and the stacks are by hand: what is expected is what each function was entered
+//! with.
+
+use super::made::{SHORT, X64, image, lies, range, sections};
+use crate::image::Image;
+use crate::ranges::Range;
+use crate::results::{DONE, MISSING, NOTHING};
+use crate::stack_frames::FrameRegisters;
+use crate::stack_walk::{ModuleView, StackWalk, pe_c_next_frame, pe_c_next_frames};
+use crate::view::View;
+use pe_core::SectionTable;
+use pe_frame::MemoryPiece;
+use pe_images::image as bytes_of;
+use std::alloc::{AllocError, Global};
+use std::test::Fail;
+
+/// Where the image is loaded.
+const BASE: u64 = 0x1_8000_0000;
+
+/// Where the words of a stack start.
+const STACK: u64 = 0x2_0000;
+
+/// Of the first function the return address of its call.
+const AFTER_CALL: u64 = BASE + 0x1010;
+
+/// In a function that allocates 8 bytes; and further on in it a jump into the body of the first function.
+const DISPATCHER: u64 = BASE + 0x1030;
+
+const JUMPING: u64 = BASE + 0x1038;
+
+/// The range of the function table.
+const TABLE: Range = Range {
+    offset: 0x80,
+    length: 24,
+};
+
+// Ways, and reasons why a walk is over.
+const TOP: u32 = 0;
+
+const RECORDS: u32 = 1;
+
+const LEAF: u32 = 2;
+
+const BOUND: u32 = 0;
+
+const BOTTOM: u32 = 1;
+
+const NO_MODULE: u32 = 2;
+
+const STEP: u32 = 6;
+
+/// Two functions of 32 bytes from RVA 0x1000 on, file offset 0: one that pushes rbx, allocates 32 bytes and calls; and one that
+/// allocates 8 bytes. Then their table.
+fn program(alloc: Global) -> Result<Vec<u8>, AllocError> {
+    bytes_of(
+        alloc,
+        0x200,
+        &[
+            (0x0B, &[0xE8]),
+            (0x38, &[0xEB, 0xD6]),
+            (0x80, &[0, 0x10, 0, 0, 0x20, 0x10, 0, 0, 0xA0, 0x10]),
+            (0x8C, &[0x20, 0x10, 0, 0, 0x40, 0x10, 0, 0, 0xB0, 0x10]),
+            (0xA0, &[1, 5, 2, 0, 5, 0x32, 1, 0x30]),
+            (0xB0, &[1, 4, 1, 0, 4, 0x02]),
+        ],
+    )
+}
+
+/// The image as a module.
+fn module<'a>(bytes: &'a [u8], image: &'a Image, sections: &'a [SectionTable]) -> ModuleView<'a> {
+    let image = View {
+        bytes,
+        image,
+        sections,
+    };
+    ModuleView {
+        image,
+        table: TABLE,
+        base: BASE,
+    }
+}
+
+/// The one section, which is executable.
+fn code() -> [SectionTable; 1] {
+    let mut sections = sections();
+    sections[0].characteristics = 0x6000_0020;
+    sections
+}
+
+/// A walk of at most so many frames from these pointers.
+fn walk_from(rip: u64, rsp: u64, most: u64) -> StackWalk {
+    let mut registers = FrameRegisters {
+        general: [0; 16],
+        xmm: [0; 32],
+        rip,
+    };
+    registers.general[4] = rsp;
+    registers.xmm[31] = u64::MAX;
+    StackWalk {
+        registers,
+        remaining: most,
+        address: 0,
+        has_returned: 0,
+        way: 0,
+        has_called: 0,
+        end: 0,
+        error: 0,
+        spare: 0,
+    }
+}
+
+/// The bytes of these words.
+fn bytes_of_words(alloc: Global, words: &[u64]) -> Result<Vec<u8>, AllocError> {
+    let mut bytes = Vec::new(alloc);
+    for word in words {
+        bytes.extend_from_slice(&u64::to_le_bytes(*word))?;
+    }
+    Ok(bytes)
+}
+
+/// Words in one piece from `STACK` on.
+fn piece(bytes: &[u8]) -> [MemoryPiece; 1] {
+    [MemoryPiece {
+        start: STACK,
+        offset: 0,
+        length: bytes.len() as u64,
+    }]
+}
+
+/// Of the frame of a walk its instruction pointer, its stack pointer, how it was found, and whether it has called.
+fn frame_of(walk: &StackWalk) -> ([u64; 2], [u32; 2]) {
+    let registers = walk.registers;
+    (
+        [registers.rip, registers.general[4]],
+        [walk.way, walk.has_called],
+    )
+}
+
+/// Why a walk is over.
+fn end_of(walk: &StackWalk) -> ([u64; 2], [u32; 2]) {
+    ([walk.remaining, walk.address], [walk.end, walk.error])
+}
+
+/// The top frame is at a jump into the first function, whose frame is in place there; that was called by the same function.
+#[test]
+fn a_walk_returns_the_frames(rt: HostRuntime) -> Result<(), Fail> {
+    let (bytes, headers, sections) = (program(rt.alloc())?, image(X64), code());
+    let modules = [module(&bytes, &headers, &sections)];
+    let words = [1, 2, 3, 4, 0xB1, AFTER_CALL, 5, 6, 7, 8, 0xB2, 0];
+    let stack = bytes_of_words(rt.alloc(), &words)?;
+    let mut walk = walk_from(JUMPING, STACK, 9);
+    let frames = [
+        ([JUMPING, STACK], [TOP, 0], 0, 8),
+        ([AFTER_CALL, STACK + 48], [RECORDS, 1], 0xB1, 7),
+    ];
+    for (pointers, found, rbx, remaining) in frames {
+        let answer = pe_c_next_frame(&modules, &stack, &piece(&stack), &mut walk);
+        assert_eq!(rt; answer, DONE);
+        assert_eq!(rt; frame_of(&walk), (pointers, found));
+        let StackWalk {
+            registers,
+            has_returned,
+            ..
+        } = walk;
+        assert_eq!(rt;
+            [registers.general[3], registers.xmm[31], walk.remaining],
+            [rbx, u64::MAX, remaining]
+        );
+        assert_eq!(rt; has_returned, 1);
+    }
+    // Once it is over, nothing changes any more.
+    for _ in 0..2 {
+        let answer = pe_c_next_frame(&modules, &stack, &piece(&stack), &mut walk);
+        assert_eq!(rt; answer, NOTHING);
+        assert_eq!(rt; end_of(&walk), ([0, 0], [BOTTOM, 0]));
+        assert_eq!(rt; walk.registers.rip, AFTER_CALL);
+    }
+    Ok(())
+}
+
+/// At most as many frames as are wanted; and a walk that is lost says why.
+#[test]
+fn a_walk_says_why_it_is_over(rt: HostRuntime) -> Result<(), Fail> {
+    let (bytes, headers, sections) = (program(rt.alloc())?, image(X64), code());
+    let modules = [module(&bytes, &headers, &sections)];
+    let stack = bytes_of_words(rt.alloc(), &[8, 1])?;
+    let mut bounded = walk_from(DISPATCHER, STACK, 1);
+    let pieces = piece(&stack);
+    assert_eq!(rt;
+        pe_c_next_frame(&modules, &stack, &pieces, &mut bounded),
+        DONE
+    );
+    assert_eq!(rt;
+        pe_c_next_frame(&modules, &stack, &pieces, &mut bounded),
+        NOTHING
+    );
+    assert_eq!(rt; end_of(&bounded), ([0, 0], [BOUND, 0]));
+    // No module has the address 1.
+    let mut lost = walk_from(DISPATCHER, STACK, 9);
+    for answer in [DONE, DONE, NOTHING] {
+        assert_eq!(rt;
+            pe_c_next_frame(&modules, &stack, &pieces, &mut lost),
+            answer
+        );
+    }
+    assert_eq!(rt; end_of(&lost), ([0, 0], [NO_MODULE, 0]));
+    assert_eq!(rt; frame_of(&lost), ([1, STACK + 16], [RECORDS, 0]));
+    // The return address is not there.
+    let mut missing = walk_from(DISPATCHER, STACK + 8, 9);
+    assert_eq!(rt;
+        pe_c_next_frame(&modules, &stack, &pieces, &mut missing),
+        DONE
+    );
+    assert_eq!(rt;
+        pe_c_next_frame(&modules, &stack, &pieces, &mut missing),
+        NOTHING
+    );
+    assert_eq!(rt; end_of(&missing), ([0, STACK + 16], [STEP, MISSING]));
+    Ok(())
+}
+
+/// Several frames in one call: those of single calls. Slots that are left stay as they were, and the walk goes on where it was.
+#[test]
+fn frames_in_one_call(rt: HostRuntime) -> Result<(), Fail> {
+    let (bytes, headers, sections) = (program(rt.alloc())?, image(X64), code());
+    let modules = [module(&bytes, &headers, &sections)];
+    let words = [1, 2, 3, 4, 0xB1, AFTER_CALL, 5, 6, 7, 8, 0xB2, 0];
+    let stack = bytes_of_words(rt.alloc(), &words)?;
+    let pieces = piece(&stack);
+    let top = ([JUMPING, STACK], [TOP, 0]);
+    let outer = ([AFTER_CALL, STACK + 48], [RECORDS, 1]);
+    let mut walk = walk_from(JUMPING, STACK, 9);
+    let (mut frames, mut count) = ([walk_from(7, 8, 9); 3], 77);
+    let answer = pe_c_next_frames(
+        &modules,
+        &stack,
+        &pieces,
+        &mut walk,
+        &mut frames,
+        &mut count,
+    );
+    assert_eq!(rt; (answer, count), (NOTHING, 2));
+    assert_eq!(rt; (frame_of(&frames[0]), frame_of(&frames[1])), (top, outer));
+    assert_eq!(rt; frame_of(&frames[2]), ([7, 8], [TOP, 0]));
+    assert_eq!(rt;
+        [
+            frames[0].remaining,
+            frames[1].remaining,
+            frames[1].registers.general[3]
+        ],
+        [8, 7, 0xB1]
+    );
+    assert_eq!(rt; end_of(&walk), ([0, 0], [BOTTOM, 0]));
+    // One after the other; once all slots are filled, it is not known yet whether the walk is over.
+    let mut walk = walk_from(JUMPING, STACK, 9);
+    for frame in [top, outer] {
+        let (mut slot, mut count) = ([walk_from(7, 8, 9)], 77);
+        let answer = pe_c_next_frames(&modules, &stack, &pieces, &mut walk, &mut slot, &mut count);
+        assert_eq!(rt; (answer, count), (DONE, 1));
+        assert_eq!(rt; frame_of(&slot[0]), frame);
+    }
+    assert_eq!(rt; walk.remaining, 7);
+    let answer = pe_c_next_frames(
+        &modules,
+        &stack,
+        &pieces,
+        &mut walk,
+        &mut frames,
+        &mut count,
+    );
+    assert_eq!(rt; (answer, count), (NOTHING, 0));
+    assert_eq!(rt; end_of(&walk), ([0, 0], [BOTTOM, 0]));
+    Ok(())
+}
+
+/// After a call of a null pointer the return address is at the stack pointer. In a module without a table nothing calls.
+#[test]
+fn a_call_of_a_null_pointer_has_a_caller(rt: HostRuntime) -> Result<(), Fail> {
+    let (bytes, headers, sections) = (program(rt.alloc())?, image(X64), code());
+    let stack = bytes_of_words(rt.alloc(), &[AFTER_CALL])?;
+    let mut modules = [module(&bytes, &headers, &sections)];
+    let mut walk = walk_from(0, STACK, 9);
+    for frame in [([0, STACK], [TOP, 0]), ([AFTER_CALL, STACK + 8], [LEAF, 1])] {
+        assert_eq!(rt;
+            pe_c_next_frame(&modules, &stack, &piece(&stack), &mut walk),
+            DONE
+        );
+        assert_eq!(rt; frame_of(&walk), frame);
+    }
+    modules[0].table = range(0, 0);
+    let mut walk = walk_from(0, STACK, 9);
+    assert_eq!(rt;
+        pe_c_next_frame(&modules, &stack, &piece(&stack), &mut walk),
+        DONE
+    );
+    assert_eq!(rt;
+        pe_c_next_frame(&modules, &stack, &piece(&stack), &mut walk),
+        NOTHING
+    );
+    assert_eq!(rt; end_of(&walk), ([0, 0], [NO_MODULE, 0]));
+    Ok(())
+}
+
+/// A table outside of its bytes, and a piece outside of the memory, change nothing.
+#[test]
+fn ranges_that_lie(rt: HostRuntime) -> Result<(), Fail> {
+    let (bytes, headers, sections) = (program(rt.alloc())?, image(X64), code());
+    let stack = bytes_of_words(rt.alloc(), &[8, 1])?;
+    for lie in lies(bytes.len() as u64) {
+        let mut modules = [module(&bytes, &headers, &sections); 2];
+        modules[1].table = lie;
+        let mut walk = walk_from(DISPATCHER, STACK, 9);
+        assert_eq!(rt;
+            pe_c_next_frame(&modules, &stack, &piece(&stack), &mut walk),
+            SHORT
+        );
+        assert_eq!(rt; [walk.remaining, u64::from(walk.has_returned)], [9, 0]);
+        let (mut frames, mut count) = ([walk_from(7, 8, 9)], 77);
+        let answer = pe_c_next_frames(
+            &modules,
+            &stack,
+            &piece(&stack),
+            &mut walk,
+            &mut frames,
+            &mut count,
+        );
+        assert_eq!(rt; (answer, count, frames[0].registers.rip), (SHORT, 77, 7));
+    }
+    for lie in lies(stack.len() as u64) {
+        let pieces = [MemoryPiece {
+            start: 0,
+            offset: lie.offset,
+            length: lie.length,
+        }];
+        let mut walk = walk_from(DISPATCHER, STACK, 9);
+        let modules = [module(&bytes, &headers, &sections)];
+        assert_eq!(rt;
+            pe_c_next_frame(&modules, &stack, &pieces, &mut walk),
+            SHORT
+        );
+        assert_eq!(rt; [walk.remaining, u64::from(walk.has_returned)], [9, 0]);
+    }
+    Ok(())
+}
