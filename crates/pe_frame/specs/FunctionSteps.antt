@@ -7,7 +7,7 @@ use Rattle.pe_unwind.specs.ExceptionTable.{ExceptionView}
 use Rattle.pe_unwind.specs.Links.{links_of}
 use Rattle.pe_unwind.specs.UnwindRecord.{UnwindInfoView}
 use Rattle.pe_unwind.specs.declared.function_table.RuntimeFunction.{RuntimeFunction}
-use Rattle.pe_plan.specs.ShortPlans.{PlansShort}
+use Rattle.pe_plan.specs.ShortPlans.{PlansShort, PlansUpTo}
 use Rattle.pe_frame.specs.Jumps.{StepsInImage}
 use Rattle.pe_frame.specs.declared.error.FrameError.{FrameError}
 use Rattle.pe_frame.specs.declared.registers.Registers.{Registers}
@@ -19,4 +19,12 @@ StepsInFunction e sections opts m f rva code g (Err refusal) = PlansShort (links
 StepsInFunction e sections opts m f rva code g (Ok None) = PlansShort (links_of e sections opts) e.content f (Ok None)
 StepsInFunction e sections opts m f rva code g (Ok (Some left)) =
     (plan : List UnwindInfoView) × PlansShort (links_of e sections opts) e.content f (Ok (Some plan))
+    × StepsInImage e sections opts m plan f.begin_address rva code g left
+
+-- The same of a function with at most n records. Private contracts alone cite this.
+abbrev pub StepsUpTo : ℕ → ExceptionView → List SectionTable → ParseOptions → (ℕ → Option ℕ) → RuntimeFunction → ℕ → List ℕ → Registers → Result (Option (Result (Registers × Bool) FrameError)) Refusal → Type 0
+StepsUpTo n e sections opts m f rva code g (Err refusal) = PlansUpTo n (links_of e sections opts) e.content f (Err refusal)
+StepsUpTo n e sections opts m f rva code g (Ok None) = PlansUpTo n (links_of e sections opts) e.content f (Ok None)
+StepsUpTo n e sections opts m f rva code g (Ok (Some left)) =
+    (plan : List UnwindInfoView) × PlansUpTo n (links_of e sections opts) e.content f (Ok (Some plan))
     × StepsInImage e sections opts m plan f.begin_address rva code g left
