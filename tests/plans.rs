@@ -3,7 +3,7 @@
 use crate::images::with_part;
 use crate::refusing::Refusing;
 use pe_core::{DataDirectory, Error, ParseOptions, Reason, Result};
-use pe_plan::{ShortPlan, UnwindPlan};
+use pe_plan::{ShortPlan, UnwindPlan, read_plan};
 use pe_unwind::{ExceptionData, RuntimeFunction, UnwindHandler, UnwindInfo};
 use std::alloc::{AllocError, Allocator, Global};
 use std::process::Abort;
@@ -394,6 +394,63 @@ fn short_plans_that_are_none(rt: HostRuntime) -> std::result::Result<(), Fail> {
         let bytes = chain(alloc, chained, 0x1000)?;
         let error = short_plan(&bytes).err().ok_or("no error")?;
         assert!(rt; matches!(error, Error::Short { .. }), "of {chained}");
+    }
+    Ok(())
+}
+
+/// The plan of the first function of a table of one entry, read into room for so many records: the unwind addresses to which its
+/// records are chained, 0 for none.
+fn plan_in_room(
+    alloc: Global,
+    bytes: &[u8],
+    size: usize,
+) -> std::result::Result<Result<Option<Vec<u32>>>, Fail> {
+    let directory = DataDirectory {
+        virtual_address: 0,
+        size: 12,
+    };
+    let exceptions = ExceptionData::parse_with_opts(bytes, directory, &[], 0x200, &flat())?;
+    let function = exceptions.get_function(0)?;
+    let mut room = Vec::new(alloc);
+    for _ in 0..size {
+        room.push(UnwindInfo::parse(&[1, 0, 0, 0], 0)?)?;
+    }
+    let count = match read_plan(&exceptions, function, &[], &flat(), &mut room) {
+        Ok(Some(count)) => count,
+        Ok(None) => return Ok(Ok(None)),
+        Err(error) => return Ok(Err(error)),
+    };
+    let mut found = Vec::new(alloc);
+    for record in &room[..count] {
+        found.push(record.chained_info.map_or(0, |it| it.unwind_info_address))?;
+    }
+    Ok(Ok(Some(found)))
+}
+
+/// A plan is read into room that is large enough. In less it is none, unless a record before that cannot be read.
+#[test]
+fn plans_are_read_into_room(rt: HostRuntime) -> std::result::Result<(), Fail> {
+    let alloc = rt.alloc();
+    let two = chain(alloc, 2, offset_of(2))?;
+    for size in [0, 1, 2] {
+        assert!(rt; plan_in_room(alloc, &two, size)??.is_none(), "in {size}");
+    }
+    for size in [3, 4, 40] {
+        let found = plan_in_room(alloc, &two, size)??.ok_or("no plan")?;
+        assert_eq!(rt; found[..], [28, 44, 0][..], "in {size}");
+    }
+    let unreadable = chain(alloc, 2, 0x1000)?;
+    for size in [0, 1, 2] {
+        assert!(rt;
+            plan_in_room(alloc, &unreadable, size)??.is_none(),
+            "in {size}"
+        );
+    }
+    for size in [3, 40] {
+        let error = plan_in_room(alloc, &unreadable, size)?
+            .err()
+            .ok_or("no error")?;
+        assert!(rt; matches!(error, Error::Short { .. }), "in {size}");
     }
     Ok(())
 }

@@ -409,7 +409,7 @@ fn put_chain(bytes: &mut [u8], count: usize) {
 #[test]
 fn chains_have_at_most_32_records(rt: HostRuntime) -> Result<(), Fail> {
     let mut words = stack_of(rt.alloc(), &[0; 40])?;
-    for count in [1usize, 2, 31, 32] {
+    for count in [1usize, 2, 3, 7, 8, 9, 31, 32] {
         let mut bytes = with_records(rt.alloc())?;
         put_chain(&mut bytes, count);
         put(&mut words, &[(8 * count, &[count as u8])]);
@@ -428,8 +428,15 @@ fn chains_have_at_most_32_records(rt: HostRuntime) -> Result<(), Fail> {
     // The second record is chained to the first.
     put(&mut bytes, &[(0x124, &[0x00, 0x11])]);
     assert_eq!(rt; step(&bytes, &words, &mut frame), LONG_CHAIN);
-    // The second is chained to one that is not mapped.
+    // The tenth, the second and then the first are chained to one that is not mapped.
+    put(
+        &mut bytes,
+        &[(0x124, &[0x28, 0x11]), (0x1C4, &[0x00, 0x31])],
+    );
+    assert_eq!(rt; step(&bytes, &words, &mut frame), UNMAPPED);
     put(&mut bytes, &[(0x124, &[0x00, 0x31])]);
+    assert_eq!(rt; step(&bytes, &words, &mut frame), UNMAPPED);
+    put(&mut bytes, &[(0x110, &[0x00, 0x31])]);
     assert_eq!(rt; step(&bytes, &words, &mut frame), UNMAPPED);
     assert_eq!(rt; numbers_of(&frame), before);
     Ok(())

@@ -31,13 +31,8 @@ fn registers(words: &[&str]) -> Result<Registers> {
     Ok(registers)
 }
 
-fn show(name: &str, most: usize, top: Registers, images: &[(u64, Image<'_>)], memory: MemoryList<'_>) {
-    let module = |address| {
-        let index = images.partition_point(|(base, _)| *base <= address).checked_sub(1)?;
-        let (base, image) = &images[index];
-        Some(Module { image, base: *base })
-    };
-    let mut frames = Frames::over(top, most, module, memory);
+fn show(name: &str, most: usize, top: Registers, modules: &[Module<'_>], memory: MemoryList<'_>) {
+    let mut frames = Frames::new(top, most, modules, memory);
     for frame in frames.by_ref() {
         let Registers { rip, general, .. } = frame.registers;
         let general: String = general.iter().map(|it| format!(" {it:x}")).collect();
@@ -48,7 +43,7 @@ fn show(name: &str, most: usize, top: Registers, images: &[(u64, Image<'_>)], me
 }
 
 /// The lines after those of the modules.
-fn show_all(lines: &[Vec<&str>], images: &[(u64, Image<'_>)]) -> Result<()> {
+fn show_all(lines: &[Vec<&str>], modules: &[Module<'_>]) -> Result<()> {
     let (mut bytes, mut pieces) = (vec![], vec![]);
     for line in lines {
         match line.as_slice() {
@@ -59,7 +54,7 @@ fn show_all(lines: &[Vec<&str>], images: &[(u64, Image<'_>)]) -> Result<()> {
             }
             ["walk", name, most, rest @ ..] => {
                 let most = usize::from_str_radix(most, 16)?;
-                show(name, most, registers(rest)?, images, MemoryList::new(&bytes, &pieces)?);
+                show(name, most, registers(rest)?, modules, MemoryList::new(&bytes, &pieces)?);
             }
             _ => return Err(format!("no line of a process: {}", line.join(" ")).into()),
         }
@@ -80,5 +75,6 @@ fn main() -> Result<()> {
     for (base, file) in &files {
         images.push((*base, Image::parse(file, Mode::Permissive)?));
     }
-    show_all(&lines[files.len()..], &images)
+    let modules: std::result::Result<Vec<_>, _> = images.iter().map(|(base, image)| Module::new(image, *base)).collect();
+    show_all(&lines[files.len()..], &modules?)
 }

@@ -72,6 +72,12 @@ abbrev pub HandsOutCaller : ℕ → StackFrame → StackFrame → Result Registe
 HandsOutCaller number old new (Ok u) = (number ≡ 0) × (new ≡ record old { registers = flat_registers u })
 HandsOutCaller number old new (Err e) = (number ≡ error_number e) × (new ≡ at_address old (error_address e))
 
+-- The same of a pop of the return address, which leaves the XMM registers as they are.
+abbrev pub HandsOutPopped : ℕ → StackFrame → StackFrame → Result Registers FrameError → Type 0
+HandsOutPopped number old new (Ok u) =
+    (number ≡ 0) × (new ≡ record old { registers = record (old.registers) { general = u.general; rip = u.rip } })
+HandsOutPopped number old new (Err e) = (number ≡ error_number e) × (new ≡ at_address old (error_address e))
+
 -- What a step by the records of a function leaves: it is a step of pe_frame in the image, with the code from the frame's RVA on.
 -- `HandsOut` says what becomes of it, or of a number that refuses it.
 abbrev pub StepsBy : ExceptionView → List SectionTable → ParseOptions → List ℕ → (ℕ → Option ℕ) → StackFrame → (Result (Result (Registers × Bool) FrameError) ℕ → Type 0) → Result (Option (List UnwindInfoView)) Refusal → Type 0
@@ -139,5 +145,5 @@ HandsOutStepPieces b image sections code memory pieces number old new before aft
 -- the same of the caller of a leaf function
 abbrev pub HandsOutLeafPieces : List ℕ → List MemoryPiece → ℕ → StackFrame → StackFrame → Type 0
 HandsOutLeafPieces memory pieces number old new =
-    OverPieces (new ≡ old) number (λ word. HandsOutCaller number old new (popped word (registers_of old.registers)))
+    OverPieces (new ≡ old) number (λ word. HandsOutPopped number old new (popped word (registers_of old.registers)))
     (memory_of memory pieces)

@@ -3,27 +3,28 @@
 //! https://learn.microsoft.com/cpp/build/exception-handling-x64
 
 ghost use Rattle.std.specs.Prelude.{◌≡◌, ◌<◌, Ok, length};
-ghost use Rattle.std.specs.Option.{option_map};
-ghost use Rattle.pe_core.specs.Refusals.{answer_by};
 ghost use Rattle.pe_core.specs.Rows.{each};
-ghost use Rattle.pe_plan.specs.ShortPlans.{records_of};
 ghost use Rattle.pe_frame.specs.Memory.{stack_word};
 ghost use Rattle.pe_frame.specs.Steps.{registers_alone};
 ghost use Rattle.pe_frame.specs.Undoing.{popped};
 ghost use Rattle.pe_c.specs.Unwinding.{image_exceptions};
-ghost use Rattle.pe_c.specs.StackFrames.{whole_xmm, half_xmm, registers_of, flat_registers, error_number, error_address, StepsBy, StepsOf, StepsIn, HandsOutCaller, HandsOutLeafPieces, HandsOutLeft, HandsOutLeftStep, HandsOutStep, HandsOutStepPieces};
+ghost use Rattle.pe_c.specs.StackFrames.{whole_xmm, half_xmm, registers_of, flat_registers, error_number, error_address, StepsOf, StepsIn, HandsOutCaller, HandsOutLeafPieces, HandsOutLeft, HandsOutLeftStep, HandsOutPopped, HandsOutStep, HandsOutStepPieces};
 
 use crate::image::{EXCEPTION_TABLE, Image, directory};
 use crate::results::{
     BAD_ADDRESS, BAD_OPERATION, DONE, LONG_CHAIN, MISSING, NOT_RISING, number_of, options,
 };
-use pe_core::{Error, SectionTable};
+use pe_core::SectionTable;
 use pe_frame::{
-    FrameError, ImageFunctions, Memory, MemoryList, MemoryPiece, Registers, Stack, leaf,
-    step_in_image,
+    FrameError, ImageFunctions, Memory, MemoryList, MemoryPiece, Registers, Stack, step_in_function,
 };
-use pe_plan::ShortPlan;
 use pe_unwind::{ExceptionData, RuntimeFunction};
+
+/// The stack pointer among the integer registers.
+const RSP: usize = 4;
+
+/// The bytes of a word of the stack.
+const SIZE_OF_WORD: u64 = 8;
 
 /// How many numbers a half of an XMM register has.
 const NUMBERS_OF_A_HALF: u128 = 0x1_0000_0000_0000_0000;
@@ -56,17 +57,26 @@ pub struct StackFrame {
     pub rva: u32,
 }
 
-/// The XMM registers of their halves.
-#[tactic(auto, using(std::proofs::lemmas::List::take_more_set, std::proofs::lemmas::List::take_all), unfolding(pe_core::specs::Rows::each))]
+/// An XMM register of its halves.
+fn whole(halves: &[u64; 32], index: usize) -> u128
+    requires { index < 16 }
+    ensures { result ≡ whole_xmm halves.now index }
+{
+    let (low, high) = (u128::from(halves[2 * index]), u128::from(halves[2 * index + 1]));
+    low + high * NUMBERS_OF_A_HALF
+}
+
+/// The XMM registers of their halves. Each is named, so that no loop counts them.
+#[tactic(auto, unfolding(pe_core::specs::Rows::each))]
 fn whole_registers(halves: &[u64; 32]) -> [u128; 16]
     ensures { result ≡ each (whole_xmm halves.now) 16 }
 {
-    let mut registers = [0; 16];
-    for i in 0..16 {
-        let (low, high) = (u128::from(halves[2 * i]), u128::from(halves[2 * i + 1]));
-        registers[i] = low + high * NUMBERS_OF_A_HALF;
-    }
-    registers
+    [
+        whole(halves, 0), whole(halves, 1), whole(halves, 2), whole(halves, 3),
+        whole(halves, 4), whole(halves, 5), whole(halves, 6), whole(halves, 7),
+        whole(halves, 8), whole(halves, 9), whole(halves, 10), whole(halves, 11),
+        whole(halves, 12), whole(halves, 13), whole(halves, 14), whole(halves, 15),
+    ]
 }
 
 /// Half of an XMM register: the low half at an even index, the high one at an odd index.
@@ -82,17 +92,22 @@ fn half(registers: &[u128; 16], index: usize) -> u64
     }
 }
 
-/// The halves of the XMM registers.
-#[tactic(auto, using(std::proofs::lemmas::List::take_more_set, std::proofs::lemmas::List::take_all), unfolding(pe_core::specs::Rows::each))]
+/// The halves of the XMM registers, each of which is named.
+#[tactic(auto, unfolding(pe_core::specs::Rows::each))]
 fn half_registers(registers: &[u128; 16]) -> [u64; 32]
     ensures halves { result ≡ each (half_xmm registers.now) 32 }
     ensures count { length registers.now ≡ 16 }
 {
-    let mut halves = [0; 32];
-    for i in 0..32 {
-        halves[i] = half(registers, i);
-    }
-    halves
+    [
+        half(registers, 0), half(registers, 1), half(registers, 2), half(registers, 3),
+        half(registers, 4), half(registers, 5), half(registers, 6), half(registers, 7),
+        half(registers, 8), half(registers, 9), half(registers, 10), half(registers, 11),
+        half(registers, 12), half(registers, 13), half(registers, 14), half(registers, 15),
+        half(registers, 16), half(registers, 17), half(registers, 18), half(registers, 19),
+        half(registers, 20), half(registers, 21), half(registers, 22), half(registers, 23),
+        half(registers, 24), half(registers, 25), half(registers, 26), half(registers, 27),
+        half(registers, 28), half(registers, 29), half(registers, 30), half(registers, 31),
+    ]
 }
 
 /// The registers that a caller passes.
@@ -152,21 +167,39 @@ fn hand_out_caller(caller: Result<Registers, FrameError>, frame: &mut StackFrame
     }
 }
 
+/// Pops the return address of a frame, as `leaf` of pe_frame does, and touches no other register.
+fn pop_in_place<M: Memory>(memory: &M, frame: &mut StackFrame) -> u32
+    ensures { HandsOutPopped result frame.old frame.new
+        (popped (M.word memory.now) (registers_of frame.old.registers)) }
+{
+    let pointer = frame.registers.general[RSP];
+    let Some(address) = memory.u64_at(pointer) else {
+        frame.address = pointer;
+        return MISSING;
+    };
+    let Some(above) = pointer.checked_add(SIZE_OF_WORD) else {
+        frame.address = pointer;
+        return BAD_ADDRESS;
+    };
+    frame.registers.general[RSP] = above;
+    frame.registers.rip = address;
+    DONE
+}
+
 /// Finds the registers of the caller of a leaf function, which no function of the table covers, and writes them over those
 /// of `frame`: it pops the return address. `stack` is memory from `stack_start` on.
 ///
 /// Errors: `MISSING` if the return address is not there, `BAD_ADDRESS` if it is the last word below 2^64. Both set `address`.
 #[unsafe(no_mangle)]
 pub extern "C" fn pe_c_leaf(stack: &[u8], frame: &mut StackFrame) -> u32
-    ensures { HandsOutCaller result frame.old frame.new
+    ensures { HandsOutPopped result frame.old frame.new
         (popped (stack_word stack.now frame.old.stack_start) (registers_of frame.old.registers)) }
 {
     let memory = Stack {
         start: frame.stack_start,
         bytes: stack,
     };
-    let caller = leaf(registers_of(&frame.registers), &memory);
-    hand_out_caller(caller, frame)
+    pop_in_place(&memory, frame)
 }
 
 /// Writes the caller's registers to a frame, and whether an interrupt left them, or the address that an error speaks of.
@@ -186,33 +219,8 @@ fn hand_out_left(
     }
 }
 
-/// The registers of the caller by the plan of the frame's function in an image, and whether an interrupt left them; or the
+/// The registers of the caller by the records of the frame's function in an image, and whether an interrupt left them; or the
 /// number of what refuses the records.
-fn left_by<M: Memory>(
-    functions: &ImageFunctions<'_>,
-    plan: Result<Option<ShortPlan<'_>>, Error>,
-    code: &[u8],
-    memory: &M,
-    frame: &StackFrame,
-) -> Result<Result<(Registers, bool), FrameError>, u32>
-    ensures { StepsBy functions.now.exceptions.now functions.now.sections.now functions.now.opts
-        code.now (M.word memory.now) frame.now (λ left. result ≡ left)
-        (answer_by (option_map records_of) plan.entry) }
-{
-    match plan {
-        Ok(Some(plan)) => {
-            let (start, registers) = (frame.function.begin_address, registers_of(&frame.registers));
-            let records = plan.records();
-            Ok(step_in_image(
-                functions, records, start, frame.rva, code, registers, memory,
-            ))
-        }
-        Ok(None) => Err(LONG_CHAIN),
-        Err(error) => Err(number_of(&error)),
-    }
-}
-
-/// The same by the records of the frame's function in an image.
 fn left_of<M: Memory>(
     functions: &ImageFunctions<'_>,
     code: &[u8],
@@ -222,13 +230,12 @@ fn left_of<M: Memory>(
     ensures { StepsOf functions.now.exceptions.now functions.now.sections.now functions.now.opts
         code.now (M.word memory.now) frame.now (λ left. result ≡ left) }
 {
-    let ImageFunctions {
-        exceptions,
-        sections,
-        opts,
-    } = *functions;
-    let plan = ShortPlan::of_function(exceptions, frame.function, sections, &opts);
-    left_by(functions, plan, code, memory, frame)
+    let (function, registers) = (frame.function, registers_of(&frame.registers));
+    match step_in_function(functions, function, frame.rva, code, registers, memory) {
+        Ok(Some(left)) => Ok(left),
+        Ok(None) => Err(LONG_CHAIN),
+        Err(error) => Err(number_of(&error)),
+    }
 }
 
 /// The same by the exception data of an image.
@@ -358,10 +365,8 @@ pub extern "C" fn pe_c_leaf_pieces(
 ) -> u32
     ensures { HandsOutLeafPieces memory.now pieces.now result frame.old frame.new }
 {
-    let memory = match MemoryList::new(memory, pieces) {
-        Ok(memory) => memory,
-        Err(error) => return number_of(&error),
-    };
-    let registers = registers_of(&frame.registers);
-    hand_out_caller(leaf(registers, &memory), frame)
+    match MemoryList::new(memory, pieces) {
+        Ok(list) => pop_in_place(&list, frame),
+        Err(error) => number_of(&error),
+    }
 }

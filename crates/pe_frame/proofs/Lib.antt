@@ -19,6 +19,7 @@ pub mod OneWalk
 pub mod SomeError
 pub mod SomeFunction
 pub mod SomeShortPlan
+pub mod FunctionSteps
 pub mod SomeWalk
 pub mod WholeWalks
 pub mod FrameWalks

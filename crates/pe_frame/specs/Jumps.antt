@@ -94,11 +94,15 @@ LeavesFor (Some place) m rest g answer =
     × Then (executed_all m (before_last rest) g) (StepsOut m place.plan place.offset) left
     × (answer ≡ risen_out (pointer g) left)
 
+-- the same in an image, where the place to which it jumps is looked up
+abbrev pub LeavesInImage : ExceptionView → List SectionTable → ParseOptions → (ℕ → Option ℕ) → List Instruction → Registers → Result (Registers × Bool) FrameError → Type 0
+LeavesInImage e sections opts m rest g answer =
+    (place : Option Place) × IsPlace e sections opts (target_of rest) place × LeavesFor place m rest g answer
+
 -- what a step returns: the rest of an epilog is run, without one the records are undone
 abbrev pub StepsInImageFrom : ExceptionView → List SectionTable → ParseOptions → Option (List Instruction) → (ℕ → Option ℕ) → List UnwindInfoView → ℕ → Registers → Result (Registers × Bool) FrameError → Type 0
 StepsInImageFrom e sections opts None m plan offset g answer = StepsOut m plan offset g answer
-StepsInImageFrom e sections opts (Some rest) m plan offset g answer =
-    (place : Option Place) × IsPlace e sections opts (target_of rest) place × LeavesFor place m rest g answer
+StepsInImageFrom e sections opts (Some rest) m plan offset g answer = LeavesInImage e sections opts m rest g answer
 
 -- what a step in an image returns, by the records of a function, its start, the RVA in it and its code from there on
 abbrev pub StepsInImage : ExceptionView → List SectionTable → ParseOptions → (ℕ → Option ℕ) → List UnwindInfoView → ℕ → ℕ → List ℕ → Registers → Result (Registers × Bool) FrameError → Type 0

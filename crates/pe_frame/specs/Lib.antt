@@ -8,6 +8,7 @@ pub mod InPlace
 pub mod Survey
 pub mod Epilogs
 pub mod Jumps
+pub mod FunctionSteps
 pub mod CallForms
 pub mod Arm64CallForms
 pub mod Modules

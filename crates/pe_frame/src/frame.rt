@@ -8,7 +8,7 @@ ghost use Rattle.pe_frame.specs.declared.registers.Registers.{Registers};
 ghost use Rattle.pe_frame.specs.Frames.{Part, infos, AreFrames, IsCaller};
 ghost use Rattle.pe_frame.specs.Steps.{Steps, StepsOut, Undoes, limit_of, registers_alone, rising};
 ghost use Rattle.pe_frame.specs.Epilogs.{epilog_at, run_out, StepsWithCode, StepsOutWithCode};
-ghost use Rattle.pe_frame.specs.InPlace.{changed_with};
+ghost use Rattle.pe_frame.specs.InPlace.{changed, changed_with};
 ghost use Rattle.pe_frame.specs.Tails.{instructions_of};
 
 use crate::epilog::{Tail, execute_tail, tail_at};
@@ -61,6 +61,37 @@ pub(crate) fn rising(pointer: u64, caller: Registers) -> Result<Registers, Frame
     Ok(caller)
 }
 
+/// Tests that the stack pointer of the caller is above this one.
+fn require_rising(pointer: u64, caller: &Registers) -> Result<(), FrameError>
+    ensures { changed result caller.now ≡ rising pointer caller.now }
+{
+    let above = caller.general[RSP];
+    if above <= pointer {
+        return Err(FrameError::NotRising(above));
+    }
+    Ok(())
+}
+
+/// Makes the registers those of the caller, from those at an offset in a function. Returns whether an interrupt left them.
+pub(crate) fn undo_in_place<M: Memory>(
+    plan: &[UnwindInfo<'_>],
+    offset: u32,
+    registers: &mut Registers,
+    memory: &M,
+) -> Result<bool, FrameError>
+    ensures { StepsOut (M.word memory.now) (map unwind_view plan.now) offset registers.old
+        (changed_with result registers.new) }
+{
+    let limit = limit_of(plan, offset);
+    let pointer = registers.general[RSP];
+    if undo_records(plan, limit, registers, memory)? {
+        return Ok(true);
+    }
+    pop(registers, memory)?;
+    require_rising(pointer, registers)?;
+    Ok(false)
+}
+
 /// The registers of the caller, from those at an offset in a function, and whether an interrupt left them.
 pub(crate) fn undo_function<M: Memory>(
     plan: &[UnwindInfo<'_>],
@@ -70,13 +101,11 @@ pub(crate) fn undo_function<M: Memory>(
 ) -> Result<(Registers, bool), FrameError>
     ensures { StepsOut (M.word memory.now) (map unwind_view plan.now) offset registers result }
 {
-    let limit = limit_of(plan, offset);
     let mut current = registers;
-    if undo_records(plan, limit, &mut current, memory)? {
-        return Ok((current, true));
+    match undo_in_place(plan, offset, &mut current, memory) {
+        Ok(is_interrupted) => Ok((current, is_interrupted)),
+        Err(error) => Err(error),
     }
-    pop(&mut current, memory)?;
-    Ok((rising(registers.general[RSP], current)?, false))
 }
 
 /// The registers alone.

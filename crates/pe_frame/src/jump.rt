@@ -8,14 +8,15 @@
 ghost use Rattle.std.specs.Prelude.{◌≡◌, map, Some};
 ghost use Rattle.std.specs.Option.{option_map};
 ghost use Rattle.pe_unwind.specs.UnwindRecord.{unwind_view};
-ghost use Rattle.pe_frame.specs.Jumps.{IsPlace, LeavesFor, StepsInImage, before_last, place_view, rising_out, risen_out, target_of};
+ghost use Rattle.pe_frame.specs.Jumps.{IsPlace, LeavesFor, LeavesInImage, StepsInImage, before_last, place_view, rising_out, risen_out, target_of};
 ghost use Rattle.pe_frame.specs.Epilogs.{executed_all};
 ghost use Rattle.pe_frame.specs.Steps.{StepsOut, Then};
+ghost use Rattle.pe_frame.specs.InPlace.{changed_with};
 ghost use Rattle.pe_frame.specs.Tails.{instructions_of};
 
 use crate::epilog::{Tail, execute_before_exit, target_of};
 use crate::error::FrameError;
-use crate::frame::{epilog_at, leave_epilog, rising, undo_function};
+use crate::frame::{epilog_at, leave_epilog, rising, undo_function, undo_in_place};
 use crate::memory::Memory;
 use crate::registers::{RSP, Registers};
 use pe_core::{ParseOptions, SectionTable};
@@ -125,6 +126,61 @@ fn leave_for<M: Memory>(
     }
 }
 
+/// What the rest of an epilog returns in an image, where the place to which it jumps is looked up.
+fn leave_in_image<M: Memory>(
+    functions: &ImageFunctions<'_>,
+    tail: Tail<'_>,
+    registers: Registers,
+    memory: &M,
+) -> Result<(Registers, bool), FrameError>
+    ensures { LeavesInImage functions.now.exceptions.now functions.now.sections.now
+        functions.now.opts (M.word memory.now) (instructions_of tail.entry) registers result }
+{
+    leave_for(functions.place_after(&tail), tail, registers, memory)
+}
+
+/// Makes the registers those after the rest of an epilog in an image. Returns whether an interrupt left them. Out of line, as few
+/// frames are in an epilog, and the records at the target of a jump need room.
+#[inline(never)]
+fn leave_in_place<M: Memory>(
+    functions: &ImageFunctions<'_>,
+    tail: Tail<'_>,
+    registers: &mut Registers,
+    memory: &M,
+) -> Result<bool, FrameError>
+    ensures { LeavesInImage functions.now.exceptions.now functions.now.sections.now
+        functions.now.opts (M.word memory.now) (instructions_of tail.entry) registers.old
+        (changed_with result registers.new) }
+{
+    match leave_in_image(functions, tail, *registers, memory) {
+        Ok((caller, is_interrupted)) => {
+            *registers = caller;
+            Ok(is_interrupted)
+        }
+        Err(error) => Err(error),
+    }
+}
+
+/// Makes the registers those of a function's caller, as [`step_in_image`] returns them. Returns whether an interrupt left them.
+pub(crate) fn step_in_place<M: Memory>(
+    functions: &ImageFunctions<'_>,
+    plan: &[UnwindInfo<'_>],
+    start: u32,
+    rva: u32,
+    code: &[u8],
+    registers: &mut Registers,
+    memory: &M,
+) -> Result<bool, FrameError>
+    ensures { StepsInImage functions.now.exceptions.now functions.now.sections.now
+        functions.now.opts (M.word memory.now) (map unwind_view plan.now) start rva code.now
+        registers.old (changed_with result registers.new) }
+{
+    match epilog_at(plan, start, rva, code) {
+        Some(tail) => leave_in_place(functions, tail, registers, memory),
+        None => undo_in_place(plan, rva.saturating_sub(start), registers, memory),
+    }
+}
+
 /// The registers of a function's caller, as [`step_out`](crate::step_out) returns them, in an image: where the rest of an epilog
 /// ends with a jump to an RVA that a function of the image covers, that is run up to the jump, and from there on the records of
 /// that function are undone, without its code. So the caller is right at the jumps between a function and its parts whose
@@ -146,8 +202,9 @@ pub fn step_in_image<M: Memory>(
         functions.now.opts (M.word memory.now) (map unwind_view plan.now) start rva code.now
         registers result }
 {
-    match epilog_at(plan, start, rva, code) {
-        Some(tail) => leave_for(functions.place_after(&tail), tail, registers, memory),
-        None => undo_function(plan, rva.saturating_sub(start), registers, memory),
+    let mut current = registers;
+    match step_in_place(functions, plan, start, rva, code, &mut current, memory) {
+        Ok(is_interrupted) => Ok((current, is_interrupted)),
+        Err(error) => Err(error),
     }
 }

@@ -19,12 +19,12 @@ ghost use Rattle.pe_frame.specs.declared.modules.Module.{Module};
 
 use crate::error::FrameError;
 use crate::frame::leaf;
-use crate::jump::{ImageFunctions, step_in_image};
+use crate::function_step::step_in_function;
+use crate::jump::ImageFunctions;
 use crate::memory::{Memory, SIZE_OF_WORD};
 use crate::modules::{Module, Modules};
 use crate::process::{CallSites, LoadedModules};
 use crate::registers::{RSP, Registers};
-use pe_plan::ShortPlan;
 use pe_unwind::{ExceptionData, RuntimeFunction, search};
 
 /// How many words a scan reads at most.
@@ -311,28 +311,17 @@ fn caller_by_records<L: CallSites, M: Memory>(
         exceptions,
         function,
     } = *found;
-    let plan = match ShortPlan::of_function(exceptions, function, module.sections, &module.opts) {
-        Ok(Some(plan)) => plan,
-        Ok(None) => return Err(WalkEnd::LongChain),
-        Err(error) => return Err(WalkEnd::Records(error)),
-    };
     let code = code_of_frame(found, frame, rva);
-    let start = function.begin_address;
     let functions = ImageFunctions {
         exceptions,
         sections: module.sections,
         opts: module.opts,
     };
-    let registers = frame.registers;
-    let left = step_in_image(
-        &functions,
-        plan.records(),
-        start,
-        rva,
-        code,
-        registers,
-        memory,
-    );
+    let left = match step_in_function(&functions, function, rva, code, frame.registers, memory) {
+        Ok(Some(left)) => left,
+        Ok(None) => return Err(WalkEnd::LongChain),
+        Err(error) => return Err(WalkEnd::Records(error)),
+    };
     frame_after(modules, memory, left)
 }
 

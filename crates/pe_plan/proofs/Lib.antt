@@ -8,3 +8,4 @@ pub mod OnePlan
 pub mod Walks
 pub mod SomePlan
 pub mod ShortPlans
+pub mod PlanRooms

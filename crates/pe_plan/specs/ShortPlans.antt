@@ -25,3 +25,11 @@ PlansShort t b f (Ok None) = HasChained t b (Some f) most_records
 PlansShort t b f (Err refusal) =
     (is : List UnwindInfoView) × (g : RuntimeFunction) × (length is < most_records) × IsChain t b (Some f) is (Some g)
     × Unwinds t b g.unwind_info_address (Err refusal)
+
+-- The same of at most n records.
+abbrev pub PlansUpTo : ℕ → Table → List ℕ → RuntimeFunction → Result (Option (List UnwindInfoView)) Refusal → Type 0
+PlansUpTo n t b f (Ok (Some is)) = IsChain t b (Some f) is None × (length is ≤ n)
+PlansUpTo n t b f (Ok None) = HasChained t b (Some f) n
+PlansUpTo n t b f (Err refusal) =
+    (is : List UnwindInfoView) × (g : RuntimeFunction) × (length is < n) × IsChain t b (Some f) is (Some g)
+    × Unwinds t b g.unwind_info_address (Err refusal)

@@ -6,13 +6,15 @@
 //! ends, and otherwise all records or the first error.
 //!
 //! A caller passes an RVA to `UnwindPlan::of`, and the records that it returns to `step` of pe_frame. One that does not
-//! allocate takes a `ShortPlan`.
+//! allocate takes a `ShortPlan`, or `read_plan` with an array of its own.
 #![tactic(auto)]
 
 mod chain;
 pub mod laws;
 mod plan;
+mod plan_room;
 mod short_plan;
 
 pub use plan::UnwindPlan;
+pub use plan_room::read_plan;
 pub use short_plan::ShortPlan;

@@ -1,0 +1,275 @@
+//! A step of a stack walk by the records of a function, which are read here.
+//!
+//! Nearly all functions have one record, so that one is undone where it was read. Records that are chained, as those of a part of
+//! a function that has a prolog of its own, are read into an array first: of 2, else of 8, else of 32, the most that are undone.
+//! ([Microsoft's page](https://learn.microsoft.com/cpp/build/exception-handling-x64))
+
+ghost use Rattle.std.specs.Prelude.{◌≡◌, ℕ, length};
+ghost use Rattle.std.specs.Option.{option_map};
+ghost use Rattle.pe_core.specs.Refusals.{answer_by, answer_of};
+ghost use Rattle.pe_unwind.specs.Links.{links_of};
+ghost use Rattle.pe_unwind.specs.UnwindRecord.{unwind_view};
+ghost use Rattle.pe_unwind.specs.Unwinding.{Unwinds};
+ghost use Rattle.pe_frame.specs.FunctionSteps.{StepsInFunction, StepsUpTo};
+ghost use Rattle.pe_frame.specs.InPlace.{changed_with};
+
+use crate::error::FrameError;
+use crate::jump::{ImageFunctions, step_in_image, step_in_place};
+use crate::memory::Memory;
+use crate::registers::Registers;
+use pe_core::Result;
+use pe_plan::read_plan;
+use pe_unwind::laws::derives::clones_are_their_originals;
+use pe_unwind::{RuntimeFunction, UnwindInfo};
+use std::array::repeat;
+use std::slice;
+
+/// The record of a function.
+fn record_of<'a>(
+    functions: &ImageFunctions<'a>,
+    function: RuntimeFunction,
+) -> Result<UnwindInfo<'a>>
+    ensures { Unwinds (links_of functions.now.exceptions.now functions.now.sections.now
+        functions.now.opts) functions.now.exceptions.now.content function.unwind_info_address
+        (answer_by unwind_view result) }
+{
+    let ImageFunctions {
+        exceptions,
+        sections,
+        opts,
+    } = *functions;
+    exceptions.get_unwind_info_with_opts(function, sections, &opts)
+}
+
+/// A step by the records of a function, if an array has room for them.
+fn step_in_room<'a, M: Memory>(
+    functions: &ImageFunctions<'a>,
+    function: RuntimeFunction,
+    room: &mut [UnwindInfo<'a>],
+    rva: u32,
+    code: &[u8],
+    registers: Registers,
+    memory: &M,
+) -> Result<Option<std::result::Result<(Registers, bool), FrameError>>>
+    ensures { (n : ℕ) → length room.old ≡ n → StepsUpTo n functions.now.exceptions.now
+        functions.now.sections.now functions.now.opts (M.word memory.now) function rva code.now
+        registers (answer_of result) }
+{
+    let ImageFunctions {
+        exceptions,
+        sections,
+        opts,
+    } = *functions;
+    match read_plan(exceptions, function, sections, &opts, room) {
+        Ok(Some(count)) => {
+            let (records, start) = (&room[..count], function.begin_address);
+            let left = step_in_image(functions, records, start, rva, code, registers, memory);
+            Ok(Some(left))
+        }
+        Ok(None) => Ok(None),
+        Err(error) => Err(error),
+    }
+}
+
+/// The same in room for two records, which any record fills. Out of line, so that no other step pays for the room.
+#[inline(never)]
+fn step_in_2<'a, M: Memory>(
+    functions: &ImageFunctions<'a>,
+    function: RuntimeFunction,
+    info: UnwindInfo<'a>,
+    rva: u32,
+    code: &[u8],
+    registers: Registers,
+    memory: &M,
+) -> Result<Option<std::result::Result<(Registers, bool), FrameError>>>
+    ensures { StepsUpTo 2 functions.now.exceptions.now functions.now.sections.now
+        functions.now.opts (M.word memory.now) function rva code.now registers (answer_of result) }
+{
+    clones_are_their_originals();
+    let mut room: [UnwindInfo<'_>; 2] = repeat(info);
+    step_in_room(functions, function, &mut room, rva, code, registers, memory)
+}
+
+/// The same in room for eight.
+#[inline(never)]
+fn step_in_8<'a, M: Memory>(
+    functions: &ImageFunctions<'a>,
+    function: RuntimeFunction,
+    info: UnwindInfo<'a>,
+    rva: u32,
+    code: &[u8],
+    registers: Registers,
+    memory: &M,
+) -> Result<Option<std::result::Result<(Registers, bool), FrameError>>>
+    ensures { StepsUpTo 8 functions.now.exceptions.now functions.now.sections.now
+        functions.now.opts (M.word memory.now) function rva code.now registers (answer_of result) }
+{
+    clones_are_their_originals();
+    let mut room: [UnwindInfo<'_>; 8] = repeat(info);
+    step_in_room(functions, function, &mut room, rva, code, registers, memory)
+}
+
+/// The same in room for as many as are undone at all.
+#[inline(never)]
+#[tactic(auto, using(crate::proofs::FunctionSteps::of_all_room))]
+fn step_in_32<'a, M: Memory>(
+    functions: &ImageFunctions<'a>,
+    function: RuntimeFunction,
+    info: UnwindInfo<'a>,
+    rva: u32,
+    code: &[u8],
+    registers: Registers,
+    memory: &M,
+) -> Result<Option<std::result::Result<(Registers, bool), FrameError>>>
+    ensures { StepsInFunction functions.now.exceptions.now functions.now.sections.now
+        functions.now.opts (M.word memory.now) function rva code.now registers (answer_of result) }
+{
+    clones_are_their_originals();
+    let mut room: [UnwindInfo<'_>; 32] = repeat(info);
+    step_in_room(functions, function, &mut room, rva, code, registers, memory)
+}
+
+/// A step by the records of a function of which more than two are chained.
+#[tactic(auto, using(crate::proofs::FunctionSteps::of_plan, crate::proofs::FunctionSteps::of_refusal, pe_plan::proofs::ShortPlans::refused_at_once))]
+fn step_in_longer<M: Memory>(
+    functions: &ImageFunctions<'_>,
+    function: RuntimeFunction,
+    rva: u32,
+    code: &[u8],
+    registers: Registers,
+    memory: &M,
+) -> Result<Option<std::result::Result<(Registers, bool), FrameError>>>
+    ensures { StepsInFunction functions.now.exceptions.now functions.now.sections.now
+        functions.now.opts (M.word memory.now) function rva code.now registers (answer_of result) }
+{
+    let info = match record_of(functions, function) {
+        Ok(info) => info,
+        Err(error) => return Err(error),
+    };
+    match step_in_8(functions, function, info, rva, code, registers, memory) {
+        Ok(Some(left)) => return Ok(Some(left)),
+        Ok(None) => {}
+        Err(error) => return Err(error),
+    }
+    match record_of(functions, function) {
+        Ok(info) => step_in_32(functions, function, info, rva, code, registers, memory),
+        Err(error) => Err(error),
+    }
+}
+
+/// A step by the records of a function that are chained. The room grows with their number, as does the time to fill it.
+#[tactic(auto, using(crate::proofs::FunctionSteps::of_plan, crate::proofs::FunctionSteps::of_refusal))]
+fn step_in_chained<'a, M: Memory>(
+    functions: &ImageFunctions<'a>,
+    function: RuntimeFunction,
+    info: UnwindInfo<'a>,
+    rva: u32,
+    code: &[u8],
+    registers: Registers,
+    memory: &M,
+) -> Result<Option<std::result::Result<(Registers, bool), FrameError>>>
+    ensures { StepsInFunction functions.now.exceptions.now functions.now.sections.now
+        functions.now.opts (M.word memory.now) function rva code.now registers (answer_of result) }
+{
+    match step_in_2(functions, function, info, rva, code, registers, memory) {
+        Ok(Some(left)) => Ok(Some(left)),
+        Ok(None) => step_in_longer(functions, function, rva, code, registers, memory),
+        Err(error) => Err(error),
+    }
+}
+
+/// The registers of a function's caller, as [`step_in_image`] returns them by the function's records, which are read here: those
+/// of its short plan. `None` where 32 records are each chained to another, as `ShortPlan::of_function` of pe_plan returns it.
+///
+/// Errors: the first error of one of the records, before any is undone.
+#[tactic(auto, using(crate::proofs::FunctionSteps::of_one_record, pe_plan::proofs::ShortPlans::refused_at_once))]
+pub fn step_in_function<M: Memory>(
+    functions: &ImageFunctions<'_>,
+    function: RuntimeFunction,
+    rva: u32,
+    code: &[u8],
+    registers: Registers,
+    memory: &M,
+) -> Result<Option<std::result::Result<(Registers, bool), FrameError>>>
+    ensures { StepsInFunction functions.now.exceptions.now functions.now.sections.now
+        functions.now.opts (M.word memory.now) function rva code.now registers (answer_of result) }
+{
+    let info = match record_of(functions, function) {
+        Ok(info) => info,
+        Err(error) => return Err(error),
+    };
+    if info.chained_info.is_some() {
+        return step_in_chained(functions, function, info, rva, code, registers, memory);
+    }
+    let (records, start) = (slice::from_ref(&info), function.begin_address);
+    let left = step_in_image(functions, records, start, rva, code, registers, memory);
+    Ok(Some(left))
+}
+
+/// Puts registers in place of others, if there are any.
+fn put(
+    left: std::result::Result<(Registers, bool), FrameError>,
+    registers: &mut Registers,
+) -> std::result::Result<bool, FrameError>
+    ensures { changed_with result registers.new ≡ left }
+{
+    match left {
+        Ok((caller, is_interrupted)) => {
+            *registers = caller;
+            Ok(is_interrupted)
+        }
+        Err(error) => Err(error),
+    }
+}
+
+/// A step by chained records in place.
+#[inline(never)]
+#[tactic(auto, using(crate::proofs::FunctionSteps::of_left, crate::proofs::FunctionSteps::of_none))]
+fn chained_in_place<'a, M: Memory>(
+    functions: &ImageFunctions<'a>,
+    function: RuntimeFunction,
+    info: UnwindInfo<'a>,
+    rva: u32,
+    code: &[u8],
+    registers: &mut Registers,
+    memory: &M,
+) -> Result<Option<std::result::Result<bool, FrameError>>>
+    ensures { StepsInFunction functions.now.exceptions.now functions.now.sections.now
+        functions.now.opts (M.word memory.now) function rva code.now registers.old
+        (answer_by (option_map (λ left. changed_with left registers.new)) result) }
+{
+    match step_in_chained(functions, function, info, rva, code, *registers, memory) {
+        Ok(Some(left)) => Ok(Some(put(left, registers))),
+        Ok(None) => Ok(None),
+        Err(error) => Err(error),
+    }
+}
+
+/// Makes the registers those of a function's caller, as [`step_in_function`] returns them, and returns whether an interrupt left
+/// them. No registers are moved. Where the step is refused they mean nothing.
+///
+/// Errors: those of `step_in_function`.
+#[tactic(auto, using(crate::proofs::FunctionSteps::of_one_record, pe_plan::proofs::ShortPlans::refused_at_once))]
+pub fn step_in_function_in_place<M: Memory>(
+    functions: &ImageFunctions<'_>,
+    function: RuntimeFunction,
+    rva: u32,
+    code: &[u8],
+    registers: &mut Registers,
+    memory: &M,
+) -> Result<Option<std::result::Result<bool, FrameError>>>
+    ensures { StepsInFunction functions.now.exceptions.now functions.now.sections.now
+        functions.now.opts (M.word memory.now) function rva code.now registers.old
+        (answer_by (option_map (λ left. changed_with left registers.new)) result) }
+{
+    let info = match record_of(functions, function) {
+        Ok(info) => info,
+        Err(error) => return Err(error),
+    };
+    if info.chained_info.is_some() {
+        return chained_in_place(functions, function, info, rva, code, registers, memory);
+    }
+    let (records, start) = (slice::from_ref(&info), function.begin_address);
+    let left = step_in_place(functions, records, start, rva, code, registers, memory);
+    Ok(Some(left))
+}

@@ -1,0 +1,15 @@
+use Rattle.std.proofs.Common.{◌≡◌, Some, arith, subst, map, take}
+use Rattle.pe_unwind.specs.Links.{links_of}
+use Rattle.std.proofs.lemmas.List.{length-set}
+use Rattle.pe_unwind.specs.UnwindRecord.{unwind_view}
+use Rattle.pe_plan.specs.Plans.{IsChain}
+use Rattle.pe_plan.proofs.ShortPlans.{chain_more}
+use Rattle.pe_plan.proofs.plan_room.read_plan.Goals as goal
+
+pub loop-count-preserved : goal.loop-count-preserved
+loop-count-preserved c =
+    let chain = subst (λ o. IsChain (links_of c.args.exceptions.now c.args.sections.now c.args.opts.now) c.args.exceptions.now.content (Some c.args.function) (map unwind_view (take c.loop-count.count c.loop-count.room)) o) c.in-Some.is c.loop-count.invariant.chain in
+    record {
+      chain = chain_more _ _ (Some c.args.function) c.in-Some.current c.loop-count.room c.in-Ok.record c.loop-count.count (omega (arith, c.loop-count.invariant.same)) chain c.in-Ok.ensures.record;
+      same = omega (arith, length-set c.loop-count.room c.loop-count.count c.in-Ok.record, c.loop-count.invariant.same);
+    }
