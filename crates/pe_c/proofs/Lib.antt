@@ -44,3 +44,4 @@ pub mod ViewedModules
 pub mod WalkFrames
 pub mod NextFrames
 pub mod FrameRuns
+pub mod StackSteps

@@ -105,6 +105,13 @@ abbrev pub HandsOutAlone : ℕ → StackFrame → StackFrame → Result (Result 
 HandsOutAlone number old new (Ok left) = HandsOutCaller number old new (registers_alone left)
 HandsOutAlone number old new (Err n) = (number ≡ n) × (new ≡ old)
 
+-- What a step in place returns, and the frame after it: the registers of the caller stand in those of the frame, which stays as it
+-- is where the step is refused. Private contracts alone cite this.
+abbrev pub IsLeft : Result (Result Bool FrameError) ℕ → StackFrame → StackFrame → Result (Result (Registers × Bool) FrameError) ℕ → Type 0
+IsLeft result old new (Ok (Ok u)) = (result ≡ Ok (Ok u.1)) × (new ≡ record old { registers = flat_registers u.0 })
+IsLeft result old new (Ok (Err e)) = (result ≡ Ok (Err e)) × (new ≡ old)
+IsLeft result old new (Err n) = (result ≡ Err n) × (new ≡ old)
+
 -- what a call for a step returns, and the frame after it
 abbrev pub HandsOutStep : List ℕ → Image → List SectionTable → List ℕ → List ℕ → ℕ → StackFrame → StackFrame → Type 0
 HandsOutStep b image sections code stack number old new =

@@ -2,13 +2,15 @@
 //! and the memory of its stack. A walk makes it again and again, from the innermost frame outwards.
 //! https://learn.microsoft.com/cpp/build/exception-handling-x64
 
-ghost use Rattle.std.specs.Prelude.{◌≡◌, ◌<◌, Ok, length};
+ghost use Rattle.std.specs.Prelude.{◌≡◌, ◌<◌, ℕ, Bool, Result, Ok, length};
 ghost use Rattle.pe_core.specs.Rows.{each};
 ghost use Rattle.pe_frame.specs.Memory.{stack_word};
-ghost use Rattle.pe_frame.specs.Steps.{registers_alone};
+ghost use Rattle.pe_frame.specs.InPlace.{changed_with};
+ghost use Rattle.pe_frame.specs.declared.error.FrameError.{FrameError};
+ghost use Rattle.pe_frame.specs.declared.registers.Registers.{Registers};
 ghost use Rattle.pe_frame.specs.Undoing.{popped};
 ghost use Rattle.pe_c.specs.Unwinding.{image_exceptions};
-ghost use Rattle.pe_c.specs.StackFrames.{whole_xmm, half_xmm, registers_of, flat_registers, error_number, error_address, StepsOf, StepsIn, HandsOutCaller, HandsOutLeafPieces, HandsOutLeft, HandsOutLeftStep, HandsOutPopped, HandsOutStep, HandsOutStepPieces};
+ghost use Rattle.pe_c.specs.StackFrames.{whole_xmm, half_xmm, registers_of, flat_registers, error_number, error_address, at_address, IsLeft, StepsOf, StepsIn, HandsOutAlone, HandsOutLeafPieces, HandsOutLeftOr, HandsOutLeftStep, HandsOutPopped, HandsOutStep, HandsOutStepPieces};
 
 use crate::image::{EXCEPTION_TABLE, Image, directory};
 use crate::results::{
@@ -16,7 +18,8 @@ use crate::results::{
 };
 use pe_core::SectionTable;
 use pe_frame::{
-    FrameError, ImageFunctions, Memory, MemoryList, MemoryPiece, Registers, Stack, step_in_function,
+    FrameError, ImageFunctions, Memory, MemoryList, MemoryPiece, Registers, Stack,
+    step_in_function_in_place,
 };
 use pe_unwind::{ExceptionData, RuntimeFunction};
 
@@ -62,7 +65,10 @@ fn whole(halves: &[u64; 32], index: usize) -> u128
     requires { index < 16 }
     ensures { result ≡ whole_xmm halves.now index }
 {
-    let (low, high) = (u128::from(halves[2 * index]), u128::from(halves[2 * index + 1]));
+    let (low, high) = (
+        u128::from(halves[2 * index]),
+        u128::from(halves[2 * index + 1]),
+    );
     low + high * NUMBERS_OF_A_HALF
 }
 
@@ -72,10 +78,22 @@ fn whole_registers(halves: &[u64; 32]) -> [u128; 16]
     ensures { result ≡ each (whole_xmm halves.now) 16 }
 {
     [
-        whole(halves, 0), whole(halves, 1), whole(halves, 2), whole(halves, 3),
-        whole(halves, 4), whole(halves, 5), whole(halves, 6), whole(halves, 7),
-        whole(halves, 8), whole(halves, 9), whole(halves, 10), whole(halves, 11),
-        whole(halves, 12), whole(halves, 13), whole(halves, 14), whole(halves, 15),
+        whole(halves, 0),
+        whole(halves, 1),
+        whole(halves, 2),
+        whole(halves, 3),
+        whole(halves, 4),
+        whole(halves, 5),
+        whole(halves, 6),
+        whole(halves, 7),
+        whole(halves, 8),
+        whole(halves, 9),
+        whole(halves, 10),
+        whole(halves, 11),
+        whole(halves, 12),
+        whole(halves, 13),
+        whole(halves, 14),
+        whole(halves, 15),
     ]
 }
 
@@ -99,14 +117,38 @@ fn half_registers(registers: &[u128; 16]) -> [u64; 32]
     ensures count { length registers.now ≡ 16 }
 {
     [
-        half(registers, 0), half(registers, 1), half(registers, 2), half(registers, 3),
-        half(registers, 4), half(registers, 5), half(registers, 6), half(registers, 7),
-        half(registers, 8), half(registers, 9), half(registers, 10), half(registers, 11),
-        half(registers, 12), half(registers, 13), half(registers, 14), half(registers, 15),
-        half(registers, 16), half(registers, 17), half(registers, 18), half(registers, 19),
-        half(registers, 20), half(registers, 21), half(registers, 22), half(registers, 23),
-        half(registers, 24), half(registers, 25), half(registers, 26), half(registers, 27),
-        half(registers, 28), half(registers, 29), half(registers, 30), half(registers, 31),
+        half(registers, 0),
+        half(registers, 1),
+        half(registers, 2),
+        half(registers, 3),
+        half(registers, 4),
+        half(registers, 5),
+        half(registers, 6),
+        half(registers, 7),
+        half(registers, 8),
+        half(registers, 9),
+        half(registers, 10),
+        half(registers, 11),
+        half(registers, 12),
+        half(registers, 13),
+        half(registers, 14),
+        half(registers, 15),
+        half(registers, 16),
+        half(registers, 17),
+        half(registers, 18),
+        half(registers, 19),
+        half(registers, 20),
+        half(registers, 21),
+        half(registers, 22),
+        half(registers, 23),
+        half(registers, 24),
+        half(registers, 25),
+        half(registers, 26),
+        half(registers, 27),
+        half(registers, 28),
+        half(registers, 29),
+        half(registers, 30),
+        half(registers, 31),
     ]
 }
 
@@ -148,23 +190,16 @@ pub fn reported(error: &FrameError) -> (u32, Option<u64>)
     }
 }
 
-/// Writes the caller's registers to a frame, or the address that an error speaks of.
-fn hand_out_caller(caller: Result<Registers, FrameError>, frame: &mut StackFrame) -> u32
-    ensures { HandsOutCaller result frame.old frame.new caller }
+/// Writes the address that an error speaks of to a frame.
+fn report(error: &FrameError, frame: &mut StackFrame) -> u32
+    ensures number { result ≡ error_number error.now }
+    ensures frame { frame.new ≡ at_address frame.old (error_address error.now) }
 {
-    match caller {
-        Ok(registers) => {
-            frame.registers = flat_registers(&registers);
-            DONE
-        }
-        Err(error) => {
-            let (number, address) = reported(&error);
-            if let Some(address) = address {
-                frame.address = address;
-            }
-            number
-        }
+    let (number, address) = reported(error);
+    if let Some(address) = address {
+        frame.address = address;
     }
+    number
 }
 
 /// Pops the return address of a frame, as `leaf` of pe_frame does, and touches no other register.
@@ -202,54 +237,54 @@ pub extern "C" fn pe_c_leaf(stack: &[u8], frame: &mut StackFrame) -> u32
     pop_in_place(&memory, frame)
 }
 
-/// Writes the caller's registers to a frame, and whether an interrupt left them, or the address that an error speaks of.
-fn hand_out_left(
-    left: Result<(Registers, bool), FrameError>,
+/// Writes the caller's registers to a frame, if a step left any.
+fn put_caller(
+    left: Result<bool, FrameError>,
+    registers: &Registers,
     frame: &mut StackFrame,
-    interrupted: &mut u32,
-) -> u32
-    ensures { HandsOutLeft result frame.old frame.new interrupted.old interrupted.new left }
+) -> Result<bool, FrameError>
+    ensures { IsLeft (Ok result) frame.old frame.new (Ok (changed_with left registers.now)) }
 {
     match left {
-        Ok((caller, is_interrupted)) => {
-            *interrupted = u32::from(is_interrupted);
-            hand_out_caller(Ok(caller), frame)
+        Ok(is_interrupted) => {
+            frame.registers = flat_registers(registers);
+            Ok(is_interrupted)
         }
-        Err(error) => hand_out_caller(Err(error), frame),
+        Err(error) => Err(error),
     }
 }
 
-/// The registers of the caller by the records of the frame's function in an image, and whether an interrupt left them; or the
-/// number of what refuses the records.
-fn left_of<M: Memory>(
+/// A step by the records of the frame's function in an image: it writes the registers of the caller over those of the frame and
+/// returns whether an interrupt left them, or the number of what refuses the records.
+fn step_of<M: Memory>(
     functions: &ImageFunctions<'_>,
     code: &[u8],
     memory: &M,
-    frame: &StackFrame,
-) -> Result<Result<(Registers, bool), FrameError>, u32>
+    frame: &mut StackFrame,
+) -> Result<Result<bool, FrameError>, u32>
     ensures { StepsOf functions.now.exceptions.now functions.now.sections.now functions.now.opts
-        code.now (M.word memory.now) frame.now (λ left. result ≡ left) }
+        code.now (M.word memory.now) frame.old (IsLeft result frame.old frame.new) }
 {
-    let (function, registers) = (frame.function, registers_of(&frame.registers));
-    match step_in_function(functions, function, frame.rva, code, registers, memory) {
-        Ok(Some(left)) => Ok(left),
+    let (function, rva, mut caller) = (frame.function, frame.rva, registers_of(&frame.registers));
+    match step_in_function_in_place(functions, function, rva, code, &mut caller, memory) {
+        Ok(Some(left)) => Ok(put_caller(left, &caller, frame)),
         Ok(None) => Err(LONG_CHAIN),
         Err(error) => Err(number_of(&error)),
     }
 }
 
 /// The same by the exception data of an image.
-fn left_in<M: Memory>(
+fn step_by_table<M: Memory>(
     bytes: &[u8],
     image: &Image,
     sections: &[SectionTable],
     code: &[u8],
     memory: &M,
-    frame: &StackFrame,
-) -> Result<Result<(Registers, bool), FrameError>, u32>
+    frame: &mut StackFrame,
+) -> Result<Result<bool, FrameError>, u32>
     ensures { StepsIn (image_exceptions bytes.now image.now sections.now image.now.mode)
-        sections.now image.now.mode code.now (M.word memory.now) frame.now
-        (λ left. result ≡ left) }
+        sections.now image.now.mode code.now (M.word memory.now) frame.old
+        (IsLeft result frame.old frame.new) }
 {
     let opts = options(image.mode);
     let table = directory(image, EXCEPTION_TABLE);
@@ -261,19 +296,43 @@ fn left_in<M: Memory>(
                 sections,
                 opts,
             };
-            left_of(&functions, code, memory, frame)
+            step_of(&functions, code, memory, frame)
         }
         Err(error) => Err(number_of(&error)),
     }
 }
 
-/// The registers alone.
-fn registers_alone(left: Result<(Registers, bool), FrameError>) -> Result<Registers, FrameError>
-    ensures { result ≡ registers_alone left }
+/// The number of a step that is done; it writes the address that an error speaks of to its frame.
+#[tactic(auto, using(crate::proofs::StackSteps::done_alone, crate::proofs::StackSteps::failed_alone, crate::proofs::StackSteps::refused_alone))]
+fn hand_out_step(left: Result<Result<bool, FrameError>, u32>, frame: &mut StackFrame) -> u32
+    ensures { (old : StackFrame) (x : Result (Result (Registers × Bool) FrameError) ℕ) →
+        IsLeft left old frame.old x → HandsOutAlone result old frame.new x }
 {
     match left {
-        Ok((registers, _)) => Ok(registers),
-        Err(error) => Err(error),
+        Ok(Ok(_)) => DONE,
+        Ok(Err(error)) => report(&error, frame),
+        Err(number) => number,
+    }
+}
+
+/// The same; it says whether an interrupt left the registers.
+#[tactic(auto, using(crate::proofs::StackSteps::done_left, crate::proofs::StackSteps::failed_left, crate::proofs::StackSteps::refused_left))]
+fn hand_out_left(
+    left: Result<Result<bool, FrameError>, u32>,
+    frame: &mut StackFrame,
+    interrupted: &mut u32,
+) -> u32
+    ensures { (old : StackFrame) (x : Result (Result (Registers × Bool) FrameError) ℕ) →
+        IsLeft left old frame.old x →
+        HandsOutLeftOr result old frame.new interrupted.old interrupted.new x }
+{
+    match left {
+        Ok(Ok(is_interrupted)) => {
+            *interrupted = u32::from(is_interrupted);
+            DONE
+        }
+        Ok(Err(error)) => report(&error, frame),
+        Err(number) => number,
     }
 }
 
@@ -303,10 +362,8 @@ pub extern "C" fn pe_c_step(
         start: frame.stack_start,
         bytes: stack,
     };
-    match left_in(bytes, image, sections, code, &memory, frame) {
-        Ok(left) => hand_out_caller(registers_alone(left), frame),
-        Err(number) => number,
-    }
+    let left = step_by_table(bytes, image, sections, code, &memory, frame);
+    hand_out_step(left, frame)
 }
 
 /// A step over the stack of a frame by the records of its function: its number, and whether an interrupt left the registers.
@@ -322,10 +379,8 @@ fn step_over<M: Memory>(
     ensures { HandsOutLeftStep bytes.now image.now sections.now code.now
         (M.word memory.now) result frame.old frame.new interrupted.old interrupted.new }
 {
-    match left_in(bytes, image, sections, code, memory, frame) {
-        Ok(left) => hand_out_left(left, frame, interrupted),
-        Err(number) => number,
-    }
+    let left = step_by_table(bytes, image, sections, code, memory, frame);
+    hand_out_left(left, frame, interrupted)
 }
 
 /// As `pe_c_step`, over memory in pieces: `memory` has their bytes, as a minidump file has, and `pieces` says where each is.
