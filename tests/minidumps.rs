@@ -281,7 +281,8 @@ fn reads_modules(rt: HostRuntime) -> Result<(), Fail> {
     );
     assert_eq!(rt; (version.file_flags_mask, version.file_type), (0x3F, 2));
     let ranges = module_ranges(rt.alloc(), &modules)?;
-    assert_eq!(rt; ranges.as_slice(), &[range(0x1_7000_0000, 0x36_1000)]);
+    let want: &[AddressRange] = &[range(0x1_7000_0000, 0x36_1000)];
+    assert_eq!(rt; ranges.as_slice(), want);
     Ok(())
 }
 
@@ -368,10 +369,8 @@ fn truncated_memory_is_kept(rt: HostRuntime) -> Result<(), Fail> {
         (0x2000, 96, none, 7)
     );
     let ranges = dump.memory_ranges(rt.alloc(), &list)?;
-    assert_eq!(rt;
-        ranges.as_slice(),
-        &[range(0x1_0000_1000, 3), range(0x2000, 0)]
-    );
+    let want: &[AddressRange] = &[range(0x1_0000_1000, 3), range(0x2000, 0)];
+    assert_eq!(rt; ranges.as_slice(), want);
     Ok(())
 }
 
