@@ -31,5 +31,6 @@ pub mod SectionNames
 pub mod VersionBlocks
 pub mod Overlays
 pub mod Headers
+pub mod Lists
 pub mod DebugLaws
 pub mod Maps

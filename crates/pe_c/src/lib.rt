@@ -27,6 +27,7 @@ mod headers;
 mod image;
 mod imports;
 pub mod laws;
+mod lists;
 mod load_config;
 mod maps;
 mod overlay;
