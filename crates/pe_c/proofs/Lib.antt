@@ -37,3 +37,4 @@ pub mod VersionBlockParts
 pub mod DebugAlone
 pub mod DebugParts
 pub mod FilledLists
+pub mod ListRuns

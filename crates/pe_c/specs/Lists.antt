@@ -1,6 +1,7 @@
 -- Lists in one call: what the steps of a walk return one after the other, in an array.
-use Rattle.std.specs.Prelude.{◌≡◌, ◌⊎◌, ℕ, ◌+◌, ◌-◌, ◌^◌, ◌<◌, ◌==◌, min, Bool, true, false, List, [], ◌∷◌, ◌++◌, length, drop, Option, Some, None, Result, Ok, Err}
+use Rattle.std.specs.Prelude.{◌≡◌, ◌⊎◌, ℕ, zero, suc, ◌+◌, ◌-◌, ◌^◌, ◌<◌, ◌==◌, min, Bool, true, false, List, [], ◌∷◌, ◌++◌, length, drop, Option, Some, None, Result, Ok, Err}
 use Rattle.pe_core.specs.Refusals.{Refusal, FunctionIndex}
+use Rattle.pe_c.specs.Runs.{ReturnsItems}
 use Rattle.pe_c.specs.VersionBlocks.{block_step, block_walk}
 use Rattle.pe_c.specs.declared.ranges.Range.{Range}
 use Rattle.pe_c.specs.declared.version_blocks.VersionBlock.{VersionBlock}
@@ -68,6 +69,34 @@ HandsOutListIf {W} {X} false Steps number w v old new before written =
 
 abbrev pub HandsOutList : {W X : Type 0} → (W → Result (Option X) ℕ → W → Type 0) → ℕ → W → W → List X → List X → ℕ → ℕ → Type 0
 HandsOutList Steps number w v old new before written = HandsOutListIf (length old == 0) Steps number w v old new before written
+
+-- ---- lists and items
+
+-- the values at the front of some items, so many at most
+abbrev pub values_first : {X R : Type 0} → ℕ → List (Result X R) → List X
+values_first zero items = []
+values_first (suc n) [] = []
+values_first (suc n) (Ok x ∷ items) = x ∷ values_first n items
+values_first (suc n) (Err refusal ∷ items) = []
+
+-- what a call with room for n values returns where a walk has these items left
+abbrev pub list_of : {X R : Type 0} → (R → ℕ) → ℕ → List (Result X R) → Result (List X) ℕ
+list_of number n [] = Ok []
+list_of number n (Ok x ∷ items) = Ok (values_first n (Ok x ∷ items))
+list_of number n (Err refusal ∷ items) = Err (number refusal)
+
+-- the items that the walk has left after such a call
+abbrev pub items_after : {X R : Type 0} → ℕ → List (Result X R) → List (Result X R)
+items_after n [] = []
+items_after n (Ok x ∷ items) = drop (length (values_first n (Ok x ∷ items))) (Ok x ∷ items)
+items_after n (Err refusal ∷ items) = []
+
+-- calls return what the steps return: where these steps return some items, a call returns the first of them, and the items that
+-- are left are those of the walk after it
+abbrev pub GiveLists : {W X R : Type 0} → (R → ℕ) → (W → Result (Option X) R → W → Type 0) → Type 0
+GiveLists {W} {X} {R} number Steps =
+    (n : ℕ) (w v : W) (items : List (Result X R)) (answer : Result (List X) ℕ) → 0 < n → ReturnsItems Steps w items → Lists (Numbered number Steps) n w answer v →
+    (answer ≡ list_of number n items) × ReturnsItems Steps v (items_after n items)
 
 -- ---- the loop
 
