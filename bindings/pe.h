@@ -375,6 +375,16 @@ uint32_t pe_c_section_at(const pe_c_view *view, uint32_t rva, uint64_t *out) PE_
  * PE_C_NOTHING without any. It never returns an error. */
 uint32_t pe_c_section_range(const pe_c_view *view, const pe_c_section *section, pe_c_range *out) PE_C_RESULT(1, 2, 3);
 
+/* Returns the bytes from an RVA to the end of what its section has in the file: the first section that covers the RVA, by
+ * which pe_c_offset maps it. In an image as loaded they go from the RVA to the end of the bytes. PE_C_NOTHING where no
+ * section covers the RVA, and where the file has no byte there. It never returns an error. */
+uint32_t pe_c_range_at(const pe_c_view *view, uint32_t rva, pe_c_range *out) PE_C_RESULT(1, 3);
+
+/* Returns the RVA that leads to a file offset, by the first section whose RVAs are mapped to it. Where sections share RVAs,
+ * pe_c_offset may map that RVA by another. In an image as loaded an offset is its own RVA. PE_C_NOTHING where no section is
+ * mapped to the offset, and where the RVA has more than 32 bits. It never returns an error. */
+uint32_t pe_c_rva(const pe_c_view *view, uint64_t offset, uint32_t *out) PE_C_RESULT(1, 3);
+
 /* ---- the overlay */
 
 /* Returns the range of the bytes after the headers and the raw data of all sections, which no loader reads: where installers

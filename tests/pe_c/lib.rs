@@ -15,6 +15,7 @@ mod exports;
 mod headers;
 mod image;
 mod imports;
+mod lists;
 mod load_config;
 mod made;
 mod maps;

@@ -1294,6 +1294,10 @@ extern "C" {
         number_of_entries: usize,
         written: *mut u64,
     ) -> u32;
+    /// Returns the bytes from an RVA to the end of what its section has.
+    pub fn pe_c_range_at(view: *const View, rva: u32, out: *mut Range) -> u32;
+    /// Returns the RVA that leads to a file offset.
+    pub fn pe_c_rva(view: *const View, offset: u64, out: *mut u32) -> u32;
     /// Starts the plan of a function, by its unwind RVA.
     pub fn pe_c_plan_from(unwind: u32, out: *mut Plan) -> u32;
     /// Finds the registers of an x64 function's caller, and writes them over those of the frame.

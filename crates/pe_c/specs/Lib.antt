@@ -32,5 +32,6 @@ pub mod VersionBlocks
 pub mod Overlays
 pub mod Headers
 pub mod Lists
+pub mod MapRanges
 pub mod DebugLaws
 pub mod Maps

@@ -3,6 +3,7 @@
 
 pub mod debug;
 pub mod directories;
+pub mod lists;
 pub mod version_blocks;
 pub mod walks;
 

@@ -29,6 +29,7 @@ mod imports;
 pub mod laws;
 mod lists;
 mod load_config;
+mod map_ranges;
 mod maps;
 mod overlay;
 mod plan;
