@@ -1,6 +1,7 @@
 -- Lists are the items that steps return.
-use Rattle.std.proofs.Common.{◌≡◌, inl, inr, ℕ, zero, suc, ◌<◌, ◌≤◌, List, [], ◌∷◌, ◌++◌, length, map, take, drop, Option, Some, None, Result, Ok, Err, refl, sym, ap, subst, ◌∙◌, arith}
-use Rattle.pe_c.specs.Lists.{GiveLists, Lists, Numbered, Stops, Takes, by_number, items_after, list_of, values_first}
+use Rattle.std.proofs.Common.{◌≡◌, inl, inr, ℕ, zero, suc, ◌<◌, ◌≤◌, List, [], ◌∷◌, ◌++◌, length, map, take, drop, length-drop, Option, Some, None, Result, Ok, Err, refl, sym, ap, subst, ◌∙◌, arith}
+use Rattle.std.specs.List.{flat_map}
+use Rattle.pe_c.specs.Lists.{EndAtRefusal, GiveLists, HaveRoom, Lists, Numbered, Stops, Takes, by_number, in_lists, items_after, items_in, list_of, values_first}
 use Rattle.pe_c.specs.Runs.{IsOver, ReturnsItems}
 
 module _ {W X R : Type 0} (number : R → ℕ) (Steps : W → Result (Option X) R → W → Type 0) where
@@ -114,10 +115,46 @@ module _ {W X R : Type 0} (number : R → ℕ) (Steps : W → Result (Option X) 
       by_items n v (map (λ x. Ok x) xs ++ more) (map (λ x. Ok x) xs ++ Err refused.0 ∷ []) (Ok xs) (ap (λ (ys : List (Result X R)). map (λ x. Ok x) xs ++ ys) refused.1)
       (by_values xs n v (Err refused.0 ∷ []) left.0 (then_refused xs n refused.0 ∙ all_taken n xs (omega (arith, left.1))) (subst (λ (w : W). ReturnsItems Steps w (Err refused.0 ∷ [])) (sym left.2) (subst (λ (ys : List (Result X R)). ReturnsItems Steps u ys) refused.1 h)))
 
-  pub give_lists : GiveLists number Steps
-  give_lists n w v items (Ok xs) some h (u, t, s) =
+  one_call : (n : ℕ) (w v : W) (items : List (Result X R)) (answer : Result (List X) ℕ) → 0 < n → ReturnsItems Steps w items → Lists (Numbered number Steps) n w answer v → Gives v n items answer
+  one_call n w v items (Ok xs) some h (u, t, s) =
       let taken = takes_all xs w u items h t in
       by_items n v items (map (λ x. Ok x) xs ++ taken.0) (Ok xs) taken.1 (stops n xs u v taken.0 some taken.2 s)
-  give_lists n w v items (Err e) some h l =
+  one_call n w v items (Err e) some h l =
       let refused = is_refused w v e items h l in
       by_items n v items (Err refused.0 ∷ []) (Err e) refused.1 (ap (λ (m : ℕ). Err m) refused.2, refused.3)
+
+  -- ---- calls one after the other
+
+  front_and_rest : (n : ℕ) (items : List (Result X R)) → map (λ x. Ok x) (values_first n items) ++ map (by_number number) (drop (length (values_first n items)) items) ≡ map (by_number number) items
+  front_and_rest zero items = refl
+  front_and_rest (suc n) [] = refl
+  front_and_rest (suc n) (Ok x ∷ items) = ap (λ (ys : List (Result X ℕ)). Ok x ∷ ys) (front_and_rest n items)
+  front_and_rest (suc n) (Err r ∷ items) = refl
+
+  end_of_rest : (n : ℕ) (items : List (Result X R)) → EndAtRefusal items → EndAtRefusal (drop (length (values_first n items)) items)
+  end_of_rest zero items e = e
+  end_of_rest (suc n) [] e = e
+  end_of_rest (suc n) (Ok x ∷ items) e = end_of_rest n items e
+  end_of_rest (suc n) (Err r ∷ items) e = e
+
+  shorter : (k : ℕ) (items : List (Result X R)) → length (drop k items) ≤ length items
+  shorter k items = omega (arith, length-drop k items)
+
+  fewer : (n : ℕ) (x : X) (items : List (Result X R)) → 0 < n → length (drop (length (values_first n (Ok x ∷ items))) (Ok x ∷ items)) ≤ length items
+  fewer zero x items some = absurd (omega arith)
+  fewer (suc n) x items some = shorter (length (values_first n items)) items
+
+  join : (ns : List ℕ) (items : List (Result X R)) → EndAtRefusal items → HaveRoom ns → length items ≤ length ns → flat_map items_in (in_lists number ns items) ≡ map (by_number number) items
+  join [] [] e some le = refl
+  join [] (x ∷ items) e some le = absurd (omega arith)
+  join (n ∷ ns) [] e some le = join ns [] e some.1 (omega arith)
+  join (n ∷ ns) (Ok x ∷ items) e some le =
+      let less = fewer n x items some.0 in
+      let more = join ns (drop (length (values_first n (Ok x ∷ items))) (Ok x ∷ items)) (end_of_rest n (Ok x ∷ items) e) some.1 (omega (arith, less, le)) in
+      ap (λ (ys : List (Result X ℕ)). map (λ z. Ok z) (values_first n (Ok x ∷ items)) ++ ys) more ∙ front_and_rest n (Ok x ∷ items)
+  join (n ∷ ns) (Err r ∷ items) e some le =
+      let more = join ns [] tt some.1 (omega arith) in
+      ap (λ (ys : List (Result X ℕ)). Err (number r) ∷ ys) (more ∙ ap (map (by_number number)) (sym e))
+
+  pub give_lists : GiveLists number Steps
+  give_lists = (one_call, λ items e ns some le. join ns items e some le)

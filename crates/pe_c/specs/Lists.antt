@@ -1,5 +1,6 @@
 -- Lists in one call: what the steps of a walk return one after the other, in an array.
-use Rattle.std.specs.Prelude.{◌≡◌, ◌⊎◌, ℕ, zero, suc, ◌+◌, ◌-◌, ◌^◌, ◌<◌, ◌==◌, min, Bool, true, false, List, [], ◌∷◌, ◌++◌, length, drop, Option, Some, None, Result, Ok, Err}
+use Rattle.std.specs.List.{flat_map}
+use Rattle.std.specs.Prelude.{◌≡◌, ◌⊎◌, ℕ, zero, suc, ◌+◌, ◌-◌, ◌^◌, ◌<◌, ◌≤◌, ◌==◌, min, Bool, true, false, List, [], ◌∷◌, ◌++◌, length, map, drop, Option, Some, None, Result, Ok, Err}
 use Rattle.pe_core.specs.Refusals.{Refusal, FunctionIndex}
 use Rattle.pe_c.specs.Runs.{ReturnsItems}
 use Rattle.pe_c.specs.VersionBlocks.{block_step, block_walk}
@@ -91,12 +92,38 @@ items_after n [] = []
 items_after n (Ok x ∷ items) = drop (length (values_first n (Ok x ∷ items))) (Ok x ∷ items)
 items_after n (Err refusal ∷ items) = []
 
--- calls return what the steps return: where these steps return some items, a call returns the first of them, and the items that
--- are left are those of the walk after it
+-- what calls with room for these numbers of values return, one after the other
+abbrev pub in_lists : {X R : Type 0} → (R → ℕ) → List ℕ → List (Result X R) → List (Result (List X) ℕ)
+in_lists number [] items = []
+in_lists number (n ∷ ns) items = list_of number n items ∷ in_lists number ns (items_after n items)
+
+-- what a call returned, as items
+abbrev pub items_in : {X : Type 0} → Result (List X) ℕ → List (Result X ℕ)
+items_in (Ok xs) = map (λ x. Ok x) xs
+items_in (Err e) = Err e ∷ []
+
+-- a refusal is the last of these items
+abbrev pub EndAtRefusal : {X R : Type 0} → List (Result X R) → Type 0
+EndAtRefusal [] = Unit {0}
+EndAtRefusal (Ok x ∷ items) = EndAtRefusal items
+EndAtRefusal (Err refusal ∷ items) = items ≡ []
+
+-- there is room for a value or more in each call
+abbrev pub HaveRoom : List ℕ → Type 0
+HaveRoom [] = Unit {0}
+HaveRoom (n ∷ ns) = (0 < n) × HaveRoom ns
+
+-- as many calls as there are items, or more, return the items
+abbrev pub ListsJoin : {X R : Type 0} → (R → ℕ) → List (Result X R) → Type 0
+ListsJoin number items = (ns : List ℕ) → HaveRoom ns → length items ≤ length ns → flat_map items_in (in_lists number ns items) ≡ map (by_number number) items
+
+-- list calls return what the steps return: where these return some items, a call returns the first of them, and the walk after
+-- it has the others left; and calls one after the other return all of them
 abbrev pub GiveLists : {W X R : Type 0} → (R → ℕ) → (W → Result (Option X) R → W → Type 0) → Type 0
 GiveLists {W} {X} {R} number Steps =
-    (n : ℕ) (w v : W) (items : List (Result X R)) (answer : Result (List X) ℕ) → 0 < n → ReturnsItems Steps w items → Lists (Numbered number Steps) n w answer v →
-    (answer ≡ list_of number n items) × ReturnsItems Steps v (items_after n items)
+    ((n : ℕ) (w v : W) (items : List (Result X R)) (answer : Result (List X) ℕ) → 0 < n → ReturnsItems Steps w items → Lists (Numbered number Steps) n w answer v →
+      (answer ≡ list_of number n items) × ReturnsItems Steps v (items_after n items))
+    × ((items : List (Result X R)) → EndAtRefusal items → ListsJoin number items)
 
 -- ---- the loop
 

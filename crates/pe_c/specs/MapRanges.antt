@@ -1,5 +1,6 @@
 -- What the section map says of bytes that follow one another.
-use Rattle.std.specs.Prelude.{ℕ, ◌+◌, ◌-◌, ◌^◌, ◌&&◌, Bool, List, length, find, nat_le, nat_lt, Option, Some, None, if◌then◌else◌}
+use Rattle.std.specs.List.{find}
+use Rattle.std.specs.Prelude.{ℕ, ◌+◌, ◌-◌, ◌^◌, ◌&&◌, Bool, List, length, nat_le, nat_lt, Option, Some, None, if◌then◌else◌}
 use Rattle.std.specs.Int.{is_power_of_two}
 use Rattle.std.specs.Option.{option_and_then}
 use Rattle.pe_core.specs.SectionMap.{raw_start, reach}

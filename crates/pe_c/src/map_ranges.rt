@@ -2,7 +2,9 @@
 //! byte at a file offset. Tools read texts and tables at RVAs by the first, and name places of a file by the second.
 //! https://learn.microsoft.com/windows/win32/debug/pe-format#section-table-section-headers
 
-ghost use Rattle.std.specs.Prelude.{◌≡◌, Ok, find};
+ghost use Rattle.std.specs.List.{find};
+ghost use Rattle.std.specs.Option.{option_and_then};
+ghost use Rattle.std.specs.Prelude.{◌≡◌, Ok};
 ghost use Rattle.pe_c.specs.HandsOut.{HandsOutIf};
 ghost use Rattle.pe_c.specs.MapRanges.{holds_offset, range_at, range_in, rva_at, rva_in};
 ghost use Rattle.pe_c.specs.Maps.{covers};
@@ -27,19 +29,30 @@ fn range_in(bytes: &[u8], section: &SectionTable, alignment: u32, rva: u32) -> O
     bytes_between(bytes, start + inside, start + reach(section, alignment))
 }
 
-/// The same of the first section that covers the RVA; to the end of the bytes in an image as loaded.
+/// The same of the first section that covers the RVA.
+fn range_by_sections(
+    bytes: &[u8],
+    sections: &[SectionTable],
+    alignment: u32,
+    rva: u32,
+) -> Option<Range>
+    ensures { result ≡ option_and_then (range_in bytes.now alignment rva)
+        (find (covers alignment rva) sections.now) }
+{
+    let section = sections
+        .iter()
+        .find(|section| covers(section, alignment, rva))?;
+    range_in(bytes, section, alignment, rva)
+}
+
+/// The same in an image as loaded too, where it goes to the end of the bytes.
 fn range_at(view: &View, rva: u32) -> Option<Range>
     ensures { result ≡ range_at view.now.bytes.now view.now.image.now view.now.sections.now rva }
 {
     if !options(view.image.mode).resolve_rva {
         return bytes_between(view.bytes, u64::from(rva), view.bytes.len() as u64);
     }
-    let alignment = view.image.file_alignment;
-    let section = view
-        .sections
-        .iter()
-        .find(|section| covers(section, alignment, rva))?;
-    range_in(view.bytes, section, alignment, rva)
+    range_by_sections(view.bytes, view.sections, view.image.file_alignment, rva)
 }
 
 /// Returns the bytes from an RVA to the end of what its section has in the file: the first section that covers the RVA, by
@@ -77,7 +90,18 @@ fn rva_in(section: &SectionTable, offset: u64) -> Option<u32>
     Some(rva as u32)
 }
 
-/// The same of the first section that holds the offset; the offset itself in an image as loaded.
+/// The same of the first section that holds the offset.
+fn rva_by_sections(sections: &[SectionTable], alignment: u32, offset: u64) -> Option<u32>
+    ensures { result ≡ option_and_then (rva_in offset)
+        (find (holds_offset alignment offset) sections.now) }
+{
+    let section = sections
+        .iter()
+        .find(|section| holds_offset(section, alignment, offset))?;
+    rva_in(section, offset)
+}
+
+/// The same in an image as loaded too, where it is the offset itself.
 fn rva_at(image: &Image, sections: &[SectionTable], offset: u64) -> Option<u32>
     ensures { result ≡ rva_at image.now sections.now offset }
 {
@@ -87,11 +111,7 @@ fn rva_at(image: &Image, sections: &[SectionTable], offset: u64) -> Option<u32>
         }
         return Some(offset as u32);
     }
-    let alignment = image.file_alignment;
-    let section = sections
-        .iter()
-        .find(|section| holds_offset(section, alignment, offset))?;
-    rva_in(section, offset)
+    rva_by_sections(sections, image.file_alignment, offset)
 }
 
 /// Returns the RVA that leads to a file offset, by the first section whose RVAs are mapped to it: `NOTHING` where none are, or

@@ -2,15 +2,15 @@
 
 ghost use Rattle.std.specs.Prelude.{◌≡◌};
 ghost use Rattle.pe_c.specs.HandsOut.{result_number};
-ghost use Rattle.pe_c.specs.Lists.{HandsOutList, Numbered, StepsByIndex, if_there};
-ghost use Rattle.pe_c.specs.Unwinding.{StepsCodes, function_in};
+ghost use Rattle.pe_c.specs.Lists.{HandsOutList, Numbered, StepsByIndex, by_number, if_there};
+ghost use Rattle.pe_c.specs.Unwinding.{StepsCodes, flat_answer, function_in};
 
 use crate::lists::{Steps, hand_out_list, if_there, next_index};
 use crate::ranges::Range;
 use crate::results::number_of;
 use crate::unwinding::{Code, CodeWalk, flat, function_in, next_code};
 use crate::view::View;
-use pe_unwind::RuntimeFunction;
+use pe_unwind::{RuntimeFunction, UnwindCode};
 
 /// Steps over the entries of a function table.
 #[derive(Clone, Copy)]
@@ -50,6 +50,18 @@ pub extern "C" fn pe_c_list_functions(
     hand_out_list(&functions, next, entries, written)
 }
 
+/// The result of a step as numbers.
+#[inline(always)]
+fn flat_answer(given: Option<pe_core::Result<UnwindCode>>) -> Result<Option<Code>, u32>
+    ensures { result ≡ by_number result_number (flat_answer given) }
+{
+    match given {
+        Some(Ok(code)) => Ok(Some(flat(code))),
+        None => Ok(None),
+        Some(Err(error)) => Err(number_of(&error)),
+    }
+}
+
 /// Steps over the codes of an unwind record.
 #[derive(Clone, Copy)]
 struct Codes<'a> {
@@ -60,11 +72,7 @@ impl<'a> Steps<CodeWalk, Code> for Codes<'a> {
     ghost steps = { λ s. Numbered result_number (StepsCodes s.bytes.now) };
 
     fn step(&self, walk: &mut CodeWalk) -> Result<Option<Code>, u32> {
-        match next_code(self.bytes, walk) {
-            Some(Ok(code)) => Ok(Some(flat(code))),
-            None => Ok(None),
-            Some(Err(error)) => Err(number_of(&error)),
-        }
+        flat_answer(next_code(self.bytes, walk))
     }
 }
 
