@@ -137,8 +137,7 @@ impl<'i, 'a, W> ImageWalk<'i, 'a, W> {
 const ROOM: usize = 16;
 
 /// A call that writes items to an array, and moves a walk past them.
-pub(crate) type List<W, T> =
-    unsafe extern "C" fn(*const crate::sys::View, *mut W, *mut T, usize, *mut u64) -> u32;
+pub(crate) type List<W, T> = unsafe extern "C" fn(*const crate::sys::View, *mut W, *mut T, usize, *mut u64) -> u32;
 
 /// A walk over an image that takes several items a call. Its items are those of the steps, one after the other.
 #[derive(Clone)]
