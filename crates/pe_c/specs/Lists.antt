@@ -122,7 +122,7 @@ ListsJoin number items = (ns : List ℕ) → HaveRoom ns → length items ≤ le
 abbrev pub GiveLists : {W X R : Type 0} → (R → ℕ) → (W → Result (Option X) R → W → Type 0) → Type 0
 GiveLists {W} {X} {R} number Steps =
     ((n : ℕ) (w v : W) (items : List (Result X R)) (answer : Result (List X) ℕ) → 0 < n → ReturnsItems Steps w items → Lists (Numbered number Steps) n w answer v →
-      (answer ≡ list_of number n items) × ReturnsItems Steps v (items_after n items))
+    (answer ≡ list_of number n items) × ReturnsItems Steps v (items_after n items))
     × ((items : List (Result X R)) → EndAtRefusal items → ListsJoin number items)
 
 -- ---- the loop

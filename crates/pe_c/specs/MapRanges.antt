@@ -1,6 +1,5 @@
 -- What the section map says of bytes that follow one another.
-use Rattle.std.specs.List.{find}
-use Rattle.std.specs.Prelude.{ℕ, ◌+◌, ◌-◌, ◌^◌, ◌&&◌, Bool, List, length, nat_le, nat_lt, Option, Some, None, if◌then◌else◌}
+use Rattle.std.specs.Prelude.{ℕ, ◌+◌, ◌-◌, ◌^◌, ◌&&◌, Bool, List, length, nat_le, nat_lt, position, slice_get, Option, Some, None, if◌then◌else◌}
 use Rattle.std.specs.Int.{is_power_of_two}
 use Rattle.std.specs.Option.{option_and_then}
 use Rattle.pe_core.specs.SectionMap.{raw_start, reach}
@@ -18,7 +17,7 @@ range_in b alignment rva s =
 -- the same by the first section that covers the RVA; in an image as loaded to the end of the bytes
 abbrev pub range_at : List ℕ → Image → List SectionTable → ℕ → Option Range
 range_at b image s rva =
-    if resolves image.mode then option_and_then (range_in b image.file_alignment rva) (find (covers image.file_alignment rva) s)
+    if resolves image.mode then option_and_then (λ i. option_and_then (range_in b image.file_alignment rva) (slice_get s i)) (position (covers image.file_alignment rva) s)
     else bytes_between b rva (length b)
 
 -- RVAs of the section are mapped to the offset
@@ -36,5 +35,5 @@ rva_in p s = of_32_bits (s.virtual_address + (p - raw_start s))
 -- the same by the first section that holds the offset; in an image as loaded the offset itself
 abbrev pub rva_at : Image → List SectionTable → ℕ → Option ℕ
 rva_at image s p =
-    if resolves image.mode then option_and_then (rva_in p) (find (holds_offset image.file_alignment p) s)
+    if resolves image.mode then option_and_then (λ i. option_and_then (rva_in p) (slice_get s i)) (position (holds_offset image.file_alignment p) s)
     else of_32_bits p

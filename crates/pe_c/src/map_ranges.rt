@@ -2,15 +2,14 @@
 //! byte at a file offset. Tools read texts and tables at RVAs by the first, and name places of a file by the second.
 //! https://learn.microsoft.com/windows/win32/debug/pe-format#section-table-section-headers
 
-ghost use Rattle.std.specs.List.{find};
 ghost use Rattle.std.specs.Option.{option_and_then};
-ghost use Rattle.std.specs.Prelude.{◌≡◌, Ok};
+ghost use Rattle.std.specs.Prelude.{◌≡◌, Ok, position, slice_get};
 ghost use Rattle.pe_c.specs.HandsOut.{HandsOutIf};
 ghost use Rattle.pe_c.specs.MapRanges.{holds_offset, range_at, range_in, rva_at, rva_in};
 ghost use Rattle.pe_c.specs.Maps.{covers};
 
 use crate::image::Image;
-use crate::maps::{bytes_between, covers, raw_start, reach};
+use crate::maps::{bytes_between, covers, first_covering, raw_start, reach};
 use crate::ranges::Range;
 use crate::results::{hand_out_some, options};
 use crate::view::View;
@@ -36,13 +35,17 @@ fn range_by_sections(
     alignment: u32,
     rva: u32,
 ) -> Option<Range>
-    ensures { result ≡ option_and_then (range_in bytes.now alignment rva)
-        (find (covers alignment rva) sections.now) }
+    ensures { result ≡ option_and_then
+        (λ i. option_and_then (range_in bytes.now alignment rva) (slice_get sections.now i))
+        (position (covers alignment rva) sections.now) }
 {
-    let section = sections
-        .iter()
-        .find(|section| covers(section, alignment, rva))?;
-    range_in(bytes, section, alignment, rva)
+    match first_covering(sections, alignment, rva) {
+        Some(index) => match sections.get(index) {
+            Some(section) => range_in(bytes, section, alignment, rva),
+            None => None,
+        },
+        None => None,
+    }
 }
 
 /// The same in an image as loaded too, where it goes to the end of the bytes.
@@ -90,15 +93,28 @@ fn rva_in(section: &SectionTable, offset: u64) -> Option<u32>
     Some(rva as u32)
 }
 
-/// The same of the first section that holds the offset.
-fn rva_by_sections(sections: &[SectionTable], alignment: u32, offset: u64) -> Option<u32>
-    ensures { result ≡ option_and_then (rva_in offset)
-        (find (holds_offset alignment offset) sections.now) }
+/// The index of the first section that holds an offset.
+fn first_holding(sections: &[SectionTable], alignment: u32, offset: u64) -> Option<usize>
+    ensures { result ≡ position (holds_offset alignment offset) sections.now }
 {
-    let section = sections
+    sections
         .iter()
-        .find(|section| holds_offset(section, alignment, offset))?;
-    rva_in(section, offset)
+        .position(|section| holds_offset(section, alignment, offset))
+}
+
+/// The RVA by the first section that holds the offset.
+fn rva_by_sections(sections: &[SectionTable], alignment: u32, offset: u64) -> Option<u32>
+    ensures { result ≡ option_and_then
+        (λ i. option_and_then (rva_in offset) (slice_get sections.now i))
+        (position (holds_offset alignment offset) sections.now) }
+{
+    match first_holding(sections, alignment, offset) {
+        Some(index) => match sections.get(index) {
+            Some(section) => rva_in(section, offset),
+            None => None,
+        },
+        None => None,
+    }
 }
 
 /// The same in an image as loaded too, where it is the offset itself.

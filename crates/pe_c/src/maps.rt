@@ -58,7 +58,7 @@ pub fn covers(section: &SectionTable, alignment: u32, rva: u32) -> bool
 }
 
 /// The index of the first section that covers an RVA.
-fn first_covering(sections: &[SectionTable], alignment: u32, rva: u32) -> Option<usize>
+pub fn first_covering(sections: &[SectionTable], alignment: u32, rva: u32) -> Option<usize>
     ensures { result ≡ position (covers alignment rva) sections.now }
 {
     sections

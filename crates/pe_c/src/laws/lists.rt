@@ -17,7 +17,6 @@ ghost use Rattle.pe_c.specs.declared.image.Image.{Image};
 /// entries returns the first `n`, or all that come before the end or before an error, and the walk after it has the other items
 /// left. Where an error is the first item the call returns its number, and the walk is over. So calls one after the other, with
 /// room for any numbers of entries, return exactly the items, and then no entry.
-#[tactic(auto, using(crate::proofs::ListRuns::give_lists))]
 pub fn lists_are_what_steps_return()
     ensures codes { (b : List ℕ) → GiveLists result_number (StepsCodes b) }
     ensures arm64_codes { (b : List ℕ) → GiveLists result_number (StepsArm64Codes b) }
