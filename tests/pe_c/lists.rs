@@ -22,6 +22,7 @@ use crate::lists::imports::{pe_c_list_imports, pe_c_list_libraries};
 use crate::lists::relocations::{pe_c_list_relocation_blocks, pe_c_list_relocations};
 use crate::lists::resources::{pe_c_list_resource_leaves, pe_c_list_version_blocks};
 use crate::lists::x64::{pe_c_list_codes, pe_c_list_functions};
+use crate::ranges::Range;
 use crate::resource_leaves::pe_c_resource_leaves;
 use crate::results::{DONE, ROOM};
 use crate::unwinding::{Code, CodeWalk};
@@ -202,20 +203,16 @@ fn arm64_in_lists(rt: HostRuntime) {
 }
 
 const NO_EXPORT: Export = Export {
-    name: untouched_range(),
+    name: Range {
+        offset: 0x7777,
+        length: 0x77,
+    },
     offset: 3,
     rva: 4,
     has_offset: 5,
     index: 6,
     spare: 7,
 };
-
-const fn untouched_range() -> crate::ranges::Range {
-    crate::ranges::Range {
-        offset: 0x7777,
-        length: 0x77,
-    }
-}
 
 #[test]
 fn exports_in_lists(rt: HostRuntime) -> Result<(), Fail> {
