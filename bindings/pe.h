@@ -375,6 +375,16 @@ uint32_t pe_c_section_at(const pe_c_view *view, uint32_t rva, uint64_t *out) PE_
  * PE_C_NOTHING without any. It never returns an error. */
 uint32_t pe_c_section_range(const pe_c_view *view, const pe_c_section *section, pe_c_range *out) PE_C_RESULT(1, 2, 3);
 
+/* Returns the bytes from an RVA to the end of what its section has in the file: the first section that covers the RVA, by
+ * which pe_c_offset maps it. In an image as loaded they go from the RVA to the end of the bytes. PE_C_NOTHING where no
+ * section covers the RVA, and where the file has no byte there. It never returns an error. */
+uint32_t pe_c_range_at(const pe_c_view *view, uint32_t rva, pe_c_range *out) PE_C_RESULT(1, 3);
+
+/* Returns the RVA that leads to a file offset, by the first section whose RVAs are mapped to it. Where sections share RVAs,
+ * pe_c_offset may map that RVA by another. In an image as loaded an offset is its own RVA. PE_C_NOTHING where no section is
+ * mapped to the offset, and where the RVA has more than 32 bits. It never returns an error. */
+uint32_t pe_c_rva(const pe_c_view *view, uint64_t offset, uint32_t *out) PE_C_RESULT(1, 3);
+
 /* ---- the overlay */
 
 /* Returns the range of the bytes after the headers and the raw data of all sections, which no loader reads: where installers
@@ -1970,6 +1980,73 @@ uint32_t pe_c_clr_metadata(const uint8_t *bytes, size_t length, const pe_c_image
  * PE_C_SHORT of the zeros after the name, up to a multiple of 4. */
 uint32_t pe_c_next_metadata_stream(const uint8_t *bytes, size_t length, pe_c_metadata_streams *walk,
                                    pe_c_metadata_stream *out) PE_C_RESULT(3, 4);
+
+/* ---- lists in one call
+ *
+ * Each of these calls fills an array with what the calls of one walk return, one after the other, and leaves the walk after
+ * them: the next call goes on there. `written` gets the number of entries; it is 0 at the end of the walk alone. The rest of
+ * the array is unchanged.
+ *
+ *     uint64_t written;
+ *     uint32_t result;
+ *     while ((result = pe_c_list_exports(&view, &walk, entries, 64, &written)) == PE_C_DONE && written > 0)
+ *         use(entries, written);
+ *
+ * An error is that of the walk, returned by a call of its own: where entries come before it, a call returns these with
+ * PE_C_DONE, and the next one the error. After an error `entries` and `written` are unchanged, and the walk is as that of its
+ * call is after an error. PE_C_ROOM, and nothing changes, where number_of_entries is 0. */
+
+/* Lists the functions of a table as pe_c_function_at reads them, from the index `next` on, which moves past them.
+ * Errors: PE_C_ROOM; PE_C_SHORT where the table is not inside the bytes. */
+uint32_t pe_c_list_functions(const pe_c_view *view, const pe_c_range *table, uint64_t *next, pe_c_function *entries,
+                             size_t number_of_entries, uint64_t *written) PE_C_RESULT(1, 2, 3, 6);
+
+/* Lists the unwind codes of a walk. Errors: PE_C_ROOM; those of pe_c_next_code. */
+uint32_t pe_c_list_codes(const pe_c_view *view, pe_c_walk *walk, pe_c_code *entries, size_t number_of_entries,
+                         uint64_t *written) PE_C_RESULT(1, 2, 5);
+
+/* The same of the functions of an ARM64 image, as pe_c_arm64_function_at reads them. */
+uint32_t pe_c_list_arm64_functions(const pe_c_view *view, const pe_c_range *table, uint64_t *next,
+                                   pe_c_arm64_function *entries, size_t number_of_entries,
+                                   uint64_t *written) PE_C_RESULT(1, 2, 3, 6);
+
+/* Lists the ARM64 unwind codes of a walk. Errors: PE_C_ROOM; those of pe_c_next_arm64_code. */
+uint32_t pe_c_list_arm64_codes(const pe_c_view *view, pe_c_arm64_walk *walk, pe_c_arm64_code *entries,
+                               size_t number_of_entries, uint64_t *written) PE_C_RESULT(1, 2, 5);
+
+/* Lists the exports that have a name. Errors: PE_C_ROOM; PE_C_SHORT where the tables are not inside the bytes. */
+uint32_t pe_c_list_exports(const pe_c_view *view, pe_c_exports *walk, pe_c_export *entries, size_t number_of_entries,
+                           uint64_t *written) PE_C_RESULT(1, 2, 5);
+
+/* Lists all exports as pe_c_export_at reads them, from the index `next` on, which moves past them.
+ * Errors: PE_C_ROOM; PE_C_SHORT where the table is not inside the bytes. */
+uint32_t pe_c_list_export_addresses(const pe_c_view *view, const pe_c_address_table *table, uint64_t *next,
+                                    pe_c_exported *entries, size_t number_of_entries,
+                                    uint64_t *written) PE_C_RESULT(1, 2, 3, 6);
+
+/* Lists the libraries of an import directory. Errors: PE_C_ROOM; those of pe_c_next_library. */
+uint32_t pe_c_list_libraries(const pe_c_view *view, pe_c_libraries *walk, pe_c_library *entries,
+                             size_t number_of_entries, uint64_t *written) PE_C_RESULT(1, 2, 5);
+
+/* Lists the imports of a library. Errors: PE_C_ROOM; those of pe_c_next_import. */
+uint32_t pe_c_list_imports(const pe_c_view *view, pe_c_imports *walk, pe_c_import *entries, size_t number_of_entries,
+                           uint64_t *written) PE_C_RESULT(1, 2, 5);
+
+/* Lists the leaves of a resource tree. Errors: PE_C_ROOM; those of pe_c_next_resource_leaf. */
+uint32_t pe_c_list_resource_leaves(const pe_c_view *view, pe_c_resource_walk *walk, pe_c_resource_leaf *entries,
+                                   size_t number_of_entries, uint64_t *written) PE_C_RESULT(1, 2, 5);
+
+/* Lists blocks of version information. Errors: PE_C_ROOM; those of pe_c_next_version_block. */
+uint32_t pe_c_list_version_blocks(const pe_c_view *view, pe_c_range *walk, pe_c_version_block *entries,
+                                  size_t number_of_entries, uint64_t *written) PE_C_RESULT(1, 2, 5);
+
+/* Lists the blocks of base relocations. Errors: PE_C_ROOM; those of pe_c_next_relocation_block. */
+uint32_t pe_c_list_relocation_blocks(const pe_c_view *view, pe_c_range *walk, pe_c_relocation_block *entries,
+                                     size_t number_of_entries, uint64_t *written) PE_C_RESULT(1, 2, 5);
+
+/* Lists the relocations of a block, whose page RVA is page_rva. Errors: PE_C_ROOM; those of pe_c_next_relocation. */
+uint32_t pe_c_list_relocations(const pe_c_view *view, uint32_t page_rva, pe_c_range *walk, pe_c_relocation *entries,
+                               size_t number_of_entries, uint64_t *written) PE_C_RESULT(1, 3, 6);
 
 #ifdef __cplusplus
 }

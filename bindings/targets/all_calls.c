@@ -11,6 +11,8 @@
 
 /* How far lists are walked, so that a hostile file costs no more than a large one. */
 enum { ITEMS = 2000, LISTS = 300, FUNCTIONS = 48, INNER = 60, SECTIONS = 4096, RECORDS = 40 };
+/* The entries of an array that a list call fills. */
+enum { ROWS = 7 };
 /* The addresses of a made stack start here. */
 enum { STACK = 0x70000000, STACK_LENGTH = 1 << 16 };
 
@@ -42,6 +44,18 @@ struct file {
 /* The body runs for each item of a walk, `most` at most. */
 #define WALK(most, call, out, ...) \
     for (int of_##call = 0; of_##call < (most) && IS_DONE(call, out, __VA_ARGS__); of_##call++)
+
+/* Makes a call that fills an array, until it writes no entry, LISTS times at most. */
+#define LIST(call, type, ...) \
+    do { \
+        uint64_t written = 1; \
+        for (int of_##call = 0; of_##call < LISTS && written > 0; of_##call++) { \
+            type entries[ROWS] = PE_C_EMPTY; \
+            written = 0; \
+            CALL(call, entries, __VA_ARGS__, entries, ROWS, &written); \
+            add(written); \
+        } \
+    } while (0)
 
 static void add(uint64_t number)
 {
@@ -406,15 +420,82 @@ static void directories(const struct file *file)
         WALK(ITEMS, pe_c_next_metadata_stream, stream, BYTES, &metadata.streams, &stream) {}
 }
 
+/* The lists of what the walks above step through. */
+static void lists_of_names(const struct file *file, const pe_c_view *view)
+{
+    pe_c_exports tables = PE_C_EMPTY;
+    pe_c_address_table table = PE_C_EMPTY;
+    pe_c_libraries libraries = PE_C_EMPTY;
+    pe_c_library library = PE_C_EMPTY;
+    uint64_t next = 0;
+    if (pe_c_export_tables(IMAGE, &tables) == PE_C_DONE)
+        LIST(pe_c_list_exports, pe_c_export, view, &tables);
+    if (pe_c_export_addresses(IMAGE, &table) == PE_C_DONE)
+        LIST(pe_c_list_export_addresses, pe_c_exported, view, &table, &next);
+    if (pe_c_import_libraries(IMAGE, &libraries) != PE_C_DONE)
+        return;
+    pe_c_libraries walk = libraries;
+    LIST(pe_c_list_libraries, pe_c_library, view, &walk);
+    if (pe_c_next_library(IMAGE, &libraries, &library) == PE_C_DONE)
+        LIST(pe_c_list_imports, pe_c_import, view, &library.imports);
+}
+
+static void lists_of_functions(const struct file *file, const pe_c_view *view)
+{
+    pe_c_range table = PE_C_EMPTY;
+    pe_c_function function = PE_C_EMPTY;
+    pe_c_record record = PE_C_EMPTY;
+    pe_c_arm64_function arm64 = PE_C_EMPTY;
+    pe_c_arm64_record info = PE_C_EMPTY;
+    pe_c_arm64_walk codes = PE_C_EMPTY;
+    uint64_t next = 0;
+    if (pe_c_function_table(IMAGE, &table) == PE_C_DONE) {
+        LIST(pe_c_list_functions, pe_c_function, view, &table, &next);
+        if (pe_c_function_at(BYTES, &table, 0, &function) == PE_C_DONE
+            && pe_c_unwind_record(IMAGE, &table, function.unwind, &record) == PE_C_DONE)
+            LIST(pe_c_list_codes, pe_c_code, view, &record.codes);
+    }
+    if (pe_c_arm64_table(IMAGE, &table) == PE_C_DONE) {
+        LIST(pe_c_list_arm64_functions, pe_c_arm64_function, view, &table, &next);
+        if (pe_c_arm64_function_at(BYTES, &table, 0, &arm64) == PE_C_DONE
+            && pe_c_arm64_unwind_record(IMAGE, &arm64, &info) == PE_C_DONE
+            && pe_c_arm64_codes(BYTES, &info.codes, 0, &codes) == PE_C_DONE)
+            LIST(pe_c_list_arm64_codes, pe_c_arm64_code, view, &codes);
+    }
+}
+
+static void lists(const struct file *file)
+{
+    const pe_c_view view = {BYTES, &file->image, sections, file->count};
+    pe_c_resource_walk leaves = PE_C_EMPTY;
+    pe_c_range walk = PE_C_EMPTY;
+    pe_c_relocation_block block = PE_C_EMPTY;
+    lists_of_names(file, &view);
+    lists_of_functions(file, &view);
+    if (pe_c_resource_leaves(IMAGE, &leaves) == PE_C_DONE)
+        LIST(pe_c_list_resource_leaves, pe_c_resource_leaf, &view, &leaves);
+    if (pe_c_version_blocks(IMAGE, &walk) == PE_C_DONE)
+        LIST(pe_c_list_version_blocks, pe_c_version_block, &view, &walk);
+    if (pe_c_relocation_blocks(IMAGE, &walk) != PE_C_DONE)
+        return;
+    pe_c_range blocks = walk;
+    LIST(pe_c_list_relocation_blocks, pe_c_relocation_block, &view, &blocks);
+    if (pe_c_next_relocation_block(BYTES, &walk, &block) == PE_C_DONE)
+        LIST(pe_c_list_relocations, pe_c_relocation, &view, block.page_rva, &block.entries);
+}
+
 static void headers(const struct file *file)
 {
     pe_c_range range = PE_C_EMPTY, table = PE_C_EMPTY;
     uint64_t offset = 0;
+    uint32_t rva = 0;
     pe_c_rich_header_info rich = PE_C_EMPTY;
     pe_c_rich_entry entry = PE_C_EMPTY;
     const pe_c_view view = {BYTES, &file->image, sections, file->count};
     CALL(pe_c_offset, offset, &file->image, sections, file->count, file->image.entry, &offset);
     CALL(pe_c_section_at, offset, &view, file->image.entry, &offset);
+    CALL(pe_c_range_at, range, &view, file->image.entry, &range);
+    CALL(pe_c_rva, rva, &view, range.offset, &rva);
     for (size_t i = 0; i < file->count; i++)
         CALL(pe_c_section_range, range, &view, &sections[i], &range);
     CALL(pe_c_overlay, range, IMAGE, &range);
@@ -482,6 +563,7 @@ static void in_mode(struct file *file, uint32_t mode)
     imports(file);
     resources(file);
     directories(file);
+    lists(file);
 }
 
 /* ---- all of it */

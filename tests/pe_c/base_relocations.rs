@@ -19,7 +19,7 @@ const BLOCK_TRUNCATED: u32 = 302;
 const NO_ARGUMENT: u32 = 303;
 
 /// At offset 4: a block with two entries, and one with a HIGHADJ, its argument, and a HIGHADJ that has none.
-fn two_blocks(alloc: Global) -> Result<Vec<u8>, AllocError> {
+pub(crate) fn two_blocks(alloc: Global) -> Result<Vec<u8>, AllocError> {
     words(
         alloc,
         &[0, 0x1000, 12, 0x3FFF_A008, 0x5000, 14, 0x8765_4010, 0x4020],

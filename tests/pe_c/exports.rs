@@ -16,7 +16,7 @@ use std::test::Fail;
 /// the addresses of the three tables: addresses at 0x50, names at 0x60, ordinals at 0x80. The first name is that of the
 /// second address, which is unmapped. The second is unmapped, the third an ordinal after the table, the fourth is not
 /// UTF-8, the fifth is that of the first address, and the last has no end.
-fn with_exports(alloc: Global) -> Result<Vec<u8>, Fail> {
+pub(crate) fn with_exports(alloc: Global) -> Result<Vec<u8>, Fail> {
     Ok(bytes_of(
         alloc,
         0xB0,
@@ -59,7 +59,7 @@ fn of_walk(walk: Exports) -> Walk {
     )
 }
 
-fn walk_over(next: u64) -> Exports {
+pub(crate) fn walk_over(next: u64) -> Exports {
     Exports {
         names: range(0x60, 24),
         ordinals: range(0x80, 12),

@@ -20,7 +20,7 @@ const LENGTH: u64 = 0xC0;
 /// An import directory at 0x10: the record of the library `a`, with a list at 0x60 of an import by the name `f`, whose hint
 /// is 7, and one by the ordinal 17; at 0x24 the record of the library `bc`, whose list is its address table at 0x88, of an
 /// import by the ordinal 5; at 0x38 the record that ends the directory.
-fn with_imports(alloc: Global) -> Result<Vec<u8>, Fail> {
+pub(crate) fn with_imports(alloc: Global) -> Result<Vec<u8>, Fail> {
     Ok(bytes_of(
         alloc,
         0xC0,
@@ -61,7 +61,7 @@ fn of_libraries(walk: Libraries) -> (u64, u32, u32) {
 }
 
 /// What a library is before a call that hands out another.
-const NO_LIBRARY: Library = Library {
+pub(crate) const NO_LIBRARY: Library = Library {
     name: Range {
         offset: 1,
         length: 1,
@@ -113,7 +113,7 @@ fn of_library(library: Library) -> Fields {
 const UNTOUCHED_LIBRARY: Fields = ([1, 1], [1, 1], 1, [1; 6]);
 
 /// What an import is before a call that hands out another.
-const NO_IMPORT: Import = Import {
+pub(crate) const NO_IMPORT: Import = Import {
     name: Range {
         offset: 1,
         length: 1,

@@ -17,6 +17,7 @@ mod failure;
 mod headers;
 mod image;
 mod imports;
+mod lists;
 mod load_config;
 mod made;
 mod maps;

@@ -4,6 +4,7 @@ use super::made::{
     MAPPED, PERMISSIVE, STRICT, UNTOUCHED, X64, image, in_mode, of_range, untouched,
 };
 use crate::image::Image;
+use crate::map_ranges::{pe_c_range_at, pe_c_rva};
 use crate::maps::{pe_c_section_at, pe_c_section_range};
 use crate::results::{DONE, NOTHING};
 use crate::view::View;
@@ -144,4 +145,101 @@ fn ranges_of_sections(rt: HostRuntime) {
         range_of(&loaded, 0x1000, &section(0x1000, 9, 0, 9)),
         (NOTHING, UNTOUCHED)
     );
+}
+
+fn range_at(bytes: &[u8], image: &Image, sections: &[SectionTable], rva: u32) -> (u32, [u64; 2]) {
+    let view = View {
+        bytes,
+        image,
+        sections,
+    };
+    let mut out = untouched();
+    (pe_c_range_at(&view, rva, &mut out), of_range(out))
+}
+
+/// The bytes of two sections, of which the second has fewer in the file than in memory, and a file that ends inside the third.
+#[test]
+fn ranges_from_rvas(rt: HostRuntime) {
+    let bytes = [0; 0x900];
+    let sections = [
+        section(0x1000, 0x200, 0x400, 0x200),
+        section(0x2000, 0x5000, 0x600, 0x200),
+        section(0x8000, 0x400, 0x800, 0x400),
+        section(0x1000, 0x2000, 0, 0x2000),
+    ];
+    for mode in [STRICT, PERMISSIVE] {
+        let image = aligned(0x200, mode);
+        for (rva, number, range) in [
+            (0xFFF, NOTHING, UNTOUCHED),
+            (0x1000, DONE, [0x400, 0x200]),
+            (0x11FF, DONE, [0x5FF, 1]),
+            // The fourth section covers it.
+            (0x1200, DONE, [0x200, 0x700]),
+            (0x21FF, DONE, [0x7FF, 1]),
+            (0x2200, DONE, [0x1200, 0]),
+            (0x8010, DONE, [0x810, 0xF0]),
+            (0x8100, NOTHING, UNTOUCHED),
+            (u32::MAX, NOTHING, UNTOUCHED),
+        ] {
+            let want = if range[1] == 0 {
+                (NOTHING, UNTOUCHED)
+            } else {
+                (number, range)
+            };
+            assert_eq!(rt; range_at(&bytes, &image, &sections, rva), want, "{rva:#x}");
+        }
+        let none = (NOTHING, UNTOUCHED);
+        assert_eq!(rt;
+            range_at(&bytes, &aligned(3, mode), &sections, 0x1000),
+            none
+        );
+    }
+    let image = aligned(0x200, MAPPED);
+    for (rva, want) in [
+        (0, (DONE, [0, 0x900])),
+        (0x8FF, (DONE, [0x8FF, 1])),
+        (0x900, (NOTHING, UNTOUCHED)),
+    ] {
+        assert_eq!(rt; range_at(&bytes, &image, &sections, rva), want);
+    }
+}
+
+/// The RVA of an offset, by the first section that holds it.
+#[test]
+fn rvas_of_offsets(rt: HostRuntime) {
+    let sections = [
+        section(0x1000, 0x200, 0x400, 0x200),
+        section(0x5000, 0x1000, 0x500, 0x1000),
+        section(0xFFFF_FF00, 0x200, 0x2000, 0x200),
+    ];
+    let rva_of = |image: &Image, offset: u64| {
+        let view = View {
+            bytes: &[],
+            image,
+            sections: &sections,
+        };
+        let mut out = 9;
+        (pe_c_rva(&view, offset, &mut out), out)
+    };
+    for mode in [STRICT, PERMISSIVE] {
+        let image = aligned(0x200, mode);
+        for (offset, number, rva) in [
+            (0x3FF, NOTHING, 9),
+            (0x400, DONE, 0x1000),
+            (0x5FF, DONE, 0x11FF),
+            // The second section's raw pointer is rounded down to 400h.
+            (0x600, DONE, 0x5200),
+            (0x13FF, DONE, 0x5FFF),
+            (0x1400, NOTHING, 9),
+            (0x20FF, DONE, u32::MAX),
+            (0x2100, NOTHING, 9),
+            (u64::MAX, NOTHING, 9),
+        ] {
+            assert_eq!(rt; rva_of(&image, offset), (number, rva), "{offset:#x}");
+        }
+        assert_eq!(rt; rva_of(&aligned(3, mode), 0x400), (NOTHING, 9));
+    }
+    let image = aligned(0x200, MAPPED);
+    assert_eq!(rt; rva_of(&image, 0x1_0000_0000), (NOTHING, 9));
+    assert_eq!(rt; rva_of(&image, 0xFFFF_FFFF), (DONE, u32::MAX));
 }

@@ -25,7 +25,7 @@ const NO_ENTRIES: u32 = 403;
 /// The data of the resource directory, 142 bytes at offset 0x20 of 174: a type with the name `AB`, whose name 1 has two
 /// languages, and a type with the id 3, which leads to a data entry. Each byte is where Microsoft's page puts it. The content
 /// of the first language is the five bytes at offset 4; that of the second has an RVA that no section maps.
-fn with_tree(alloc: Global) -> Result<Vec<u8>, AllocError> {
+pub(crate) fn with_tree(alloc: Global) -> Result<Vec<u8>, AllocError> {
     bytes_of(
         alloc,
         0xAE,
@@ -47,7 +47,7 @@ fn with_tree(alloc: Global) -> Result<Vec<u8>, AllocError> {
 }
 
 /// An image whose resource directory has so many bytes, from offset 0x20 on.
-fn of_size(size: u32) -> Image {
+pub(crate) fn of_size(size: u32) -> Image {
     having(image(X64), 2, directory(0x1020, size))
 }
 
@@ -61,7 +61,7 @@ const NO_NAME: ResourceName = ResourceName {
 };
 
 /// What `out` is before each call.
-const NO_LEAF: ResourceLeaf = ResourceLeaf {
+pub(crate) const NO_LEAF: ResourceLeaf = ResourceLeaf {
     resource_type: NO_NAME,
     name: NO_NAME,
     language: NO_NAME,

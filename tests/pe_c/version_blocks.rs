@@ -12,7 +12,7 @@ use std::test::Fail;
 
 /// At offset 4: a string table, whose string has the key `A` and the value `B`; a block of 8 bytes whose key has no end; one
 /// of 10 bytes, at whose end its value of 3 bytes would start; one of 40 bytes, of which 6 are there.
-const BLOCKS: [u8; 70] = [
+pub(crate) const BLOCKS: [u8; 70] = [
     0xFF, 0xFF, 0xFF, 0xFF, 40, 0, 0, 0, 1, 0, b'0', 0, b'4', 0, b'0', 0, b'7', 0, b'0', 0, b'4',
     0, b'E', 0, b'4', 0, 0, 0, 16, 0, 2, 0, 1, 0, b'A', 0, 0, 0, 0, 0, b'B', 0, 0, 0, 8, 0, 0, 0,
     1, 0, b'X', 0, 10, 0, 3, 0, 0, 0, b'T', 0, 0, 0, 0xFF, 0xFF, 40, 0, 0, 0, 0, 0,

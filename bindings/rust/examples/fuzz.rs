@@ -218,7 +218,50 @@ fn read_by_lies(bytes: &[u8], random: &mut Random, seen: &mut Seen) {
         sys::pe_c_section_at(&view, few, &mut index);
         sys::pe_c_section_range(&view, &section, &mut range);
         assert!(range.offset <= number && range.length <= number - range.offset);
+        let mut rest = sys::Range::default();
+        sys::pe_c_range_at(&view, few, &mut rest);
+        assert!(rest.offset <= number && rest.length <= number - rest.offset);
+        let mut rva = 0;
+        sys::pe_c_rva(&view, range.offset, &mut rva);
     }
+    // fills an array while entries are written, but not forever
+    macro_rules! list {
+        ($name:ident($($more:expr),*; $walk:expr), $out:ident) => {{
+            let mut walk = $walk;
+            for room in (0..4).cycle().take(MOST) {
+                let mut entries = [sys::$out::default(); 3];
+                let mut written = 0;
+                // SAFETY: as above.
+                let answer = unsafe {
+                    sys::$name(&view, $($more,)* &mut walk, entries.as_mut_ptr(), room, &mut written)
+                };
+                assert!(written <= room as u64 && (answer == 0 || written == 0));
+                assert!(entries[written as usize..].iter().all(|it| *it == sys::$out::default()));
+                if room > 0 && written == 0 {
+                    break;
+                }
+            }
+        }};
+    }
+    list!(pe_c_list_functions(&range; index), Function);
+    list!(pe_c_list_arm64_functions(&range; index), Arm64Function);
+    list!(pe_c_list_codes(; sys::Walk { left: range, version: few as u8 % 4, frame_register: 5, spare: [1; 6] }), Code);
+    list!(pe_c_list_arm64_codes(; sys::Arm64Walk { left: range, offset: index }), Arm64Code);
+    let names = sys::Exports { names: range, ordinals: range, addresses: range, next: index };
+    list!(pe_c_list_exports(; names), Export);
+    let table = sys::AddressTable { addresses: range, directory, ordinal_base: few, ..sys::AddressTable::default() };
+    list!(pe_c_list_export_addresses(&table; index), Exported);
+    list!(pe_c_list_libraries(; sys::Libraries { next: range.offset, ..sys::Libraries::default() }), Library);
+    list!(pe_c_list_imports(; sys::Imports { left: range, rva: index }), Import);
+    let resource = sys::ResourceEntry { name_or_id: few, offset_to_data_or_directory: few.rotate_left(5) };
+    let part = sys::Range { offset: index, length: u64::from(few % 64) };
+    let leaves = sys::ResourceWalk { tree: range, types: part, ..sys::ResourceWalk::default() };
+    list!(pe_c_list_resource_leaves(; leaves), ResourceLeaf);
+    let leaves = sys::ResourceWalk { languages: part, name: resource, ..leaves };
+    list!(pe_c_list_resource_leaves(; leaves), ResourceLeaf);
+    list!(pe_c_list_version_blocks(; range), VersionBlock);
+    list!(pe_c_list_relocation_blocks(; range), RelocationBlock);
+    list!(pe_c_list_relocations(few; range), Relocation);
     for entry in [
         entry,
         sys::DebugEntry {

@@ -6,7 +6,7 @@
 
 use crate::image::{bytes_of, Error, Image};
 use crate::sys;
-use crate::walk::ImageWalk;
+use crate::walk::ImageList;
 use core::iter::FusedIterator;
 
 /// An export that has a name.
@@ -42,13 +42,13 @@ pub struct Export<'a> {
 /// # Ok::<(), pe_c::Error>(())
 /// ```
 #[derive(Clone, Debug)]
-pub struct Exports<'i, 'a>(ImageWalk<'i, 'a, sys::Exports>);
+pub struct Exports<'i, 'a>(ImageList<'i, 'a, sys::Exports, sys::Export>);
 
 impl<'a> Iterator for Exports<'_, 'a> {
     type Item = Result<Export<'a>, Error>;
 
     fn next(&mut self) -> Option<Self::Item> {
-        let found: sys::Export = match self.0.step(sys::pe_c_next_export)? {
+        let found = match self.0.step(sys::pe_c_list_exports)? {
             Ok(found) => found,
             Err(error) => return Some(Err(error)),
         };
@@ -155,6 +155,6 @@ impl<'a> Image<'a> {
     /// [`Error::UNMAPPED`], [`Error::SHORT`] of the directory, then of the table of RVAs, of names and of indices.
     pub fn exports(&self) -> Result<Option<Exports<'_, 'a>>, Error> {
         let tables = self.ask(sys::pe_c_export_tables)?;
-        Ok(tables.map(|tables| Exports(ImageWalk::new(self, tables))))
+        Ok(tables.map(|tables| Exports(ImageList::new(self, tables))))
     }
 }

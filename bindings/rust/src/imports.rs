@@ -4,7 +4,7 @@
 
 use crate::image::{bytes_of, Error, Image};
 use crate::sys;
-use crate::walk::ImageWalk;
+use crate::walk::{ImageList, ImageWalk};
 use core::iter::FusedIterator;
 
 /// A DLL that an image imports from.
@@ -24,7 +24,7 @@ impl<'i, 'a> Library<'i, 'a> {
 
     /// The imports from this DLL.
     pub fn imports(&self) -> Imports<'i, 'a> {
-        Imports(ImageWalk::new(self.image, self.raw.imports))
+        Imports(ImageList::new(self.image, self.raw.imports))
     }
 }
 
@@ -87,14 +87,14 @@ pub struct Import<'a> {
 /// The last item may be an error: [`Error::UNMAPPED`] of the RVA in the entry; [`Error::SHORT`] of the hint there;
 /// [`Error::IMPORT_NAME`] of the name. [`Libraries`] has an example.
 #[derive(Clone, Debug)]
-pub struct Imports<'i, 'a>(ImageWalk<'i, 'a, sys::Imports>);
+pub struct Imports<'i, 'a>(ImageList<'i, 'a, sys::Imports, sys::Import>);
 
 impl<'a> Iterator for Imports<'_, 'a> {
     type Item = Result<Import<'a>, Error>;
 
     fn next(&mut self) -> Option<Self::Item> {
         let bytes = self.0.image.bytes();
-        let found: Result<sys::Import, Error> = self.0.step(sys::pe_c_next_import)?;
+        let found = self.0.step(sys::pe_c_list_imports)?;
         Some(found.and_then(|found| {
             let name = bytes_of(found.name, bytes)?;
             Ok(Import { name: (found.has_name != 0).then_some(name), ordinal: found.ordinal, rva: found.rva })

@@ -1319,6 +1319,110 @@ extern "C" {
     pub fn pe_c_section_at(view: *const View, rva: u32, out: *mut u64) -> u32;
     /// Returns the bytes that the RVAs of a section are mapped to.
     pub fn pe_c_section_range(view: *const View, section: *const Section, out: *mut Range) -> u32;
+    /// Lists the next functions of a table, from an index on.
+    pub fn pe_c_list_functions(
+        view: *const View,
+        table: *const Range,
+        next: *mut u64,
+        entries: *mut Function,
+        number_of_entries: usize,
+        written: *mut u64,
+    ) -> u32;
+    /// Lists the next unwind codes of a walk.
+    pub fn pe_c_list_codes(
+        view: *const View,
+        walk: *mut Walk,
+        entries: *mut Code,
+        number_of_entries: usize,
+        written: *mut u64,
+    ) -> u32;
+    /// Lists the next functions of an ARM64 table, from an index on.
+    pub fn pe_c_list_arm64_functions(
+        view: *const View,
+        table: *const Range,
+        next: *mut u64,
+        entries: *mut Arm64Function,
+        number_of_entries: usize,
+        written: *mut u64,
+    ) -> u32;
+    /// Lists the next ARM64 unwind codes of a walk.
+    pub fn pe_c_list_arm64_codes(
+        view: *const View,
+        walk: *mut Arm64Walk,
+        entries: *mut Arm64Code,
+        number_of_entries: usize,
+        written: *mut u64,
+    ) -> u32;
+    /// Lists the next exports that have a name.
+    pub fn pe_c_list_exports(
+        view: *const View,
+        walk: *mut Exports,
+        entries: *mut Export,
+        number_of_entries: usize,
+        written: *mut u64,
+    ) -> u32;
+    /// Lists the next exports of an address table, from an index on.
+    pub fn pe_c_list_export_addresses(
+        view: *const View,
+        table: *const AddressTable,
+        next: *mut u64,
+        entries: *mut Exported,
+        number_of_entries: usize,
+        written: *mut u64,
+    ) -> u32;
+    /// Lists the next libraries of an import directory.
+    pub fn pe_c_list_libraries(
+        view: *const View,
+        walk: *mut Libraries,
+        entries: *mut Library,
+        number_of_entries: usize,
+        written: *mut u64,
+    ) -> u32;
+    /// Lists the next imports of a library.
+    pub fn pe_c_list_imports(
+        view: *const View,
+        walk: *mut Imports,
+        entries: *mut Import,
+        number_of_entries: usize,
+        written: *mut u64,
+    ) -> u32;
+    /// Lists the next leaves of a resource tree.
+    pub fn pe_c_list_resource_leaves(
+        view: *const View,
+        walk: *mut ResourceWalk,
+        entries: *mut ResourceLeaf,
+        number_of_entries: usize,
+        written: *mut u64,
+    ) -> u32;
+    /// Lists the next blocks of version information.
+    pub fn pe_c_list_version_blocks(
+        view: *const View,
+        walk: *mut Range,
+        entries: *mut VersionBlock,
+        number_of_entries: usize,
+        written: *mut u64,
+    ) -> u32;
+    /// Lists the next blocks of base relocations.
+    pub fn pe_c_list_relocation_blocks(
+        view: *const View,
+        walk: *mut Range,
+        entries: *mut RelocationBlock,
+        number_of_entries: usize,
+        written: *mut u64,
+    ) -> u32;
+    /// Lists the next relocations of a block.
+    pub fn pe_c_list_relocations(
+        view: *const View,
+        page_rva: u32,
+        walk: *mut Range,
+        entries: *mut Relocation,
+        number_of_entries: usize,
+        written: *mut u64,
+    ) -> u32;
+    /// Returns the bytes from an RVA to the end of what its section has.
+    pub fn pe_c_range_at(view: *const View, rva: u32, out: *mut Range) -> u32;
+    /// Returns the RVA that leads to a file offset.
+    pub fn pe_c_rva(view: *const View, offset: u64, out: *mut u32) -> u32;
     /// Starts the plan of a function, by its unwind RVA.
     pub fn pe_c_plan_from(unwind: u32, out: *mut Plan) -> u32;
     /// Finds the registers of an x64 function's caller, and writes them over those of the frame.

@@ -132,3 +132,56 @@ impl<'i, 'a, W> ImageWalk<'i, 'a, W> {
         unless_over(&mut self.is_over, || self.image.step_by(call, more, &mut self.walk))
     }
 }
+
+/// How many items a walk takes a call.
+const ROOM: usize = 16;
+
+/// A call that writes items to an array, and moves a walk past them.
+pub(crate) type List<W, T> = unsafe extern "C" fn(*const crate::sys::View, *mut W, *mut T, usize, *mut u64) -> u32;
+
+/// A walk over an image that takes several items a call. Its items are those of the steps, one after the other.
+#[derive(Clone)]
+pub(crate) struct ImageList<'i, 'a, W, T> {
+    pub image: &'i Image<'a>,
+    walk: W,
+    items: [T; ROOM],
+    /// Of the items those that are not returned yet.
+    left: core::ops::Range<usize>,
+    is_over: bool,
+}
+
+impl<W: core::fmt::Debug, T> core::fmt::Debug for ImageList<'_, '_, W, T> {
+    fn fmt(&self, f: &mut core::fmt::Formatter<'_>) -> core::fmt::Result {
+        let Self { image, walk, left, is_over, .. } = self;
+        f.debug_struct("ImageList")
+            .field("image", image)
+            .field("walk", walk)
+            .field("left", &left.len())
+            .field("is_over", is_over)
+            .finish()
+    }
+}
+
+impl<'i, 'a, W, T: Copy + Default> ImageList<'i, 'a, W, T> {
+    pub fn new(image: &'i Image<'a>, walk: W) -> Self {
+        ImageList { image, walk, items: [T::default(); ROOM], left: 0..0, is_over: false }
+    }
+
+    /// The next item.
+    pub fn step(&mut self, call: List<W, T>) -> Option<Result<T, Error>> {
+        if self.left.is_empty() {
+            match unless_over(&mut self.is_over, || {
+                let view = self.image.view();
+                let mut written = 0;
+                // SAFETY: as in `look`; the view, the walk and `written` are lent for the call, the array has so many items, and
+                // none overlaps another.
+                let number = unsafe { call(&view, &mut self.walk, self.items.as_mut_ptr(), ROOM, &mut written) };
+                Ok(returned(number, written)?.filter(|&count| count > 0))
+            })? {
+                Ok(count) => self.left = 0..count as usize,
+                Err(error) => return Some(Err(error)),
+            }
+        }
+        self.left.next().map(|i| Ok(self.items[i]))
+    }
+}

@@ -45,3 +45,5 @@ pub mod WalkFrames
 pub mod NextFrames
 pub mod FrameRuns
 pub mod StackSteps
+pub mod FilledLists
+pub mod ListRuns

@@ -32,6 +32,8 @@ pub mod SectionNames
 pub mod VersionBlocks
 pub mod Overlays
 pub mod Headers
+pub mod Lists
+pub mod MapRanges
 pub mod DebugLaws
 pub mod Maps
 pub mod Coff

@@ -55,7 +55,7 @@ pub extern "C" fn pe_c_relocation_blocks(
 }
 
 /// The next block of a walk. It is over after an error.
-fn next_block(bytes: &[u8], walk: &mut Range) -> Result<Option<RelocationBlock>>
+pub fn next_block(bytes: &[u8], walk: &mut Range) -> Result<Option<RelocationBlock>>
     ensures block { directory_answer (λ x. x) result
         ≡ step_of (block_reported walk.old) (first_in first_block bytes.now walk.old) }
     ensures walk { walk.new ≡ left_after walk.old (first_in first_block bytes.now walk.old) }
@@ -98,7 +98,7 @@ pub extern "C" fn pe_c_next_relocation_block(
 }
 
 /// The next relocation of a walk through the entries of a page. It is over after an error.
-fn next_relocation(bytes: &[u8], page_rva: u32, walk: &mut Range) -> Result<Option<Relocation>>
+pub fn next_relocation(bytes: &[u8], page_rva: u32, walk: &mut Range) -> Result<Option<Relocation>>
     ensures relocation { directory_answer (λ x. x) result
         ≡ step_of relocation_reported (first_in (first_relocation page_rva) bytes.now walk.old) }
     ensures walk { walk.new

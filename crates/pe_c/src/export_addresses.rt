@@ -145,7 +145,7 @@ fn exported_with(
     }
 }
 
-fn exported_at(
+pub fn exported_at(
     bytes: &[u8],
     image: &Image,
     sections: &[SectionTable],

@@ -172,7 +172,7 @@ fn tables_of<'a>(bytes: &'a [u8], walk: &Exports) -> Result<Tables<'a>>
 }
 
 /// One step of a walk.
-fn step(
+pub fn step(
     bytes: &[u8],
     image: &Image,
     sections: &[SectionTable],

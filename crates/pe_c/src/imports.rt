@@ -202,7 +202,7 @@ fn library_at(
 
 /// One step over libraries: its result, and the walk after it.
 #[tactic(auto, unfolding(crate::specs::Imports::library_step))]
-fn library_step(
+pub fn library_step(
     bytes: &[u8],
     image: &Image,
     sections: &[SectionTable],
@@ -306,7 +306,7 @@ fn import_at(
 
 /// One step over the imports of a library.
 #[tactic(auto, unfolding(crate::specs::Imports::import_step))]
-fn import_step(
+pub fn import_step(
     bytes: &[u8],
     image: &Image,
     sections: &[SectionTable],

@@ -6,6 +6,7 @@ pub mod debug;
 pub mod directories;
 pub mod failures;
 pub mod frames;
+pub mod lists;
 pub mod te;
 pub mod version_blocks;
 pub mod walks;

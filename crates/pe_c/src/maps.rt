@@ -20,7 +20,7 @@ const SECTOR: u64 = 512;
 const PAGE: usize = 4096;
 
 /// The file offset of the section's data, as the section map takes it.
-fn raw_start(section: &SectionTable) -> u64
+pub fn raw_start(section: &SectionTable) -> u64
     ensures offset { result ≡ raw_start section.now }
     ensures small { result < 2 ^ 32 }
 {
@@ -29,7 +29,7 @@ fn raw_start(section: &SectionTable) -> u64
 
 /// The number of RVAs that the section covers.
 #[tactic(auto, unfolding(pe_core::specs::SectionMap::reach))]
-fn reach(section: &SectionTable, alignment: u32) -> u64
+pub fn reach(section: &SectionTable, alignment: u32) -> u64
     requires { 0 < alignment }
     ensures count { result ≡ reach alignment section.now }
     ensures small { result < 2 ^ 33 }
@@ -47,7 +47,7 @@ fn reach(section: &SectionTable, alignment: u32) -> u64
 
 /// Whether the section covers an RVA; none does where the file alignment is not a power of two.
 #[tactic(auto, using(pe_core::proofs::Map::positive))]
-fn covers(section: &SectionTable, alignment: u32, rva: u32) -> bool
+pub fn covers(section: &SectionTable, alignment: u32, rva: u32) -> bool
     ensures { result ≡ covers alignment rva section.now }
 {
     if !alignment.is_power_of_two() {
@@ -58,7 +58,7 @@ fn covers(section: &SectionTable, alignment: u32, rva: u32) -> bool
 }
 
 /// The index of the first section that covers an RVA.
-fn first_covering(sections: &[SectionTable], alignment: u32, rva: u32) -> Option<usize>
+pub fn first_covering(sections: &[SectionTable], alignment: u32, rva: u32) -> Option<usize>
     ensures { result ≡ position (covers alignment rva) sections.now }
 {
     sections
@@ -78,7 +78,7 @@ fn section_at(image: &Image, sections: &[SectionTable], rva: u32) -> Option<usiz
 }
 
 /// The bytes from an offset up to another one, or to the end of all. `None` without any.
-fn bytes_between(bytes: &[u8], from: u64, to: u64) -> Option<Range>
+pub fn bytes_between(bytes: &[u8], from: u64, to: u64) -> Option<Range>
     ensures { result ≡ bytes_between bytes.now from to }
 {
     let end = to.min(bytes.len() as u64);

@@ -220,7 +220,7 @@ pub extern "C" fn pe_c_resource_leaves(
 
 /// The next leaf of a walk. It is over after an error.
 #[tactic(auto, using(crate::proofs::LeafRuns::over_has_none))]
-fn next_leaf(
+pub fn next_leaf(
     bytes: &[u8],
     image: &Image,
     sections: &[SectionTable],

@@ -157,7 +157,7 @@ pub extern "C" fn pe_c_find_function(
     hand_out_some(find(bytes, table, rva), out)
 }
 
-fn function_in(bytes: &[u8], table: &Range, index: u64) -> Result<RuntimeFunction>
+pub fn function_in(bytes: &[u8], table: &Range, index: u64) -> Result<RuntimeFunction>
     ensures { answer_of result ≡ function_in bytes.now table.now index }
 {
     let entries = slice_of(bytes, table)?;
@@ -369,7 +369,7 @@ fn plain(code_offset: u8, operation: u8, operand: u8, value: u32) -> Code
     }
 }
 
-fn flat(code: UnwindCode) -> Code
+pub fn flat(code: UnwindCode) -> Code
     ensures { result ≡ flat code }
 {
     let code_offset = code.code_offset;
@@ -415,7 +415,7 @@ fn step(left: &[u8], walk: &mut CodeWalk) -> Option<Result<UnwindCode>>
     code
 }
 
-fn next_code(bytes: &[u8], walk: &mut CodeWalk) -> Option<Result<UnwindCode>>
+pub fn next_code(bytes: &[u8], walk: &mut CodeWalk) -> Option<Result<UnwindCode>>
     ensures { WalksIn (bytes_at bytes.now walk.old.left) walk.old result walk.new }
 {
     match slice_of(bytes, &walk.left) {

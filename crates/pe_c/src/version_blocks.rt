@@ -112,7 +112,7 @@ fn reported(range: Range, block: &Block<'_>) -> VersionBlock
 }
 
 /// The next block of a walk.
-fn next_block(bytes: &[u8], walk: &mut Range) -> Result<Option<VersionBlock>>
+pub fn next_block(bytes: &[u8], walk: &mut Range) -> Result<Option<VersionBlock>>
     ensures block { answer_of result ≡ block_step bytes.now walk.old }
     ensures walk { walk.new ≡ block_walk bytes.now walk.old }
 {

@@ -108,7 +108,7 @@ pub extern "C" fn pe_c_find_arm64_function(
     hand_out_some(find(bytes, image, sections, table, rva), out)
 }
 
-fn function_in(bytes: &[u8], table: &Range, index: u64) -> Result<Arm64RuntimeFunction>
+pub fn function_in(bytes: &[u8], table: &Range, index: u64) -> Result<Arm64RuntimeFunction>
     ensures { answer_of result ≡ arm64_function_in bytes.now table.now index }
 {
     let entries = slice_of(bytes, table)?;

@@ -1,0 +1,34 @@
+use Rattle.pe_c.proofs.ListRuns.{give_lists}
+use Rattle.pe_c.proofs.laws.lists.lists_are_what_steps_return.Goals as goal
+use Rattle.pe_c.specs.Arm64.{StepsArm64Codes}
+use Rattle.pe_c.specs.Directories.{directory_number}
+use Rattle.pe_c.specs.DirectoryRuns.{StepsBlocks, StepsRelocations}
+use Rattle.pe_c.specs.Exports.{StepsExports}
+use Rattle.pe_c.specs.HandsOut.{result_number}
+use Rattle.pe_c.specs.Imports.{StepsImports, StepsLibraries}
+use Rattle.pe_c.specs.ResourceLeaves.{StepsLeaves, tree_number}
+use Rattle.pe_c.specs.Unwinding.{StepsCodes}
+
+pub returns-clause-codes : goal.returns-clause-codes
+returns-clause-codes c b = give_lists result_number (StepsCodes b)
+
+pub returns-clause-arm64_codes : goal.returns-clause-arm64_codes
+returns-clause-arm64_codes c b = give_lists result_number (StepsArm64Codes b)
+
+pub returns-clause-exports : goal.returns-clause-exports
+returns-clause-exports c offset b = give_lists result_number (StepsExports offset b)
+
+pub returns-clause-libraries : goal.returns-clause-libraries
+returns-clause-libraries c offset w b = give_lists result_number (StepsLibraries offset w b)
+
+pub returns-clause-imports : goal.returns-clause-imports
+returns-clause-imports c offset w b = give_lists result_number (StepsImports offset w b)
+
+pub returns-clause-leaves : goal.returns-clause-leaves
+returns-clause-leaves c b image sections = give_lists tree_number (StepsLeaves b image sections)
+
+pub returns-clause-relocation_blocks : goal.returns-clause-relocation_blocks
+returns-clause-relocation_blocks c b = give_lists directory_number (StepsBlocks b)
+
+pub returns-clause-relocations : goal.returns-clause-relocations
+returns-clause-relocations c page b = give_lists directory_number (StepsRelocations page b)

@@ -1,0 +1,34 @@
+//! Laws of lists in one call: what list calls write, one after the other, is what the steps of the walk return.
+
+ghost use Rattle.std.specs.Prelude.{ℕ, Option, List};
+ghost use Rattle.pe_core.specs.declared.section_table.SectionTable.{SectionTable};
+ghost use Rattle.pe_c.specs.Arm64.{StepsArm64Codes};
+ghost use Rattle.pe_c.specs.Directories.{directory_number};
+ghost use Rattle.pe_c.specs.DirectoryRuns.{StepsBlocks, StepsRelocations};
+ghost use Rattle.pe_c.specs.Exports.{StepsExports};
+ghost use Rattle.pe_c.specs.HandsOut.{result_number};
+ghost use Rattle.pe_c.specs.Imports.{StepsImports, StepsLibraries};
+ghost use Rattle.pe_c.specs.Lists.{GiveLists};
+ghost use Rattle.pe_c.specs.ResourceLeaves.{StepsLeaves, tree_number};
+ghost use Rattle.pe_c.specs.Unwinding.{StepsCodes};
+ghost use Rattle.pe_c.specs.declared.image.Image.{Image};
+
+/// Where the steps of a walk return some items, which the laws of walks say for each of them, a list call with room for `n`
+/// entries returns the first `n`, or all that come before the end or before an error, and the walk after it has the other items
+/// left. Where an error is the first item the call returns its number, and the walk is over. So calls one after the other, with
+/// room for any numbers of entries, return exactly the items, and then no entry.
+pub fn lists_are_what_steps_return()
+    ensures codes { (b : List ℕ) → GiveLists result_number (StepsCodes b) }
+    ensures arm64_codes { (b : List ℕ) → GiveLists result_number (StepsArm64Codes b) }
+    ensures exports { (offset : ℕ → Option ℕ) (b : List ℕ) →
+        GiveLists result_number (StepsExports offset b) }
+    ensures libraries { (offset : ℕ → Option ℕ) (w : ℕ) (b : List ℕ) →
+        GiveLists result_number (StepsLibraries offset w b) }
+    ensures imports { (offset : ℕ → Option ℕ) (w : ℕ) (b : List ℕ) →
+        GiveLists result_number (StepsImports offset w b) }
+    ensures leaves { (b : List ℕ) (image : Image) (sections : List SectionTable) →
+        GiveLists tree_number (StepsLeaves b image sections) }
+    ensures relocation_blocks { (b : List ℕ) → GiveLists directory_number (StepsBlocks b) }
+    ensures relocations { (page : ℕ) (b : List ℕ) →
+        GiveLists directory_number (StepsRelocations page b) }
+{}

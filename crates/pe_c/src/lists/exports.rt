@@ -1,0 +1,82 @@
+//! Lists of exports: those that have a name, and all by their index.
+
+ghost use Rattle.std.specs.Prelude.{◌≡◌};
+ghost use Rattle.pe_c.specs.ExportAddresses.{exported_at};
+ghost use Rattle.pe_c.specs.Exports.{StepsExports};
+ghost use Rattle.pe_c.specs.HandsOut.{result_number};
+ghost use Rattle.pe_c.specs.Images.{map_of_image};
+ghost use Rattle.pe_c.specs.Lists.{HandsOutList, Numbered, StepsByIndex};
+
+use crate::export_addresses::{AddressTable, Exported, exported_at};
+use crate::exports::{Export, Exports, step};
+use crate::lists::{Steps, hand_out_list, next_index, numbered};
+use crate::view::View;
+
+/// Steps over the exports of an image that have a name.
+#[derive(Clone, Copy)]
+struct Names<'a> {
+    view: &'a View<'a>,
+}
+
+impl<'a> Steps<Exports, Export> for Names<'a> {
+    ghost steps = { λ s. Numbered result_number (StepsExports
+        (map_of_image s.view.now.image.now s.view.now.sections.now) s.view.now.bytes.now) };
+
+    fn step(&self, walk: &mut Exports) -> Result<Option<Export>, u32> {
+        numbered(step(self.view.bytes, self.view.image, self.view.sections, walk))
+    }
+}
+
+/// Lists the exports of a walk that have a name, as `pe_c_next_export` returns them, and moves the walk past them.
+///
+/// Errors: `ROOM` where `entries` is empty; `SHORT` where the tables are not inside the bytes.
+#[unsafe(no_mangle)]
+pub extern "C" fn pe_c_list_exports(
+    view: &View,
+    walk: &mut Exports,
+    entries: &mut [Export],
+    written: &mut u64,
+) -> u32
+    ensures { HandsOutList (Numbered result_number
+        (StepsExports (map_of_image view.now.image.now view.now.sections.now) view.now.bytes.now))
+        result walk.old walk.new entries.old entries.new written.old written.new }
+{
+    hand_out_list(&Names { view }, walk, entries, written)
+}
+
+/// Steps over the entries of an address table.
+#[derive(Clone, Copy)]
+struct Addresses<'a> {
+    view: &'a View<'a>,
+    table: &'a AddressTable,
+}
+
+impl<'a> Steps<u64, Exported> for Addresses<'a> {
+    ghost steps = { λ s. Numbered result_number (StepsByIndex (exported_at
+        (map_of_image s.view.now.image.now s.view.now.sections.now)
+        s.view.now.bytes.now s.table.now)) };
+
+    fn step(&self, index: &mut u64) -> Result<Option<Exported>, u32> {
+        let view = self.view;
+        let given = exported_at(view.bytes, view.image, view.sections, self.table, *index);
+        next_index(given, index)
+    }
+}
+
+/// Lists the entries of an address table from an index on, as `pe_c_export_at` reads them, and moves `next` past them.
+///
+/// Errors: `ROOM` where `entries` is empty; `SHORT` where the table is not inside the bytes.
+#[unsafe(no_mangle)]
+pub extern "C" fn pe_c_list_export_addresses(
+    view: &View,
+    table: &AddressTable,
+    next: &mut u64,
+    entries: &mut [Exported],
+    written: &mut u64,
+) -> u32
+    ensures { HandsOutList (Numbered result_number (StepsByIndex (exported_at
+        (map_of_image view.now.image.now view.now.sections.now) view.now.bytes.now table.now)))
+        result next.old next.new entries.old entries.new written.old written.new }
+{
+    hand_out_list(&Addresses { view, table }, next, entries, written)
+}

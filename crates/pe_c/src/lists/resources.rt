@@ -1,0 +1,78 @@
+//! Lists of the leaves of a resource tree, and of the blocks of version information.
+
+ghost use Rattle.std.specs.Prelude.{◌≡◌};
+ghost use Rattle.pe_c.specs.HandsOut.{result_number};
+ghost use Rattle.pe_c.specs.Lists.{HandsOutList, Numbered, StepsVersionBlocks};
+ghost use Rattle.pe_c.specs.ResourceLeaves.{StepsLeaves, tree_number};
+
+use crate::lists::{Steps, hand_out_list, numbered};
+use crate::ranges::Range;
+use crate::resource_leaves::{ResourceLeaf, ResourceLeaves, next_leaf};
+use crate::results::number_of_tree;
+use crate::version_blocks::{VersionBlock, next_block};
+use crate::view::View;
+
+/// Steps over the leaves of a resource tree.
+#[derive(Clone, Copy)]
+struct Leaves<'a> {
+    view: &'a View<'a>,
+}
+
+impl<'a> Steps<ResourceLeaves, ResourceLeaf> for Leaves<'a> {
+    ghost steps = { λ s. Numbered tree_number
+        (StepsLeaves s.view.now.bytes.now s.view.now.image.now s.view.now.sections.now) };
+
+    fn step(&self, walk: &mut ResourceLeaves) -> Result<Option<ResourceLeaf>, u32> {
+        match next_leaf(self.view.bytes, self.view.image, self.view.sections, walk) {
+            Ok(leaf) => Ok(leaf),
+            Err(error) => Err(number_of_tree(&error)),
+        }
+    }
+}
+
+/// Lists the leaves of a resource tree, as `pe_c_next_resource_leaf` returns them, and moves the walk past them.
+///
+/// Errors: `ROOM` where `entries` is empty; those of `pe_c_next_resource_leaf`.
+#[unsafe(no_mangle)]
+pub extern "C" fn pe_c_list_resource_leaves(
+    view: &View,
+    walk: &mut ResourceLeaves,
+    entries: &mut [ResourceLeaf],
+    written: &mut u64,
+) -> u32
+    ensures { HandsOutList (Numbered tree_number
+        (StepsLeaves view.now.bytes.now view.now.image.now view.now.sections.now))
+        result walk.old walk.new entries.old entries.new written.old written.new }
+{
+    hand_out_list(&Leaves { view }, walk, entries, written)
+}
+
+/// Steps over blocks of version information.
+#[derive(Clone, Copy)]
+struct Blocks<'a> {
+    bytes: &'a [u8],
+}
+
+impl<'a> Steps<Range, VersionBlock> for Blocks<'a> {
+    ghost steps = { λ s. Numbered result_number (StepsVersionBlocks s.bytes.now) };
+
+    fn step(&self, walk: &mut Range) -> Result<Option<VersionBlock>, u32> {
+        numbered(next_block(self.bytes, walk))
+    }
+}
+
+/// Lists the blocks of a walk, as `pe_c_next_version_block` returns them, and moves the walk past them.
+///
+/// Errors: `ROOM` where `entries` is empty; those of `pe_c_next_version_block`, after which the walk goes on as after that call.
+#[unsafe(no_mangle)]
+pub extern "C" fn pe_c_list_version_blocks(
+    view: &View,
+    walk: &mut Range,
+    entries: &mut [VersionBlock],
+    written: &mut u64,
+) -> u32
+    ensures { HandsOutList (Numbered result_number (StepsVersionBlocks view.now.bytes.now))
+        result walk.old walk.new entries.old entries.new written.old written.new }
+{
+    hand_out_list(&Blocks { bytes: view.bytes }, walk, entries, written)
+}

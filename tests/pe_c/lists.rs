@@ -1,0 +1,442 @@
+//! Lists in one call: the entries of a walk, so many a call as there is room for, errors after the entries before them, and what
+//! is left as it was. The entries are those that the tests of the steps expect.
+
+use super::base_relocations::two_blocks;
+use super::exports::{walk_over, with_exports};
+use super::imports::{NO_IMPORT, NO_LIBRARY, with_imports};
+use super::made::{
+    ARM64_CUT, IMPORT_NAME, OVER, RESOURCE_STRING, SHORT, UNWIND_CODE, X64, directory, having,
+    image, lies, of_range, range, sections, untouched,
+};
+use super::resource_leaves::{NO_LEAF, of_size, with_tree};
+use super::version_blocks::BLOCKS;
+use crate::arm64::codes::{Arm64Code, Arm64CodeWalk};
+use crate::base_relocations::{Relocation, RelocationBlock};
+use crate::export_addresses::{AddressTable, Exported};
+use crate::exports::{Export, Exports};
+use crate::image::Image;
+use crate::imports::{Imports, Libraries};
+use crate::lists::arm64::{pe_c_list_arm64_codes, pe_c_list_arm64_functions};
+use crate::lists::exports::{pe_c_list_export_addresses, pe_c_list_exports};
+use crate::lists::imports::{pe_c_list_imports, pe_c_list_libraries};
+use crate::lists::relocations::{pe_c_list_relocation_blocks, pe_c_list_relocations};
+use crate::lists::resources::{pe_c_list_resource_leaves, pe_c_list_version_blocks};
+use crate::lists::x64::{pe_c_list_codes, pe_c_list_functions};
+use crate::ranges::Range;
+use crate::resource_leaves::pe_c_resource_leaves;
+use crate::results::{DONE, ROOM};
+use crate::unwinding::{Code, CodeWalk};
+use crate::version_blocks::VersionBlock;
+use crate::view::View;
+use pe_core::SectionTable;
+use pe_images::put;
+use pe_unwind::{Arm64RuntimeFunction, RuntimeFunction};
+use std::test::Fail;
+
+/// An error of base relocations, as a program in C knows it.
+const NO_ARGUMENT: u32 = 303;
+
+/// An error of a resource tree, as a program in C knows it.
+const NOT_DIRECTORY: u32 = 401;
+
+/// What `written` is before a call.
+const UNWRITTEN: u64 = 77;
+
+fn view<'a>(bytes: &'a [u8], image: &'a Image, sections: &'a [SectionTable]) -> View<'a> {
+    View {
+        bytes,
+        image,
+        sections,
+    }
+}
+
+/// Three entries of x64 at offset 1: begins 10h, 20h and 30h, ends 11h, 21h and 31h, unwind RVAs 1, 2 and 3.
+const FUNCTIONS: [u8; 38] = [
+    0xFF, 0x10, 0, 0, 0, 0x11, 0, 0, 0, 1, 0, 0, 0, 0x20, 0, 0, 0, 0x21, 0, 0, 0, 2, 0, 0, 0, 0x30,
+    0, 0, 0, 0x31, 0, 0, 0, 3, 0, 0, 0, 0xFF,
+];
+
+const NO_FUNCTION: RuntimeFunction = RuntimeFunction {
+    begin_address: 7,
+    end_address: 8,
+    unwind_info_address: 9,
+};
+
+/// The result, how many are written, the next index, and the begins of the entries.
+fn functions(bytes: &[u8], table: [u64; 2], next: u64, room: usize) -> (u32, u64, u64, [u32; 4]) {
+    let (image, sections) = (image(X64), sections());
+    let mut entries = [NO_FUNCTION; 4];
+    let (mut next, mut written) = (next, UNWRITTEN);
+    let table = range(table[0], table[1]);
+    let lent = &mut entries[..room.min(4)];
+    let view = view(bytes, &image, &sections);
+    let answer = pe_c_list_functions(&view, &table, &mut next, lent, &mut written);
+    (
+        answer,
+        written,
+        next,
+        entries.map(|entry| entry.begin_address),
+    )
+}
+
+#[test]
+fn functions_in_lists(rt: HostRuntime) {
+    for (next, room, want) in [
+        (0, 2, (DONE, 2, 2, [0x10, 0x20, 7, 7])),
+        (2, 2, (DONE, 1, 3, [0x30, 7, 7, 7])),
+        (3, 2, (DONE, 0, 3, [7; 4])),
+        (0, 4, (DONE, 3, 3, [0x10, 0x20, 0x30, 7])),
+        (1, 1, (DONE, 1, 2, [0x20, 7, 7, 7])),
+        (u64::MAX, 4, (DONE, 0, u64::MAX, [7; 4])),
+        (1, 0, (ROOM, UNWRITTEN, 1, [7; 4])),
+    ] {
+        assert_eq!(rt; functions(&FUNCTIONS, [1, 36], next, room), want);
+    }
+    for lie in lies(38) {
+        let want = (SHORT, UNWRITTEN, 1, [7; 4]);
+        assert_eq!(rt; functions(&FUNCTIONS, of_range(lie), 1, 4), want);
+    }
+}
+
+/// Two codes of x64, and then one with an operation that no version has: `sub rsp, 40` at 4 and `push rbp` at 1.
+#[test]
+fn codes_in_lists(rt: HostRuntime) {
+    let bytes = [0xFF, 4, 0x42, 1, 0x50, 0, 0x0F];
+    let (image, sections) = (image(X64), sections());
+    let view = view(&bytes, &image, &sections);
+    let none = Code {
+        code_offset: 7,
+        operation: 7,
+        operand: 7,
+        from_frame: 7,
+        value: 7,
+    };
+    let mut walk = CodeWalk {
+        left: range(1, 6),
+        version: 1,
+        frame_register: 0,
+        spare: [0; 6],
+    };
+    for (room, answer, count, first, left) in [
+        (0, ROOM, UNWRITTEN, [7; 4], [1, 6]),
+        (1, DONE, 1, [4, 1, 0, 40], [3, 4]),
+        (3, DONE, 1, [1, 0, 5, 0], [5, 2]),
+        (3, UNWIND_CODE, UNWRITTEN, [7; 4], [7, 0]),
+        (3, DONE, 0, [7; 4], [7, 0]),
+    ] {
+        let mut entries = [none; 3];
+        let mut written = UNWRITTEN;
+        let number = pe_c_list_codes(&view, &mut walk, &mut entries[..room], &mut written);
+        assert_eq!(rt;
+            (number, written, of_range(walk.left)),
+            (answer, count, left)
+        );
+        let code = entries[0];
+        let fields = [
+            u32::from(code.code_offset),
+            u32::from(code.operation),
+            u32::from(code.operand),
+            code.value,
+        ];
+        assert_eq!(rt; fields, first);
+        assert_eq!(rt; (entries[1].value, entries[2].value), (7, 7));
+    }
+}
+
+/// Two entries of ARM64, and a stream of `nop`, `set_fp`, and a code of two bytes of which one is there.
+#[test]
+fn arm64_in_lists(rt: HostRuntime) {
+    let bytes = [
+        0x10, 0, 0, 0, 0x20, 0, 0, 0, 0x30, 0, 0, 0, 0x41, 0, 0, 0, 0xE3, 0xE1, 0xE3, 0xC8,
+    ];
+    let (image, sections) = (image(X64), sections());
+    let view = view(&bytes, &image, &sections);
+    let none = Arm64RuntimeFunction {
+        begin_address: 7,
+        unwind_data: 8,
+    };
+    let mut next = 0;
+    for (want, count, after) in [([0x10, 7], 1, 1), ([0x30, 7], 1, 2), ([7, 7], 0, 2)] {
+        let mut entries = [none; 2];
+        let mut written = UNWRITTEN;
+        let answer = pe_c_list_arm64_functions(
+            &view,
+            &range(0, 16),
+            &mut next,
+            &mut entries[..1],
+            &mut written,
+        );
+        assert_eq!(rt; (answer, written, next), (DONE, count, after));
+        assert_eq!(rt; entries.map(|entry| entry.begin_address), want);
+    }
+    let mut walk = Arm64CodeWalk {
+        left: range(16, 4),
+        offset: 0,
+    };
+    for (answer, count, left) in [
+        (DONE, 3, [19, 1]),
+        (ARM64_CUT, UNWRITTEN, OVER),
+        (DONE, 0, OVER),
+    ] {
+        let none = Arm64Code {
+            offset: 7,
+            length: 7,
+            kind: 7,
+            operand: 7,
+            value: 7,
+            flags: 7,
+        };
+        let mut entries = [none; 5];
+        let mut written = UNWRITTEN;
+        let number = pe_c_list_arm64_codes(&view, &mut walk, &mut entries, &mut written);
+        assert_eq!(rt;
+            (number, written, of_range(walk.left)),
+            (answer, count, left)
+        );
+        let kinds = if count == 3 {
+            [18, 16, 18, 7, 7]
+        } else {
+            [7; 5]
+        };
+        assert_eq!(rt; entries.map(|code| code.kind), kinds);
+    }
+}
+
+const NO_EXPORT: Export = Export {
+    name: Range {
+        offset: 0x7777,
+        length: 0x77,
+    },
+    offset: 3,
+    rva: 4,
+    has_offset: 5,
+    index: 6,
+    spare: 7,
+};
+
+#[test]
+fn exports_in_lists(rt: HostRuntime) -> Result<(), Fail> {
+    let bytes = with_exports(rt.alloc())?;
+    let (image, sections) = (image(X64), sections());
+    let view = view(&bytes, &image, &sections);
+    for (room, steps) in [
+        (3, [(2, 6, 0x9000), (0, 6, 4), (0, 6, 4)]),
+        (1, [(1, 1, 0x9000), (1, 5, 0x1008), (0, 6, 4)]),
+    ] {
+        let mut walk = walk_over(0);
+        for (count, next, rva) in steps {
+            let mut entries = [NO_EXPORT; 3];
+            let mut written = UNWRITTEN;
+            let answer = pe_c_list_exports(&view, &mut walk, &mut entries[..room], &mut written);
+            assert_eq!(rt; (answer, written, walk.next), (DONE, count, next));
+            assert_eq!(rt; (entries[0].rva, entries[2].rva), (rva, 4));
+            let second = if count == 2 { 0x1008 } else { 4 };
+            assert_eq!(rt; entries[1].rva, second);
+        }
+    }
+    let mut walk = Exports {
+        ordinals: range(0xB0, 1),
+        ..walk_over(0)
+    };
+    let mut entries = [NO_EXPORT; 3];
+    let mut written = UNWRITTEN;
+    let answer = pe_c_list_exports(&view, &mut walk, &mut entries, &mut written);
+    assert_eq!(rt; (answer, written, entries[0].rva), (SHORT, UNWRITTEN, 4));
+    assert_eq!(rt; of_range(walk.names), OVER);
+    Ok(())
+}
+
+#[test]
+fn exports_by_index_in_lists(rt: HostRuntime) -> Result<(), Fail> {
+    let bytes = with_exports(rt.alloc())?;
+    let (image, sections) = (image(X64), sections());
+    let view = view(&bytes, &image, &sections);
+    let table = AddressTable {
+        name: range(0, 0),
+        addresses: range(0x50, 12),
+        directory: directory(0x1010, 0x40),
+        ordinal_base: 3,
+        has_name: 0,
+    };
+    let none = Exported {
+        forwarder: untouched(),
+        ordinal: 7,
+        rva: 8,
+        is_forwarder: 9,
+    };
+    let mut next = 0;
+    for (count, after, ordinals) in [(2, 2, [3, 4]), (1, 3, [5, 7]), (0, 3, [7, 7])] {
+        let mut entries = [none; 2];
+        let mut written = UNWRITTEN;
+        let answer = pe_c_list_export_addresses(
+            &view,
+            &table,
+            &mut next,
+            &mut entries,
+            &mut written,
+        );
+        assert_eq!(rt; (answer, written, next), (DONE, count, after));
+        assert_eq!(rt; entries.map(|entry| entry.ordinal), ordinals);
+    }
+    Ok(())
+}
+
+#[test]
+fn imports_in_lists(rt: HostRuntime) -> Result<(), Fail> {
+    let mut bytes = with_imports(rt.alloc())?;
+    let image = having(image(X64), 1, directory(0x1010, 60));
+    let sections = sections();
+    let mut walk = Libraries {
+        next: 0x10,
+        is_over: 0,
+        spare: 0,
+    };
+    for (count, names) in [(2, [[0xA0, 1], [0xA2, 2], [1, 1]]), (0, [[1, 1]; 3])] {
+        let mut entries = [NO_LIBRARY; 3];
+        let mut written = UNWRITTEN;
+        let answer = pe_c_list_libraries(
+            &view(&bytes, &image, &sections),
+            &mut walk,
+            &mut entries,
+            &mut written,
+        );
+        assert_eq!(rt; (answer, written), (DONE, count));
+        assert_eq!(rt; entries.map(|entry| of_range(entry.name)), names);
+    }
+    // The second import becomes one by a name at 0xA0, behind its hint, that is not UTF-8.
+    put(
+        &mut bytes,
+        &[
+            (0x68, &[0xA0, 0x10, 0, 0, 0, 0, 0, 0]),
+            (0xA0, b"\0\0\xFF\0"),
+        ],
+    );
+    let mut walk = Imports {
+        left: range(0x60, 16),
+        rva: 0x2000,
+    };
+    for (answer, count, rvas, left) in [
+        (DONE, 1, [0x2000, 1], [0x68, 8]),
+        (IMPORT_NAME, UNWRITTEN, [1, 1], OVER),
+        (DONE, 0, [1, 1], OVER),
+    ] {
+        let mut entries = [NO_IMPORT; 2];
+        let mut written = UNWRITTEN;
+        let number = pe_c_list_imports(
+            &view(&bytes, &image, &sections),
+            &mut walk,
+            &mut entries,
+            &mut written,
+        );
+        assert_eq!(rt;
+            (number, written, of_range(walk.left)),
+            (answer, count, left)
+        );
+        assert_eq!(rt; entries.map(|entry| entry.rva), rvas);
+    }
+    Ok(())
+}
+
+#[test]
+fn leaves_in_lists(rt: HostRuntime) -> Result<(), Fail> {
+    let bytes = with_tree(rt.alloc())?;
+    let (image, sections) = (of_size(0x8E), sections());
+    let view = view(&bytes, &image, &sections);
+    let none = pe_resource::ResourceEntry {
+        name_or_id: 0,
+        offset_to_data_or_directory: 0,
+    };
+    let mut walk = crate::resource_leaves::ResourceLeaves {
+        tree: range(0, 0),
+        types: range(0, 0),
+        names: range(0, 0),
+        languages: range(0, 0),
+        resource_type: none,
+        name: none,
+    };
+    assert_eq!(rt;
+        pe_c_resource_leaves(&bytes, &image, &sections, &mut walk),
+        DONE
+    );
+    for (answer, count, languages) in [
+        (DONE, 2, [0x409, 0x407, 3]),
+        (NOT_DIRECTORY, UNWRITTEN, [3; 3]),
+        (DONE, 0, [3; 3]),
+    ] {
+        let mut entries = [NO_LEAF; 3];
+        let mut written = UNWRITTEN;
+        let number = pe_c_list_resource_leaves(&view, &mut walk, &mut entries, &mut written);
+        assert_eq!(rt; (number, written), (answer, count));
+        assert_eq!(rt; entries.map(|entry| entry.language.id), languages);
+    }
+    Ok(())
+}
+
+/// The block without an end of its key is an error of its own, and the walk goes on after it.
+#[test]
+fn version_blocks_in_lists(rt: HostRuntime) {
+    let (image, sections) = (image(X64), sections());
+    let view = view(&BLOCKS, &image, &sections);
+    let none = VersionBlock {
+        key: untouched(),
+        value: untouched(),
+        children: untouched(),
+        value_type: 7,
+        has_language: 8,
+        language: 9,
+        code_page: 10,
+    };
+    let mut walk = range(4, 66);
+    for (answer, count, key, left) in [
+        (DONE, 1, [10, 16], [44, 26]),
+        (RESOURCE_STRING, UNWRITTEN, [0x7777, 0x77], [52, 18]),
+        (DONE, 1, [58, 2], [64, 6]),
+        (SHORT, UNWRITTEN, [0x7777, 0x77], [70, 0]),
+        (DONE, 0, [0x7777, 0x77], [70, 0]),
+    ] {
+        let mut entries = [none; 2];
+        let mut written = UNWRITTEN;
+        let number = pe_c_list_version_blocks(&view, &mut walk, &mut entries, &mut written);
+        assert_eq!(rt; (number, written, of_range(walk)), (answer, count, left));
+        assert_eq!(rt; of_range(entries[0].key), key);
+    }
+}
+
+#[test]
+fn relocations_in_lists(rt: HostRuntime) -> Result<(), Fail> {
+    let bytes = two_blocks(rt.alloc())?;
+    let (image, sections) = (image(X64), sections());
+    let view = view(&bytes, &image, &sections);
+    let none = RelocationBlock {
+        entries: untouched(),
+        page_rva: 7,
+        spare: 0,
+    };
+    let mut walk = range(4, 26);
+    for (count, pages, left) in [(2, [0x1000, 0x5000, 7], [30, 0]), (0, [7; 3], [30, 0])] {
+        let mut entries = [none; 3];
+        let mut written = UNWRITTEN;
+        let answer = pe_c_list_relocation_blocks(&view, &mut walk, &mut entries, &mut written);
+        assert_eq!(rt; (answer, written, of_range(walk)), (DONE, count, left));
+        assert_eq!(rt; entries.map(|entry| entry.page_rva), pages);
+    }
+    // The entries of the second block: a HIGHADJ at 10h with its argument, and one that has none.
+    let none = Relocation {
+        rva: 7,
+        kind: 7,
+        argument: 7,
+    };
+    let mut walk = range(24, 6);
+    for (answer, count, rva, left) in [
+        (DONE, 1, 0x5010, [28, 2]),
+        (NO_ARGUMENT, UNWRITTEN, 7, OVER),
+        (DONE, 0, 7, OVER),
+    ] {
+        let mut entries = [none; 2];
+        let mut written = UNWRITTEN;
+        let number = pe_c_list_relocations(&view, 0x5000, &mut walk, &mut entries, &mut written);
+        assert_eq!(rt; (number, written, of_range(walk)), (answer, count, left));
+        assert_eq!(rt; (entries[0].rva, entries[1].rva), (rva, 7));
+    }
+    Ok(())
+}
