@@ -310,6 +310,7 @@ fn ranges_that_lie(rt: HostRuntime) -> Result<(), Fail> {
         let mut modules = [module(&bytes, &headers, &sections); 2];
         modules[1].table = lie;
         let mut walk = walk_from(DISPATCHER, STACK, 9);
+        // shows: pe_c/src/stack_walk.rt new Short
         assert_eq!(rt;
             pe_c_next_frame(&modules, &stack, &piece(&stack), &mut walk),
             SHORT
