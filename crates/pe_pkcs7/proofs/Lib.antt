@@ -1,0 +1,4 @@
+pub mod Parts
+pub mod WholeWalks
+pub mod Reading
+pub mod Written
