@@ -78,6 +78,10 @@ mod samples;
 #[cfg(test)]
 mod sections;
 #[cfg(test)]
+mod signature_bytes;
+#[cfg(test)]
+mod signatures;
+#[cfg(test)]
 mod signing;
 #[cfg(test)]
 mod symbols;

@@ -51,7 +51,11 @@ fn content(rt: HostRuntime) -> Result<(), Fail> {
     assert_eq!(rt; signed.signers, at(0x31, 520, 4, 1393));
     let encapsulated = EncapsulatedContent::parse(&bytes, signed.encapsulated)?;
     assert_eq!(rt; encapsulated.content_type, at(6, 45, 2, 10));
-    assert!(rt; encapsulated.content_type.content_is(&bytes, &SPC_INDIRECT_DATA));
+    assert!(rt;
+        encapsulated
+            .content_type
+            .content_is(&bytes, &SPC_INDIRECT_DATA)
+    );
     let content = encapsulated.content.ok_or("no content")?;
     assert_eq!(rt; content, at(0x30, 59, 2, 105));
     let digested = encapsulated.digested(&bytes).ok_or("no content")?;
@@ -105,9 +109,9 @@ fn certificate(rt: HostRuntime) -> Result<(), Fail> {
     let own = ToBeSigned::parse(&bytes, certificate.to_be_signed)?;
     assert_eq!(rt; own.version, Some(at(0xA0, 178, 2, 3)));
     assert_eq!(rt; own.serial, at(2, 183, 2, 2));
-    assert!(rt; own.serial.content_of(&bytes) == b"\x04\x03");
-    assert!(rt; own.serial.bytes_of(&bytes) == b"\x02\x02\x04\x03");
-    assert!(rt; own.serial.bytes_after_tag(&bytes) == b"\x02\x04\x03");
+    assert!(rt; own.serial.content_of(&bytes) == b"\x04\x03".as_slice());
+    assert!(rt; own.serial.bytes_of(&bytes) == b"\x02\x02\x04\x03".as_slice());
+    assert!(rt; own.serial.bytes_after_tag(&bytes) == b"\x02\x04\x03".as_slice());
     assert_eq!(rt; own.signature_algorithm, at(0x30, 187, 2, 10));
     assert_eq!(rt; own.issuer, at(0x30, 199, 2, 12));
     assert_eq!(rt; own.validity, at(0x30, 213, 2, 32));
@@ -132,6 +136,8 @@ fn extensions(rt: HostRuntime) -> Result<(), Fail> {
     assert!(rt; first.kind.content_is(&bytes, &KEY_USAGE));
     assert_eq!(rt; first.critical, Some(at(1, 404, 2, 1)));
     assert_eq!(rt; first.value, at(4, 407, 2, 4));
+    // digitalSignature.
+    assert_eq!(rt; first.key_usage(&bytes)?, Some(0x80));
     let second = Extension::parse(&bytes, walk.next().ok_or("no extension")??)?;
     assert_eq!(rt; second.kind, at(6, 415, 2, 3));
     assert_eq!(rt; second.critical, None);
@@ -184,30 +190,45 @@ fn signers(rt: HostRuntime) -> Result<(), Fail> {
     Ok(())
 }
 
+/// The first attribute with this object identifier in a `SET OF Attribute`.
+fn find(
+    bytes: &[u8],
+    attributes: Element,
+    oid: &[u8],
+) -> std::result::Result<Option<Attribute>, SignatureError> {
+    for element in Elements::new(bytes, attributes) {
+        let attribute = Attribute::parse(bytes, element?)?;
+        if attribute.kind.content_is(bytes, oid) {
+            return Ok(Some(attribute));
+        }
+    }
+    Ok(None)
+}
+
 #[test]
 fn attributes(rt: HostRuntime) -> Result<(), Fail> {
     let bytes = signature(rt.alloc())?;
     let signer = signer(&bytes)?;
     let signed = signer.signed_attributes.ok_or("no attributes")?;
     let unsigned = signer.unsigned_attributes.ok_or("no attributes")?;
-    let digest = Attribute::find(&bytes, signed, &MESSAGE_DIGEST)?.ok_or("none")?;
+    let digest = find(&bytes, signed, &MESSAGE_DIGEST)?.ok_or("none")?;
     assert_eq!(rt; digest.kind, at(6, 658, 2, 9));
     assert_eq!(rt; digest.values, at(0x31, 669, 2, 34));
-    let time = Attribute::find(&bytes, signed, &SIGNING_TIME)?.ok_or("none")?;
+    let time = find(&bytes, signed, &SIGNING_TIME)?.ok_or("none")?;
     let value = Elements::new(&bytes, time.values).next().ok_or("none")??;
     let time = Time::parse(&bytes, value)?;
     assert_eq!(rt; (time.year, time.month, time.day), (2026, 11, 27));
-    let opus = Attribute::find(&bytes, signed, &SPC_SP_OPUS_INFO)?.ok_or("none")?;
+    let opus = find(&bytes, signed, &SPC_SP_OPUS_INFO)?.ok_or("none")?;
     let value = Elements::new(&bytes, opus.values).next().ok_or("none")??;
     let opus = SpcSpOpusInfo::parse(&bytes, value)?;
     let name = opus.program_name.ok_or("no name")?;
     assert_eq!(rt; name, at(0x81, 725, 2, 5));
-    assert!(rt; name.content_of(&bytes) == b"Probe");
+    assert!(rt; name.content_of(&bytes) == b"Probe".as_slice());
     let info = opus.more_info.ok_or("no link")?;
     assert_eq!(rt; info, at(0x80, 734, 2, 20));
-    assert!(rt; info.content_of(&bytes) == b"https://example.org/");
-    assert_eq!(rt; Attribute::find(&bytes, signed, &COUNTER_SIGNATURE)?, None);
-    assert_eq!(rt; Attribute::find(&bytes, unsigned, &NESTED_SIGNATURE)?, None);
+    assert!(rt; info.content_of(&bytes) == b"https://example.org/".as_slice());
+    assert_eq!(rt; find(&bytes, signed, &COUNTER_SIGNATURE)?, None);
+    assert_eq!(rt; find(&bytes, unsigned, &NESTED_SIGNATURE)?, None);
     Ok(())
 }
 
@@ -215,7 +236,7 @@ fn attributes(rt: HostRuntime) -> Result<(), Fail> {
 fn time_stamp(rt: HostRuntime) -> Result<(), Fail> {
     let bytes = signature(rt.alloc())?;
     let unsigned = signer(&bytes)?.unsigned_attributes.ok_or("no attributes")?;
-    let token = Attribute::find(&bytes, unsigned, &TIME_STAMP_TOKEN)?.ok_or("none")?;
+    let token = find(&bytes, unsigned, &TIME_STAMP_TOKEN)?.ok_or("none")?;
     let value = Elements::new(&bytes, token.values).next().ok_or("none")??;
     let signed = SignedData::parse(&bytes, &ContentInfo::of(&bytes, value)?)?;
     let content = EncapsulatedContent::parse(&bytes, signed.encapsulated)?;
@@ -253,7 +274,10 @@ fn refused_elements(rt: HostRuntime) -> Result<(), Fail> {
     let none = SignatureError::Truncated { offset: 3, left: 0 };
     assert_eq!(rt; refused(b"")?, none);
     assert_eq!(rt; refused(b"\0\0\0\x1F\x01\0")?, SignatureError::TagNumber(3));
-    assert_eq!(rt; refused(b"\0\0\0\x30\x80\0\0")?, SignatureError::IndefiniteLength(3));
+    assert_eq!(rt;
+        refused(b"\0\0\0\x30\x80\0\0")?,
+        SignatureError::IndefiniteLength(3)
+    );
     let long = SignatureError::LengthOctets {
         offset: 3,
         octets: 8,
@@ -261,8 +285,14 @@ fn refused_elements(rt: HostRuntime) -> Result<(), Fail> {
     assert_eq!(rt; refused(b"\0\0\0\x04\x88\x80\0\0\0\0\0\0\0")?, long);
     let truncated = SignatureError::Truncated { offset: 3, left: 3 };
     assert_eq!(rt; refused(b"\0\0\0\x04\x82\x01")?, truncated);
-    assert_eq!(rt; refused(b"\0\0\0\x04\x81\x01\0")?, SignatureError::LengthForm(3));
-    assert_eq!(rt; refused(b"\0\0\0\x04\x82\0\x80")?, SignatureError::LengthForm(3));
+    assert_eq!(rt;
+        refused(b"\0\0\0\x04\x81\x01\0")?,
+        SignatureError::LengthForm(3)
+    );
+    assert_eq!(rt;
+        refused(b"\0\0\0\x04\x82\0\x80")?,
+        SignatureError::LengthForm(3)
+    );
     let past = SignatureError::PastParent {
         offset: 3,
         length: 2,
@@ -318,7 +348,10 @@ fn refused_fields(rt: HostRuntime) -> Result<(), Fail> {
     // id-data, 1.2.840.113549.1.7.1.
     let data = b"\x30\x0F\x06\x09\x2A\x86\x48\x86\xF7\x0D\x01\x07\x01\xA0\x02\x05\x00";
     let info = ContentInfo::parse(data)?;
-    assert_eq!(rt; SignedData::parse(data, &info), Err(SignatureError::ContentType(2)));
+    assert_eq!(rt;
+        SignedData::parse(data, &info),
+        Err(SignatureError::ContentType(2))
+    );
     // The parent of the attribute ends before its value does.
     let past = b"\x30\x07\x06\x03\x55\x04\x03\x31\x02\x05\x00";
     let error = SignatureError::PastParent {
@@ -460,7 +493,7 @@ fn a_million_empty_elements(rt: HostRuntime) -> Result<(), Fail> {
         expected: 0x30,
         found: 5,
     };
-    assert_eq!(rt; Attribute::find(&bytes, parent, &MESSAGE_DIGEST), Err(tag));
+    assert_eq!(rt; find(&bytes, parent, &MESSAGE_DIGEST), Err(tag));
     Ok(())
 }
 

@@ -4,11 +4,11 @@
 #![tactic(auto)]
 
 use pe_pkcs7::{
-    AlgorithmIdentifier, Attribute, COUNTER_SIGNATURE, Certificate, ContentInfo, DigestInfo, Element,
-    Elements, EncapsulatedContent, Extension, IssuerAndSerial, MESSAGE_DIGEST, NESTED_SIGNATURE,
-    NameAttributes, SIGNING_TIME, SPC_INDIRECT_DATA, SPC_SP_OPUS_INFO, SignatureError, SignedData,
-    SignerInfo, SpcIndirectData, SpcPeImageData, SpcSpOpusInfo, TIME_STAMP_TOKEN, TST_INFO, Time,
-    ToBeSigned, TstInfo, TypeAndValue, Validity, element_at,
+    AlgorithmIdentifier, Attribute, COUNTER_SIGNATURE, Certificate, ContentInfo, DigestInfo,
+    Element, Elements, EncapsulatedContent, Extension, IssuerAndSerial, MESSAGE_DIGEST,
+    NESTED_SIGNATURE, NameAttributes, SIGNING_TIME, SPC_INDIRECT_DATA, SPC_SP_OPUS_INFO,
+    SignatureError, SignedData, SignerInfo, SpcIndirectData, SpcPeImageData, SpcSpOpusInfo,
+    TIME_STAMP_TOKEN, TST_INFO, Time, ToBeSigned, TstInfo, TypeAndValue, Validity, element_at,
 };
 use std::{env, fs, io};
 
@@ -48,7 +48,10 @@ fn show_if_there(rt: &HostRuntime, name: &str, x: Option<Element>) -> Shown {
 fn show_elements(rt: &HostRuntime, bytes: &[u8], parent: Element, depth: usize) -> Shown {
     for element in Elements::new(bytes, parent) {
         let x = element?;
-        println!(rt; "element {depth} {} {} {} {}", x.tag, x.offset, x.content, x.end)?;
+        println!(rt;
+            "element {depth} {} {} {} {}",
+            x.tag, x.offset, x.content, x.end
+        )?;
         if x.tag & 0x20 != 0 {
             show_elements(rt, bytes, x, depth + 1)?;
         }
@@ -58,7 +61,10 @@ fn show_elements(rt: &HostRuntime, bytes: &[u8], parent: Element, depth: usize) 
 
 fn show_time(rt: &HostRuntime, name: &str, bytes: &[u8], x: Element) -> Shown {
     let t = Time::parse(bytes, x)?;
-    println!(rt; "time {name} {} {} {} {} {} {} {}", x.offset, t.year, t.month, t.day, t.hour, t.minute, t.second)?;
+    println!(rt;
+        "time {name} {} {} {} {} {} {} {}",
+        x.offset, t.year, t.month, t.day, t.hour, t.minute, t.second
+    )?;
     Ok(())
 }
 
@@ -66,7 +72,13 @@ fn show_name(rt: &HostRuntime, name: &str, bytes: &[u8], x: Element) -> Shown {
     show(rt, name, x)?;
     for attribute in NameAttributes::parse(bytes, x)? {
         let a = attribute?;
-        println!(rt; "rdn {name} {} {} {} {}", u8::from(a.starts_rdn), a.kind.offset, a.value.offset, a.value.end)?;
+        println!(rt;
+            "rdn {name} {} {} {} {}",
+            u8::from(a.starts_rdn),
+            a.kind.offset,
+            a.value.offset,
+            a.value.end
+        )?;
     }
     Ok(())
 }
@@ -82,7 +94,12 @@ fn show_certificate(rt: &HostRuntime, bytes: &[u8], x: Element) -> Shown {
     let certificate = Certificate::parse(bytes, x)?;
     show(rt, "to_be_signed", certificate.to_be_signed)?;
     println!(rt; "signed_bytes {}", certificate.signed_bytes(bytes).len())?;
-    show_algorithm(rt, "certificate_algorithm", bytes, certificate.signature_algorithm)?;
+    show_algorithm(
+        rt,
+        "certificate_algorithm",
+        bytes,
+        certificate.signature_algorithm,
+    )?;
     show(rt, "certificate_signature", certificate.signature)?;
     let own = ToBeSigned::parse(bytes, certificate.to_be_signed)?;
     show_if_there(rt, "certificate_version", own.version)?;
@@ -138,6 +155,9 @@ fn show_values(rt: &HostRuntime, bytes: &[u8], attribute: Attribute, depth: usiz
     for value in Elements::new(bytes, attribute.values) {
         let x = value?;
         show(rt, "value", x)?;
+        if attribute.kind.content_is(bytes, &MESSAGE_DIGEST) {
+            show(rt, "message_digest", x)?;
+        }
         if attribute.kind.content_is(bytes, &SIGNING_TIME) {
             show_time(rt, "signing_time", bytes, x)?;
         } else if attribute.kind.content_is(bytes, &SPC_SP_OPUS_INFO) {
@@ -176,16 +196,18 @@ fn show_signer(rt: &HostRuntime, bytes: &[u8], x: Element, depth: usize) -> Show
     } else {
         show(rt, "signer_key", signer.signer)?;
     }
-    show_algorithm(rt, "signer_digest_algorithm", bytes, signer.digest_algorithm)?;
+    show_algorithm(
+        rt,
+        "signer_digest_algorithm",
+        bytes,
+        signer.digest_algorithm,
+    )?;
     if let Some(attributes) = signer.signed_attributes {
         show(rt, "signed_attributes", attributes)?;
         if let Some((tag, rest)) = signer.signed_bytes(bytes) {
             println!(rt; "signed_octets {tag} {}", rest.len())?;
         }
         show_attributes(rt, bytes, attributes, depth)?;
-        if let Some(digest) = Attribute::find(bytes, attributes, &MESSAGE_DIGEST)? {
-            show(rt, "message_digest", digest.values)?;
-        }
     }
     show_algorithm(rt, "signature_algorithm", bytes, signer.signature_algorithm)?;
     show(rt, "signature", signer.signature)?;
@@ -205,7 +227,11 @@ fn show_content(rt: &HostRuntime, bytes: &[u8], info: ContentInfo, depth: usize)
     show(rt, "encapsulated_type", content.content_type)?;
     if let Some(x) = content.content {
         show(rt, "encapsulated", x)?;
-        println!(rt; "digested {} {}", x.content_range().offset, x.content_range().length)?;
+        println!(rt;
+            "digested {} {}",
+            x.content_range().offset,
+            x.content_range().length
+        )?;
         if content.content_type.content_is(bytes, &SPC_INDIRECT_DATA) {
             show_indirect_data(rt, bytes, x)?;
         } else if content.content_type.content_is(bytes, &TST_INFO) {
@@ -226,7 +252,10 @@ fn show_content(rt: &HostRuntime, bytes: &[u8], info: ContentInfo, depth: usize)
 
 fn show_all(rt: &HostRuntime, bytes: &[u8]) -> Shown {
     let whole = element_at(bytes, 0)?;
-    println!(rt; "element 0 {} {} {} {}", whole.tag, whole.offset, whole.content, whole.end)?;
+    println!(rt;
+        "element 0 {} {} {} {}",
+        whole.tag, whole.offset, whole.content, whole.end
+    )?;
     show_elements(rt, bytes, whole, 1)?;
     show_content(rt, bytes, ContentInfo::parse(bytes)?, 0)
 }

@@ -3,8 +3,7 @@ use Rattle.std.proofs.Common.{◌≡◌, ℕ, ◌+◌, ◌-◌, ◌<◌, ◌≤�
 use Rattle.std.proofs.lemmas.Bool.Decides.{nat_tests}
 use Rattle.std.specs.Prelude.{slice_index, nat_lt, ◌==◌, ◌%◌}
 use Rattle.pe_core.specs.Refusals.{◌>>=◌}
-use Rattle.pe_pkcs7.specs.Der.{unless, lacks, octets_after, length_octets, content_length, is_longer, element_with, element_at}
-use Rattle.pe_pkcs7.specs.Fields.{first_element}
+use Rattle.pe_pkcs7.specs.Der.{unless, lacks, octets_after, head_tests, length_octets, content_length, is_longer, length_tests, element_of, element_at}
 use Rattle.pe_pkcs7.specs.declared.der.Element.{Element}
 use Rattle.pe_pkcs7.specs.declared.error.SignatureError.{SignatureError}
 
@@ -31,22 +30,27 @@ pub record Parts (b : List ℕ) (p : ℕ) (x : Element) : Type 0 where
   pub shortest : is_longer b p octets ≡ false
   pub starts : p + 2 + octets ≤ length b
   pub ends : p + 2 + octets + content_length b p octets ≤ length b
-  pub is : record { tag = slice_index b p; offset = p; content = p + 2 + octets; end = p + 2 + octets + content_length b p octets } ≡ x
+  pub is : element_of b p octets ≡ x
 
 pub parts : (b : List ℕ) (p : ℕ) (x : Element) → element_at b p ≡ Ok x → Parts b p x
 unfolding element_at length_octets
 parts b p x h =
-    let g = given _ _ x h in
-    let head = passed _ _ g.0 g.1 in
-    let tail = passed _ _ x g.2 in
+    let n = octets_after (slice_index b (p + 1)) in
+    let g = given (unless (head_tests b p) n) (λ (m : ℕ). unless (length_tests b p m) (element_of b p m)) x h in
+    let head = passed (head_tests b p) n g.0 g.1 in
+    let tail = passed (length_tests b p g.0) (element_of b p g.0) x g.2 in
+    let same : n ≡ g.0 = head.0 in
+    let few : nat_lt 4 n ≡ false = head.1.1.1.1.0 in
+    let there : lacks b (p + 2) n ≡ false = head.1.1.1.1.1.0 in
+    let inside : lacks b (p + 2 + g.0) (content_length b p g.0) ≡ false = tail.1.1.0 in
     record {
       octets = g.0;
-      few = grind (arith, nat_tests, head.0, head.1.1.1.1.0);
-      first = head.0;
+      few = grind (arith, nat_tests, same, few);
+      first = same;
       definite = head.1.1.1.0;
       shortest = tail.1.0;
-      starts = grind (arith, nat_tests, head.0, head.1.1.1.1.1.0);
-      ends = grind (arith, nat_tests, tail.1.1.0);
+      starts = grind (arith, nat_tests, same, there);
+      ends = grind (arith, nat_tests, inside);
       is = tail.0;
     }
 
@@ -54,6 +58,6 @@ parts b p x h =
 pub within : (b : List ℕ) (p : ℕ) (x : Element) → element_at b p ≡ Ok x → (x.offset ≡ p) × (p < x.content) × (x.content ≤ x.end) × (x.end ≤ length b)
 within b p x h =
     let k = parts b p x h in
-    let content = ap (λ (y : Element). y.content) k.is in
-    let end = ap (λ (y : Element). y.end) k.is in
+    let content : p + 2 + k.octets ≡ x.content = ap (λ (y : Element). y.content) k.is in
+    let end : p + 2 + k.octets + content_length b p k.octets ≡ x.end = ap (λ (y : Element). y.end) k.is in
     (sym (ap (λ (y : Element). y.offset) k.is), omega (arith, content), omega (arith, content, end), omega (arith, end, k.ends))

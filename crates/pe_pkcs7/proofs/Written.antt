@@ -5,23 +5,23 @@ use Rattle.std.proofs.lemmas.Bool.Decides.{nat_tests}
 use Rattle.std.proofs.lemmas.List.{length-take-le, places, same_lists}
 use Rattle.std.specs.Prelude.{slice_index, nat_lt, ◌==◌}
 use Rattle.pe_core.specs.Bytes.{range, AreBytes}
-use Rattle.pe_pkcs7.specs.Der.{be, octets_after, content_length, is_longer, element_at}
+use Rattle.pe_pkcs7.specs.Der.{be, octets_after, content_length, is_longer, element_of, element_at}
 use Rattle.pe_pkcs7.specs.Encoding.{octets, octets_needed, length_written, der, content_in, octets_in}
 use Rattle.pe_pkcs7.specs.declared.der.Element.{Element}
 use Rattle.pe_pkcs7.proofs.Reading.{Parts, parts}
 
 -- ---- bytes from an offset on
 
-range_is : (b : List ℕ) (p m : ℕ) → range b p m ≡ take m (drop p b)
+pub range_is : (b : List ℕ) (p m : ℕ) → range b p m ≡ take m (drop p b)
 range_is b p m = ap (λ (k : ℕ). take k (drop p b)) (omega arith)
 
-later : (b : List ℕ) (p n : ℕ) → drop n (drop p b) ≡ drop (p + n) b
+pub later : (b : List ℕ) (p n : ℕ) → drop n (drop p b) ≡ drop (p + n) b
 later b p n = same_lists _ _ (grind (arith, places)) (λ j d lt. grind (arith, places))
 
 front : (b : List ℕ) (p n : ℕ) → p < length b → take (suc n) (drop p b) ≡ slice_index b p ∷ take n (drop (suc p) b)
 front b p n lt = ap (take (suc n)) (drop-cons b p 0 lt)
 
-last_octet : (b : List ℕ) (q n : ℕ) → q + n < length b → take (suc n) (drop q b) ≡ take n (drop q b) ++ slice_index b (q + n) ∷ []
+pub last_octet : (b : List ℕ) (q n : ℕ) → q + n < length b → take (suc n) (drop q b) ≡ take n (drop q b) ++ slice_index b (q + n) ∷ []
 last_octet b q n lt =
     let one : suc n ≡ n + 1 = omega arith in
     let end : take 1 (drop n (drop q b)) ≡ slice_index b (q + n) ∷ [] = ap (take 1) (later b q n) ∙ front b (q + n) 0 lt in
@@ -29,7 +29,7 @@ last_octet b q n lt =
 
 -- ---- the octets of a number
 
-be_more : (b : List ℕ) (q n : ℕ) → be b q (suc n) ≡ be b q n * 256 + slice_index b (q + n)
+pub be_more : (b : List ℕ) (q n : ℕ) → be b q (suc n) ≡ be b q n * 256 + slice_index b (q + n)
 unfolding be
 be_more b q n = refl
 
@@ -47,7 +47,7 @@ octets_are b bytes q (suc n) h =
 
 -- ---- how many octets a length needs
 
-be_none : (b : List ℕ) (q : ℕ) → be b q 0 ≡ 0
+pub be_none : (b : List ℕ) (q : ℕ) → be b q 0 ≡ 0
 unfolding be
 be_none b q = refl
 
@@ -58,20 +58,20 @@ pub record Shortest (first value n : ℕ) : Type 0 where
   pub long : 128 ≤ value
 
 pub needed : (b : List ℕ) → AreBytes b → (q n : ℕ) → n ≤ 4 → Shortest (slice_index b q) (be b q n) n → octets_needed (be b q n) ≡ n
-needed b bytes q 0 few s = absurd (omega (arith, s.some))
-needed b bytes q 1 few s =
+needed b bytes q zero few s = absurd (omega (arith, s.some))
+needed b bytes q (suc zero) few s =
     let a = be_more b q 0 in
     grind (arith, nat_tests, a, be_none b q, bytes (q + 0), s.long)
-needed b bytes q 2 few s =
+needed b bytes q (suc (suc zero)) few s =
     let a = be_more b q 0 in
     let c = be_more b q 1 in
     grind (arith, nat_tests, a, c, be_none b q, bytes (q + 0), bytes (q + 1), s.not_zero)
-needed b bytes q 3 few s =
+needed b bytes q (suc (suc (suc zero))) few s =
     let a = be_more b q 0 in
     let c = be_more b q 1 in
     let d = be_more b q 2 in
     grind (arith, nat_tests, a, c, d, be_none b q, bytes (q + 0), bytes (q + 1), bytes (q + 2), s.not_zero)
-needed b bytes q 4 few s =
+needed b bytes q (suc (suc (suc (suc zero)))) few s =
     let a = be_more b q 0 in
     let c = be_more b q 1 in
     let d = be_more b q 2 in
@@ -88,19 +88,19 @@ shortest b p n some short value = record {
   long = grind (arith, nat_tests, some, short, value);
 }
 
-short_length : (b : List ℕ) (p : ℕ) → content_length b p 0 ≡ slice_index b (p + 1)
+pub short_length : (b : List ℕ) (p : ℕ) → content_length b p 0 ≡ slice_index b (p + 1)
 unfolding content_length
 short_length b p = refl
 
-long_length : (b : List ℕ) (p n : ℕ) → content_length b p (suc n) ≡ be b (p + 2) (suc n)
+pub long_length : (b : List ℕ) (p n : ℕ) → 0 < n → content_length b p n ≡ be b (p + 2) n
 unfolding content_length
-long_length b p n = refl
+long_length b p n some = grind (arith, nat_tests, some)
 
-written_short : (n : ℕ) → n < 128 → length_written n ≡ n ∷ []
+pub written_short : (n : ℕ) → n < 128 → length_written n ≡ n ∷ []
 unfolding length_written
 written_short n lt = grind (arith, nat_tests, lt)
 
-written_long : (n : ℕ) → 128 ≤ n → length_written n ≡ (128 + octets_needed n) ∷ octets (octets_needed n) n
+pub written_long : (n : ℕ) → 128 ≤ n → length_written n ≡ (128 + octets_needed n) ∷ octets (octets_needed n) n
 unfolding length_written
 written_long n le = grind (arith, nat_tests, le)
 
@@ -109,7 +109,7 @@ length_is b p zero bytes few after definite short there =
     let lt : slice_index b (p + 1) < 128 = grind (arith, nat_tests, after, definite) in
     ap length_written (short_length b p) ∙ written_short (slice_index b (p + 1)) lt
 length_is b p (suc n) bytes few after definite short there =
-    let value = long_length b p n in
+    let value = long_length b p (suc n) (omega arith) in
     let s = shortest b p (suc n) (omega arith) short value in
     let count = needed b bytes (p + 2) (suc n) few s in
     let first : 128 + suc n ≡ slice_index b (p + 1) = omega (arith, after) in
@@ -136,16 +136,14 @@ der_is t c first l more n e w = ap (λ (k : List ℕ). t ∷ (k ++ c)) (ap lengt
 content_there : (b : List ℕ) (q l : ℕ) → q + l ≤ length b → length (take l (drop q b)) ≡ l
 content_there b q l h = length-take-le l (drop q b) (omega (arith, h, length-drop q b))
 
-abbrev pub element_of : List ℕ → ℕ → ℕ → Element
-element_of b p n = record { tag = slice_index b p; offset = p; content = p + 2 + n; end = p + 2 + n + content_length b p n }
-
 written_of : (b : List ℕ) (p n : ℕ) → AreBytes b → n ≤ 4 → octets_after (slice_index b (p + 1)) ≡ n → (slice_index b (p + 1) == 128) ≡ false → is_longer b p n ≡ false → p + 2 + n + content_length b p n ≤ length b → octets_in b (element_of b p n) ≡ der (slice_index b p) (content_in b (element_of b p n))
 written_of b p n bytes few after definite short there =
     let l = content_length b p n in
     let c = take l (drop (p + 2 + n) b) in
-    let size : p + 2 + n + l - p ≡ suc (suc (n + l)) = omega arith in
-    let inner : content_in b (element_of b p n) ≡ c = ap (λ (k : ℕ). take k (drop (p + 2 + n) b)) (omega arith) in
-    let outer : octets_in b (element_of b p n) ≡ take (suc (suc (n + l))) (drop p b) = ap (λ (k : ℕ). take k (drop p b)) (omega arith) in
+    let few_inner : p + 2 + n + (p + 2 + n + l - (p + 2 + n)) - (p + 2 + n) ≡ l = omega arith in
+    let few_outer : p + (p + 2 + n + l - p) - p ≡ suc (suc (n + l)) = omega arith in
+    let inner : content_in b (element_of b p n) ≡ c = ap (λ (k : ℕ). take k (drop (p + 2 + n) b)) few_inner in
+    let outer : octets_in b (element_of b p n) ≡ take (suc (suc (n + l))) (drop p b) = ap (λ (k : ℕ). take k (drop p b)) few_outer in
     let length_octets = length_is b p n bytes few after definite short (omega (arith, there)) in
     outer ∙ whole b p n l there ∙ sym (der_is (slice_index b p) c (slice_index b (p + 1) ∷ take n (drop (p + 2) b)) [] [] l (content_there b (p + 2 + n) l there) length_octets) ∙ ap (der (slice_index b p)) (sym inner)
 

@@ -1,7 +1,7 @@
 -- Certificates. (RFC 5280: 4.1.) `b` are the bytes of the signature.
-use Rattle.std.specs.Prelude.{ℕ, ◌==◌, ◌||◌, List, [], ◌∷◌, Bool, Option, Some, None, Result, Ok, Err, if◌then◌else◌}
+use Rattle.std.specs.Prelude.{ℕ, ◌+◌, ◌*◌, ◌==◌, ◌||◌, List, [], ◌∷◌, length, slice_index, Bool, Option, Some, None, Result, Ok, Err, if◌then◌else◌}
 use Rattle.pe_core.specs.Refusals.{outcome, ◌>>=◌}
-use Rattle.pe_pkcs7.specs.Fields.{any_field, field, optional, after, ends_at, part_of, only_if_there}
+use Rattle.pe_pkcs7.specs.Fields.{any_field, with_tag, field, optional, after, ends_at, part_of, only_element, only_if_there, content_bytes}
 use Rattle.pe_pkcs7.specs.Tags.{BOOLEAN, INTEGER, BIT_STRING, OCTET_STRING, OBJECT_IDENTIFIER, UTC_TIME, GENERALIZED_TIME, SEQUENCE, SET, tagged, tagged_string}
 use Rattle.pe_pkcs7.specs.declared.der.Element.{Element}
 use Rattle.pe_pkcs7.specs.declared.certificate.Certificate.{Certificate}
@@ -85,3 +85,18 @@ extension b x =
     optional BOOLEAN s kind.end >>= λ critical.
     field OCTET_STRING s (after kind.end critical) >>= λ value.
     ends_at s value.end (record { kind = kind; critical = critical; value = value })
+
+-- the bits of a BIT STRING of one octet or two; the one before them says how many bits of the last are not used
+abbrev pub usage_bits : List ℕ → Option ℕ
+usage_bits c =
+    if length c == 2 then Some (slice_index c 1)
+    else if length c == 3 then Some (slice_index c 1 + 256 * slice_index c 2)
+    else None
+
+-- KeyUsage ::= BIT STRING, the content of an extension's OCTET STRING
+unfoldable pub key_usage : List ℕ → Element → Result (Option ℕ) SignatureError
+key_usage b x =
+    part_of OCTET_STRING b x >>= λ s.
+    only_element s x >>= λ y.
+    with_tag BIT_STRING y >>= λ z.
+    Ok (usage_bits (content_bytes b z))

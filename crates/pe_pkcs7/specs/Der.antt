@@ -24,16 +24,19 @@ lacks b p n = nat_lt (length b) (p + n)
 abbrev pub octets_after : ℕ → ℕ
 octets_after first = first - 128
 
--- how many octets of the length of an element follow the first one, which is after the identifier octet
-unfoldable pub length_octets : List ℕ → ℕ → Result ℕ SignatureError
-length_octets b p = unless (
+-- what is wrong with an element whose length cannot be read
+abbrev pub head_tests : List ℕ → ℕ → List (Bool × SignatureError)
+head_tests b p =
     (lacks b p 2, Truncated p (length b - p)) ∷
     (slice_index b p % 32 == 31, TagNumber p) ∷
     (slice_index b (p + 1) == 128, IndefiniteLength p) ∷
     (nat_lt 4 (octets_after (slice_index b (p + 1))), LengthOctets p (octets_after (slice_index b (p + 1)))) ∷
     (lacks b (p + 2) (octets_after (slice_index b (p + 1))), Truncated p (length b - p)) ∷
     []
-    ) (octets_after (slice_index b (p + 1)))
+
+-- how many octets of the length of an element follow the first one, which is after the identifier octet
+unfoldable pub length_octets : List ℕ → ℕ → Result ℕ SignatureError
+length_octets b p = unless (head_tests b p) (octets_after (slice_index b (p + 1)))
 
 -- the length of the content: in the short form the first octet, in the long form the number in the n octets after it
 unfoldable pub content_length : List ℕ → ℕ → ℕ → ℕ
@@ -43,14 +46,22 @@ content_length b p n = if n == 0 then slice_index b (p + 1) else be b (p + 2) n
 abbrev pub is_longer : List ℕ → ℕ → ℕ → Bool
 is_longer b p n = nat_lt 0 n && (slice_index b (p + 2) == 0 || nat_lt (content_length b p n) 128)
 
--- the element at an offset, n octets of whose length follow the first one
-abbrev pub element_with : List ℕ → ℕ → ℕ → Result Element SignatureError
-element_with b p n = unless (
+-- what is wrong with an element, n octets of whose length follow the first one
+abbrev pub length_tests : List ℕ → ℕ → ℕ → List (Bool × SignatureError)
+length_tests b p n =
     (is_longer b p n, LengthForm p) ∷
     (lacks b (p + 2 + n) (content_length b p n), PastParent p (content_length b p n) (length b - (p + 2 + n))) ∷
     []
-    ) (record { tag = slice_index b p; offset = p; content = p + 2 + n; end = p + 2 + n + content_length b p n })
+
+-- such an element
+abbrev pub element_of : List ℕ → ℕ → ℕ → Element
+element_of b p n = record {
+  tag = slice_index b p;
+  offset = p;
+  content = p + 2 + n;
+  end = p + 2 + n + content_length b p n;
+}
 
 -- the element at an offset
 unfoldable pub element_at : List ℕ → ℕ → Result Element SignatureError
-element_at b p = length_octets b p >>= λ n. element_with b p n
+element_at b p = length_octets b p >>= λ n. unless (length_tests b p n) (element_of b p n)

@@ -3,12 +3,13 @@
 
 ghost use Rattle.std.specs.Prelude.{◌≡◌};
 ghost use Rattle.pe_pkcs7.specs.Fields.{element_bytes};
-ghost use Rattle.pe_pkcs7.specs.Certificates.{certificate, subject_fields, to_be_signed, time_field, validity, extension};
+ghost use Rattle.pe_pkcs7.specs.Certificates.{certificate, subject_fields, to_be_signed, time_field, validity, extension, usage_bits, key_usage};
 
 use crate::der::Element;
 use crate::error::{Result, SignatureError};
 use crate::fields::{
-    after, any_field, field, only_if_there, optional, part_of, require_end,
+    after, any_field, field, only_element, only_if_there, optional, part_of, require_end,
+    require_tag,
 };
 use crate::tags::{
     BIT_STRING, BOOLEAN, GENERALIZED_TIME, INTEGER, OBJECT_IDENTIFIER, OCTET_STRING, SEQUENCE,
@@ -176,6 +177,17 @@ impl Validity {
     }
 }
 
+/// The bits of a `BIT STRING` of one octet or two. `None` if it has more or none.
+fn usage_bits(content: &[u8]) -> Option<u16>
+    ensures { result ≡ usage_bits content.now }
+{
+    match content.len() {
+        2 => Some(u16::from(content[1])),
+        3 => Some(u16::from(content[1]) + 256 * u16::from(content[2])),
+        _ => None,
+    }
+}
+
 /// An extension of a certificate.
 #[derive(Clone, Copy, Debug, Default, PartialEq)]
 pub struct Extension {
@@ -203,5 +215,19 @@ impl Extension {
             critical,
             value,
         })
+    }
+
+    /// What the key of a certificate is for, of the extension with the kind `KEY_USAGE`: in the low octet 80h
+    /// `digitalSignature`, 40h `contentCommitment`, 20h `keyEncipherment`, 10h `dataEncipherment`, 8 `keyAgreement`, 4 `keyCertSign`, 2 `cRLSign`, 1
+    /// `encipherOnly`; 8000h `decipherOnly`. `None` if the bits are more than two octets, or none. Errors, in order: `Tag` if
+    /// the value is no `OCTET STRING`; `Missing`, those of `element_at` and `Trailing` of its content; `Tag` if that is no
+    /// `BIT STRING`.
+    #[tactic(auto, unfolding(crate::specs::Certificates::key_usage))]
+    pub fn key_usage(&self, bytes: &[u8]) -> Result<Option<u16>>
+        ensures { result ≡ key_usage bytes.now self.now.value }
+    {
+        let part = part_of(bytes, self.value, OCTET_STRING)?;
+        let string = require_tag(only_element(part, self.value)?, BIT_STRING)?;
+        Ok(usage_bits(string.content_of(bytes)))
     }
 }

@@ -6,7 +6,10 @@ pub enum SignatureError {
     /// The parent ends before the tag and the first octet of the length of an element: its offset, and how many bytes are
     /// left there.
     #[error("element at offset {offset:#x} truncated: {left} bytes left")]
-    Truncated { offset: usize, left: usize },
+    Truncated {
+        offset: usize,
+        left: usize,
+    },
     /// An element with a tag number above 30, which takes several octets. No element of a signature has one.
     #[error("element at offset {0:#x} has a tag number above 30")]
     TagNumber(usize),
@@ -15,7 +18,10 @@ pub enum SignatureError {
     IndefiniteLength(usize),
     /// An element whose length has more than 4 octets after its first: 4 GB and more, or not in the shortest form.
     #[error("length of the element at offset {offset:#x} has {octets} octets, more than 4")]
-    LengthOctets { offset: usize, octets: u8 },
+    LengthOctets {
+        offset: usize,
+        octets: u8,
+    },
     /// An element whose length could be written with fewer octets, which BER allows and DER does not.
     #[error("length of the element at offset {0:#x} is not in its shortest form")]
     LengthForm(usize),
@@ -39,7 +45,10 @@ pub enum SignatureError {
     },
     /// Bytes after the last field of a `SEQUENCE`: the offset of the first, and how many there are.
     #[error("{left} bytes after the last field, at offset {offset:#x}")]
-    Trailing { offset: usize, left: usize },
+    Trailing {
+        offset: usize,
+        left: usize,
+    },
     /// A content of another type than the one that is read: the offset of its type.
     #[error("content type at offset {0:#x} is another")]
     ContentType(usize),

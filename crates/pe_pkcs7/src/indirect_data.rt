@@ -6,9 +6,7 @@ ghost use Rattle.pe_pkcs7.specs.SignedDatas.{algorithm_identifier, type_and_valu
 
 use crate::der::Element;
 use crate::error::Result;
-use crate::fields::{
-    after, any_optional, field, only_if_there, optional, part_of, require_end,
-};
+use crate::fields::{after, any_optional, field, only_if_there, optional, part_of, require_end};
 use crate::tags::{BIT_STRING, OBJECT_IDENTIFIER, OCTET_STRING, SEQUENCE, TAGGED_0, TAGGED_1};
 
 /// An algorithm: of a digest, a signature or a key.

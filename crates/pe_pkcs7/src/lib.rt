@@ -1,4 +1,17 @@
-//! What an Authenticode signature says: DER, signed data, signers, certificates.
+//! What an Authenticode signature says: what is signed, by whom, when, and what a verifier hashes. Nothing is verified here.
+//!
+//! A signature is the body of a certificate entry: elements of DER, in which stand a `ContentInfo`, its `SignedData` with
+//! certificates and signers, and what is signed, an `SpcIndirectData` with the digest of the image. A time stamp and a nested
+//! signature are attributes of a signer, and a `ContentInfo` again.
+//!
+//! Every call takes the bytes of the signature, and returns an `Element` for each part: its tag, and where it starts and ends in
+//! these bytes. `Elements` walks through what an element contains. No call allocates, and none calls itself: a caller that goes
+//! into nested elements bounds how deep. Each call reads the head of each field once.
+//!
+//! Grammars: [RFC 5652](https://www.rfc-editor.org/rfc/rfc5652) and PKCS #7, [RFC 5280](https://www.rfc-editor.org/rfc/rfc5280),
+//! [RFC 3161](https://www.rfc-editor.org/rfc/rfc3161), and Microsoft's "Windows Authenticode Portable Executable Signature Format".
+//!
+//! Every call is proved to return what its definition in `specs/` says, for every byte string.
 #![tactic(auto)]
 
 mod certificate;

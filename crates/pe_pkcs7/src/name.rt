@@ -1,6 +1,6 @@
-//! Names of issuers and subjects ([RFC 5280](https://www.rfc-editor.org/rfc/rfc5280), 4.1.2.4): a `SEQUENCE` of relative distinguished
-//! names, each a `SET` of attributes, of which nearly all have one. An attribute is an object identifier, as 2.5.4.3 for
-//! a common name, and a string of some type.
+//! Names of issuers and subjects ([RFC 5280](https://www.rfc-editor.org/rfc/rfc5280), 4.1.2.4): a `SEQUENCE` of relative
+//! distinguished names, each a `SET` of attributes, of which nearly all have one. An attribute is an object identifier, as
+//! 2.5.4.3 for a common name, and a string of some type.
 
 ghost use Rattle.std.specs.Prelude.{◌≡◌, ◌<◌, ◌≤◌, length, IfOk, Some, None};
 ghost use Rattle.std.specs.Iterator.{at_most};
@@ -66,11 +66,7 @@ fn attribute_in(
 /// the offset after it. Errors, in order: `Missing`, those of `element_at` and `Tag` of the next relative distinguished name,
 /// if the attribute is its first; those of `attribute_in`.
 #[tactic(auto, unfolding(crate::specs::Names::attribute_at))]
-fn attribute_at(
-    name: &[u8],
-    end: usize,
-    offset: usize,
-) -> Result<(NameAttribute, (usize, usize))>
+fn attribute_at(name: &[u8], end: usize, offset: usize) -> Result<(NameAttribute, (usize, usize))>
     ensures exact { result ≡ attribute_at name.now end offset }
     ensures within { IfOk result (λ x. (offset < x.1.1) × (offset < length name.now)) }
 {

@@ -1,6 +1,7 @@
-//! The signed data that a signature is ([RFC 5652](https://www.rfc-editor.org/rfc/rfc5652), 3 and 5): what is signed, certificates, and
-//! a signer for each signature. A caller reads `ContentInfo` at the start of the bytes of a certificate entry of type
-//! `WIN_CERT_TYPE_PKCS_SIGNED_DATA`, then `SignedData`, and walks through `certificates` and `signers` by `Elements`.
+//! The signed data that a signature is ([RFC 5652](https://www.rfc-editor.org/rfc/rfc5652), 3 and 5): what is signed,
+//! certificates, and a signer for each signature. A caller reads `ContentInfo` at the start of the bytes of a certificate
+//! entry of type `WIN_CERT_TYPE_PKCS_SIGNED_DATA`, then `SignedData`, and walks through `certificates` and `signers` by
+//! `Elements`.
 
 ghost use Rattle.std.specs.Prelude.{◌≡◌};
 ghost use Rattle.std.specs.Option.{option_map};
@@ -9,9 +10,7 @@ ghost use Rattle.pe_pkcs7.specs.SignedDatas.{content_info, whole_content_info, c
 
 use crate::der::{Element, element_at};
 use crate::error::{Result, SignatureError};
-use crate::fields::{
-    after, field, only_element, only_if_there, optional, part_of, require_end,
-};
+use crate::fields::{after, field, only_element, only_if_there, optional, part_of, require_end};
 use crate::object_ids::SIGNED_DATA;
 use crate::tags::{INTEGER, OBJECT_IDENTIFIER, SEQUENCE, SET, TAGGED_0, TAGGED_1};
 

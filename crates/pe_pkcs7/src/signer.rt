@@ -1,7 +1,7 @@
-//! The signers of signed data ([RFC 5652](https://www.rfc-editor.org/rfc/rfc5652), 5.3), and their attributes. A signer names its certificate
-//! by issuer and serial number; its signature is over the signed attributes, one of which is the digest of what is signed.
-//! A time stamp is an unsigned attribute: a counter-signature, which is a signer again, or a token (RFC 3161), which is a
-//! `ContentInfo`; so is a nested signature.
+//! The signers of signed data ([RFC 5652](https://www.rfc-editor.org/rfc/rfc5652), 5.3), and their attributes. A signer names
+//! its certificate by issuer and serial number; its signature is over the signed attributes, one of which is the digest of
+//! what is signed. A time stamp is an unsigned attribute: a counter-signature, which is a signer again, or a token (RFC 3161),
+//! which is a `ContentInfo`; so is a nested signature.
 
 ghost use Rattle.std.specs.Prelude.{◌≡◌, ◌∷◌, List, Result};
 ghost use Rattle.std.specs.Option.{option_map};

@@ -2,11 +2,17 @@
 //! use, and of the tags `[n]` of their grammars.
 
 pub const BOOLEAN: u8 = 0x01;
+
 pub const INTEGER: u8 = 0x02;
+
 pub const BIT_STRING: u8 = 0x03;
+
 pub const OCTET_STRING: u8 = 0x04;
+
 pub const OBJECT_IDENTIFIER: u8 = 0x06;
+
 pub const UTC_TIME: u8 = 0x17;
+
 pub const GENERALIZED_TIME: u8 = 0x18;
 /// `SEQUENCE` and `SEQUENCE OF`, whose content is elements.
 pub const SEQUENCE: u8 = 0x30;
