@@ -3,6 +3,5 @@ pub mod WholeWalks
 pub mod Reading
 pub mod Written
 pub mod ReadAgain
-pub mod Finding
 pub mod Shrinking
 pub mod Hashing

@@ -1,9 +1,7 @@
 -- Signers and their attributes. (RFC 5652: 5.3, 11; RFC 5280: 4.1.2.4.) `b` are the bytes of the signature.
 use Rattle.std.specs.Prelude.{ℕ, ◌==◌, ◌||◌, List, [], ◌∷◌, drop, Bool, Option, Some, None, Result, Ok, Err, if◌then◌else◌}
 use Rattle.pe_core.specs.Refusals.{outcome, ◌>>=◌}
-use Rattle.std.specs.Str.{bytes_eq}
-use Rattle.pe_pkcs7.specs.Walks.{Items}
-use Rattle.pe_pkcs7.specs.Fields.{any_field, field, first_element, up_to_end, content_bytes, element_bytes, optional, after, ends_at, part_of}
+use Rattle.pe_pkcs7.specs.Fields.{any_field, field, element_bytes, optional, after, ends_at, part_of}
 use Rattle.pe_pkcs7.specs.Tags.{INTEGER, OCTET_STRING, OBJECT_IDENTIFIER, SEQUENCE, SET, tagged, tagged_string}
 use Rattle.pe_pkcs7.specs.declared.der.Element.{Element}
 use Rattle.pe_pkcs7.specs.declared.signer.SignerInfo.{SignerInfo}
@@ -55,17 +53,6 @@ attribute b x =
     field OBJECT_IDENTIFIER s x.content >>= λ kind.
     field SET s kind.end >>= λ values.
     ends_at s values.end (record { kind = kind; values = values })
-
--- the first attribute of a kind among elements: each is read up to it, and an error is returned
-abbrev pub attribute_among : List ℕ → List ℕ → List (Result Element SignatureError) → Result (Option Attribute) SignatureError
-attribute_among oid b [] = Ok None
-attribute_among oid b (Err e ∷ more) = Err e
-attribute_among oid b (Ok x ∷ more) =
-    attribute b x >>= λ a. if bytes_eq (content_bytes b a.kind) oid then Ok (Some a) else attribute_among oid b more
-
--- these are the elements in the content of another
-abbrev pub ElementsOf : List ℕ → Element → List (Result Element SignatureError) → Type 0
-ElementsOf b x xs = Items first_element (up_to_end b x, x.content) xs
 
 -- what the signature of a signer is over: the signed attributes as they are encoded with the tag of a SET in place of [0];
 -- without them what is signed itself

@@ -3,15 +3,13 @@
 //! what is signed. A time stamp is an unsigned attribute: a counter-signature, which is a signer again, or a token (RFC 3161),
 //! which is a `ContentInfo`; so is a nested signature.
 
-ghost use Rattle.std.specs.Prelude.{◌≡◌, ◌∷◌, List, Result};
+ghost use Rattle.std.specs.Prelude.{◌≡◌, ◌∷◌};
 ghost use Rattle.std.specs.Option.{option_map};
-ghost use Rattle.pe_pkcs7.specs.declared.der.Element.{Element};
-ghost use Rattle.pe_pkcs7.specs.declared.error.SignatureError.{SignatureError};
-ghost use Rattle.pe_pkcs7.specs.Signers.{signer_identifier, signer_info, issuer_and_serial, attribute, attribute_among, ElementsOf, signed_octets};
+ghost use Rattle.pe_pkcs7.specs.Signers.{signer_identifier, signer_info, issuer_and_serial, attribute, signed_octets};
 
 use crate::der::Element;
 use crate::error::{Result, SignatureError};
-use crate::fields::{Elements, after, any_field, field, optional, part_of, require_end};
+use crate::fields::{after, any_field, field, optional, part_of, require_end};
 use crate::tags::{
     INTEGER, OBJECT_IDENTIFIER, OCTET_STRING, SEQUENCE, SET, TAGGED_0, TAGGED_1, TAGGED_STRING_0,
 };
@@ -138,20 +136,5 @@ impl Attribute {
         let values = field(part, kind.end, SET)?;
         require_end(part, values.end)?;
         Ok(Attribute { kind, values })
-    }
-
-    /// The first attribute with this object identifier in `attributes`, a `SET OF Attribute`. `None` if there is none. Error:
-    /// that of an element or an attribute before it.
-    pub fn find(bytes: &[u8], attributes: Element, oid: &[u8]) -> Result<Option<Attribute>>
-        ensures { (xs : List (Result Element SignatureError)) → ElementsOf bytes.now attributes xs →
-            result ≡ attribute_among oid.now bytes.now xs }
-    {
-        for element in Elements::new(bytes, attributes) {
-            let attribute = Attribute::parse(bytes, element?)?;
-            if attribute.kind.content_is(bytes, oid) {
-                return Ok(Some(attribute));
-            }
-        }
-        Ok(None)
     }
 }
