@@ -80,6 +80,10 @@ mod samples;
 #[cfg(test)]
 mod sections;
 #[cfg(test)]
+mod signature_bytes;
+#[cfg(test)]
+mod signatures;
+#[cfg(test)]
 mod signing;
 #[cfg(test)]
 mod symbols;

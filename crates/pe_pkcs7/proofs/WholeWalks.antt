@@ -1,0 +1,75 @@
+-- Whole walks, whatever they are over.
+use Rattle.std.proofs.Common.{◌≡◌, ℕ, zero, suc, ◌+◌, ◌<◌, List, [], ◌∷◌, Option, Some, None, Result, Ok, Err, refl, ap, sym, ◌∙◌, subst, arith}
+use Rattle.std.specs.Iterator.{Yields}
+use Rattle.pe_pkcs7.specs.Walks.{First, Items, ItemsLeft, HasOneList, Steps}
+use Rattle.pe_pkcs7.specs.declared.error.SignatureError.{SignatureError}
+
+-- each item makes what is left smaller
+abbrev pub Shrinks : {X S : Type 0} → (S → ℕ) → (S → First X S) → Type 0
+Shrinks {X} {S} size first = (s : S) (x : X) (t : S) → first s ≡ Some (Ok (x, t)) → size t < size s
+
+-- ---- one list
+
+items_once : {X S : Type 0} (first : S → First X S) (s : S) (xs ys : List (Result X SignatureError)) → Items first s xs → Items first s ys → xs ≡ ys
+items_once first s [] [] h k = refl
+items_once first s [] (Ok y ∷ ys) h k = absurd (cc (h, k.1))
+items_once first s [] (Err e ∷ ys) h k = absurd (cc (h, k.0))
+items_once first s (Ok x ∷ xs) [] h k = absurd (cc (h.1, k))
+items_once {X} {S} first s (Ok x ∷ xs) (Ok y ∷ ys) h k =
+    let pair : (x, h.0) ≡ (y, k.0) = cc (h.1, k.1) in
+    let left : h.0 ≡ k.0 = ap (λ (p : X × S). p.1) pair in
+    let same : x ≡ y = ap (λ (p : X × S). p.0) pair in
+    let rest : xs ≡ ys = items_once first h.0 xs ys h.2 (subst (λ (t : S). Items first t ys) (sym left) k.2) in
+    ap (λ (z : X). Ok z ∷ xs) same ∙ ap (λ (zs : List (Result X SignatureError)). Ok y ∷ zs) rest
+items_once first s (Ok x ∷ xs) (Err e ∷ ys) h k = absurd (cc (h.1, k.0))
+items_once first s (Err e ∷ xs) [] h k = absurd (cc (h.0, k))
+items_once first s (Err e ∷ xs) (Ok y ∷ ys) h k = absurd (cc (h.0, k.1))
+items_once first s (Err e ∷ xs) (Err f ∷ ys) h k = let same : e ≡ f = cc (h.0, k.0) in cc (same, h.1, k.1)
+
+abbrev pub Listed : {X S : Type 0} → (S → First X S) → S → Type 0
+Listed {X} {S} first s = (xs : List (Result X SignatureError)) × Items first s xs
+
+listed_step : {X S : Type 0} (first : S → First X S) (s : S) (found : First X S) → first s ≡ found → ((x : X) (t : S) → first s ≡ Some (Ok (x, t)) → Listed first t) → Listed first s
+listed_step first s None e more = ([], e)
+listed_step first s (Some (Ok x)) e more = let rest = more x.0 x.1 e in (Ok x.0 ∷ rest.0, (x.1, e, rest.1))
+listed_step first s (Some (Err r)) e more = (Err r ∷ [], (e, refl))
+
+listed_of : {X S : Type 0} (size : S → ℕ) (first : S → First X S) → Shrinks size first → (n : ℕ) (s : S) → size s < n → Listed first s
+listed_of size first shrinks zero s few = absurd (omega (arith, few))
+listed_of size first shrinks (suc n) s few =
+    listed_step first s (first s) refl (λ x t e. listed_of size first shrinks n t (omega (arith, few, shrinks s x t e)))
+
+pub one_list : {X S : Type 0} (size : S → ℕ) (first : S → First X S) → Shrinks size first → HasOneList first
+one_list size first shrinks = record {
+  exists = λ s. listed_of size first shrinks (size s + 1) s (omega arith);
+  once = items_once first;
+}
+
+-- ---- whole runs, seen by what an iterator has left
+
+pub ended : {X S : Type 0} (first : S → First X S) (left after : Option S) → Steps first left None after → ItemsLeft first left []
+ended first None after h = refl
+ended first (Some s) after h = h.0
+
+pub one_more : {X S : Type 0} (first : S → First X S) (left after : Option S) (x : X) (items : List (Result X SignatureError)) → Steps first left (Some (Ok x)) after → ItemsLeft first after items → ItemsLeft first left (Ok x ∷ items)
+one_more first None after x items h more = absurd (cc h.0)
+one_more {X} {S} first (Some s) after x items h more =
+    (h.0, h.1, subst (λ (l : Option S). ItemsLeft first l items) h.2 more)
+
+pub refused : {X S : Type 0} (first : S → First X S) (left after : Option S) (e : SignatureError) (items : List (Result X SignatureError)) → Steps first left (Some (Err e)) after → ItemsLeft first after items → ItemsLeft first left (Err e ∷ items)
+refused first None after e items h more = absurd (cc h.0)
+refused {X} {S} first (Some s) after e items h more =
+    (h.0, subst (λ (l : Option S). ItemsLeft first l items) h.1 more)
+
+module _ {I X S : Type 0} (first : S → First X S) (left : I → Option S) (steps : I → Option (Result X SignatureError) → I → Type 0) where
+  -- a call of next is a step
+  abbrev pub Walks : Type 0
+  Walks = (s : I) (r : Option (Result X SignatureError)) (t : I) → steps s r t → Steps first (left s) r (left t)
+
+  pub whole : Walks → (s t u : I) (xs : List (Result X SignatureError)) → Yields steps s xs t → steps t None u → ItemsLeft first (left s) xs
+  whole is s t u [] y end =
+      subst (λ (r : I). ItemsLeft first (left r) []) (sym y) (ended first (left t) (left u) (is t None u end))
+  whole is s t u (Ok x ∷ xs) y end =
+      one_more first (left s) (left y.0) x xs (is s (Some (Ok x)) y.0 y.1) (whole is y.0 t u xs y.2 end)
+  whole is s t u (Err e ∷ xs) y end =
+      refused first (left s) (left y.0) e xs (is s (Some (Err e)) y.0 y.1) (whole is y.0 t u xs y.2 end)

@@ -1,0 +1,11 @@
+pub mod Der
+pub mod Walks
+pub mod Fields
+pub mod Tags
+pub mod SignedDatas
+pub mod Signers
+pub mod Certificates
+pub mod Names
+pub mod Times
+pub mod Encoding
+pub mod TimeStamps

@@ -1,0 +1,65 @@
+//! What the contracts say together.
+
+ghost use Rattle.std.specs.Prelude.{◌≡◌, ◌<◌, ◌≤◌, ◌%◌, ◌^◌, ◌++◌, ℕ, List, length, take, drop, Result, Ok};
+ghost use Rattle.std.specs.Iterator.{Drains};
+ghost use Rattle.pe_core.specs.Bytes.{AreBytes};
+ghost use Rattle.pe_pkcs7.specs.Fields.{first_element, elements_left, content_bytes, element_bytes};
+ghost use Rattle.pe_pkcs7.specs.Names.{first_name_attribute, name_left};
+ghost use Rattle.pe_pkcs7.specs.Signers.{signed_octets};
+ghost use Rattle.pe_pkcs7.specs.Walks.{ItemsLeft, HasOneList};
+ghost use Rattle.pe_pkcs7.specs.declared.error.SignatureError.{SignatureError};
+ghost use Rattle.pe_pkcs7.specs.declared.fields.Elements.{Elements};
+ghost use Rattle.pe_pkcs7.specs.declared.name.NameAttribute.{NameAttribute};
+ghost use Rattle.pe_pkcs7.specs.declared.name.NameAttributes.{NameAttributes};
+ghost use Rattle.pe_pkcs7.specs.Der.{element_at};
+ghost use Rattle.pe_pkcs7.specs.Encoding.{der, content_in, octets_in};
+ghost use Rattle.pe_pkcs7.specs.declared.der.Element.{Element};
+
+use crate::fields::Elements;
+use crate::name::NameAttributes;
+
+/// Nothing is taken from outside of the parent: an element that is read starts where it is looked for, and its content lies
+/// after it, in the bytes up to the end of the parent.
+pub fn elements_lie_in_their_parent()
+    ensures { (b : List ℕ) (p : ℕ) (x : Element) → element_at b p ≡ Ok x →
+        (x.offset ≡ p) × (p < x.content) × (x.content ≤ x.end) × (x.end ≤ length b) }
+{}
+
+/// What is read is what DER writes: the octets of an element that is read are its tag, the octets of the length of its content
+/// in the shortest form, and the content.
+pub fn elements_are_written_by_der()
+    ensures { (b : List ℕ) (p : ℕ) (x : Element) → AreBytes b → element_at b p ≡ Ok x →
+        octets_in b x ≡ der x.tag (content_in b x) }
+{}
+
+/// What DER writes is read, whatever follows it, as an element of this tag and this content: by this and the law before it an
+/// element has one reading, and one way to be written. A content of 4 GB and more, and a tag number above 30, are not read.
+pub fn written_elements_are_read()
+    ensures { (b : List ℕ) (p tag : ℕ) (content rest : List ℕ) → AreBytes b → tag % 32 < 31 →
+        length content < 2 ^ 32 → drop p b ≡ der tag content ++ rest →
+        (x : Element) × (element_at b p ≡ Ok x) × (x.tag ≡ tag) × (content_in b x ≡ content) }
+{}
+
+/// What a caller hashes, of an element that is read in a part of the bytes. All of its octets, as of a certificate's part that is
+/// signed, are what DER writes for its tag and content. The octets that a signer signs are what DER writes for the attributes
+/// with the tag of a `SET`, not with `[0]`: tag, length and content (RFC 5652, 5.4). The content, which `messageDigest`
+/// covers, is neither the tag nor the length.
+pub fn hashed_octets_are_written_by_der()
+    ensures whole { (b : List ℕ) (e q : ℕ) (x : Element) → AreBytes b → element_at (take e b) q ≡ Ok x →
+        element_bytes b x ≡ der x.tag (content_bytes b x) }
+    ensures attributes { (b : List ℕ) (e q : ℕ) (x : Element) → AreBytes b → element_at (take e b) q ≡ Ok x →
+        signed_octets b x ≡ der 0x31 (content_bytes b x) }
+{}
+
+/// The items of a walk through elements are those of its bytes, and every byte string has one list of them, from every offset
+/// on: one reading of DER. The items of a walk through a name are its attributes, and every name has one list of them.
+pub fn walks_return_the_list()
+    ensures elements { (s : Elements) (xs : List (Result Element SignatureError)) →
+        Drains ⟦<Elements<'static> as Iterator>⟧.next_gives s xs →
+        ItemsLeft first_element (elements_left s) xs }
+    ensures element { HasOneList first_element }
+    ensures names { (s : NameAttributes) (xs : List (Result NameAttribute SignatureError)) →
+        Drains ⟦<NameAttributes<'static> as Iterator>⟧.next_gives s xs →
+        ItemsLeft first_name_attribute (name_left s) xs }
+    ensures name { HasOneList first_name_attribute }
+{}
