@@ -36,3 +36,4 @@ pub mod LeafRuns
 pub mod VersionBlockParts
 pub mod DebugAlone
 pub mod DebugParts
+pub mod ResourceEdits

@@ -33,3 +33,5 @@ pub mod Overlays
 pub mod Headers
 pub mod DebugLaws
 pub mod Maps
+pub mod ResourceEdits
+pub mod VersionWrites
