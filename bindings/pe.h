@@ -150,6 +150,26 @@ enum {
     PE_C_TREE_NOT_DIRECTORY = 401,  /* resource data entry above the level of languages */
     PE_C_TREE_NOT_DATA = 402,       /* resource directory below the level of languages */
     PE_C_TREE_NO_ENTRIES = 403,     /* resource directory of names or languages has no entries */
+    PE_C_EDIT_TOO_MANY = 451,       /* more than 65,535 resources */
+    PE_C_EDIT_NAME = 452,           /* type or name of a resource has an odd number of bytes or is too long */
+    PE_C_EDIT_ORDER = 453,          /* resource is not sorted after the one before it */
+    PE_C_EDIT_TABLES_TOO_LARGE = 454, /* directories and names of the resources have 2^31 bytes or more */
+    PE_C_EDIT_TOO_LARGE = 455,      /* resource section ends at the RVA 2^32 or after it */
+    PE_C_EDIT_NO_DIRECTORY = 456,   /* image has no resource directory */
+    PE_C_EDIT_SIGNED = 457,         /* image has certificates, which have to be detached first */
+    PE_C_EDIT_HEADERS = 458,        /* data directories end after the section table starts */
+    PE_C_EDIT_ALIGNMENT = 459,      /* alignment of sections or of their data is too small or no power of two */
+    PE_C_EDIT_NO_SECTION = 460,     /* no section starts at the RVA of the resource directory */
+    PE_C_EDIT_SECTION = 461,        /* data of the resource section are in the headers, truncated or not aligned */
+    PE_C_EDIT_SHARED_SECTION = 462, /* the entry point or another directory lies in the resource section */
+    PE_C_EDIT_SYMBOLS = 463,        /* COFF symbols lie in the data of the resource section */
+    PE_C_EDIT_OVERLAP = 464,        /* another section shares bytes or pages with the resource section or the headers */
+    PE_C_EDIT_NO_ROOM = 465,        /* resources do not fit into the data of their section or into the image in memory */
+    PE_C_EDIT_RECORD = 466,         /* resource has a range outside of the array, or an id or language above 65,535 */
+    PE_C_EDIT_NAMES = 467,          /* names of the resources have more than 16 MiB */
+    PE_C_BLOCK_KEY = 468,           /* key of a version block has an odd number of bytes, or a code unit of zero */
+    PE_C_BLOCK_TEXT = 469,          /* text of a version block has an odd number of bytes */
+    PE_C_BLOCK_TOO_LONG = 470,      /* version block has more than 65,535 bytes */
 };
 
 /* Modes. PE_C_MAPPED is added to one of the others, or stands for PE_C_STRICT | PE_C_MAPPED. */
@@ -1788,6 +1808,73 @@ uint32_t pe_c_fixed_version_in(const uint8_t *bytes, size_t length, const pe_c_r
  * Errors: PE_C_SHORT where the content is not inside the bytes; PE_C_SHORT, PE_C_RESOURCE_STRING of the version strings. */
 uint32_t pe_c_version_text_in(const uint8_t *bytes, size_t length, const pe_c_range *content, uint32_t name,
                               pe_c_range *out) PE_C_RESULT(3, 5);
+
+/* ---- resources written
+ *
+ * The resources of an image changed in place: a caller lists the leaves that are there, changes the list, and passes all of it.
+ * The new resources go over the data of the old ones' section; all other bytes of the file stay, but for the sizes of that
+ * section and of its directory, and the checksum, which is made good, or stays 0 where it was 0.
+ *
+ * `bytes` are the whole file, also in mode PE_C_MAPPED. The calls read the headers from them, in the mode of `image`, whose other
+ * fields make no difference.
+ * https://learn.microsoft.com/windows/win32/debug/pe-format#the-rsrc-section */
+
+/* A resource in one language. Its ranges are those of an array of bytes that is passed beside it. */
+typedef struct {
+    pe_c_resource_name resource_type;   /* an id is RT_ of winuser.h */
+    pe_c_resource_name name;        /* the resource among those of its type; Windows looks names up in upper case */
+    pe_c_range content;             /* its bytes */
+    uint32_t language;              /* below 2^16 */
+    uint32_t code_page;             /* of texts in the content; most linkers write 0 */
+} pe_c_resource;
+
+PE_C_SIZE(pe_c_resource, 72);
+
+/* Returns the length of the file that pe_c_edit writes with these arguments, which is that of the image.
+ * Errors: those of pe_c_edit, but for PE_C_WRITE_FIT. */
+uint32_t pe_c_edited_length(const uint8_t *bytes, size_t length, const pe_c_image_info *image,
+                            const pe_c_resource *resources, size_t resource_count, const uint8_t *data,
+                            size_t data_length, uint64_t *out) PE_C_RESULT(3, 8);
+
+/* Writes the image with these resources in place of those that it has to the start of the array, and its length to `out`. The
+ * rest of the array is unchanged, and all of it after an error. `data` has the names and the contents, and may be `bytes`. The
+ * array overlaps none of the others; it may be NULL if room_length is 0, the resources if resource_count is, and the data if
+ * data_length is.
+ * The resources are sorted by type, name and language: names before ids, names by their code units, ids and languages by their
+ * numbers. No two have the same type, name and language.
+ * Errors: those of pe_c_image; PE_C_EDIT_RECORD where a range is not inside the data, or an id or a language is not below 2^16;
+ * PE_C_EDIT_NAMES where the names have more than 16 MiB, each counted as often as a resource has it; PE_C_NO_OPTIONAL_HEADER;
+ * PE_C_EDIT_NO_DIRECTORY where the image has fewer than three directories; PE_C_EDIT_SIGNED where it has certificates;
+ * PE_C_EDIT_TOO_MANY, PE_C_EDIT_NAME, PE_C_EDIT_ORDER, PE_C_EDIT_TABLES_TOO_LARGE, PE_C_EDIT_TOO_LARGE of the resources;
+ * PE_C_EDIT_HEADERS where the directories end after the start of the section table; PE_C_SHORT where that is truncated;
+ * PE_C_EDIT_ALIGNMENT where that of sections is below 4096, or that of their data below 512 or no power of two;
+ * PE_C_EDIT_NO_SECTION where no section starts at the RVA of the resource directory; PE_C_EDIT_SECTION where its data start in
+ * the headers, end after the end of the file, or are not aligned to 512 bytes; PE_C_EDIT_SHARED_SECTION where the entry point or
+ * another directory lies in it; PE_C_EDIT_SYMBOLS where COFF symbols lie in its data; PE_C_EDIT_OVERLAP where another section
+ * shares bytes or pages with it, or bytes with the headers; PE_C_EDIT_NO_ROOM where the resources have more bytes than its data,
+ * or end after the image in memory; PE_C_WRITE_FIT where the file does not fit into the array. */
+uint32_t pe_c_edit(const uint8_t *bytes, size_t length, const pe_c_image_info *image, const pe_c_resource *resources,
+                   size_t resource_count, const uint8_t *data, size_t data_length, uint8_t *room, size_t room_length,
+                   uint64_t *out) PE_C_RESULT(3, 10);
+
+/* Returns the length of what pe_c_write_block writes with these arguments.
+ * Errors: those of pe_c_write_block, but for PE_C_WRITE_FIT. */
+uint32_t pe_c_block_length(const uint8_t *key, size_t key_length, uint32_t is_text, const uint8_t *value,
+                           size_t value_length, const uint8_t *children, size_t children_length, uint64_t *out)
+    PE_C_RESULT(8);
+
+/* Writes a block of version information to the start of the array, with zeros up to a multiple of four bytes, where the next
+ * block starts, and its length with them to `out`. The rest of the array is unchanged, and all of it after an error.
+ * `key` is UTF-16 code units, little-endian, without a final zero; `is_text` is 0, or another number where the value is a text,
+ * which has a final zero; `children` are the blocks in it, as this call writes them, one after the other. The array overlaps none
+ * of the others; each may be NULL if its length is 0.
+ * https://learn.microsoft.com/windows/win32/menurc/vs-versioninfo
+ * Errors: PE_C_BLOCK_KEY where the key has an odd number of bytes, or a code unit of zero; PE_C_BLOCK_TEXT where the value is a
+ * text of an odd number of bytes; PE_C_BLOCK_TOO_LONG where the block has more than 65,535 bytes; PE_C_WRITE_FIT where it does
+ * not fit into the array. */
+uint32_t pe_c_write_block(const uint8_t *key, size_t key_length, uint32_t is_text, const uint8_t *value,
+                          size_t value_length, const uint8_t *children, size_t children_length, uint8_t *room,
+                          size_t room_length, uint64_t *out) PE_C_RESULT(10);
 
 /* ---- thread-local storage
  *

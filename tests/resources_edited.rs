@@ -4,7 +4,7 @@
 
 use crate::images::with_part;
 use pe_core::{DataDirectory, Header, ParseMode, ParseOptions};
-use pe_edit::{Resource, ResourceKey};
+use pe_edit::{Leaves, Resource, ResourceKey};
 use pe_images::{headers_alone, put};
 use pe_resource::ResourceData;
 use pe_rewrite::{RewriteError, edited_len, write_edited};
@@ -53,6 +53,10 @@ fn old_image(alloc: Global) -> Result<Vec<u8>, Fail> {
     Ok(bytes)
 }
 
+fn list<'a>(leaves: &'a [Resource<'a>]) -> Leaves<'a> {
+    Leaves::Values(leaves)
+}
+
 /// A resource of the type 10.
 fn resource(name: u16, content: &[u8]) -> Resource<'_> {
     Resource {
@@ -68,13 +72,13 @@ fn resource(name: u16, content: &[u8]) -> Resource<'_> {
 fn refused(alloc: Global, bytes: &[u8], leaves: &[Resource<'_>]) -> Result<String, Fail> {
     let header = header_of(bytes)?;
     let mut out = vec![in alloc; OLD; LENGTH]?;
-    let Err(error) = write_edited(bytes, &header, leaves, &mut out) else {
+    let Err(error) = write_edited(bytes, &header, &list(leaves), &mut out) else {
         return Err("an image is written".into());
     };
     if !out.iter().all(|byte| *byte == OLD) {
         return Err("the buffer has changed".into());
     }
-    let Err(same) = edited_len(bytes, &header, leaves) else {
+    let Err(same) = edited_len(bytes, &header, &list(leaves)) else {
         return Err("an image has a length".into());
     };
     let shown = format!(in alloc; "{error:?}")?;
@@ -90,8 +94,11 @@ fn bytes_of_an_edit(rt: HostRuntime) -> Result<(), Fail> {
     let mut out = vec![in rt.alloc(); OLD; LENGTH + 3]?;
     let leaves = [resource(1, &CONTENT)];
     let header = header_of(&bytes)?;
-    assert_eq!(rt; edited_len(&bytes, &header, &leaves)?, LENGTH);
-    assert_eq!(rt; write_edited(&bytes, &header, &leaves, &mut out)?, LENGTH);
+    assert_eq!(rt; edited_len(&bytes, &header, &list(&leaves))?, LENGTH);
+    assert_eq!(rt;
+        write_edited(&bytes, &header, &list(&leaves), &mut out)?,
+        LENGTH
+    );
     assert_eq!(rt; &out[..0x114], &bytes[..0x114]);
     assert_eq!(rt; &out[0x114..0x118], RESOURCES.as_slice());
     assert_eq!(rt; &out[0x118..0x1B0], &bytes[0x118..0x1B0]);
@@ -112,7 +119,7 @@ fn the_leaf_is_read(rt: HostRuntime) -> Result<(), Fail> {
     write_edited(
         &bytes,
         &header_of(&bytes)?,
-        &[resource(7, b"abc")],
+        &list(&[resource(7, b"abc")]),
         &mut out,
     )?;
     let header = header_of(&out)?;
@@ -141,7 +148,7 @@ fn the_checksum_is_that_of_the_file(rt: HostRuntime) -> Result<(), Fail> {
     write_edited(
         &bytes,
         &header_of(&bytes)?,
-        &[resource(1, &CONTENT)],
+        &list(&[resource(1, &CONTENT)]),
         &mut out,
     )?;
     assert_eq!(rt; &out[0xD0..0xD4], CHECKSUM.as_slice());

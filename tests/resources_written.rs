@@ -4,7 +4,7 @@
 use crate::images::image;
 use crate::resources::flat;
 use pe_core::{DataDirectory, Error, ParseMode, Reason};
-use pe_edit::{EditError, Resource, ResourceKey, section_len, write_section};
+use pe_edit::{EditError, Leaves, Resource, ResourceKey, section_len, write_section};
 use pe_resource::ResourceData;
 use std::alloc::Global;
 use std::test::Fail;
@@ -14,6 +14,10 @@ const RVA: u32 = 0x3000;
 
 /// What a byte of a buffer is before a call.
 const OLD: u8 = 0xAA;
+
+fn list<'a>(leaves: &'a [Resource<'a>]) -> Leaves<'a> {
+    Leaves::Values(leaves)
+}
 
 /// A resource with ids and no code page.
 fn resource(kind: u16, name: u16, language: u16, content: &[u8]) -> Resource<'_> {
@@ -55,13 +59,13 @@ fn three_leaves() -> [Resource<'static>; 3] {
 /// The error of leaves without a section, the same by both calls; the buffer stays as it was.
 fn refused(alloc: Global, leaves: &[Resource<'_>]) -> Result<String, Fail> {
     let mut out = [OLD; 16];
-    let Err(error) = write_section(leaves, RVA, &mut out) else {
+    let Err(error) = write_section(&list(leaves), RVA, &mut out) else {
         return Err("a section is written".into());
     };
     if out != [OLD; 16] {
         return Err("the buffer has changed".into());
     }
-    let Err(same) = section_len(leaves, RVA) else {
+    let Err(same) = section_len(&list(leaves), RVA) else {
         return Err("a section has a length".into());
     };
     let shown = format!(in alloc; "{error:?}")?;
@@ -101,8 +105,8 @@ fn bytes_of_a_section(rt: HostRuntime) -> Result<(), Fail> {
         ],
     )?;
     let mut out = vec![in rt.alloc(); OLD; 0xEA]?;
-    assert_eq!(rt; section_len(&three_leaves(), RVA)?, 0xE8);
-    assert_eq!(rt; write_section(&three_leaves(), RVA, &mut out)?, 0xE8);
+    assert_eq!(rt; section_len(&list(&three_leaves()), RVA)?, 0xE8);
+    assert_eq!(rt; write_section(&list(&three_leaves()), RVA, &mut out)?, 0xE8);
     assert_eq!(rt; &out[..0xE8], &expected[..]);
     assert_eq!(rt; &out[0xE8..], [OLD; 2].as_slice());
     Ok(())
@@ -112,7 +116,7 @@ fn bytes_of_a_section(rt: HostRuntime) -> Result<(), Fail> {
 #[test]
 fn no_leaves(rt: HostRuntime) -> Result<(), Fail> {
     let mut out = [OLD; 17];
-    assert_eq!(rt; write_section(&[], RVA, &mut out)?, 16);
+    assert_eq!(rt; write_section(&list(&[]), RVA, &mut out)?, 16);
     assert_eq!(rt; &out[..16], [0; 16].as_slice());
     assert_eq!(rt; out[16], OLD);
     Ok(())
@@ -123,7 +127,7 @@ fn no_leaves(rt: HostRuntime) -> Result<(), Fail> {
 fn an_empty_last_content_is_mapped(rt: HostRuntime) -> Result<(), Fail> {
     let leaves = [resource(10, 1, 0, b"")];
     let mut out = [OLD; 0x60];
-    let length = write_section(&leaves, 0, &mut out)?;
+    let length = write_section(&list(&leaves), 0, &mut out)?;
     assert_eq!(rt; length, 0x60);
     let directory = DataDirectory {
         virtual_address: 0,
@@ -143,7 +147,7 @@ fn an_empty_last_content_is_mapped(rt: HostRuntime) -> Result<(), Fail> {
 fn a_buffer_that_is_too_small(rt: HostRuntime) -> Result<(), Fail> {
     let mut out = [OLD; 0xE7];
     let Err(EditError::Image(Error::Malformed(Reason::WriteFit { end, length }))) = write_section(
-        &three_leaves(),
+        &list(&three_leaves()),
         RVA,
         &mut out,
     ) else {
@@ -230,11 +234,11 @@ fn as_many_leaves_as_there_are_types(rt: HostRuntime) -> Result<(), Fail> {
     }
     let shown = refused(rt.alloc(), &leaves)?;
     assert_eq!(rt; shown.as_str(), "TooMany(65536)");
-    let length = section_len(&leaves[1..], 0)?;
+    let length = section_len(&list(&leaves[1..]), 0)?;
     // A directory of types, and for each type two directories of one entry, a data entry and eight zeros.
     assert_eq!(rt; length, 16 + 65_535 * (8 + 24 + 24 + 16 + 8));
     let mut out = vec![in rt.alloc(); OLD; length]?;
-    assert_eq!(rt; write_section(&leaves[1..], 0, &mut out)?, length);
+    assert_eq!(rt; write_section(&list(&leaves[1..]), 0, &mut out)?, length);
     let directory = DataDirectory {
         virtual_address: 0,
         size: length as u32,
@@ -286,10 +290,10 @@ fn contents_of_four_gigabytes(rt: HostRuntime) -> Result<(), Fail> {
     assert_eq!(rt; shown.as_str(), "TooLarge");
     // 255 of them fit at this RVA, and not at one that is 4 GB less 255 contents.
     assert_eq!(rt;
-        section_len(&leaves[1..], RVA)?,
+        section_len(&list(&leaves[1..]), RVA)?,
         255 * (1 << 24) + 16 + 8 + 16 + 255 * (8 + 24 + 16)
     );
-    let Err(EditError::TooLarge) = section_len(&leaves[1..], 1 << 24) else {
+    let Err(EditError::TooLarge) = section_len(&list(&leaves[1..]), 1 << 24) else {
         return Err("a section that ends after 4 GB has a length".into());
     };
     Ok(())

@@ -377,6 +377,28 @@ static void version_blocks(const struct file *file)
     }
 }
 
+/* A version resource in the place of all others: a block of version information, in two languages. */
+static void edits(const struct file *file)
+{
+    static const uint8_t key[4] = {'k', 0, 'e', 0}, text[6] = {'o', 0, 'n', 0, 0, 0};
+    uint8_t block[32] = {0};
+    uint64_t length = 0;
+    pe_c_resource both[2] = PE_C_EMPTY;
+    for (uint32_t is_text = 0; is_text < 2; is_text++) {
+        CALL(pe_c_block_length, length, key, sizeof key, is_text, text, sizeof text - is_text, key, 0, &length);
+        CALL(pe_c_write_block, length, key, sizeof key, is_text, text, sizeof text, key, 0, block, sizeof block, &length);
+    }
+    for (uint32_t i = 0; i < 2; i++) {
+        both[i].resource_type.id = 16;
+        both[i].name.id = 1;
+        both[i].language = 1033 + i;
+        both[i].content.length = length;
+    }
+    CALL(pe_c_edited_length, length, BYTES, &file->image, both, 2, block, sizeof block, &length);
+    if (IS_DONE(pe_c_edit, length, BYTES, &file->image, both, 2, block, sizeof block, file->room, file->room_length, &length))
+        add_bytes(file->room, length);
+}
+
 static void resources(const struct file *file)
 {
     pe_c_range range = PE_C_EMPTY;
@@ -388,6 +410,7 @@ static void resources(const struct file *file)
         CALL(pe_c_version_text, range, IMAGE, name, &range);
     CALL(pe_c_manifest, range, IMAGE, &range);
     version_blocks(file);
+    edits(file);
     if (!IS_DONE(pe_c_resource_leaves, walk, IMAGE, &walk))
         return;
     WALK(ITEMS, pe_c_next_resource_leaf, leaf, IMAGE, &walk, &leaf)

@@ -182,7 +182,25 @@ fn results_have_texts(rt: HostRuntime) {
     check_text(&rt, 401, "resource data entry above the level of languages");
     check_text(&rt, 402, "resource directory below the level of languages");
     check_text(&rt, 403, "resource directory of names or languages has no");
-    for unknown in [39, 99, 107, 200, 207, 300, 309, 400, 404, u32::MAX] {
+    check_text(&rt, 451, "more than 65,535 resources");
+    check_text(&rt, 457, "image has certificates, which have to be");
+    check_text(&rt, 465, "resources do not fit into the data of their");
+    check_text(&rt, 467, "names of the resources have more than 16 MiB");
+    check_text(&rt, 470, "version block has more than 65,535 bytes");
+    for unknown in [
+        39,
+        99,
+        107,
+        200,
+        207,
+        300,
+        309,
+        400,
+        404,
+        450,
+        471,
+        u32::MAX,
+    ] {
         check_text(&rt, unknown, "unknown result");
     }
 }
@@ -192,9 +210,12 @@ fn results_have_texts(rt: HostRuntime) {
 fn texts_differ(rt: HostRuntime) {
     // All others have the text of 39.
     let is_other = |number: u32| {
-        39 < number && number < 201 || 206 < number && number < 301 || 308 < number && number < 401
+        39 < number && number < 201
+            || 206 < number && number < 301
+            || 308 < number && number < 401
+            || 403 < number && number < 451
     };
-    for one in 0..=403 {
+    for one in 0..=470 {
         for other in 0..one {
             if is_other(one) || is_other(other) {
                 continue;

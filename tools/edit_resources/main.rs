@@ -8,7 +8,7 @@
 #![tactic(auto)]
 
 use pe_core::{ByteRange, Header, ParseMode, ParseOptions, SectionTable};
-use pe_edit::{Resource, ResourceKey};
+use pe_edit::{Leaves, Resource, ResourceKey};
 use pe_resource::{ResourceData, ResourceEntry, ResourceLeaf};
 use pe_rewrite::{edited_len, write_edited};
 use std::alloc::{AllocError, Global};
@@ -121,12 +121,12 @@ fn main(rt: HostRuntime) -> io::Result<()> {
         };
         resources = with_resource(alloc, &resources, new)?;
     }
-    let length = match edited_len(&bytes, &header, &resources) {
+    let length = match edited_len(&bytes, &header, &Leaves::Values(&resources)) {
         Ok(length) => length,
         Err(error) => return println!(rt; "refused {error:?}"),
     };
     let mut out = vec![in alloc; 0xAAu8; length]?;
-    match write_edited(&bytes, &header, &resources, &mut out) {
+    match write_edited(&bytes, &header, &Leaves::Values(&resources), &mut out) {
         Ok(written) => println!(rt; "length {written} leaves {}", resources.len())?,
         Err(error) => return println!(rt; "refused {error:?}"),
     }

@@ -6,7 +6,7 @@
 #![tactic(auto)]
 
 use pe_core::{ByteRange, Header, ParseMode, ParseOptions, SectionTable};
-use pe_edit::{EditError, Resource, ResourceKey, section_len, write_section};
+use pe_edit::{EditError, Leaves, Resource, ResourceKey, section_len, write_section};
 use pe_resource::{ResourceData, ResourceEntry, ResourceLeaf};
 use std::alloc::Global;
 use std::{env, fs, io};
@@ -70,12 +70,12 @@ fn main(rt: HostRuntime) -> io::Result<()> {
         Ok(found) => found,
         Err(error) => return println!(rt; "refused {error:?}"),
     };
-    let length = match section_len(&resources, rva) {
+    let length = match section_len(&Leaves::Values(&resources), rva) {
         Ok(length) => length,
         Err(error) => return println!(rt; "refused {error:?}"),
     };
     let mut out = vec![in rt.alloc(); 0xAAu8; length]?;
-    match write_section(&resources, rva, &mut out) {
+    match write_section(&Leaves::Values(&resources), rva, &mut out) {
         Ok(written) => println!(rt; "rva {rva} length {written} leaves {}", resources.len())?,
         Err(error) => return println!(rt; "refused {error:?}"),
     }

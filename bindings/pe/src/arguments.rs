@@ -18,6 +18,7 @@ pub const EXAMPLES: &str = "  pe program.exe                        what it is, 
   pe digest program.exe                 what its signature signs, as SHA-256
   pe extract program.exe manifest -     its manifest, on standard output
   pe detach program.exe unsigned.exe    the same without its certificates
+  pe set-manifest a.exe b.exe app.xml   an image with another manifest
   pe report program.exe program.html    a page to look at: a map of the file, tables to search";
 
 pub const STATUSES: &str =
@@ -277,6 +278,59 @@ pub enum Command {
         #[command(flatten)]
         reading: Reading,
     },
+    /// Write an image with other version information to a file, which must not exist. What is not named stays as it is.
+    SetVersion {
+        /// The image.
+        file: PathBuf,
+        /// The file to write, or - for standard output.
+        #[arg(value_name = "OUT")]
+        to: PathBuf,
+        #[command(flatten)]
+        version: NewVersion,
+        #[command(flatten)]
+        reading: Reading,
+    },
+    /// Write an image with another manifest to a file, which must not exist.
+    SetManifest {
+        /// The image.
+        file: PathBuf,
+        /// The file to write, or - for standard output.
+        #[arg(value_name = "OUT")]
+        to: PathBuf,
+        /// The manifest, an XML text.
+        manifest: PathBuf,
+        /// In this language alone, as 1033 or 0x409. Without it in those that the manifest has.
+        #[arg(long, value_parser = language)]
+        language: Option<u16>,
+        #[command(flatten)]
+        reading: Reading,
+    },
+    /// Write an image with a resource that has the content of a file to a file, which must not exist.
+    SetResource {
+        /// The image.
+        file: PathBuf,
+        /// The file to write, or - for standard output.
+        #[arg(value_name = "OUT")]
+        to: PathBuf,
+        #[command(flatten)]
+        which: OneResource,
+        /// The file with the content.
+        content: PathBuf,
+        #[command(flatten)]
+        reading: Reading,
+    },
+    /// Write an image without a resource to a file, which must not exist.
+    RemoveResource {
+        /// The image.
+        file: PathBuf,
+        /// The file to write, or - for standard output.
+        #[arg(value_name = "OUT")]
+        to: PathBuf,
+        #[command(flatten)]
+        which: OneResource,
+        #[command(flatten)]
+        reading: Reading,
+    },
     /// Show the checksums of images and the right ones, or write an image with the right one.
     Checksum {
         #[command(flatten)]
@@ -308,6 +362,55 @@ pub enum Command {
     },
     /// Write the man page to standard output.
     Man,
+}
+
+/// A resource.
+#[derive(Args, Clone, Debug)]
+pub struct OneResource {
+    /// Its type: a number of winuser.h, as 10 of raw data, or its name.
+    #[arg(value_name = "TYPE")]
+    pub kind: String,
+    /// Its name, or its number.
+    pub name: String,
+    /// In this language alone, as 1033 or 0x409. Without it in those that it has.
+    #[arg(long, value_parser = language)]
+    pub language: Option<u16>,
+}
+
+/// What is new of version information.
+#[derive(Args, Clone, Debug)]
+pub struct NewVersion {
+    /// The version of the file, up to four numbers.
+    #[arg(long, value_name = "1.2.3.4", value_parser = version_numbers)]
+    pub file_version: Option<[u16; 4]>,
+    /// The version of the product.
+    #[arg(long, value_name = "1.2.3.4", value_parser = version_numbers)]
+    pub product_version: Option<[u16; 4]>,
+    /// A string, as CompanyName=Example, in each table of strings; the others stay.
+    #[arg(long = "string", value_name = "NAME=TEXT", value_parser = name_and_text)]
+    pub strings: Vec<(String, String)>,
+    /// In this language alone, as 1033 or 0x409. Without it in those that the version information has.
+    #[arg(long, value_parser = language)]
+    pub language: Option<u16>,
+}
+
+fn language(text: &str) -> Result<u16, String> {
+    crate::edit::number_of(text).ok_or_else(|| "a language is a number of 16 bits, as 1033 or 0x409".into())
+}
+
+fn version_numbers(text: &str) -> Result<[u16; 4], String> {
+    let (mut numbers, mut count) = ([0; 4], 0);
+    for part in text.split('.') {
+        let number = part.parse().map_err(|_| "a version is numbers below 65536 with dots between them".to_string())?;
+        *numbers.get_mut(count).ok_or("a version has at most four numbers")? = number;
+        count += 1;
+    }
+    Ok(numbers)
+}
+
+fn name_and_text(text: &str) -> Result<(String, String), String> {
+    let (name, value) = text.split_once('=').filter(|it| !it.0.is_empty()).ok_or("a string is NAME=TEXT")?;
+    Ok((name.into(), value.into()))
 }
 
 /// The words of `show`: files, and the parts that come after them. The first is a file.

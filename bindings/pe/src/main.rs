@@ -6,6 +6,7 @@ mod arguments;
 mod csv;
 mod diff;
 mod digest;
+mod edit;
 mod escape;
 mod extract;
 mod facts;
@@ -212,8 +213,30 @@ fn write_file(command: &Command, out: &mut dyn Write) -> io::Result<Status> {
                 html::write_to((path, bytes), parsed(bytes, reading), &wanted, to)
             })
         }
-        _ => Ok(Status::Done),
+        _ => edit_file(command, out),
     }
+}
+
+/// The commands that write an image with other resources.
+fn edit_file(command: &Command, out: &mut dyn Write) -> io::Result<Status> {
+    let (Command::SetVersion { file, to, reading, .. }
+    | Command::SetManifest { file, to, reading, .. }
+    | Command::SetResource { file, to, reading, .. }
+    | Command::RemoveResource { file, to, reading, .. }) = command
+    else {
+        return Ok(Status::Done);
+    };
+    refuse_mapped(reading, "a change of resources");
+    files::each(&Files::one(file), out, |path, bytes| {
+        let (paths, image) = ((path, to.as_path()), parsed(bytes, reading));
+        match command {
+            Command::SetManifest { manifest, language, .. } => edit::set_manifest(paths, image, manifest, *language),
+            Command::SetResource { which, content, .. } => edit::set_resource(paths, image, which, content),
+            Command::RemoveResource { which, .. } => edit::remove_resource(paths, image, which),
+            Command::SetVersion { version, .. } => edit::set_version(paths, image, version),
+            _ => files::Report::of("", Status::Done),
+        }
+    })
 }
 
 /// Ends where a module in memory is asked for what files alone have.

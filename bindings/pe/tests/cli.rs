@@ -584,8 +584,9 @@ fn the_man_page_has_each_command() {
     assert_eq!(status, 0);
     let commands =
         ["show", "find", "diff", "unwind", "key", "digest", "extract", "attach", "detach", "checksum", "report"];
-    for command in commands.into_iter().chain(["completions", "man"]) {
-        assert!(page.contains(&format!(".SS \"pe {command}")), "{command}");
+    let edits = ["set-version", "set-manifest", "set-resource", "remove-resource"];
+    for command in commands.into_iter().chain(edits).chain(["completions", "man"]) {
+        assert!(page.contains(&format!(".SS \"pe {}", command.replace('-', "\\-"))), "{command}");
     }
     assert!(page.contains(".TP\n\\fB\\-r\\fR, \\fB\\-\\-recursive\\fR\nTake each FILE"));
     let folder = Folder::new("man");

@@ -270,6 +270,75 @@ fn certificates_are_attached_and_detached() {
     assert!(!folder.0.join("other.exe").exists());
 }
 
+#[test]
+fn manifests_and_resources_are_changed() {
+    let folder = Folder::new("edit");
+    let file = folder.file("a.exe", &made::editable());
+    let path = |name: &str| folder.0.join(name).to_str().unwrap().to_string();
+    let (manifest, out, more, less) = (folder.file("new.xml", b"<new/>!"), path("b.exe"), path("c.exe"), path("d.exe"));
+    assert_eq!(run(&["set-manifest", &file, &out, &manifest]).2, 0);
+    assert_eq!(run(&["extract", &out, "manifest", "-"]).0, "<new/>!");
+    // The language that is there is kept, and there is no other.
+    let which = ["extract", &out, "resource", "--type", "24", "--name", "1"];
+    assert_eq!(run(&[&which[..], &["--language", "0x407", "-"]].concat()).0, "<new/>!");
+    assert_eq!(run(&[&which[..], &["--language", "0x409", "-"]].concat()).2, 1);
+    assert_eq!(fs::read(&out).unwrap().len(), made::editable().len());
+    assert_eq!(run(&["set-manifest", &file, &out, &manifest]).2, 3, "the file exists");
+    assert_eq!(run(&["set-manifest", &file, &more, &path("none")]).2, 3);
+    assert_eq!(run(&["set-manifest", "--mapped", &file, &more, &manifest]).2, 2);
+    assert!(!folder.0.join("c.exe").exists());
+    // A resource that is new, whose name is in upper case, and then none.
+    assert_eq!(run(&["set-resource", &out, &more, "10", "data", &manifest]).2, 0);
+    let which = ["extract", &more, "resource", "--type", "10", "--name", "DATA", "--language", "1033", "-"];
+    assert_eq!(run(&which).0, "<new/>!");
+    assert_eq!(run(&["extract", &more, "manifest", "-"]).0, "<new/>!");
+    assert_eq!(run(&["remove-resource", &more, &less, "10", "DATA", "--language", "0x407"]).2, 1);
+    assert_eq!(run(&["remove-resource", &more, &less, "10", "DATA"]).2, 0);
+    assert_eq!(fs::read(&less).unwrap(), fs::read(&out).unwrap());
+    // What does not fit, and what is signed.
+    let long = folder.file("long", &[b'x'; 0x400]);
+    let (_, said, status) = run(&["set-manifest", &file, &path("e.exe"), &long]);
+    assert_eq!((said.contains("do not fit"), status), (true, 1), "{said}");
+    let signed = folder.file("signed.exe", &made::with_certificates());
+    assert_eq!(run(&["set-manifest", &signed, &path("e.exe"), &manifest]).2, 1);
+    assert!(!folder.0.join("e.exe").exists());
+}
+
+#[test]
+fn versions_are_changed() {
+    let folder = Folder::new("version");
+    let file = folder.file("a.exe", &made::editable());
+    let path = |name: &str| folder.0.join(name).to_str().unwrap().to_string();
+    let (first, second) = (path("b.exe"), path("c.exe"));
+    let strings = ["--string", "CompanyName=\u{c4}hre=1", "--string", "Own=x"];
+    let words = ["set-version", &file, &first, "--file-version", "1.2.3.65535", "--language", "0x407"];
+    assert_eq!(run(&[&words[..], &strings].concat()).2, 0);
+    let said = run(&["show", &first, "version"]).0;
+    for part in ["1.2.3.65535", "\u{c4}hre=1", "Own"] {
+        assert!(said.contains(part), "{part} in {said}");
+    }
+    // One string is set, and all others stay, in the language that is there.
+    let words = ["set-version", &first, &second, "--string", "Own=y", "--product-version", "7"];
+    assert_eq!(run(&words).2, 0);
+    let said = run(&["show", &second, "version"]).0;
+    for part in ["1.2.3.65535", "7.0.0.0", "\u{c4}hre=1"] {
+        assert!(said.contains(part), "{part} in {said}");
+    }
+    let which = ["extract", &second, "resource", "--type", "16", "--name", "1", "-"];
+    let (languages, units) =
+        (["0x407", "0x409"], |text: &str| text.encode_utf16().flat_map(u16::to_le_bytes).collect::<Vec<_>>());
+    let statuses = languages.map(|it| run(&[&which[..7], &["--language", it, &path(it)]].concat()).2);
+    assert_eq!(statuses, [0, 1]);
+    let content = fs::read(path("0x407")).unwrap();
+    let has = |text: &str| content.windows(2 * text.len()).any(|it| it == units(text));
+    assert_eq!([has("Own\0\0y\0"), has("x\0"), has("CompanyName\0"), has("04070")], [true, false, true, true]);
+    for words in
+        [["--file-version", "1.2.3.4.5"], ["--file-version", "65536"], ["--string", "=x"], ["--language", "no"]]
+    {
+        assert_eq!(run(&[&["set-version", &file, &path("d.exe")][..], &words].concat()).2, 2, "{words:?}");
+    }
+}
+
 /// A tree of resources: each a type, a name, and content, in the language 0x407.
 fn with_leaves(leaves: &[(u32, u32, &[u8])]) -> Vec<u8> {
     let mut made = made::Made::new(made::X64);

@@ -326,6 +326,33 @@ fn read_by_lies(bytes: &[u8], random: &mut Random, seen: &mut Seen) {
         sys::pe_c_detach(start, length, &image, first, size, &mut left);
         assert!(left == 0 || left == needed && left <= size as u64);
     }
+    let record = sys::Resource {
+        resource_type: sys::ResourceName { name: range, id: few, has_name: few & 1 },
+        name: sys::ResourceName { name: range, id: few, has_name: few >> 1 & 1 },
+        content: range,
+        language: few,
+        code_page: few,
+    };
+    let small = sys::Resource {
+        resource_type: sys::ResourceName { id: few % 32, ..Default::default() },
+        content: sys::Range { offset: 0, length: u64::from(few % 8) },
+        ..Default::default()
+    };
+    let records = [small, record];
+    let count = few as usize % 3;
+    let (mut needed, mut written) = (0, 0);
+    // SAFETY: as above.
+    unsafe {
+        let (first, size) = (room.as_mut_ptr(), room.len());
+        sys::pe_c_edited_length(start, length, &image, records.as_ptr(), count, start, length, &mut needed);
+        sys::pe_c_edit(start, length, &image, records.as_ptr(), count, start, length, first, size, &mut written);
+        assert!(written == 0 || written == needed && written <= size as u64);
+        let (first, size, key) = (room.as_mut_ptr(), room.len(), part.as_ptr());
+        (needed, written) = (0, 0);
+        sys::pe_c_block_length(key, part.len(), few & 1, start, length, key, part.len(), &mut needed);
+        sys::pe_c_write_block(key, part.len(), few & 1, start, length, key, part.len(), first, size, &mut written);
+        assert!(written == 0 || written == needed && written <= size as u64);
+    }
     let tables = call_of_image!(pe_c_export_tables(), Exports);
     walk_of_image!(pe_c_next_export(tables), Export);
     walk_of_image!(pe_c_next_export(sys::Exports { names: range, next: index, ..tables }), Export);

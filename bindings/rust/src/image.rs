@@ -180,6 +180,46 @@ errors! {
     TREE_NOT_DATA = 402;
     /// Resource directory of names or languages has no entries.
     TREE_NO_ENTRIES = 403;
+    /// More than 65,535 resources.
+    EDIT_TOO_MANY = 451;
+    /// Type or name of a resource has an odd number of bytes or is too long.
+    EDIT_NAME = 452;
+    /// Resource is not sorted after the one before it.
+    EDIT_ORDER = 453;
+    /// Directories and names of the resources have 2^31 bytes or more.
+    EDIT_TABLES_TOO_LARGE = 454;
+    /// Resource section ends at the RVA 2^32 or after it.
+    EDIT_TOO_LARGE = 455;
+    /// Image has no resource directory.
+    EDIT_NO_DIRECTORY = 456;
+    /// Image has certificates, which have to be detached first.
+    EDIT_SIGNED = 457;
+    /// Data directories end after the section table starts.
+    EDIT_HEADERS = 458;
+    /// Alignment of sections or of their data is too small or no power of two.
+    EDIT_ALIGNMENT = 459;
+    /// No section starts at the RVA of the resource directory.
+    EDIT_NO_SECTION = 460;
+    /// Data of the resource section are in the headers, truncated or not aligned.
+    EDIT_SECTION = 461;
+    /// The entry point or another directory lies in the resource section.
+    EDIT_SHARED_SECTION = 462;
+    /// COFF symbols lie in the data of the resource section.
+    EDIT_SYMBOLS = 463;
+    /// Another section shares bytes or pages with the resource section or the headers.
+    EDIT_OVERLAP = 464;
+    /// Resources do not fit into the data of their section or into the image in memory.
+    EDIT_NO_ROOM = 465;
+    /// Resource has a range outside of the array, or an id or language above 65,535.
+    EDIT_RECORD = 466;
+    /// Names of the resources have more than 16 MiB.
+    EDIT_NAMES = 467;
+    /// Key of a version block has an odd number of bytes, or a code unit of zero.
+    BLOCK_KEY = 468;
+    /// Text of a version block has an odd number of bytes.
+    BLOCK_TEXT = 469;
+    /// Version block has more than 65,535 bytes.
+    BLOCK_TOO_LONG = 470;
     // Of steps of a stack walk, which pe_core does not make.
     /// Eight bytes of memory are missing: [`StepError::Missing`](crate::StepError::Missing).
     MISSING = 102;

@@ -58,7 +58,7 @@ pub enum Placement {
 }
 
 /// A file of a length, which the write fills.
-fn file_of(length: u64, write: impl FnOnce(&mut [u8], &mut u64) -> u32) -> Result<Vec<u8>, Error> {
+pub(crate) fn file_of(length: u64, write: impl FnOnce(&mut [u8], &mut u64) -> u32) -> Result<Vec<u8>, Error> {
     let length = usize::try_from(length).map_err(|_| Error::MEMORY)?;
     let mut file = Vec::new();
     file.try_reserve_exact(length).map_err(|_| Error::MEMORY)?;

@@ -1094,6 +1094,20 @@ ResourceName, 24 {
     has_name: u32,
 });
 record!(
+/// A resource that is written. Its ranges are those of an array of bytes that is passed beside it.
+Resource, 72 {
+    /// An id is `RT_` of winuser.h.
+    resource_type: ResourceName,
+    /// The resource among those of its type.
+    name: ResourceName,
+    /// Its bytes.
+    content: Range,
+    /// Below 2^16.
+    language: u32,
+    /// Of texts in the content; most linkers write 0.
+    code_page: u32,
+});
+record!(
 /// A leaf of a resource tree. See [`ResourceLeaf`](crate::ResourceLeaf).
 ResourceLeaf, 104 {
     /// An id is `RT_` of winuser.h.
@@ -1520,6 +1534,54 @@ extern "C" {
         certificate: *const u8,
         certificate_length: usize,
         placement: u32,
+        room: *mut u8,
+        room_length: usize,
+        out: *mut u64,
+    ) -> u32;
+    /// Returns the length of the file that [`pe_c_edit`] writes.
+    pub fn pe_c_edited_length(
+        bytes: *const u8,
+        length: usize,
+        image: *const ImageInfo,
+        resources: *const Resource,
+        resource_count: usize,
+        data: *const u8,
+        data_length: usize,
+        out: *mut u64,
+    ) -> u32;
+    /// Writes the image with other resources to the start of an array, and returns its length.
+    pub fn pe_c_edit(
+        bytes: *const u8,
+        length: usize,
+        image: *const ImageInfo,
+        resources: *const Resource,
+        resource_count: usize,
+        data: *const u8,
+        data_length: usize,
+        room: *mut u8,
+        room_length: usize,
+        out: *mut u64,
+    ) -> u32;
+    /// Returns the length of the block that [`pe_c_write_block`] writes.
+    pub fn pe_c_block_length(
+        key: *const u8,
+        key_length: usize,
+        is_text: u32,
+        value: *const u8,
+        value_length: usize,
+        children: *const u8,
+        children_length: usize,
+        out: *mut u64,
+    ) -> u32;
+    /// Writes a block of version information to the start of an array, and returns its length.
+    pub fn pe_c_write_block(
+        key: *const u8,
+        key_length: usize,
+        is_text: u32,
+        value: *const u8,
+        value_length: usize,
+        children: *const u8,
+        children_length: usize,
         room: *mut u8,
         room_length: usize,
         out: *mut u64,

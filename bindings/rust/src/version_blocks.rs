@@ -82,6 +82,13 @@ pub struct VersionBlocks<'a> {
     walk: sys::Range,
 }
 
+impl<'a> VersionBlocks<'a> {
+    /// The blocks in the content of a resource of type `RT_VERSION`, of which the first is all of it.
+    pub fn of(content: &'a [u8]) -> Self {
+        VersionBlocks { bytes: content, walk: sys::Range { offset: 0, length: content.len() as u64 } }
+    }
+}
+
 impl<'a> Iterator for VersionBlocks<'a> {
     type Item = Result<VersionBlock<'a>, Error>;
 

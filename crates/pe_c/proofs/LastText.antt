@@ -2,7 +2,7 @@
 use Rattle.std.proofs.Common.{◌≡◌, ℕ, ◌-◌, ◌≤◌, sym, arith}
 use Rattle.std.specs.Prelude.{codes}
 use Rattle.std.proofs.lemmas.List.{get_or_past}
-use Rattle.pe_c.specs.Texts.{texts, refusal_text, other_texts, other_text, sign_texts, sign_text}
+use Rattle.pe_c.specs.Texts.{texts, refusal_text, other_texts, other_text, sign_texts, sign_text, edit_texts, edit_text}
 
 pub text_past : (n : ℕ) → 39 ≤ n → codes "unknown result" ≡ refusal_text n
 unfolding refusal_text
@@ -15,3 +15,7 @@ other_text_past n h = sym (get_or_past other_texts (n - 100) (codes "unknown res
 pub sign_text_past : (n : ℕ) → 6 ≤ n → codes "unknown result" ≡ sign_text n
 unfolding sign_text
 sign_text_past n h = sym (get_or_past sign_texts n (codes "unknown result") (omega arith))
+
+pub edit_text_past : (n : ℕ) → 20 ≤ n → codes "unknown result" ≡ edit_text n
+unfolding edit_text
+edit_text_past n h = sym (get_or_past edit_texts n (codes "unknown result") (omega arith))

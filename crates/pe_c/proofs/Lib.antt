@@ -47,3 +47,4 @@ pub mod FrameRuns
 pub mod StackSteps
 pub mod FilledLists
 pub mod ListRuns
+pub mod ResourceEdits

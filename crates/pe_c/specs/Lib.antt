@@ -39,3 +39,5 @@ pub mod Maps
 pub mod Coff
 pub mod Te
 pub mod Failures
+pub mod ResourceEdits
+pub mod VersionWrites

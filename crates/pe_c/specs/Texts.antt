@@ -109,9 +109,39 @@ tree_texts =
 unfoldable pub tree_text : ℕ → List ℕ
 tree_text n = slice_index_or tree_texts n (codes "unknown result")
 
+-- the texts of the refusals of resources that are written, in the order of their numbers
+abbrev pub edit_texts : List (List ℕ)
+edit_texts =
+    codes "more than 65,535 resources" ∷
+    codes "type or name of a resource has an odd number of bytes or is too long" ∷
+    codes "resource is not sorted after the one before it" ∷
+    codes "directories and names of the resources have 2^31 bytes or more" ∷
+    codes "resource section ends at the RVA 2^32 or after it" ∷
+    codes "image has no resource directory" ∷
+    codes "image has certificates, which have to be detached first" ∷
+    codes "data directories end after the section table starts" ∷
+    codes "alignment of sections or of their data is too small or no power of two" ∷
+    codes "no section starts at the RVA of the resource directory" ∷
+    codes "data of the resource section are in the headers, truncated or not aligned" ∷
+    codes "the entry point or another directory lies in the resource section" ∷
+    codes "COFF symbols lie in the data of the resource section" ∷
+    codes "another section shares bytes or pages with the resource section or the headers" ∷
+    codes "resources do not fit into the data of their section or into the image in memory" ∷
+    codes "resource has a range outside of the array, or an id or language above 65,535" ∷
+    codes "names of the resources have more than 16 MiB" ∷
+    codes "key of a version block has an odd number of bytes, or a code unit of zero" ∷
+    codes "text of a version block has an odd number of bytes" ∷
+    codes "version block has more than 65,535 bytes" ∷
+    []
+
+-- the text of a refusal of resources that are written, by its number from 451 on
+unfoldable pub edit_text : ℕ → List ℕ
+edit_text n = slice_index_or edit_texts n (codes "unknown result")
+
 -- the text of the number of a result
 unfoldable pub result_text : ℕ → List ℕ
 result_text n =
     if nat_lt n 100 then refusal_text n
     else (if nat_lt n 201 then other_text n
-    else (if nat_lt n 301 then sign_text (n - 201) else (if nat_lt n 401 then directory_text (n - 301) else tree_text (n - 401))))
+    else (if nat_lt n 301 then sign_text (n - 201) else (if nat_lt n 401 then directory_text (n - 301)
+    else (if nat_lt n 451 then tree_text (n - 401) else edit_text (n - 451)))))

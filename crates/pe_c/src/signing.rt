@@ -46,7 +46,7 @@ pub struct ChecksumField {
 }
 
 /// The headers of the bytes, in the mode of an image.
-fn headers_of<'a>(bytes: &'a [u8], image: &Image) -> pe_core::Result<Header<'a>>
+pub fn headers_of<'a>(bytes: &'a [u8], image: &Image) -> pe_core::Result<Header<'a>>
     ensures { ReturnsAs header_view result (headers_of bytes.entry.now image.now) }
 {
     Header::parse_with_opts(bytes, &options(image.mode))

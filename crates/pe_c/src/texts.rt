@@ -1,7 +1,7 @@
 //! The texts of the results of calls, for a caller's messages.
 
 ghost use Rattle.std.specs.Prelude.{◌≡◌, ◌≤◌, length, take, drop, ◌++◌};
-ghost use Rattle.pe_c.specs.Texts.{refusal_text, other_text, result_text, sign_text, directory_text, tree_text};
+ghost use Rattle.pe_c.specs.Texts.{refusal_text, other_text, result_text, sign_text, directory_text, tree_text, edit_text};
 
 use crate::results::{BAD_ADDRESS, BAD_OPERATION, LONG_CHAIN, MISSING, NOT_RISING, NOTHING, ROOM};
 
@@ -13,6 +13,9 @@ const DIRECTORIES: u32 = 301;
 
 /// The number of the first error of resource trees.
 const TREES: u32 = 401;
+
+/// The number of the first error of resources that are written.
+const EDITS: u32 = 451;
 
 /// The text of 0 or of the number of an error. `tools/make_errors` writes the arms.
 #[tactic(auto, unfolding(crate::specs::Texts::refusal_text))]
@@ -128,6 +131,36 @@ fn tree_text(number: u32) -> &'static str
     }
 }
 
+/// The text of an error of resources that are written, by its number from `EDITS` on. `tools/make_errors` writes the arms.
+#[tactic(auto, unfolding(crate::specs::Texts::edit_text))]
+fn edit_text(number: u32) -> &'static str
+    ensures { result.now ≡ edit_text number }
+{
+    match number {
+        0 => "more than 65,535 resources",
+        1 => "type or name of a resource has an odd number of bytes or is too long",
+        2 => "resource is not sorted after the one before it",
+        3 => "directories and names of the resources have 2^31 bytes or more",
+        4 => "resource section ends at the RVA 2^32 or after it",
+        5 => "image has no resource directory",
+        6 => "image has certificates, which have to be detached first",
+        7 => "data directories end after the section table starts",
+        8 => "alignment of sections or of their data is too small or no power of two",
+        9 => "no section starts at the RVA of the resource directory",
+        10 => "data of the resource section are in the headers, truncated or not aligned",
+        11 => "the entry point or another directory lies in the resource section",
+        12 => "COFF symbols lie in the data of the resource section",
+        13 => "another section shares bytes or pages with the resource section or the headers",
+        14 => "resources do not fit into the data of their section or into the image in memory",
+        15 => "resource has a range outside of the array, or an id or language above 65,535",
+        16 => "names of the resources have more than 16 MiB",
+        17 => "key of a version block has an odd number of bytes, or a code unit of zero",
+        18 => "text of a version block has an odd number of bytes",
+        19 => "version block has more than 65,535 bytes",
+        _ => "unknown result",
+    }
+}
+
 /// The text of the number of a result.
 #[tactic(auto, unfolding(crate::specs::Texts::result_text))]
 fn text_of(number: u32) -> &'static str
@@ -141,8 +174,10 @@ fn text_of(number: u32) -> &'static str
         sign_text(number - SIGNING)
     } else if number < TREES {
         directory_text(number - DIRECTORIES)
-    } else {
+    } else if number < EDITS {
         tree_text(number - TREES)
+    } else {
+        edit_text(number - EDITS)
     }
 }
 

@@ -1,16 +1,15 @@
 -- The loops over contents, data entries and names.
 use Rattle.std.proofs.Common.{◌≡◌, ℕ, ◌+◌, ◌-◌, ◌*◌, ◌/◌, ◌<◌, ◌≤◌, List, [], ◌∷◌, ◌++◌, length, drop, get_or, replicate, ap, sym, ◌∙◌, subst, arith, length-append}
-use Rattle.std.proofs.lemmas.List.{append_assoc, length-map, length-replicate}
+use Rattle.std.proofs.lemmas.List.{append_assoc, drop_all, length-replicate}
 use Rattle.std.specs.Borrow.{Bor}
 use Rattle.pe_core.specs.Bytes.{bytes_of, splice}
 use Rattle.pe_core.proofs.Splices.{length-bytes_of, splice-splice}
-use Rattle.pe_edit.specs.declared.leaf.Resource.{Resource}
 use Rattle.pe_edit.specs.declared.leaf.ResourceKey.{ResourceKey}
 use Rattle.pe_edit.specs.declared.leaf.ResourceKey.TheVariants as keys
-use Rattle.pe_edit.specs.Views.{key_view, leaf_view, leaf_views}
+use Rattle.pe_edit.specs.Views.{key_view, no_leaf}
 use Rattle.pe_edit.specs.Written.{Leaf, contents, data_entries, data_entry, name_bytes, padded_content, padded_length, padded_size, total}
 use Rattle.pe_edit.proofs.Reading.{padded_more}
-use Rattle.pe_edit.proofs.RunsAt.{leaf_at, no_leaf_at}
+use Rattle.pe_edit.proofs.RunsAt.{leaf_at}
 use Rattle.pe_edit.proofs.SectionRead.{length-data_entries}
 use Rattle.pe_edit.proofs.Writing.{Written, all_written, more_written, nothing_written, room_for, splice_none}
 
@@ -27,32 +26,32 @@ padded_parts b next last c p n h e f i =
     i ∙ ap (λ (x : List ℕ). splice x (p + length c) (replicate n 0)) f
     ∙ splice-splice b p c (replicate n 0) (omega (arith, h)) ∙ ap (λ (k : ℕ). splice b p (c ++ replicate k 0)) e
 
-contents_at : (xs : List Resource) (i : ℕ) (d : Resource) → i < length xs → contents (drop i (leaf_views xs)) ≡ padded_content (get_or xs i d).content.now ++ contents (drop (i + 1) (leaf_views xs))
+contents_at : (xs : List Leaf) (i : ℕ) (x : Leaf) → i < length xs → x ≡ get_or xs i no_leaf → contents (drop i xs) ≡ padded_content x.content ++ contents (drop (i + 1) xs)
 unfolding contents
-contents_at xs i d h = ap contents (leaf_at xs i d h)
+contents_at xs i x h q = ap contents (leaf_at xs i x h q)
 
 no_contents : (ys : List Leaf) → ys ≡ [] → contents ys ≡ []
 unfolding contents
 no_contents ys e = ap contents e
 
 -- the contents up to that with an index are written
-abbrev pub ContentsWritten : List ℕ → List ℕ → ℕ → ℕ → ℕ → List Resource → Type 0
-ContentsWritten old now at end i xs = Written old now at end (contents (leaf_views xs)) (contents (drop i (leaf_views xs)))
+abbrev pub ContentsWritten : List ℕ → List ℕ → ℕ → ℕ → ℕ → List Leaf → Type 0
+ContentsWritten old now at end i xs = Written old now at end (contents xs) (contents (drop i xs))
 
-pub content_room : (old now : List ℕ) (at end i : ℕ) (xs : List Resource) (d : Resource) → i < length xs → ContentsWritten old now at end i xs → end + length (padded_content (get_or xs i d).content.now) ≤ length now
-content_room old now at end i xs d h w =
-    room_for old now at end (contents (leaf_views xs)) (padded_content (get_or xs i d).content.now) (contents (drop (i + 1) (leaf_views xs)))
-    (subst (λ (r : List ℕ). Written old now at end (contents (leaf_views xs)) r) (contents_at xs i d h) w)
+pub content_room : (old now : List ℕ) (at end i : ℕ) (xs : List Leaf) (x : Leaf) → i < length xs → x ≡ get_or xs i no_leaf → ContentsWritten old now at end i xs → end + length (padded_content x.content) ≤ length now
+content_room old now at end i xs x h q w =
+    room_for old now at end (contents xs) (padded_content x.content) (contents (drop (i + 1) xs))
+    (subst (λ (r : List ℕ). Written old now at end (contents xs) r) (contents_at xs i x h q) w)
 
-pub content_more : (old now next : List ℕ) (at end after i : ℕ) (xs : List Resource) (d : Resource) → i < length xs → ContentsWritten old now at end i xs →
-    next ≡ splice now end (padded_content (get_or xs i d).content.now) → after ≡ end + length (padded_content (get_or xs i d).content.now) → ContentsWritten old next at after (i + 1) xs
-content_more old now next at end after i xs d h w e f =
-    more_written old now next at end after (contents (leaf_views xs)) (padded_content (get_or xs i d).content.now) (contents (drop (i + 1) (leaf_views xs)))
-    (subst (λ (r : List ℕ). Written old now at end (contents (leaf_views xs)) r) (contents_at xs i d h) w) e f
+pub content_more : (old now next : List ℕ) (at end after i : ℕ) (xs : List Leaf) (x : Leaf) → i < length xs → x ≡ get_or xs i no_leaf → ContentsWritten old now at end i xs →
+    next ≡ splice now end (padded_content x.content) → after ≡ end + length (padded_content x.content) → ContentsWritten old next at after (i + 1) xs
+content_more old now next at end after i xs x h q w e f =
+    more_written old now next at end after (contents xs) (padded_content x.content) (contents (drop (i + 1) xs))
+    (subst (λ (r : List ℕ). Written old now at end (contents xs) r) (contents_at xs i x h q) w) e f
 
-pub all_contents_written : (old now : List ℕ) (at end i : ℕ) (xs : List Resource) → length xs ≤ i → ContentsWritten old now at end i xs → now ≡ splice old at (contents (leaf_views xs))
+pub all_contents_written : (old now : List ℕ) (at end i : ℕ) (xs : List Leaf) → length xs ≤ i → ContentsWritten old now at end i xs → now ≡ splice old at (contents xs)
 all_contents_written old now at end i xs h w =
-    all_written old now at end (contents (leaf_views xs)) (contents (drop i (leaf_views xs))) (no_contents (drop i (leaf_views xs)) (no_leaf_at xs i h)) w
+    all_written old now at end (contents xs) (contents (drop i xs)) (no_contents (drop i xs) (drop_all i xs h)) w
 
 -- ---- data entries
 
@@ -88,59 +87,59 @@ entries_cons a x xs =
     sym (append_assoc s (t ++ (u ++ v)) rest ∙ ap (λ (l : List ℕ). s ++ l) (append_assoc t (u ++ v) rest ∙ ap (λ (l : List ℕ). t ++ l) (append_assoc u v rest)))
 
 -- the data entries up to that with an index are written; its content is at the RVA a
-pub record DataWritten (old now : List ℕ) (at end first a i : ℕ) (xs : List Resource) : Type 0 where
-  pub written : Written old now at end (data_entries first (leaf_views xs)) (data_entries a (drop i (leaf_views xs)))
-  pub sum : a + total padded_size (drop i (leaf_views xs)) < 4294967296
+pub record DataWritten (old now : List ℕ) (at end first a i : ℕ) (xs : List Leaf) : Type 0 where
+  pub written : Written old now at end (data_entries first xs) (data_entries a (drop i xs))
+  pub sum : a + total padded_size (drop i xs) < 4294967296
 
-pub no_data_written : (old : List ℕ) (at first : ℕ) (xs : List Resource) → at + 16 * length xs ≤ length old → first + total padded_size (leaf_views xs) < 4294967296 → DataWritten old old at at first first 0 xs
+pub no_data_written : (old : List ℕ) (at first : ℕ) (xs : List Leaf) → at + 16 * length xs ≤ length old → first + total padded_size xs < 4294967296 → DataWritten old old at at first first 0 xs
 no_data_written old at first xs h f = record {
-  written = nothing_written old at (data_entries first (leaf_views xs)) (omega (arith, h, length-data_entries first (leaf_views xs), length-map xs leaf_view));
+  written = nothing_written old at (data_entries first xs) (omega (arith, h, length-data_entries first xs));
   sum = f;
 }
 
-sum_at : (xs : List Resource) (i : ℕ) (d : Resource) → i < length xs → total padded_size (drop i (leaf_views xs)) ≡ padded_length (length (get_or xs i d).content.now) + total padded_size (drop (i + 1) (leaf_views xs))
+sum_at : (xs : List Leaf) (i : ℕ) (x : Leaf) → i < length xs → x ≡ get_or xs i no_leaf → total padded_size (drop i xs) ≡ padded_length (length x.content) + total padded_size (drop (i + 1) xs)
 unfolding total
-sum_at xs i d h = ap (total padded_size) (leaf_at xs i d h)
+sum_at xs i x h q = ap (total padded_size) (leaf_at xs i x h q)
 
-pub data_small : (old now : List ℕ) (at end first a i : ℕ) (xs : List Resource) (d : Resource) → i < length xs → DataWritten old now at end first a i xs → a + padded_length (length (get_or xs i d).content.now) < 4294967296
-data_small old now at end first a i xs d h w = omega (arith, w.sum, sum_at xs i d h)
+pub data_small : (old now : List ℕ) (at end first a i : ℕ) (xs : List Leaf) (x : Leaf) → i < length xs → x ≡ get_or xs i no_leaf → DataWritten old now at end first a i xs → a + padded_length (length x.content) < 4294967296
+data_small old now at end first a i xs x h q w = omega (arith, w.sum, sum_at xs i x h q)
 
-pub size_small : (old now : List ℕ) (at end first a i : ℕ) (xs : List Resource) (d : Resource) → i < length xs → DataWritten old now at end first a i xs → length (get_or xs i d).content.now < 4294967296
-size_small old now at end first a i xs d h w = omega (arith, data_small old now at end first a i xs d h w, padded_more (length (get_or xs i d).content.now))
+pub size_small : (old now : List ℕ) (at end first a i : ℕ) (xs : List Leaf) (x : Leaf) → i < length xs → x ≡ get_or xs i no_leaf → DataWritten old now at end first a i xs → length x.content < 4294967296
+size_small old now at end first a i xs x h q w = omega (arith, data_small old now at end first a i xs x h q w, padded_more (length x.content))
 
-data_rest : (old now : List ℕ) (at end first a i : ℕ) (xs : List Resource) (d : Resource) → i < length xs → DataWritten old now at end first a i xs →
-    Written old now at end (data_entries first (leaf_views xs)) (data_entry a (length (get_or xs i d).content.now) (get_or xs i d).code_page ++ data_entries (a + padded_length (length (get_or xs i d).content.now)) (drop (i + 1) (leaf_views xs)))
-data_rest old now at end first a i xs d h w =
-    subst (λ (r : List ℕ). Written old now at end (data_entries first (leaf_views xs)) r) (ap (data_entries a) (leaf_at xs i d h) ∙ entries_cons a (leaf_view (get_or xs i d)) (drop (i + 1) (leaf_views xs))) w.written
+data_rest : (old now : List ℕ) (at end first a i : ℕ) (xs : List Leaf) (x : Leaf) → i < length xs → x ≡ get_or xs i no_leaf → DataWritten old now at end first a i xs →
+    Written old now at end (data_entries first xs) (data_entry a (length x.content) x.code_page ++ data_entries (a + padded_length (length x.content)) (drop (i + 1) xs))
+data_rest old now at end first a i xs x h q w =
+    subst (λ (r : List ℕ). Written old now at end (data_entries first xs) r) (ap (data_entries a) (leaf_at xs i x h q) ∙ entries_cons a x (drop (i + 1) xs)) w.written
 
-pub data_room : (old now : List ℕ) (at end first a i : ℕ) (xs : List Resource) (d : Resource) → i < length xs → DataWritten old now at end first a i xs → end + 16 ≤ length now
-data_room old now at end first a i xs d h w =
-    let x : List ℕ = data_entry a (length (get_or xs i d).content.now) (get_or xs i d).code_page in
-    let room : end + length x ≤ length now = room_for old now at end (data_entries first (leaf_views xs)) x (data_entries (a + padded_length (length (get_or xs i d).content.now)) (drop (i + 1) (leaf_views xs))) (data_rest old now at end first a i xs d h w) in
-    omega (arith, room, length-data_entry a (length (get_or xs i d).content.now) (get_or xs i d).code_page)
+pub data_room : (old now : List ℕ) (at end first a i : ℕ) (xs : List Leaf) (x : Leaf) → i < length xs → x ≡ get_or xs i no_leaf → DataWritten old now at end first a i xs → end + 16 ≤ length now
+data_room old now at end first a i xs x h q w =
+    let t : List ℕ = data_entry a (length x.content) x.code_page in
+    let room : end + length t ≤ length now = room_for old now at end (data_entries first xs) t (data_entries (a + padded_length (length x.content)) (drop (i + 1) xs)) (data_rest old now at end first a i xs x h q w) in
+    omega (arith, room, length-data_entry a (length x.content) x.code_page)
 
-pub data_more : (old now next : List ℕ) (at end first a i : ℕ) (xs : List Resource) (d : Resource) (after to n g : ℕ) → i < length xs → DataWritten old now at end first a i xs →
-    n ≡ length (get_or xs i d).content.now → g ≡ (get_or xs i d).code_page → next ≡ splice now end (data_entry a n g) → to ≡ a + padded_length n → after ≡ end + 16 →
+pub data_more : (old now next : List ℕ) (at end first a i : ℕ) (xs : List Leaf) (x : Leaf) (after to n g : ℕ) → i < length xs → x ≡ get_or xs i no_leaf → DataWritten old now at end first a i xs →
+    n ≡ length x.content → g ≡ x.code_page → next ≡ splice now end (data_entry a n g) → to ≡ a + padded_length n → after ≡ end + 16 →
     DataWritten old next at after first to (i + 1) xs
-data_more old now next at end first a i xs d after to n g h w en eg is et ea =
-    let m : ℕ = length (get_or xs i d).content.now in
-    let k : ℕ = (get_or xs i d).code_page in
+data_more old now next at end first a i xs x after to n g h q w en eg is et ea =
+    let m : ℕ = length x.content in
+    let k : ℕ = x.code_page in
     let same : data_entry a n g ≡ data_entry a m k = ap (λ (j : ℕ). data_entry a j g) en ∙ ap (λ (j : ℕ). data_entry a m j) eg in
     let place : to ≡ a + padded_length m = et ∙ ap (λ (j : ℕ). a + padded_length j) en in
     record {
-      written = subst (λ (j : ℕ). Written old next at after (data_entries first (leaf_views xs)) (data_entries j (drop (i + 1) (leaf_views xs)))) (sym place)
-          (more_written old now next at end after (data_entries first (leaf_views xs)) (data_entry a m k) (data_entries (a + padded_length m) (drop (i + 1) (leaf_views xs))) (data_rest old now at end first a i xs d h w)
+      written = subst (λ (j : ℕ). Written old next at after (data_entries first xs) (data_entries j (drop (i + 1) xs))) (sym place)
+          (more_written old now next at end after (data_entries first xs) (data_entry a m k) (data_entries (a + padded_length m) (drop (i + 1) xs)) (data_rest old now at end first a i xs x h q w)
           (is ∙ ap (splice now end) same) (omega (arith, ea, length-data_entry a m k)));
-      sum = omega (arith, w.sum, sum_at xs i d h, place);
+      sum = omega (arith, w.sum, sum_at xs i x h q, place);
     }
 
 no_entries : (a : ℕ) (ys : List Leaf) → ys ≡ [] → data_entries a ys ≡ []
 unfolding data_entries
 no_entries a ys e = ap (data_entries a) e
 
-pub all_data_written : (old now : List ℕ) (at end first a i : ℕ) (xs : List Resource) → length xs ≤ i → DataWritten old now at end first a i xs → now ≡ splice old at (data_entries first (leaf_views xs))
+pub all_data_written : (old now : List ℕ) (at end first a i : ℕ) (xs : List Leaf) → length xs ≤ i → DataWritten old now at end first a i xs → now ≡ splice old at (data_entries first xs)
 all_data_written old now at end first a i xs h w =
-    all_written old now at end (data_entries first (leaf_views xs)) (data_entries a (drop i (leaf_views xs))) (no_entries a (drop i (leaf_views xs)) (no_leaf_at xs i h)) w.written
+    all_written old now at end (data_entries first xs) (data_entries a (drop i xs)) (no_entries a (drop i xs) (drop_all i xs h)) w.written
 
 -- ---- names
 

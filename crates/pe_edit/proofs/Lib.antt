@@ -6,6 +6,7 @@ pub mod Reading
 pub mod Levels
 pub mod SectionRead
 pub mod Writing
+pub mod LeafLists
 pub mod RunsAt
 pub mod Entries
 pub mod DirectoryLoops
@@ -18,3 +19,4 @@ pub mod Units
 pub mod Layouts
 pub mod Turns
 pub mod Results
+pub mod Records

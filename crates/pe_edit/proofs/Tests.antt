@@ -3,57 +3,54 @@ use Rattle.std.proofs.Common.{◌≡◌, ℕ, ◌+◌, ◌-◌, ◌<◌, ◌≤�
 use Rattle.std.specs.Prelude.{◌%◌, ◌==◌, if◌then◌else◌, nat_lt}
 use Rattle.std.specs.List.{list_all}
 use Rattle.std.proofs.lemmas.Bool.Decides.{nat_tests}
-use Rattle.std.proofs.lemmas.List.{length-map}
+use Rattle.std.proofs.lemmas.List.{drop_all}
 use Rattle.pe_core.specs.Refusals.{outcome}
 use Rattle.pe_edit.specs.declared.layout.Layout.{Layout}
-use Rattle.pe_edit.specs.declared.leaf.Resource.{Resource}
 use Rattle.pe_edit.specs.declared.section.Measured.{Measured}
 use Rattle.pe_edit.specs.EditRefusals.{EditRefusal, leaf_tests, section_of}
 use Rattle.pe_edit.specs.EditRefusals as refusals
 use Rattle.pe_edit.specs.Levels.{end_below, measured_of}
 use Rattle.pe_edit.specs.Sorted.{is_sorted, leaf_before}
-use Rattle.pe_edit.specs.Views.{leaf_view, leaf_views}
+use Rattle.pe_edit.specs.Views.{no_leaf}
 use Rattle.pe_edit.specs.Written.{Accepted, Each, Fits, Id, Key, KeyFits, Leaf, LeafFits, Name, NameFits, NamesFit, KeyNumber, Numbers, layout_of, name_fits, names_fit, padded_length, padded_size, section, section_length, total}
 use Rattle.pe_edit.proofs.Reading.{padded_more}
-use Rattle.pe_edit.proofs.RunsAt.{leaf_at, no_leaf_at}
+use Rattle.pe_edit.proofs.RunsAt.{leaf_at}
 
 -- ---- the tests of each leaf
 
-fit_at : (xs : List Resource) (i : ℕ) (d : Resource) → i < length xs → list_all names_fit (drop i (leaf_views xs)) ≡ (names_fit (leaf_view (get_or xs i d)) && list_all names_fit (drop (i + 1) (leaf_views xs)))
-fit_at xs i d h = ap (list_all names_fit) (leaf_at xs i d h)
+fit_at : (xs : List Leaf) (i : ℕ) (x : Leaf) → i < length xs → x ≡ get_or xs i no_leaf → list_all names_fit (drop i xs) ≡ (names_fit x && list_all names_fit (drop (i + 1) xs))
+fit_at xs i x h q = ap (list_all names_fit) (leaf_at xs i x h q)
 
-pub more_fit : (xs : List Resource) (i : ℕ) (d : Resource) → i < length xs → names_fit (leaf_view (get_or xs i d)) ≡ true → list_all names_fit (drop i (leaf_views xs)) ≡ list_all names_fit (leaf_views xs) → list_all names_fit (drop (i + 1) (leaf_views xs)) ≡ list_all names_fit (leaf_views xs)
-more_fit xs i d h e f = sym (fit_at xs i d h ∙ ap (λ (t : Bool). t && list_all names_fit (drop (i + 1) (leaf_views xs))) e) ∙ f
+pub more_fit : (xs : List Leaf) (i : ℕ) (x : Leaf) → i < length xs → x ≡ get_or xs i no_leaf → names_fit x ≡ true → list_all names_fit (drop i xs) ≡ list_all names_fit xs → list_all names_fit (drop (i + 1) xs) ≡ list_all names_fit xs
+more_fit xs i x h q e f = sym (fit_at xs i x h q ∙ ap (λ (t : Bool). t && list_all names_fit (drop (i + 1) xs)) e) ∙ f
 
-pub one_unfit : (xs : List Resource) (i : ℕ) (d : Resource) → i < length xs → names_fit (leaf_view (get_or xs i d)) ≡ false → list_all names_fit (drop i (leaf_views xs)) ≡ list_all names_fit (leaf_views xs) → list_all names_fit (leaf_views xs) ≡ false
-one_unfit xs i d h e f = sym f ∙ fit_at xs i d h ∙ ap (λ (t : Bool). t && list_all names_fit (drop (i + 1) (leaf_views xs))) e
+pub one_unfit : (xs : List Leaf) (i : ℕ) (x : Leaf) → i < length xs → x ≡ get_or xs i no_leaf → names_fit x ≡ false → list_all names_fit (drop i xs) ≡ list_all names_fit xs → list_all names_fit xs ≡ false
+one_unfit xs i x h q e f = sym f ∙ fit_at xs i x h q ∙ ap (λ (t : Bool). t && list_all names_fit (drop (i + 1) xs)) e
 
-pub all_fit : (xs : List Resource) (i : ℕ) → length xs ≤ i → list_all names_fit (drop i (leaf_views xs)) ≡ list_all names_fit (leaf_views xs) → list_all names_fit (leaf_views xs) ≡ true
-all_fit xs i h f = sym f ∙ ap (list_all names_fit) (no_leaf_at xs i h)
+pub all_fit : (xs : List Leaf) (i : ℕ) → length xs ≤ i → list_all names_fit (drop i xs) ≡ list_all names_fit xs → list_all names_fit xs ≡ true
+all_fit xs i h f = sym f ∙ ap (list_all names_fit) (drop_all i xs h)
 
 -- ---- the order
 
-two_at : (xs : List Resource) (i : ℕ) (d : Resource) → 0 < i → i < length xs → drop (i - 1) (leaf_views xs) ≡ leaf_view (get_or xs (i - 1) d) ∷ drop i (leaf_views xs)
-two_at xs i d some h =
-    leaf_at xs (i - 1) d (omega (arith, some, h))
-    ∙ ap (λ (k : ℕ). leaf_view (get_or xs (i - 1) d) ∷ drop k (leaf_views xs)) (omega (arith, some))
+two_at : (xs : List Leaf) (i : ℕ) (x : Leaf) → 0 < i → i < length xs → x ≡ get_or xs (i - 1) no_leaf → drop (i - 1) xs ≡ x ∷ drop i xs
+two_at xs i x some h q =
+    leaf_at xs (i - 1) x (omega (arith, some, h)) q ∙ ap (λ (k : ℕ). x ∷ drop k xs) (omega (arith, some))
 
 sorted_cons : (x y : Leaf) (ys zs : List Leaf) → zs ≡ y ∷ ys → is_sorted (x ∷ zs) ≡ (leaf_before x y && is_sorted zs)
 unfolding is_sorted
 sorted_cons x y ys zs e = ap (λ (l : List Leaf). is_sorted (x ∷ l)) e ∙ ap (λ (l : List Leaf). leaf_before x y && is_sorted l) (sym e)
 
-sorted_at : (xs : List Resource) (i : ℕ) (d : Resource) → 0 < i → i < length xs → is_sorted (drop (i - 1) (leaf_views xs)) ≡ (leaf_before (leaf_view (get_or xs (i - 1) d)) (leaf_view (get_or xs i d)) && is_sorted (drop i (leaf_views xs)))
-sorted_at xs i d some h =
-    ap is_sorted (two_at xs i d some h)
-    ∙ sorted_cons (leaf_view (get_or xs (i - 1) d)) (leaf_view (get_or xs i d)) (drop (i + 1) (leaf_views xs)) (drop i (leaf_views xs)) (leaf_at xs i d h)
+sorted_at : (xs : List Leaf) (i : ℕ) (x y : Leaf) → 0 < i → i < length xs → x ≡ get_or xs (i - 1) no_leaf → y ≡ get_or xs i no_leaf → is_sorted (drop (i - 1) xs) ≡ (leaf_before x y && is_sorted (drop i xs))
+sorted_at xs i x y some h p q =
+    ap is_sorted (two_at xs i x some h p) ∙ sorted_cons x y (drop (i + 1) xs) (drop i xs) (leaf_at xs i y h q)
 
-pub more_sorted : (xs : List Resource) (i : ℕ) (d : Resource) → 0 < i → i < length xs → leaf_before (leaf_view (get_or xs (i - 1) d)) (leaf_view (get_or xs i d)) ≡ true → is_sorted (drop (i - 1) (leaf_views xs)) ≡ is_sorted (leaf_views xs) → is_sorted (drop (i + 1 - 1) (leaf_views xs)) ≡ is_sorted (leaf_views xs)
-more_sorted xs i d some h e f =
-    ap (λ (k : ℕ). is_sorted (drop k (leaf_views xs))) (omega arith)
-    ∙ sym (sorted_at xs i d some h ∙ ap (λ (t : Bool). t && is_sorted (drop i (leaf_views xs))) e) ∙ f
+pub more_sorted : (xs : List Leaf) (i : ℕ) (x y : Leaf) → 0 < i → i < length xs → x ≡ get_or xs (i - 1) no_leaf → y ≡ get_or xs i no_leaf → leaf_before x y ≡ true → is_sorted (drop (i - 1) xs) ≡ is_sorted xs → is_sorted (drop (i + 1 - 1) xs) ≡ is_sorted xs
+more_sorted xs i x y some h p q e f =
+    ap (λ (k : ℕ). is_sorted (drop k xs)) (omega arith)
+    ∙ sym (sorted_at xs i x y some h p q ∙ ap (λ (t : Bool). t && is_sorted (drop i xs)) e) ∙ f
 
-pub one_unsorted : (xs : List Resource) (i : ℕ) (d : Resource) → 0 < i → i < length xs → leaf_before (leaf_view (get_or xs (i - 1) d)) (leaf_view (get_or xs i d)) ≡ false → is_sorted (drop (i - 1) (leaf_views xs)) ≡ is_sorted (leaf_views xs) → is_sorted (leaf_views xs) ≡ false
-one_unsorted xs i d some h e f = sym f ∙ sorted_at xs i d some h ∙ ap (λ (t : Bool). t && is_sorted (drop i (leaf_views xs))) e
+pub one_unsorted : (xs : List Leaf) (i : ℕ) (x y : Leaf) → 0 < i → i < length xs → x ≡ get_or xs (i - 1) no_leaf → y ≡ get_or xs i no_leaf → leaf_before x y ≡ false → is_sorted (drop (i - 1) xs) ≡ is_sorted xs → is_sorted xs ≡ false
+one_unsorted xs i x y some h p q e f = sym f ∙ sorted_at xs i x y some h p q ∙ ap (λ (t : Bool). t && is_sorted (drop i xs)) e
 
 short_sorted : (ys : List Leaf) → length ys ≤ 1 → is_sorted ys ≡ true
 unfolding is_sorted
@@ -61,19 +58,19 @@ short_sorted [] h = refl
 short_sorted (x ∷ []) h = refl
 short_sorted (x ∷ y ∷ ys) h = absurd (omega (arith, h))
 
-pub all_sorted : (xs : List Resource) (i : ℕ) → 0 < i → length xs ≤ i → is_sorted (drop (i - 1) (leaf_views xs)) ≡ is_sorted (leaf_views xs) → is_sorted (leaf_views xs) ≡ true
-all_sorted xs i some h f = sym f ∙ short_sorted (drop (i - 1) (leaf_views xs)) (omega (arith, length-drop (i - 1) (leaf_views xs), length-map xs leaf_view, some, h))
+pub all_sorted : (xs : List Leaf) (i : ℕ) → 0 < i → length xs ≤ i → is_sorted (drop (i - 1) xs) ≡ is_sorted xs → is_sorted xs ≡ true
+all_sorted xs i some h f = sym f ∙ short_sorted (drop (i - 1) xs) (omega (arith, length-drop (i - 1) xs, some, h))
 
 -- ---- the end
 
 -- where the contents up to one end, below 2^32
-pub more_end : (xs : List Resource) (i : ℕ) (d : Resource) → i < length xs → total padded_size (drop i (leaf_views xs)) ≡ padded_length (length (get_or xs i d).content.now) + total padded_size (drop (i + 1) (leaf_views xs))
+pub more_end : (xs : List Leaf) (i : ℕ) (x : Leaf) → i < length xs → x ≡ get_or xs i no_leaf → total padded_size (drop i xs) ≡ padded_length (length x.content) + total padded_size (drop (i + 1) xs)
 unfolding total
-more_end xs i d h = ap (total padded_size) (leaf_at xs i d h)
+more_end xs i x h q = ap (total padded_size) (leaf_at xs i x h q)
 
-pub no_more : (xs : List Resource) (i : ℕ) → length xs ≤ i → total padded_size (drop i (leaf_views xs)) ≡ 0
+pub no_more : (xs : List Leaf) (i : ℕ) → length xs ≤ i → total padded_size (drop i xs) ≡ 0
 unfolding total
-no_more xs i h = ap (total padded_size) (no_leaf_at xs i h)
+no_more xs i h = ap (total padded_size) (drop_all i xs h)
 
 pub end_is : (n m : ℕ) → m ≡ n → n < 4294967296 → ◌≡◌ {A = Option ℕ} (Some n) (if nat_lt m 4294967296 then Some m else None)
 end_is n m e h = rw e (let t : nat_lt n 4294967296 ≡ true = grind (arith, nat_tests, h) in rw t refl)
@@ -240,10 +237,10 @@ ends_none rva start xs l is at h =
     omega (arith, none_below (start + total padded_size xs) (nat_lt (start + total padded_size xs) 4294967296) refl h, sum)
 
 -- the contents end after 4 GB: by one of them, or by those up to one
-pub content_too_large : (xs : List Resource) (start end i : ℕ) (d : Resource) → i < length xs → end + total padded_size (drop i (leaf_views xs)) ≡ start + total padded_size (leaf_views xs) → 4294967296 ≤ length (get_or xs i d).content.now →
-    None ≡ end_below start (leaf_views xs)
-content_too_large xs start end i d h e f =
-    no_end (start + total padded_size (leaf_views xs)) (omega (arith, e, more_end xs i d h, padded_more (length (get_or xs i d).content.now), f))
+pub content_too_large : (xs : List Leaf) (start end i : ℕ) (x : Leaf) → i < length xs → x ≡ get_or xs i no_leaf → end + total padded_size (drop i xs) ≡ start + total padded_size xs → 4294967296 ≤ length x.content →
+    None ≡ end_below start xs
+content_too_large xs start end i x h q e f =
+    no_end (start + total padded_size xs) (omega (arith, e, more_end xs i x h q, padded_more (length x.content), f))
 
-pub end_too_large : (xs : List Resource) (start end i : ℕ) → end + total padded_size (drop i (leaf_views xs)) ≡ start + total padded_size (leaf_views xs) → 4294967296 ≤ end → None ≡ end_below start (leaf_views xs)
-end_too_large xs start end i e f = no_end (start + total padded_size (leaf_views xs)) (omega (arith, e, f))
+pub end_too_large : (xs : List Leaf) (start end i : ℕ) → end + total padded_size (drop i xs) ≡ start + total padded_size xs → 4294967296 ≤ end → None ≡ end_below start xs
+end_too_large xs start end i e f = no_end (start + total padded_size xs) (omega (arith, e, f))

@@ -6,3 +6,4 @@ pub mod EditRefusals
 pub mod Found
 pub mod Views
 pub mod Levels
+pub mod RecordRefusals

@@ -9,7 +9,8 @@ ghost use Rattle.pe_edit.specs.Levels.{AllPartsFit, PartsFit, above, after_direc
 ghost use Rattle.pe_edit.specs.Views.{key_view, leaf_views};
 ghost use Rattle.pe_edit.specs.Written.{Each, NamesFit, directory_to, entries_to, key_number, name_size};
 
-use crate::leaf::{Resource, ResourceKey};
+use crate::leaf::ResourceKey;
+use crate::leaves::Leaves;
 use crate::level::{Level, SIZE_OF_DIRECTORY, SIZE_OF_ENTRY};
 use pe_core::{set_u16, set_u32, set_zeros};
 
@@ -50,36 +51,38 @@ fn key_number(key: &ResourceKey<'_>, name: usize) -> u32
 }
 
 /// Writes the entries of a directory. Returns what follows them.
-fn set_entries(out: &mut [u8], level: Level, leaves: &[Resource<'_>], at: Cursor) -> Cursor
+fn set_entries(out: &mut [u8], level: Level, leaves: &Leaves<'_>, at: Cursor) -> Cursor
     requires room { at.end + 8 * length (runs_of level (leaf_views leaves.now)) ≤ length out.old }
-    requires few { length leaves.now < 65536 }
+    requires few { length (leaf_views leaves.now) < 65536 }
     requires fits { Each NamesFit (leaf_views leaves.now) }
     requires parts { PartsFit level at (runs_of level (leaf_views leaves.now)) }
     ensures after { out.new ≡ splice out.old at.end (entries_to
         (key_at level) (size_at level) at.name at.part (runs_of level (leaf_views leaves.now))) }
     ensures next { result ≡ after_entries level at (runs_of level (leaf_views leaves.now)) }
 {
+    let count = leaves.len();
     let mut now = at;
     let mut start = 0;
-    while start < leaves.len() {
+    while start < count {
         let run = level.run_from(leaves, start);
-        let key = level.key(run);
+        let key = level.key(&run);
         set_entry(out, now.end, key_number(&key, now.name), now.part as u32);
         now = Cursor {
             end: now.end + SIZE_OF_ENTRY,
             name: now.name + key.name_size(),
-            part: now.part + level.part_size(run),
+            part: now.part + level.part_size(&run),
         };
-        start += run.len();
+        let size = run.len();
+        start += size;
     }
     now
 }
 
 /// Writes a directory with its entries. Returns what follows it.
 #[tactic(auto, using(crate::proofs::DirectoryLoops::directory_parts))]
-pub fn set_directory(out: &mut [u8], level: Level, leaves: &[Resource<'_>], at: Cursor) -> Cursor
+pub fn set_directory(out: &mut [u8], level: Level, leaves: &Leaves<'_>, at: Cursor) -> Cursor
     requires room { at.end + (16 + 8 * length (runs_of level (leaf_views leaves.now))) ≤ length out.old }
-    requires few { length leaves.now < 65536 }
+    requires few { length (leaf_views leaves.now) < 65536 }
     requires fits { Each NamesFit (leaf_views leaves.now) }
     requires parts { PartsFit level at (runs_of level (leaf_views leaves.now)) }
     ensures after { out.new ≡ splice out.old at.end (directory_to
@@ -99,20 +102,22 @@ pub fn set_directory(out: &mut [u8], level: Level, leaves: &[Resource<'_>], at: 
 }
 
 /// Writes the directories of this level, one for each entry of those of the level above.
-pub fn set_directories(out: &mut [u8], level: Level, leaves: &[Resource<'_>], at: Cursor)
+pub fn set_directories(out: &mut [u8], level: Level, leaves: &Leaves<'_>, at: Cursor)
     requires room { at.end + length (directories_at
         level at.name at.part (runs_of (above level) (leaf_views leaves.now))) ≤ length out.old }
-    requires few { length leaves.now < 65536 }
+    requires few { length (leaf_views leaves.now) < 65536 }
     requires fits { Each NamesFit (leaf_views leaves.now) }
     requires parts { AllPartsFit level at (runs_of (above level) (leaf_views leaves.now)) }
     ensures { out.new ≡ splice out.old at.end (directories_at
         level at.name at.part (runs_of (above level) (leaf_views leaves.now))) }
 {
+    let count = leaves.len();
     let mut now = at;
     let mut start = 0;
-    while start < leaves.len() {
+    while start < count {
         let run = level.above().run_from(leaves, start);
-        now = set_directory(out, level, run, now);
-        start += run.len();
+        now = set_directory(out, level, &run, now);
+        let size = run.len();
+        start += size;
     }
 }

@@ -35,3 +35,14 @@ impl From<pe_core::Error> for EditError {
         EditError::Image(error)
     }
 }
+
+/// Why records are no list of resources.
+#[derive(Debug, Drop, thiserror::Error)]
+pub enum RecordError {
+    /// The index of a record with a range that does not lie in the array, or with an id or a language of more than 16 bits.
+    #[error("record {0} has a range outside of the array, or an id or a language above 65,535")]
+    Record(usize),
+    /// The names of the records have more than 16 MiB, each counted as often as a record has it.
+    #[error("names of the records have more than 16 MiB")]
+    Names,
+}

@@ -6,7 +6,7 @@ ghost use Rattle.pe_edit.specs.Levels.{end_below};
 ghost use Rattle.pe_edit.specs.Views.{leaf_views};
 ghost use Rattle.pe_edit.specs.Written.{Each, NamesFit, layout_of, padded_length};
 
-use crate::leaf::Resource;
+use crate::leaves::Leaves;
 use crate::level::{Level, SIZE_OF_DATA_ENTRY, SIZE_OF_DIRECTORY, SIZE_OF_ENTRY};
 use pe_core::rounded_up;
 
@@ -35,21 +35,20 @@ pub struct Layout {
 impl Layout {
     /// Where the parts of the section with these leaves start.
     #[tactic(auto, using(crate::proofs::Layouts::layout_made))]
-    pub fn of(leaves: &[Resource<'_>]) -> Layout
-        requires few { length leaves.now < 65536 }
+    pub fn of(leaves: &Leaves<'_>) -> Layout
+        requires few { length (leaf_views leaves.now) < 65536 }
         requires fits { Each NamesFit (leaf_views leaves.now) }
         ensures { result ≡ layout_of (leaf_views leaves.now) }
     {
+        let count = leaves.len();
         let of_types = Level::Types.measure(leaves);
         let of_names = Level::Names.measure(leaves);
         let types = SIZE_OF_DIRECTORY + SIZE_OF_ENTRY * of_types.entries;
         let languages = types
             + SIZE_OF_DIRECTORY * of_types.entries
             + SIZE_OF_ENTRY * of_names.entries;
-        let entries = languages
-            + SIZE_OF_DIRECTORY * of_names.entries
-            + SIZE_OF_ENTRY * leaves.len();
-        let type_names = entries + SIZE_OF_DATA_ENTRY * leaves.len();
+        let entries = languages + SIZE_OF_DIRECTORY * of_names.entries + SIZE_OF_ENTRY * count;
+        let type_names = entries + SIZE_OF_DATA_ENTRY * count;
         let names = type_names + of_types.names_size;
         let names_end = names + of_names.names_size;
         Layout {
@@ -74,12 +73,13 @@ pub fn padded_length(n: usize) -> usize
 
 /// Where contents end that start at an RVA, if that is below 2^32.
 #[tactic(auto, using(crate::proofs::Tests::more_end, crate::proofs::Tests::no_more, crate::proofs::Tests::end_is, crate::proofs::Tests::no_end, crate::proofs::Tests::end_too_large))]
-pub fn contents_end(start: usize, leaves: &[Resource<'_>]) -> Option<usize>
+pub fn contents_end(start: usize, leaves: &Leaves<'_>) -> Option<usize>
     ensures { result ≡ end_below start (leaf_views leaves.now) }
 {
+    let count = leaves.len();
     let mut end = start;
-    for index in 0..leaves.len() {
-        let size = leaves[index].content.len();
+    for index in 0..count {
+        let size = leaves.at(index).content.len();
         if size >= RVA_LIMIT {
             return None;
         }

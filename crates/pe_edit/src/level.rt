@@ -9,6 +9,7 @@ ghost use Rattle.pe_edit.specs.Views.{key_view, leaf_view, leaf_views};
 ghost use Rattle.pe_edit.specs.Written.{Each, NamesFit};
 
 use crate::leaf::{Resource, ResourceKey};
+use crate::leaves::Leaves;
 
 /// The size of a directory without its entries.
 pub const SIZE_OF_DIRECTORY: usize = 16;
@@ -64,43 +65,45 @@ impl Level {
     }
 
     /// How many of the first leaves share an entry.
-    fn first_run(self, leaves: &[Resource<'_>]) -> usize
-        requires { 0 < length leaves.now }
+    fn first_run(self, leaves: &Leaves<'_>) -> usize
+        requires { 0 < length (leaf_views leaves.now) }
         ensures { result ≡ run_length (alike self) (leaf_views leaves.now) }
     {
+        let count = leaves.len();
         let mut n = 1;
-        while n < leaves.len() && self.is_alike(&leaves[n - 1], &leaves[n]) {
+        while n < count && self.is_alike(&leaves.at(n - 1), &leaves.at(n)) {
             n += 1;
         }
         n
     }
 
     /// The leaves from an index on that share an entry.
-    pub fn run_from<'b, 'a>(self, leaves: &'b [Resource<'a>], start: usize) -> &'b [Resource<'a>]
-        requires { start < length leaves.now }
-        ensures { IsRunAt self (leaf_views leaves.now) start (leaf_views result.now) }
+    pub fn run_from<'a>(self, leaves: &Leaves<'a>, start: usize) -> Leaves<'a>
+        requires { start < length (leaf_views leaves.now) }
+        ensures { IsRunAt self (leaf_views leaves.now) start (leaf_views result) }
     {
-        let left = leaves.split_at(start).1;
-        left.split_at(self.first_run(left)).0
+        let left = leaves.after(start);
+        left.first(self.first_run(&left))
     }
 
     /// The key of the entry that these leaves share.
-    pub fn key<'a>(self, run: &[Resource<'a>]) -> ResourceKey<'a>
-        requires { 0 < length run.now }
+    pub fn key<'a>(self, run: &Leaves<'a>) -> ResourceKey<'a>
+        requires { 0 < length (leaf_views run.now) }
         ensures { key_view result ≡ key_of_run self (leaf_views run.now) }
     {
+        let leaf = run.at(0);
         match self {
-            Level::Types => run[0].resource_type,
-            Level::Names => run[0].name,
-            Level::Languages => ResourceKey::Id(run[0].language),
+            Level::Types => leaf.resource_type,
+            Level::Names => leaf.name,
+            Level::Languages => ResourceKey::Id(leaf.language),
         }
     }
 
     /// The size of the part that the entry of these leaves leads to: a directory, or at the last level a data entry.
     #[tactic(auto, using(crate::proofs::Entries::size_of_type, crate::proofs::Entries::size_of_resource, crate::proofs::Entries::size_of_language))]
-    pub fn part_size(self, run: &[Resource<'_>]) -> usize
-        requires some { 0 < length run.now }
-        requires few { length run.now < 65536 }
+    pub fn part_size(self, run: &Leaves<'_>) -> usize
+        requires some { 0 < length (leaf_views run.now) }
+        requires few { length (leaf_views run.now) < 65536 }
         requires fits { Each NamesFit (leaf_views run.now) }
         ensures { result ≡ size_of_run self (leaf_views run.now) }
     {
@@ -113,29 +116,31 @@ impl Level {
 
     /// What the entries of these leaves come to.
     #[tactic(auto, using(crate::proofs::RunsAt::run_key_fits))]
-    pub fn measure(self, leaves: &[Resource<'_>]) -> Measure
-        requires few { length leaves.now < 65536 }
+    pub fn measure(self, leaves: &Leaves<'_>) -> Measure
+        requires few { length (leaf_views leaves.now) < 65536 }
         requires fits { Each NamesFit (leaf_views leaves.now) }
         ensures value { result ≡ measure_of self (leaf_views leaves.now) }
-        ensures few { result.entries ≤ length leaves.now }
+        ensures few { result.entries ≤ length (leaf_views leaves.now) }
         ensures some { result.named ≤ result.entries }
-        ensures small { result.names_size ≤ 131074 * length leaves.now }
+        ensures small { result.names_size ≤ 131074 * length (leaf_views leaves.now) }
     {
         let mut sum = Measure {
             entries: 0,
             named: 0,
             names_size: 0,
         };
+        let count = leaves.len();
         let mut start = 0;
-        while start < leaves.len() {
+        while start < count {
             let run = self.run_from(leaves, start);
-            let key = self.key(run);
+            let key = self.key(&run);
             sum = Measure {
                 entries: sum.entries + 1,
                 named: sum.named + key.named(),
                 names_size: sum.names_size + key.name_size(),
             };
-            start += run.len();
+            let size = run.len();
+            start += size;
         }
         sum
     }

@@ -6,10 +6,14 @@ mod error;
 pub mod laws;
 mod layout;
 mod leaf;
+mod leaves;
 mod level;
 mod put;
+mod record;
 mod section;
 
-pub use error::EditError;
+pub use error::{EditError, RecordError};
 pub use leaf::{Resource, ResourceKey};
+pub use leaves::Leaves;
+pub use record::{RecordKey, RecordRange, ResourceRecord, require_records};
 pub use section::{section_len, write_section};

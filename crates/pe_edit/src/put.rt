@@ -8,7 +8,8 @@ ghost use Rattle.pe_edit.specs.Views.{key_view, leaf_views};
 ghost use Rattle.pe_edit.specs.Written.{Each, NameFits, NamesFit, contents, data_entries, data_entry, name_bytes, names, padded_content, padded_size, total};
 
 use crate::layout::padded_length;
-use crate::leaf::{Resource, ResourceKey};
+use crate::leaf::ResourceKey;
+use crate::leaves::Leaves;
 use crate::level::{Level, SIZE_OF_DATA_ENTRY};
 use pe_core::{set_slice, set_u16, set_u32, set_zeros};
 
@@ -26,13 +27,14 @@ fn set_padded(out: &mut [u8], at: usize, content: &[u8]) -> usize
 }
 
 /// Writes the contents, each with its zeros.
-pub fn set_contents(out: &mut [u8], at: usize, leaves: &[Resource<'_>])
+pub fn set_contents(out: &mut [u8], at: usize, leaves: &Leaves<'_>)
     requires { at + length (contents (leaf_views leaves.now)) ≤ length out.old }
     ensures { out.new ≡ splice out.old at (contents (leaf_views leaves.now)) }
 {
+    let count = leaves.len();
     let mut end = at;
-    for index in 0..leaves.len() {
-        end = set_padded(out, end, leaves[index].content);
+    for index in 0..count {
+        end = set_padded(out, end, leaves.at(index).content);
     }
 }
 
@@ -49,17 +51,19 @@ fn set_data_entry(out: &mut [u8], at: usize, address: u32, size: u32, code_page:
 }
 
 /// Writes the data entries; the first content is at the RVA `first`.
-pub fn set_data_entries(out: &mut [u8], at: usize, leaves: &[Resource<'_>], first: usize)
-    requires room { at + 16 * length leaves.now ≤ length out.old }
+pub fn set_data_entries(out: &mut [u8], at: usize, leaves: &Leaves<'_>, first: usize)
+    requires room { at + 16 * length (leaf_views leaves.now) ≤ length out.old }
     requires fits { first + total padded_size (leaf_views leaves.now) < 4294967296 }
     ensures { out.new ≡ splice out.old at (data_entries first (leaf_views leaves.now)) }
 {
+    let count = leaves.len();
     let mut end = at;
     let mut rva = first;
-    for index in 0..leaves.len() {
-        let size = leaves[index].content.len();
+    for index in 0..count {
+        let leaf = leaves.at(index);
+        let size = leaf.content.len();
         let padded = padded_length(size);
-        set_data_entry(out, end, rva as u32, size as u32, leaves[index].code_page);
+        set_data_entry(out, end, rva as u32, size as u32, leaf.code_page);
         rva += padded;
         end += SIZE_OF_DATA_ENTRY;
     }
@@ -85,18 +89,20 @@ fn set_name(out: &mut [u8], at: usize, key: ResourceKey<'_>) -> usize
 
 /// Writes the names of the types, or those of the resources, one after the other.
 #[tactic(auto, using(crate::proofs::Entries::name_room, crate::proofs::RunsAt::run_key_fits))]
-pub fn set_names(out: &mut [u8], at: usize, level: Level, leaves: &[Resource<'_>])
+pub fn set_names(out: &mut [u8], at: usize, level: Level, leaves: &Leaves<'_>)
     requires room { at
         + length (names (key_at level) (runs_of level (leaf_views leaves.now))) ≤ length out.old }
     requires fits { Each NamesFit (leaf_views leaves.now) }
     ensures { out.new
         ≡ splice out.old at (names (key_at level) (runs_of level (leaf_views leaves.now))) }
 {
+    let count = leaves.len();
     let mut end = at;
     let mut start = 0;
-    while start < leaves.len() {
+    while start < count {
         let run = level.run_from(leaves, start);
-        end = set_name(out, end, level.key(run));
-        start += run.len();
+        end = set_name(out, end, level.key(&run));
+        let size = run.len();
+        start += size;
     }
 }

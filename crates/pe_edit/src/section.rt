@@ -15,7 +15,7 @@ ghost use Rattle.pe_edit.specs.Written.{Accepted, layout_of, names_fit, section,
 use crate::directories::{Cursor, HIGH_BIT, set_directories, set_directory};
 use crate::error::EditError;
 use crate::layout::{Layout, contents_end};
-use crate::leaf::Resource;
+use crate::leaves::Leaves;
 use crate::level::Level;
 use crate::put::{set_contents, set_data_entries, set_names};
 use pe_core::{require_room, set_zeros};
@@ -25,11 +25,12 @@ const MOST: usize = 65_535;
 
 /// `Name` if the type or the name of a resource doesn't fit.
 #[tactic(auto, using(crate::proofs::Tests::one_unfit, crate::proofs::Tests::more_fit, crate::proofs::Tests::all_fit))]
-fn require_names(leaves: &[Resource<'_>]) -> Result<(), EditError>
+fn require_names(leaves: &Leaves<'_>) -> Result<(), EditError>
     ensures { EditReturns result (outcome ((list_all names_fit (leaf_views leaves.now), Name) ∷ []) tt) }
 {
-    for index in 0..leaves.len() {
-        if !leaves[index].fits() {
+    let count = leaves.len();
+    for index in 0..count {
+        if !leaves.at(index).fits() {
             return Err(EditError::Name(index));
         }
     }
@@ -38,12 +39,13 @@ fn require_names(leaves: &[Resource<'_>]) -> Result<(), EditError>
 
 /// `Order` if a resource does not come after the one before it.
 #[tactic(auto, using(crate::proofs::Tests::one_unsorted, crate::proofs::Tests::more_sorted, crate::proofs::Tests::all_sorted))]
-fn require_order(leaves: &[Resource<'_>]) -> Result<(), EditError>
+fn require_order(leaves: &Leaves<'_>) -> Result<(), EditError>
     ensures { EditReturns result (outcome ((is_sorted (leaf_views leaves.now), Order) ∷ []) tt) }
 {
+    let count = leaves.len();
     let mut index = 1;
-    while index < leaves.len() {
-        if !leaves[index - 1].is_before(&leaves[index]) {
+    while index < count {
+        if !leaves.at(index - 1).is_before(&leaves.at(index)) {
             return Err(EditError::Order(index));
         }
         index += 1;
@@ -59,12 +61,13 @@ pub struct Measured {
 }
 
 /// The layout of the section with these leaves, and its length. Errors: those of `section_len`, in order.
-fn section_layout(leaves: &[Resource<'_>], rva: u32) -> Result<Measured, EditError>
+fn section_layout(leaves: &Leaves<'_>, rva: u32) -> Result<Measured, EditError>
     ensures { EditReturns result
         (outcome (leaf_tests rva (leaf_views leaves.now)) (measured_of (leaf_views leaves.now))) }
 {
-    if leaves.len() > MOST {
-        return Err(EditError::TooMany(leaves.len()));
+    let count = leaves.len();
+    if count > MOST {
+        return Err(EditError::TooMany(count));
     }
     require_names(leaves)?;
     require_order(leaves)?;
@@ -82,7 +85,7 @@ fn section_layout(leaves: &[Resource<'_>], rva: u32) -> Result<Measured, EditErr
 }
 
 /// Writes the section at the start of the buffer.
-fn set_section(out: &mut [u8], layout: Layout, leaves: &[Resource<'_>], rva: u32)
+fn set_section(out: &mut [u8], layout: Layout, leaves: &Leaves<'_>, rva: u32)
     requires layout { layout ≡ layout_of (leaf_views leaves.now) }
     requires fits { Accepted rva (leaf_views leaves.now) }
     requires room { section_length (leaf_views leaves.now) ≤ length out.old }
@@ -115,7 +118,7 @@ fn set_section(out: &mut [u8], layout: Layout, leaves: &[Resource<'_>], rva: u32
 
 /// The length of the section that `write_section` writes with these arguments. Errors: those of `write_section`, but for
 /// the buffer's.
-pub fn section_len(leaves: &[Resource<'_>], rva: u32) -> Result<usize, EditError>
+pub fn section_len(leaves: &Leaves<'_>, rva: u32) -> Result<usize, EditError>
     ensures { EditReturns result (length_of (section_of rva (leaf_views leaves.now))) }
 {
     let measured = section_layout(leaves, rva)?;
@@ -133,7 +136,7 @@ pub fn section_len(leaves: &[Resource<'_>], rva: u32) -> Result<usize, EditError
 /// - `TablesTooLarge` if directories, data entries and names have 2^31 bytes or more;
 /// - `TooLarge` if the section ends at the RVA 2^32 or after it;
 /// - `Image` with `WriteFit` if the section does not fit into `out`.
-pub fn write_section(leaves: &[Resource<'_>], rva: u32, out: &mut [u8]) -> Result<usize, EditError>
+pub fn write_section(leaves: &Leaves<'_>, rva: u32, out: &mut [u8]) -> Result<usize, EditError>
     ensures { EditReturnsWritten result
         (written (section_of rva (leaf_views leaves.now)) out.old) out.old out.new }
 {

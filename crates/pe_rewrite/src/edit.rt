@@ -10,14 +10,14 @@ use crate::error::RewriteError;
 use crate::place::find_place;
 use crate::put::set_edited;
 use pe_core::{Header, require_room};
-use pe_edit::Resource;
+use pe_edit::Leaves;
 
 /// The length of the file that `write_edited` writes with these arguments, which is that of the image. Errors: those of
 /// `write_edited`, but for the buffer's.
 pub fn edited_len(
     bytes: &[u8],
     header: &Header<'_>,
-    leaves: &[Resource<'_>],
+    leaves: &Leaves<'_>,
 ) -> Result<usize, RewriteError>
     ensures { RewriteReturns result (edited_length
         (edited_of bytes.now (header_view header.now) (leaf_views leaves.now))) }
@@ -49,7 +49,7 @@ pub fn edited_len(
 pub fn write_edited(
     bytes: &[u8],
     header: &Header<'_>,
-    leaves: &[Resource<'_>],
+    leaves: &Leaves<'_>,
     out: &mut [u8],
 ) -> Result<usize, RewriteError>
     ensures { RewriteReturnsWritten result (written

@@ -17,7 +17,7 @@ use pe_core::{
     DataDirectory, Error, Header, MAGIC_64, OptionalHeader, Reason, SectionTable, require_bytes,
     rounded_up,
 };
-use pe_edit::{Resource, section_len};
+use pe_edit::{Leaves, section_len};
 
 /// The size of a section header in bytes.
 const SIZE_OF_SECTION_HEADER: usize = 40;
@@ -358,7 +358,7 @@ fn place_at(
 pub fn find_place(
     bytes: &[u8],
     header: &Header<'_>,
-    leaves: &[Resource<'_>],
+    leaves: &Leaves<'_>,
 ) -> Result<Place, RewriteError>
     ensures { RewriteReturns result
         (place_of bytes.now (header_view header.now) (leaf_views leaves.now)) }

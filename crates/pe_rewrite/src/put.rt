@@ -11,7 +11,7 @@ ghost use Rattle.pe_rewrite.specs.Edited.{Lies, edited_file, filled, sum_of};
 
 use crate::place::Place;
 use pe_core::{Header, SectionTable, set_slice, set_u32, set_zeros};
-use pe_edit::{Resource, write_section};
+use pe_edit::{Leaves, write_section};
 use pe_sign::checksum;
 
 /// The file offset of the checksum, from the PE signature on.
@@ -23,7 +23,7 @@ const VIRTUAL_SIZE: usize = 8;
 const SIZE: usize = 4;
 
 /// Writes the section with these leaves, which fills the buffer.
-fn set_section(out: &mut [u8], leaves: &[Resource<'_>], rva: u32)
+fn set_section(out: &mut [u8], leaves: &Leaves<'_>, rva: u32)
     requires made { section_of rva (leaf_views leaves.now) ≡ Ok (section rva (leaf_views leaves.now)) }
     requires room { length (section rva (leaf_views leaves.now)) ≡ length out.old }
     ensures { out.new ≡ section rva (leaf_views leaves.now) }
@@ -37,7 +37,7 @@ fn set_section(out: &mut [u8], leaves: &[Resource<'_>], rva: u32)
 
 /// Writes the section with these leaves, of `size` bytes, at an offset.
 #[tactic(auto, unfolding(pe_core::specs::Bytes::splice))]
-fn set_section_at(out: &mut [u8], offset: usize, size: usize, leaves: &[Resource<'_>], rva: u32)
+fn set_section_at(out: &mut [u8], offset: usize, size: usize, leaves: &Leaves<'_>, rva: u32)
     requires made { section_of rva (leaf_views leaves.now) ≡ Ok (section rva (leaf_views leaves.now)) }
     requires size { length (section rva (leaf_views leaves.now)) ≡ size }
     requires room { offset + size ≤ length out.old }
@@ -47,7 +47,7 @@ fn set_section_at(out: &mut [u8], offset: usize, size: usize, leaves: &[Resource
 }
 
 /// Writes the resources, of `size` bytes, over the data of their section, and zeros after them.
-fn set_resources(out: &mut [u8], header: SectionTable, size: usize, leaves: &[Resource<'_>])
+fn set_resources(out: &mut [u8], header: SectionTable, size: usize, leaves: &Leaves<'_>)
     requires made { section_of header.virtual_address (leaf_views leaves.now)
         ≡ Ok (section header.virtual_address (leaf_views leaves.now)) }
     requires size { length (section header.virtual_address (leaf_views leaves.now)) ≡ size }
@@ -83,7 +83,7 @@ pub fn set_edited(
     bytes: &[u8],
     header: &Header<'_>,
     place: Place,
-    leaves: &[Resource<'_>],
+    leaves: &Leaves<'_>,
 )
     requires lies { Lies (header_view header.now) place (length bytes.now) }
     requires made { section_of place.section.virtual_address (leaf_views leaves.now)

@@ -129,6 +129,46 @@ class Kind(enum.IntEnum):
     """resource directory below the level of languages"""
     TREE_NO_ENTRIES = 403
     """resource directory of names or languages has no entries"""
+    EDIT_TOO_MANY = 451
+    """more than 65,535 resources"""
+    EDIT_NAME = 452
+    """type or name of a resource has an odd number of bytes or is too long"""
+    EDIT_ORDER = 453
+    """resource is not sorted after the one before it"""
+    EDIT_TABLES_TOO_LARGE = 454
+    """directories and names of the resources have 2^31 bytes or more"""
+    EDIT_TOO_LARGE = 455
+    """resource section ends at the RVA 2^32 or after it"""
+    EDIT_NO_DIRECTORY = 456
+    """image has no resource directory"""
+    EDIT_SIGNED = 457
+    """image has certificates, which have to be detached first"""
+    EDIT_HEADERS = 458
+    """data directories end after the section table starts"""
+    EDIT_ALIGNMENT = 459
+    """alignment of sections or of their data is too small or no power of two"""
+    EDIT_NO_SECTION = 460
+    """no section starts at the RVA of the resource directory"""
+    EDIT_SECTION = 461
+    """data of the resource section are in the headers, truncated or not aligned"""
+    EDIT_SHARED_SECTION = 462
+    """the entry point or another directory lies in the resource section"""
+    EDIT_SYMBOLS = 463
+    """COFF symbols lie in the data of the resource section"""
+    EDIT_OVERLAP = 464
+    """another section shares bytes or pages with the resource section or the headers"""
+    EDIT_NO_ROOM = 465
+    """resources do not fit into the data of their section or into the image in memory"""
+    EDIT_RECORD = 466
+    """resource has a range outside of the array, or an id or language above 65,535"""
+    EDIT_NAMES = 467
+    """names of the resources have more than 16 MiB"""
+    BLOCK_KEY = 468
+    """key of a version block has an odd number of bytes, or a code unit of zero"""
+    BLOCK_TEXT = 469
+    """text of a version block has an odd number of bytes"""
+    BLOCK_TOO_LONG = 470
+    """version block has more than 65,535 bytes"""
     OTHER = -1
     """a number that this version does not know"""
 

@@ -1,7 +1,6 @@
 use Rattle.std.proofs.Common.{arith, subst}
-use Rattle.std.proofs.lemmas.List.{length-map}
 use Rattle.pe_edit.specs.declared.level.Level.{Level}
-use Rattle.pe_edit.specs.Views.{leaf_view, leaf_views}
+use Rattle.pe_edit.specs.Views.{leaf_views}
 use Rattle.pe_edit.specs.Levels.{IsRunAt, above}
 use Rattle.pe_edit.proofs.DirectoryLoops.{all_directories_written, directory_fits, directory_room, no_directories_written}
 use Rattle.pe_edit.proofs.RunsAt.{run_fits}
@@ -13,20 +12,20 @@ loop-start-init c = no_directories_written c.args.out.now c.args.at c.args.level
 
 pub set_directory-now-requires-clause-room : goal.set_directory-now-requires-clause-room
 set_directory-now-requires-clause-room c =
-    directory_room c.args.out.now c.loop-start.out c.args.at c.loop-start.now c.args.level (leaf_views c.args.leaves.now) (leaf_views c.run_from-run.result.now) c.loop-start.start (subst (λ (y : Level). IsRunAt y (leaf_views c.args.leaves.now) c.loop-start.start (leaf_views c.run_from-run.result.now)) c.above.ensures c.run_from-run.ensures) c.loop-start.invariant
+    directory_room c.args.out.now c.loop-start.out c.args.at c.loop-start.now c.args.level (leaf_views c.args.leaves.now) (leaf_views c.run_from-run.result) c.loop-start.start (subst (λ (y : Level). IsRunAt y (leaf_views c.args.leaves.now) c.loop-start.start (leaf_views c.run_from-run.result)) c.above.ensures c.run_from-run.ensures) c.loop-start.invariant
 
 pub set_directory-now-requires-clause-fits : goal.set_directory-now-requires-clause-fits
-set_directory-now-requires-clause-fits c = run_fits (above c.args.level) (leaf_views c.args.leaves.now) (leaf_views c.run_from-run.result.now) c.loop-start.start (subst (λ (y : Level). IsRunAt y (leaf_views c.args.leaves.now) c.loop-start.start (leaf_views c.run_from-run.result.now)) c.above.ensures c.run_from-run.ensures) c.requires.fits
+set_directory-now-requires-clause-fits c = run_fits (above c.args.level) (leaf_views c.args.leaves.now) (leaf_views c.run_from-run.result) c.loop-start.start (subst (λ (y : Level). IsRunAt y (leaf_views c.args.leaves.now) c.loop-start.start (leaf_views c.run_from-run.result)) c.above.ensures c.run_from-run.ensures) c.requires.fits
 
 pub set_directory-now-requires-clause-parts : goal.set_directory-now-requires-clause-parts
 set_directory-now-requires-clause-parts c =
-    directory_fits c.args.out.now c.loop-start.out c.args.at c.loop-start.now c.args.level (leaf_views c.args.leaves.now) (leaf_views c.run_from-run.result.now) c.loop-start.start (subst (λ (y : Level). IsRunAt y (leaf_views c.args.leaves.now) c.loop-start.start (leaf_views c.run_from-run.result.now)) c.above.ensures c.run_from-run.ensures) c.loop-start.invariant
+    directory_fits c.args.out.now c.loop-start.out c.args.at c.loop-start.now c.args.level (leaf_views c.args.leaves.now) (leaf_views c.run_from-run.result) c.loop-start.start (subst (λ (y : Level). IsRunAt y (leaf_views c.args.leaves.now) c.loop-start.start (leaf_views c.run_from-run.result)) c.above.ensures c.run_from-run.ensures) c.loop-start.invariant
 
 pub loop-start-preserved : goal.loop-start-preserved
 loop-start-preserved c =
-    directories_turn c.args.out.now c.loop-start.out c.set_directory-now.new.out c.args.at c.loop-start.now c.set_directory-now.result c.args.level c.args.leaves.now c.run_from-run.result.now c.loop-start.start
-    (subst (λ (y : Level). IsRunAt y (leaf_views c.args.leaves.now) c.loop-start.start (leaf_views c.run_from-run.result.now)) c.above.ensures c.run_from-run.ensures) c.loop-start.invariant c.set_directory-now.ensures.after c.set_directory-now.ensures.next
+    directories_turn c.args.out.now c.loop-start.out c.set_directory-now.new.out c.args.at c.loop-start.now c.set_directory-now.result c.args.level (leaf_views c.args.leaves.now) (leaf_views c.run_from-run.result) c.len-size.result c.loop-start.start
+    c.len-size.ensures (subst (λ (y : Level). IsRunAt y (leaf_views c.args.leaves.now) c.loop-start.start (leaf_views c.run_from-run.result)) c.above.ensures c.run_from-run.ensures) c.loop-start.invariant c.set_directory-now.ensures.after c.set_directory-now.ensures.next
 
 pub returns : goal.returns
 returns c =
-    all_directories_written c.args.out.now c.loop-start.out c.args.at c.loop-start.now c.args.level (leaf_views c.args.leaves.now) c.loop-start.start (omega (arith, c.loop-start-test.false, length-map c.args.leaves.now leaf_view)) c.loop-start.invariant
+    all_directories_written c.args.out.now c.loop-start.out c.args.at c.loop-start.now c.args.level (leaf_views c.args.leaves.now) c.loop-start.start (omega (arith, c.loop-start-test.false, c.len-count.ensures)) c.loop-start.invariant

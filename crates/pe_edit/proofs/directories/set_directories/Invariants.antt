@@ -1,4 +1,4 @@
-use Rattle.std.proofs.Common.{◌-◌, length}
+use Rattle.std.proofs.Common.{◌-◌}
 use Rattle.pe_edit.specs.Views.{leaf_views}
 use Rattle.pe_edit.proofs.DirectoryLoops.{DirectoriesWritten}
 use Rattle.pe_edit.proofs.directories.set_directories.Given as goal
@@ -8,4 +8,4 @@ abbrev pub invariant-loop-start : goal.invariant-loop-start
 invariant-loop-start l = DirectoriesWritten l.fn.out l.out l.fn.at l.now l.level (leaf_views l.leaves) l.start
 
 abbrev pub decreases-loop-start : goal.decreases-loop-start
-decreases-loop-start l = length l.leaves - l.start
+decreases-loop-start l = l.count - l.start

@@ -1,7 +1,6 @@
 use Rattle.std.proofs.Common.{rules, ℕ, ◌+◌, ◌<◌, ap, arith, refl}
-use Rattle.std.proofs.lemmas.List.{length-map}
 use Rattle.pe_edit.specs.Levels.{size_of_run}
-use Rattle.pe_edit.specs.Views.{key_view, leaf_view, leaf_views}
+use Rattle.pe_edit.specs.Views.{key_view, leaf_views}
 use Rattle.pe_edit.specs.Written.{name_size}
 use Rattle.pe_edit.proofs.Entries.{all_entries_written, cursor_after, entry_name, entry_part, entry_room, no_entries_written}
 use Rattle.pe_edit.proofs.RunsAt.{run_fits}
@@ -13,43 +12,43 @@ loop-start-init c = no_entries_written c.args.out.now c.args.at c.args.level (le
 
 pub key_number-requires : goal.key_number-requires
 key_number-requires c =
-    entry_name c.args.out.now c.loop-start.out c.args.at c.loop-start.now c.args.level (leaf_views c.args.leaves.now) (leaf_views c.run_from-run.result.now) c.loop-start.start (key_view c.key-key.result) c.run_from-run.ensures c.key-key.ensures c.loop-start.invariant
+    entry_name c.args.out.now c.loop-start.out c.args.at c.loop-start.now c.args.level (leaf_views c.args.leaves.now) (leaf_views c.run_from-run.result) c.loop-start.start (key_view c.key-key.result) c.run_from-run.ensures c.key-key.ensures c.loop-start.invariant
 
 pub overflow_cast-now : goal.overflow_cast-now
 overflow_cast-now c =
-    let small : c.loop-start.now.part + size_of_run c.args.level (leaf_views c.run_from-run.result.now) < 4294967296 =
-    entry_part c.args.out.now c.loop-start.out c.args.at c.loop-start.now c.args.level (leaf_views c.args.leaves.now) (leaf_views c.run_from-run.result.now) c.loop-start.start (key_view c.key-key.result) c.run_from-run.ensures c.key-key.ensures c.loop-start.invariant in
+    let small : c.loop-start.now.part + size_of_run c.args.level (leaf_views c.run_from-run.result) < 4294967296 =
+    entry_part c.args.out.now c.loop-start.out c.args.at c.loop-start.now c.args.level (leaf_views c.args.leaves.now) (leaf_views c.run_from-run.result) c.loop-start.start (key_view c.key-key.result) c.run_from-run.ensures c.key-key.ensures c.loop-start.invariant in
     search (rules, small)
 
 pub set_entry-requires : goal.set_entry-requires
 set_entry-requires c =
-    entry_room c.args.out.now c.loop-start.out c.args.at c.loop-start.now c.args.level (leaf_views c.args.leaves.now) (leaf_views c.run_from-run.result.now) c.loop-start.start (key_view c.key-key.result) c.run_from-run.ensures c.key-key.ensures c.loop-start.invariant
+    entry_room c.args.out.now c.loop-start.out c.args.at c.loop-start.now c.args.level (leaf_views c.args.leaves.now) (leaf_views c.run_from-run.result) c.loop-start.start (key_view c.key-key.result) c.run_from-run.ensures c.key-key.ensures c.loop-start.invariant
 
 pub overflow_add-now : goal.overflow_add-now
 overflow_add-now c =
     let small : c.loop-start.now.name + name_size (key_view c.key-key.result) < 2147483648 =
-    entry_name c.args.out.now c.loop-start.out c.args.at c.loop-start.now c.args.level (leaf_views c.args.leaves.now) (leaf_views c.run_from-run.result.now) c.loop-start.start (key_view c.key-key.result) c.run_from-run.ensures c.key-key.ensures c.loop-start.invariant in
+    entry_name c.args.out.now c.loop-start.out c.args.at c.loop-start.now c.args.level (leaf_views c.args.leaves.now) (leaf_views c.run_from-run.result) c.loop-start.start (key_view c.key-key.result) c.run_from-run.ensures c.key-key.ensures c.loop-start.invariant in
     search (rules, small)
 
 pub part_size-requires-clause-fits : goal.part_size-requires-clause-fits
-part_size-requires-clause-fits c = run_fits c.args.level (leaf_views c.args.leaves.now) (leaf_views c.run_from-run.result.now) c.loop-start.start c.run_from-run.ensures c.requires.fits
+part_size-requires-clause-fits c = run_fits c.args.level (leaf_views c.args.leaves.now) (leaf_views c.run_from-run.result) c.loop-start.start c.run_from-run.ensures c.requires.fits
 
 pub overflow_add-now-in-loop-start-2 : goal.overflow_add-now-in-loop-start-2
 overflow_add-now-in-loop-start-2 c =
-    let small : c.loop-start.now.part + size_of_run c.args.level (leaf_views c.run_from-run.result.now) < 4294967296 =
-    entry_part c.args.out.now c.loop-start.out c.args.at c.loop-start.now c.args.level (leaf_views c.args.leaves.now) (leaf_views c.run_from-run.result.now) c.loop-start.start (key_view c.key-key.result) c.run_from-run.ensures c.key-key.ensures c.loop-start.invariant in
+    let small : c.loop-start.now.part + size_of_run c.args.level (leaf_views c.run_from-run.result) < 4294967296 =
+    entry_part c.args.out.now c.loop-start.out c.args.at c.loop-start.now c.args.level (leaf_views c.args.leaves.now) (leaf_views c.run_from-run.result) c.loop-start.start (key_view c.key-key.result) c.run_from-run.ensures c.key-key.ensures c.loop-start.invariant in
     search (rules, small)
 
 pub loop-start-preserved : goal.loop-start-preserved
 loop-start-preserved c =
-    entries_turn c.args.out.now c.loop-start.out c.set_entry.new.out c.args.at c.loop-start.now _ c.args.level c.args.leaves.now c.run_from-run.result.now c.loop-start.start c.key_number.result (key_view c.key-key.result)
-    c.run_from-run.ensures c.key-key.ensures c.loop-start.invariant c.key_number.ensures c.set_entry.ensures refl
+    entries_turn c.args.out.now c.loop-start.out c.set_entry.new.out c.args.at c.loop-start.now _ c.args.level (leaf_views c.args.leaves.now) (leaf_views c.run_from-run.result) c.len-size.result c.loop-start.start c.key_number.result (key_view c.key-key.result)
+    c.len-size.ensures c.run_from-run.ensures c.key-key.ensures c.loop-start.invariant c.key_number.ensures c.set_entry.ensures refl
     (ap (λ (n : ℕ). c.loop-start.now.name + n) c.name_size.ensures) (ap (λ (n : ℕ). c.loop-start.now.part + n) c.part_size.ensures)
 
 pub returns-clause-after : goal.returns-clause-after
 returns-clause-after c =
-    all_entries_written c.args.out.now c.loop-start.out c.args.at c.loop-start.now c.args.level (leaf_views c.args.leaves.now) c.loop-start.start (omega (arith, c.loop-start-test.false, length-map c.args.leaves.now leaf_view)) c.loop-start.invariant
+    all_entries_written c.args.out.now c.loop-start.out c.args.at c.loop-start.now c.args.level (leaf_views c.args.leaves.now) c.loop-start.start (omega (arith, c.loop-start-test.false, c.len-count.ensures)) c.loop-start.invariant
 
 pub returns-clause-next : goal.returns-clause-next
 returns-clause-next c =
-    cursor_after c.args.out.now c.loop-start.out c.args.at c.loop-start.now c.args.level (leaf_views c.args.leaves.now) c.loop-start.start (omega (arith, c.loop-start-test.false, length-map c.args.leaves.now leaf_view)) c.loop-start.invariant
+    cursor_after c.args.out.now c.loop-start.out c.args.at c.loop-start.now c.args.level (leaf_views c.args.leaves.now) c.loop-start.start (omega (arith, c.loop-start-test.false, c.len-count.ensures)) c.loop-start.invariant

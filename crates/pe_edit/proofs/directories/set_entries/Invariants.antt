@@ -1,4 +1,4 @@
-use Rattle.std.proofs.Common.{◌-◌, length}
+use Rattle.std.proofs.Common.{◌-◌}
 use Rattle.pe_edit.specs.Views.{leaf_views}
 use Rattle.pe_edit.proofs.Entries.{EntriesWritten}
 use Rattle.pe_edit.proofs.directories.set_entries.Given as goal
@@ -8,4 +8,4 @@ abbrev pub invariant-loop-start : goal.invariant-loop-start
 invariant-loop-start l = EntriesWritten l.fn.out l.out l.fn.at l.now l.level (leaf_views l.leaves) l.start
 
 abbrev pub decreases-loop-start : goal.decreases-loop-start
-decreases-loop-start l = length l.leaves - l.start
+decreases-loop-start l = l.count - l.start

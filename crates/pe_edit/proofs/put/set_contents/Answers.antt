@@ -1,6 +1,7 @@
+use Rattle.std.proofs.Common.{arith}
 use Rattle.pe_edit.proofs.Contents.{all_contents_written, content_more, content_room}
 use Rattle.pe_edit.proofs.Writing.{nothing_written}
-use Rattle.pe_edit.specs.Views.{leaf_views}
+use Rattle.pe_edit.specs.Views.{leaf_view, leaf_views}
 use Rattle.pe_edit.specs.Written.{contents}
 use Rattle.pe_edit.proofs.put.set_contents.Goals as goal
 
@@ -9,12 +10,14 @@ loop-index-init c = nothing_written c.args.out.now c.args.at (contents (leaf_vie
 
 pub set_padded-end-requires : goal.set_padded-end-requires
 set_padded-end-requires c = record {
-  room = content_room c.args.out.now c.loop-index.out c.args.at c.loop-index.end c.loop-index.index c.args.leaves.now _ c.loop-index-test.true c.loop-index.invariant;
+  room = content_room c.args.out.now c.loop-index.out c.args.at c.loop-index.end c.loop-index.index (leaf_views c.args.leaves.now) (leaf_view c.at.result) (omega (arith, c.loop-index-test.true, c.len-count.ensures)) c.at.ensures c.loop-index.invariant;
 }
 
 pub loop-index-preserved : goal.loop-index-preserved
 loop-index-preserved c =
-    content_more c.args.out.now c.loop-index.out c.set_padded-end.new.out c.args.at c.loop-index.end c.set_padded-end.result c.loop-index.index c.args.leaves.now _ c.loop-index-test.true c.loop-index.invariant c.set_padded-end.ensures.after c.set_padded-end.ensures.end
+    content_more c.args.out.now c.loop-index.out c.set_padded-end.new.out c.args.at c.loop-index.end c.set_padded-end.result c.loop-index.index (leaf_views c.args.leaves.now) (leaf_view c.at.result) (omega (arith, c.loop-index-test.true, c.len-count.ensures)) c.at.ensures
+    c.loop-index.invariant c.set_padded-end.ensures.after c.set_padded-end.ensures.end
 
 pub returns : goal.returns
-returns c = all_contents_written c.args.out.now c.loop-index.out c.args.at c.loop-index.end c.loop-index.index c.args.leaves.now c.loop-index-test.false c.loop-index.invariant
+returns c =
+    all_contents_written c.args.out.now c.loop-index.out c.args.at c.loop-index.end c.loop-index.index (leaf_views c.args.leaves.now) (omega (arith, c.loop-index-test.false, c.len-count.ensures)) c.loop-index.invariant

@@ -1,4 +1,4 @@
-use Rattle.std.proofs.Common.{◌-◌, length}
+use Rattle.std.proofs.Common.{◌-◌}
 use Rattle.pe_edit.specs.Views.{leaf_views}
 use Rattle.pe_edit.proofs.Entries.{NamesWritten}
 use Rattle.pe_edit.proofs.put.set_names.Given as goal
@@ -8,4 +8,4 @@ abbrev pub invariant-loop-start : goal.invariant-loop-start
 invariant-loop-start l = NamesWritten l.fn.out l.out l.at l.end l.level (leaf_views l.leaves) l.start
 
 abbrev pub decreases-loop-start : goal.decreases-loop-start
-decreases-loop-start l = length l.leaves - l.start
+decreases-loop-start l = l.count - l.start

@@ -1,4 +1,4 @@
-use Rattle.std.proofs.Common.{◌≡◌, ◌<◌, ◌-◌, drop, length}
+use Rattle.std.proofs.Common.{◌≡◌, ◌<◌, ◌-◌, drop}
 use Rattle.pe_edit.specs.Sorted.{is_sorted}
 use Rattle.pe_edit.specs.Views.{leaf_views}
 use Rattle.pe_edit.proofs.section.require_order.Given as goal
@@ -11,4 +11,4 @@ invariant-loop-index l = record {
 }
 
 abbrev pub decreases-loop-index : goal.decreases-loop-index
-decreases-loop-index l = length l.leaves - l.index
+decreases-loop-index l = l.count - l.index

@@ -1,8 +1,7 @@
 use Rattle.std.proofs.Common.{◌≡◌, ◌+◌, ◌<◌, ◌∙◌, sym, refl, arith, true}
 use Rattle.std.specs.List.{list_all}
-use Rattle.std.proofs.lemmas.List.{length-map}
 use Rattle.pe_edit.specs.Sorted.{is_sorted}
-use Rattle.pe_edit.specs.Views.{leaf_view, leaf_views}
+use Rattle.pe_edit.specs.Views.{leaf_views}
 use Rattle.pe_edit.specs.Written.{names_fit, section_length}
 use Rattle.pe_edit.proofs.Tests.{each_passes, ends_none, ends_some, layout_returned, one_test, too_large}
 use Rattle.pe_edit.proofs.section.section_layout.Goals as goal
@@ -16,11 +15,11 @@ returns-in-Some c =
     let sorted : is_sorted (leaf_views c.args.leaves.now) ≡ true = one_test (is_sorted (leaf_views c.args.leaves.now)) _ tt _ c.in_ok-require_order.ensures in
     let both : (c.args.rva + section_length (leaf_views c.args.leaves.now) < 4294967296) × (c.in-Some.end ≡ c.args.rva + section_length (leaf_views c.args.leaves.now)) =
     ends_some c.args.rva (c.args.rva + c.of-layout.result.contents) c.in-Some.end (leaf_views c.args.leaves.now) c.of-layout.result c.of-layout.ensures refl (sym c.in-Some.is ∙ c.contents_end.ensures) in
-    layout_returned c.args.rva (leaf_views c.args.leaves.now) c.of-layout.result _ (omega (arith, length-map c.args.leaves.now leaf_view)) names sorted c.of-layout.ensures (omega arith) both.0 (omega (arith, both.1))
+    layout_returned c.args.rva (leaf_views c.args.leaves.now) c.of-layout.result _ (omega (arith, c.len-count.ensures)) names sorted c.of-layout.ensures (omega arith) both.0 (omega (arith, both.1))
 
 pub returns-in-None : goal.returns-in-None
 returns-in-None c =
     let names : list_all names_fit (leaf_views c.args.leaves.now) ≡ true = one_test (list_all names_fit (leaf_views c.args.leaves.now)) _ tt _ c.in_ok-require_names.ensures in
     let sorted : is_sorted (leaf_views c.args.leaves.now) ≡ true = one_test (is_sorted (leaf_views c.args.leaves.now)) _ tt _ c.in_ok-require_order.ensures in
-    too_large c.args.rva (leaf_views c.args.leaves.now) c.of-layout.result (omega (arith, length-map c.args.leaves.now leaf_view)) names sorted c.of-layout.ensures (omega arith)
+    too_large c.args.rva (leaf_views c.args.leaves.now) c.of-layout.result (omega (arith, c.len-count.ensures)) names sorted c.of-layout.ensures (omega arith)
     (ends_none c.args.rva (c.args.rva + c.of-layout.result.contents) (leaf_views c.args.leaves.now) c.of-layout.result c.of-layout.ensures refl (sym c.in-None.is ∙ c.contents_end.ensures))

@@ -1,6 +1,5 @@
 use Rattle.std.proofs.Common.{rules, ◌<◌, ◌≤◌, ◌++◌, arith}
-use Rattle.std.proofs.lemmas.List.{length-map}
-use Rattle.pe_edit.specs.Views.{leaf_view, leaf_views}
+use Rattle.pe_edit.specs.Views.{leaf_views}
 use Rattle.pe_edit.specs.Written.{contents, section_at}
 use Rattle.pe_edit.proofs.Composed.{after_entries, after_first, after_languages, after_names, after_type_names, after_types, at_0, at_1, at_2, at_3, data_fits, first, first_fits, languages_fit, languages_low, layout_is, names_before, room_1, room_2, room_3, room_4, room_5, room_6, room_7, room_8, stage_4, stage_5, stage_6, stage_7, stage_8, types_fit, types_low}
 use Rattle.pe_edit.proofs.Writing.{Written}
@@ -50,7 +49,7 @@ pub set_data_entries-requires-clause-room : goal.set_data_entries-requires-claus
 set_data_entries-requires-clause-room c =
     let w3 : Written c.args.out.now c.set_directories-2.new.out 0 c.args.layout.entries (section_at c.args.layout c.args.rva (leaf_views c.args.leaves.now)) (after_languages c.args.layout c.args.rva (leaf_views c.args.leaves.now)) =
     at_3 c.args.out.now c.set_directory.new.out c.set_directories.new.out c.set_directories-2.new.out c.args.layout c.args.rva (leaf_views c.args.leaves.now) c.requires.layout c.requires.room c.set_directory.ensures.after c.set_directories.ensures c.set_directories-2.ensures in
-    omega (arith, room_4 c.args.out.now c.set_directories-2.new.out c.args.layout c.args.rva (leaf_views c.args.leaves.now) w3, length-map c.args.leaves.now leaf_view)
+    omega (arith, room_4 c.args.out.now c.set_directories-2.new.out c.args.layout c.args.rva (leaf_views c.args.leaves.now) w3)
 
 pub set_data_entries-requires-clause-fits : goal.set_data_entries-requires-clause-fits
 set_data_entries-requires-clause-fits c =

@@ -1,4 +1,4 @@
-use Rattle.std.proofs.Common.{◌-◌, length}
+use Rattle.std.proofs.Common.{◌-◌}
 use Rattle.pe_edit.specs.Levels.{alike}
 use Rattle.pe_edit.specs.Views.{leaf_views}
 use Rattle.pe_edit.proofs.Runs.{Counts}
@@ -9,4 +9,4 @@ abbrev pub invariant-loop-n : goal.invariant-loop-n
 invariant-loop-n l = Counts (alike l.self) (leaf_views l.leaves) l.n
 
 abbrev pub decreases-loop-n : goal.decreases-loop-n
-decreases-loop-n l = length l.leaves - l.n
+decreases-loop-n l = l.count - l.n

@@ -1,0 +1,217 @@
+//! Images with other resources, as new files. What is written is the library's. A resource keeps the language that it has: no
+//! second one in another language is made, unless it is asked for.
+
+use crate::arguments::{NewVersion, OneResource};
+use crate::escape::escaped;
+use crate::facts::Refusal;
+use crate::files::{self, Report};
+use crate::Status;
+use pe_c::{Error, Image, ResourceEditor, ResourceKey, VersionInfo};
+use std::path::Path;
+
+/// `RT_VERSION` and `RT_MANIFEST`.
+const VERSION: u16 = 16;
+const MANIFEST: u16 = 24;
+/// The identifiers of a manifest: of a program, and of a DLL.
+const OF_PROGRAM: u16 = 1;
+const OF_DLL: u16 = 2;
+/// `IMAGE_FILE_DLL`
+const DLL: u16 = 0x2000;
+/// US English, of a resource that is new.
+const NEW_LANGUAGE: u16 = 0x409;
+
+/// Why no file is written.
+enum Failure {
+    Refused(Error),
+    /// A file that is given can't be read.
+    File,
+    /// There is no such resource.
+    Missing,
+}
+
+impl From<Error> for Failure {
+    fn from(error: Error) -> Self {
+        Failure::Refused(error)
+    }
+}
+
+/// The image after a change of its resources, delivered.
+fn deliver(
+    paths: (&Path, &Path),
+    image: Result<Image<'_>, Error>,
+    change: impl FnOnce(&Image<'_>, &mut ResourceEditor<'_>) -> Result<(), Failure>,
+) -> Report {
+    let made = || {
+        let image = image?;
+        let mut editor = ResourceEditor::of(&image)?;
+        change(&image, &mut editor)?;
+        Ok(editor.write()?)
+    };
+    match made() {
+        Ok(file) => files::deliver(&file, paths.1, Status::Done),
+        Err(Failure::Refused(error)) => Report::refused(paths.0, Refusal::from(error)),
+        Err(Failure::File) => Report::of("", Status::FileError),
+        Err(Failure::Missing) => Report::refused(paths.0, "the image has no such resource"),
+    }
+}
+
+fn content_of(path: &Path) -> Result<Vec<u8>, Failure> {
+    files::whole(path).map_err(|error| {
+        eprintln!("pe: {}: {error}", escaped(&path.to_string_lossy()));
+        Failure::File
+    })
+}
+
+/// The number that a text is, in decimal or after 0x in hexadecimal digits.
+pub fn number_of(text: &str) -> Option<u16> {
+    match text.strip_prefix("0x") {
+        Some(digits) => u16::from_str_radix(digits, 16).ok(),
+        None => text.parse().ok(),
+    }
+}
+
+/// What a type or a name is called: a number, or a name, in upper case, as Windows looks names up, but for one that is there.
+fn key_of<'k>(word: &str, there: impl Iterator<Item = &'k ResourceKey>) -> ResourceKey {
+    if let Some(id) = number_of(word.trim_start_matches('#')) {
+        return ResourceKey::Id(id);
+    }
+    let wanted = ResourceKey::from(&*word.to_uppercase());
+    let is_it = |it: &&ResourceKey| it.id().is_none() && it.to_string_lossy().eq_ignore_ascii_case(word);
+    let mut there = there.filter(is_it).peekable();
+    let first = there.peek().map(|it| (*it).clone());
+    if there.any(|it| *it == wanted) {
+        return wanted;
+    }
+    first.unwrap_or(wanted)
+}
+
+/// The languages to set of a resource: the one that is asked for, else those that there are, else that of a new one.
+fn languages_of(editor: &ResourceEditor<'_>, kind: &ResourceKey, name: &ResourceKey, asked: Option<u16>) -> Vec<u16> {
+    if let Some(language) = asked {
+        return vec![language];
+    }
+    let there = editor.languages(kind, name);
+    if there.is_empty() {
+        vec![NEW_LANGUAGE]
+    } else {
+        there
+    }
+}
+
+/// The names of the resources of a type.
+fn names_of(editor: &ResourceEditor<'_>, kind: &ResourceKey) -> Vec<ResourceKey> {
+    let mut names: Vec<_> = editor.resources().filter(|it| it.0 .0 == *kind).map(|it| it.0 .1.clone()).collect();
+    names.dedup();
+    names
+}
+
+fn changed(content: Option<&[u8]>, language: u16, new: &NewVersion) -> Result<Vec<u8>, Error> {
+    let there = content.map(VersionInfo::of).transpose()?.flatten();
+    let mut version = there.unwrap_or_else(|| VersionInfo::new(language));
+    if let Some(numbers) = new.file_version {
+        version.set_file_version(numbers);
+    }
+    if let Some(numbers) = new.product_version {
+        version.set_product_version(numbers);
+    }
+    for (name, text) in &new.strings {
+        if version.set_string(name, text)? == 0 {
+            version.add_table(language);
+            version.set_string(name, text)?;
+        }
+    }
+    version.to_bytes()
+}
+
+/// The image with other version information.
+pub fn set_version(paths: (&Path, &Path), image: Result<Image<'_>, Error>, new: &NewVersion) -> Report {
+    deliver(paths, image, |_, editor| {
+        let kind = ResourceKey::Id(VERSION);
+        let name = names_of(editor, &kind).into_iter().next().unwrap_or(ResourceKey::Id(1));
+        for language in languages_of(editor, &kind, &name, new.language) {
+            let place = (kind.clone(), name.clone(), language);
+            let content = changed(editor.get(&place).map(|it| &*it.bytes), language, new)?;
+            editor.set(kind.clone(), name.clone(), language, content);
+        }
+        Ok(())
+    })
+}
+
+/// The image with another manifest.
+pub fn set_manifest(
+    paths: (&Path, &Path),
+    image: Result<Image<'_>, Error>,
+    manifest: &Path,
+    language: Option<u16>,
+) -> Report {
+    deliver(paths, image, |image, editor| {
+        let content = content_of(manifest)?;
+        let kind = ResourceKey::Id(MANIFEST);
+        let new = if image.info().characteristics & DLL == 0 { OF_PROGRAM } else { OF_DLL };
+        let name = names_of(editor, &kind).into_iter().next().unwrap_or(ResourceKey::Id(new));
+        for language in languages_of(editor, &kind, &name, language) {
+            editor.set(kind.clone(), name.clone(), language, content.clone());
+        }
+        Ok(())
+    })
+}
+
+/// The keys of a resource, by what it is called.
+fn keys_of(editor: &ResourceEditor<'_>, which: &OneResource) -> (ResourceKey, ResourceKey) {
+    let kind = key_of(&which.kind, editor.resources().map(|it| &it.0 .0));
+    let name = key_of(&which.name, editor.resources().filter(|it| it.0 .0 == kind).map(|it| &it.0 .1));
+    (kind, name)
+}
+
+/// The image with a resource of this content.
+pub fn set_resource(
+    paths: (&Path, &Path),
+    image: Result<Image<'_>, Error>,
+    which: &OneResource,
+    content: &Path,
+) -> Report {
+    deliver(paths, image, |_, editor| {
+        let content = content_of(content)?;
+        let (kind, name) = keys_of(editor, which);
+        for language in languages_of(editor, &kind, &name, which.language) {
+            editor.set(kind.clone(), name.clone(), language, content.clone());
+        }
+        Ok(())
+    })
+}
+
+/// The image without a resource: in one language, or in all.
+pub fn remove_resource(paths: (&Path, &Path), image: Result<Image<'_>, Error>, which: &OneResource) -> Report {
+    deliver(paths, image, |_, editor| {
+        let (kind, name) = keys_of(editor, which);
+        let languages = match which.language {
+            Some(language) => vec![language],
+            None => editor.languages(&kind, &name),
+        };
+        let mut removed = 0;
+        for language in languages {
+            removed += usize::from(editor.remove(&(kind.clone(), name.clone(), language)).is_some());
+        }
+        if removed == 0 {
+            return Err(Failure::Missing);
+        }
+        Ok(())
+    })
+}
+
+#[cfg(test)]
+mod tests {
+    use super::*;
+
+    #[test]
+    fn names_are_those_that_are_there() {
+        let there =
+            [ResourceKey::from("icon"), ResourceKey::from("ICON"), ResourceKey::from("Text"), ResourceKey::Id(7)];
+        let key = |word: &str| key_of(word, there.iter());
+        assert_eq!(key("Icon"), ResourceKey::from("ICON"));
+        assert_eq!(key("TEXT"), ResourceKey::from("Text"));
+        assert_eq!(key("new"), ResourceKey::from("NEW"));
+        assert_eq!(key("7"), ResourceKey::Id(7));
+        assert_eq!(key("#0x10"), ResourceKey::Id(16));
+    }
+}

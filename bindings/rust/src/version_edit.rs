@@ -1,0 +1,249 @@
+//! Version information as a value: read, changed and written. See Microsoft's
+//! [VS_VERSIONINFO](https://learn.microsoft.com/windows/win32/menurc/vs-versioninfo). It is a tree of blocks: the fixed file
+//! information, string tables by language and code page, and translations.
+
+use crate::image::Error;
+use crate::signing::file_of;
+use crate::sys;
+use crate::version_blocks::{VersionBlock, VersionBlocks};
+use alloc::string::String;
+use alloc::vec::Vec;
+
+/// The blocks below the first one: what it contains, the tables in that, the strings in those.
+const LEVELS: usize = 3;
+/// `VS_FIXEDFILEINFO`: its size, its signature and the version of its form.
+const SIZE_OF_FIXED: usize = 52;
+const SIGNATURE: [u8; 8] = [0xBD, 0x04, 0xEF, 0xFE, 0, 0, 1, 0];
+/// Where it has the version of the file, and that of the product.
+const FILE_VERSION: usize = 8;
+const PRODUCT_VERSION: usize = 16;
+/// UTF-16, the code page of the texts of new version information.
+const UNICODE: u16 = 1200;
+
+/// A block.
+#[derive(Clone, Debug, PartialEq, Eq)]
+struct Block {
+    key: Vec<u8>,
+    is_text: bool,
+    value: Vec<u8>,
+    children: Vec<Block>,
+}
+
+fn units_of(text: &str) -> Vec<u8> {
+    text.encode_utf16().flat_map(u16::to_le_bytes).collect()
+}
+
+/// A text up to the first zero.
+fn text_of(units: &[u8]) -> String {
+    let units: Vec<u16> = units.chunks_exact(2).map(|it| u16::from_le_bytes([it[0], it[1]])).collect();
+    String::from_utf16_lossy(units.split(|it| *it == 0).next().unwrap_or_default())
+}
+
+impl Block {
+    fn new(key: &str, is_text: bool, value: Vec<u8>, children: Vec<Block>) -> Self {
+        Block { key: units_of(key), is_text, value, children }
+    }
+
+    fn of(block: &VersionBlock<'_>, levels: usize) -> Result<Self, Error> {
+        let mut children = Vec::new();
+        if levels > 0 {
+            for child in block.children() {
+                children.push(Block::of(&child?, levels - 1)?);
+            }
+        }
+        Ok(Block { key: block.key.0.to_vec(), is_text: block.is_text, value: block.value.to_vec(), children })
+    }
+
+    fn is(&self, key: &str) -> bool {
+        self.key == units_of(key)
+    }
+
+    /// Its bytes, at the end of the given ones.
+    fn write(&self, out: &mut Vec<u8>) -> Result<(), Error> {
+        let mut children = Vec::new();
+        for child in &self.children {
+            child.write(&mut children)?;
+        }
+        let (is_text, mut length) = (u32::from(self.is_text), 0);
+        // SAFETY: each pointer and length are those of one slice, and `length` is lent for the call.
+        Error::of(unsafe {
+            sys::pe_c_block_length(
+                self.key.as_ptr(),
+                self.key.len(),
+                is_text,
+                self.value.as_ptr(),
+                self.value.len(),
+                children.as_ptr(),
+                children.len(),
+                &mut length,
+            )
+        })?;
+        let block = file_of(length, |room, written| {
+            // SAFETY: as above; the room is apart from the others.
+            unsafe {
+                sys::pe_c_write_block(
+                    self.key.as_ptr(),
+                    self.key.len(),
+                    is_text,
+                    self.value.as_ptr(),
+                    self.value.len(),
+                    children.as_ptr(),
+                    children.len(),
+                    room.as_mut_ptr(),
+                    room.len(),
+                    written,
+                )
+            }
+        })?;
+        out.extend_from_slice(&block);
+        Ok(())
+    }
+}
+
+/// Version information as a value.
+///
+/// ```
+/// use pe_c::VersionInfo;
+///
+/// let mut version = VersionInfo::new(0x409);
+/// version.set_file_version([1, 2, 3, 4]);
+/// version.set_string("CompanyName", "Example")?;
+/// let content = version.to_bytes()?;
+/// let read = VersionInfo::of(&content)?.unwrap();
+/// assert_eq!(read.string("CompanyName").as_deref(), Some("Example"));
+/// assert_eq!(read.file_version(), Some([1, 2, 3, 4]));
+/// # Ok::<(), pe_c::Error>(())
+/// ```
+#[derive(Clone, Debug, PartialEq, Eq)]
+pub struct VersionInfo {
+    root: Block,
+}
+
+impl VersionInfo {
+    /// Version information without strings: the version 0.0.0.0, and a table and a translation of a language, with UTF-16.
+    pub fn new(language: u16) -> Self {
+        let mut fixed = SIGNATURE.to_vec();
+        fixed.resize(SIZE_OF_FIXED, 0);
+        let table = Block::new(&alloc::format!("{language:04X}{UNICODE:04X}"), true, Vec::new(), Vec::new());
+        let pair = [language.to_le_bytes(), UNICODE.to_le_bytes()].concat();
+        let translation = Block::new("Translation", false, pair, Vec::new());
+        let strings = Block::new("StringFileInfo", true, Vec::new(), [table].into());
+        let others = Block::new("VarFileInfo", true, Vec::new(), [translation].into());
+        VersionInfo { root: Block::new("VS_VERSION_INFO", false, fixed, [strings, others].into()) }
+    }
+
+    /// The version information in the content of a resource of type `RT_VERSION`; `None` where it has no block. What a string
+    /// contains beside its value is left out.
+    ///
+    /// # Errors
+    ///
+    /// Those of the items of [`VersionBlocks`].
+    pub fn of(content: &[u8]) -> Result<Option<Self>, Error> {
+        let first = VersionBlocks::of(content).next();
+        first.map(|it| Ok(VersionInfo { root: Block::of(&it?, LEVELS)? })).transpose()
+    }
+
+    fn number(&self, at: usize) -> Option<[u16; 4]> {
+        let part = self.root.value.get(at..at + 8)?;
+        let words: Vec<u16> = part.chunks_exact(2).map(|it| u16::from_le_bytes([it[0], it[1]])).collect();
+        Some([words[1], words[0], words[3], words[2]])
+    }
+
+    fn set_number(&mut self, at: usize, [first, second, third, fourth]: [u16; 4]) {
+        if self.root.value.len() < SIZE_OF_FIXED {
+            self.root.value = SIGNATURE.to_vec();
+            self.root.value.resize(SIZE_OF_FIXED, 0);
+        }
+        let words = [second, first, fourth, third].map(u16::to_le_bytes);
+        self.root.value[at..at + 8].copy_from_slice(words.as_flattened());
+    }
+
+    /// The version of the file, by the fixed file information.
+    pub fn file_version(&self) -> Option<[u16; 4]> {
+        self.number(FILE_VERSION)
+    }
+
+    /// That of the product.
+    pub fn product_version(&self) -> Option<[u16; 4]> {
+        self.number(PRODUCT_VERSION)
+    }
+
+    /// Sets the version of the file in the fixed file information, which is made where there is none. The string `FileVersion` is
+    /// another text.
+    pub fn set_file_version(&mut self, version: [u16; 4]) {
+        self.set_number(FILE_VERSION, version);
+    }
+
+    /// The same of the product.
+    pub fn set_product_version(&mut self, version: [u16; 4]) {
+        self.set_number(PRODUCT_VERSION, version);
+    }
+
+    fn tables(&self) -> impl Iterator<Item = &Block> {
+        self.root.children.iter().filter(|it| it.is("StringFileInfo")).flat_map(|it| &it.children)
+    }
+
+    /// A string, of the first table that has it.
+    pub fn string(&self, name: &str) -> Option<String> {
+        let found = self.tables().flat_map(|it| &it.children).find(|it| it.is(name))?;
+        Some(text_of(&found.value))
+    }
+
+    /// All strings: of each the language and code page of its table in hexadecimal digits, its name and its text.
+    pub fn strings(&self) -> impl Iterator<Item = (String, String, String)> + '_ {
+        let of_table = |table: &'_ Block| {
+            let language = text_of(&table.key);
+            let strings: Vec<_> =
+                table.children.iter().map(|it| (language.clone(), text_of(&it.key), text_of(&it.value))).collect();
+            strings
+        };
+        self.tables().flat_map(of_table)
+    }
+
+    /// Sets a string in each table; all others stay as they are. Returns how many tables there are: where it is 0, nothing is
+    /// set.
+    ///
+    /// # Errors
+    ///
+    /// [`Error::BLOCK_KEY`], [`Error::BLOCK_TEXT`] where the name or the text has a zero, which would end it.
+    pub fn set_string(&mut self, name: &str, text: &str) -> Result<usize, Error> {
+        if name.contains('\0') {
+            return Err(Error::BLOCK_KEY);
+        }
+        if text.contains('\0') {
+            return Err(Error::BLOCK_TEXT);
+        }
+        let (mut value, mut count) = (units_of(text), 0);
+        value.extend([0, 0]);
+        let infos = self.root.children.iter_mut().filter(|it| it.is("StringFileInfo"));
+        for table in infos.flat_map(|it| &mut it.children) {
+            count += 1;
+            let there = table.children.iter_mut().filter(|it| it.is(name));
+            if there.map(|it| (it.is_text, it.value) = (true, value.clone())).count() == 0 {
+                table.children.push(Block::new(name, true, value.clone(), Vec::new()));
+            }
+        }
+        Ok(count)
+    }
+
+    /// Adds an empty table of strings, in a language and UTF-16.
+    pub fn add_table(&mut self, language: u16) {
+        let table = Block::new(&alloc::format!("{language:04X}{UNICODE:04X}"), true, Vec::new(), Vec::new());
+        match self.root.children.iter_mut().find(|it| it.is("StringFileInfo")) {
+            Some(info) => info.children.push(table),
+            None => self.root.children.insert(0, Block::new("StringFileInfo", true, Vec::new(), [table].into())),
+        }
+    }
+
+    /// The content of a resource of type `RT_VERSION`.
+    ///
+    /// # Errors
+    ///
+    /// [`Error::BLOCK_TOO_LONG`] where a block has more than 65,535 bytes; [`Error::BLOCK_TEXT`] where a text that was read has an
+    /// odd number of bytes; [`Error::MEMORY`].
+    pub fn to_bytes(&self) -> Result<Vec<u8>, Error> {
+        let mut out = Vec::new();
+        self.root.write(&mut out)?;
+        Ok(out)
+    }
+}

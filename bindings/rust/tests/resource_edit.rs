@@ -1,0 +1,120 @@
+//! Resources and version information that are changed, of images made by hand. What is written is read back by the walks of the
+//! library, which are other code; its bytes are tested in the tests of the library for C.
+
+mod made;
+
+use pe_c::{Error, Image, Mode, ResourceEditor, ResourceKey, VersionInfo};
+
+fn strict(bytes: &[u8]) -> Image<'_> {
+    Image::parse(bytes, Mode::Strict).unwrap()
+}
+
+/// Type, name and language of each leaf as texts and numbers, and its content.
+fn leaves_of(image: &Image<'_>) -> Vec<(String, String, u16, Vec<u8>)> {
+    let editor = ResourceEditor::of(image).unwrap();
+    let row = |(place, content): (&(ResourceKey, ResourceKey, u16), &pe_c::ResourceContent<'_>)| {
+        (place.0.to_string_lossy(), place.1.to_string_lossy(), place.2, content.bytes.to_vec())
+    };
+    editor.resources().map(row).collect()
+}
+
+fn row(kind: &str, name: &str, language: u16, content: &[u8]) -> (String, String, u16, Vec<u8>) {
+    (kind.into(), name.into(), language, content.into())
+}
+
+#[test]
+fn resources_are_set_and_removed() {
+    let bytes = made::editable();
+    let image = strict(&bytes);
+    let mut editor = ResourceEditor::of(&image).unwrap();
+    let (kind, one) = (ResourceKey::Id(24), ResourceKey::Id(1));
+    assert_eq!(editor.languages(&kind, &one), [0x407]);
+    assert_eq!(editor.languages(&kind, &ResourceKey::Id(2)), []);
+    assert_eq!(editor.get(&(kind.clone(), one.clone(), 0x407)).unwrap().bytes, &b"<old/>"[..]);
+    // In any order: names come before ids, and ids rise.
+    editor.set(10.into(), "Z".into(), 0x409, vec![1, 2]);
+    editor.set(10.into(), 7.into(), 0x409, &b""[..]);
+    editor.set("b".into(), 1.into(), 0, &b"x"[..]);
+    editor.set(kind.clone(), one.clone(), 0x407, &b"<new/>"[..]);
+    editor.set(kind.clone(), one.clone(), 0x40C, &b"<fr/>"[..]);
+    let written = editor.write().unwrap();
+    let image = strict(&written);
+    let rows = [
+        row("b", "1", 0, b"x"),
+        row("10", "Z", 0x409, &[1, 2]),
+        row("10", "7", 0x409, b""),
+        row("24", "1", 0x407, b"<new/>"),
+        row("24", "1", 0x40C, b"<fr/>"),
+    ];
+    assert_eq!(leaves_of(&image), rows);
+    // Names are looked up by the library's walk over the file, whose order is that of the file.
+    let types: Vec<_> = image.resource_leaves().unwrap().unwrap().map(|it| it.unwrap().resource_type).collect();
+    assert_eq!(types.len(), 5);
+    // What was written is written again as it is.
+    let mut editor = ResourceEditor::of(&image).unwrap();
+    assert_eq!(editor.write().unwrap(), written);
+    let place = (ResourceKey::Id(10), ResourceKey::from("Z"), 0x409);
+    assert_eq!(editor.remove(&place).unwrap().bytes, &[1, 2][..]);
+    assert_eq!(editor.remove(&place), None);
+    let less = editor.write().unwrap();
+    assert_eq!(leaves_of(&strict(&less)), [&rows[..1], &rows[2..]].concat());
+}
+
+#[test]
+fn edits_are_refused() {
+    let bytes = made::editable();
+    let image = strict(&bytes);
+    let mut editor = ResourceEditor::of(&image).unwrap();
+    // As long as the section's data: with the directories it is too long for them. Longer than the file.
+    for length in [0x400, bytes.len() + 1] {
+        editor.set(24.into(), 1.into(), 0x407, vec![b'x'; length]);
+        assert_eq!(editor.write(), Err(Error::EDIT_NO_ROOM));
+    }
+    let signed = made::with_certificates();
+    let editor = ResourceEditor::of(&strict(&signed)).unwrap();
+    assert_eq!(editor.resources().count(), 0);
+    assert_eq!(editor.write(), Err(Error::EDIT_SIGNED));
+    // The directory does not start its section.
+    let elsewhere = made::with_resources();
+    assert_eq!(ResourceEditor::of(&strict(&elsewhere)).unwrap().write(), Err(Error::EDIT_NO_SECTION));
+}
+
+#[test]
+fn version_information_keeps_what_is_not_set() {
+    let bytes = made::with_resources();
+    let image = strict(&bytes);
+    let leaf = image.resource_leaves().unwrap().unwrap().next().unwrap().unwrap();
+    let mut version = VersionInfo::of(leaf.content().unwrap()).unwrap().unwrap();
+    let before = (version.file_version().unwrap(), version.product_version().unwrap());
+    let fixed = image.version().unwrap().unwrap();
+    assert_eq!(before, (fixed.file_version(), fixed.product_version()));
+    assert_eq!(version.set_string("ProductName", "other \u{1F600}"), Ok(1));
+    assert_eq!(version.set_string("New", ""), Ok(1));
+    version.set_product_version([9, 8, 7, 65535]);
+    let content = version.to_bytes().unwrap();
+    assert_eq!(content.len() % 4, 0);
+    let read = VersionInfo::of(&content).unwrap().unwrap();
+    assert_eq!(read, version);
+    let strings: Vec<_> = read.strings().collect();
+    let string = |name: &str, text: &str| ("040904b0".to_string(), name.to_string(), text.to_string());
+    let wanted =
+        [string("CompanyName", "Größe & Söhne \u{1F600}"), string("ProductName", "other \u{1F600}"), string("New", "")];
+    assert_eq!(strings, wanted);
+    assert_eq!((read.file_version().unwrap(), read.product_version().unwrap()), (before.0, [9, 8, 7, 65535]));
+}
+
+#[test]
+fn version_information_is_made() {
+    let mut version = VersionInfo::new(0x407);
+    assert_eq!(version.file_version(), Some([0; 4]));
+    version.set_file_version([1, 2, 3, 4]);
+    // dwSignature, dwStrucVersion, dwFileVersionMS and LS after the head of 6 bytes and the key of 32.
+    let content = version.to_bytes().unwrap();
+    assert_eq!(content[40..56], [0xBD, 4, 0xEF, 0xFE, 0, 0, 1, 0, 2, 0, 1, 0, 4, 0, 3, 0]);
+    assert_eq!(version.set_string("a\0b", ""), Err(Error::BLOCK_KEY));
+    assert_eq!(version.set_string("a", "b\0"), Err(Error::BLOCK_TEXT));
+    assert_eq!(version.set_string("a", &"x".repeat(32_767)), Ok(1));
+    assert_eq!(version.to_bytes(), Err(Error::BLOCK_TOO_LONG));
+    assert_eq!(VersionInfo::of(&[]), Ok(None));
+    assert_eq!(VersionInfo::of(&[9, 0, 0, 0, 0, 0, 0, 0]), Err(Error::SHORT));
+}

@@ -1,0 +1,170 @@
+//! The resources of an image changed in place: the file of an image with other resources over the data of its resource section.
+//! Resources are records, with their names and contents as ranges of one array of bytes that the caller passes beside the file.
+//! A caller lists the leaves that are there, changes the list, and passes all of it.
+//! https://learn.microsoft.com/windows/win32/debug/pe-format#the-rsrc-section
+
+ghost use Rattle.std.specs.Prelude.{◌≡◌};
+ghost use Rattle.pe_core.specs.Header.{header_view};
+ghost use Rattle.pe_edit.specs.EditRefusals.{edit_kind_of};
+ghost use Rattle.pe_edit.specs.RecordRefusals.{record_kind_of};
+ghost use Rattle.pe_rewrite.specs.RewriteRefusals.{rewrite_kind_of};
+ghost use Rattle.pe_c.specs.ResourceEdits.{HandsOutByNumber, HandsOutFile, NumberReturns, NumberReturnsWritten, edit_number, edited_at, headers_numbered, length_numbered, record_number, records_numbered, rewrite_number, written_numbered};
+
+use crate::image::Image;
+use crate::results::{DONE, number_of};
+use crate::signing::headers_of;
+use pe_core::Header;
+use pe_edit::{EditError, Leaves, RecordError, ResourceRecord, require_records};
+use pe_rewrite::{RewriteError, edited_len, write_edited};
+
+/// The number of an error of a resource section. It stays the same from version to version. `tools/make_errors` writes the arms.
+fn number_of_edit(error: &EditError) -> u32
+    ensures { result ≡ edit_number (edit_kind_of error.now) }
+{
+    match error {
+        EditError::Image(error) => number_of(error),
+        EditError::TooMany(_) => 451,
+        EditError::Name(_) => 452,
+        EditError::Order(_) => 453,
+        EditError::TablesTooLarge(_) => 454,
+        EditError::TooLarge => 455,
+    }
+}
+
+/// The number of an error of changed resources. It stays the same from version to version. `tools/make_errors` writes the arms.
+fn number_of_rewrite(error: &RewriteError) -> u32
+    ensures { result ≡ rewrite_number (rewrite_kind_of error.now) }
+{
+    match error {
+        RewriteError::Image(error) => number_of(error),
+        RewriteError::Leaves(error) => number_of_edit(error),
+        RewriteError::NoDirectory(_) => 456,
+        RewriteError::Signed => 457,
+        RewriteError::Headers(_) => 458,
+        RewriteError::Alignment(_) => 459,
+        RewriteError::NoSection(_) => 460,
+        RewriteError::Section(_) => 461,
+        RewriteError::SharedSection(_) => 462,
+        RewriteError::Symbols(_) => 463,
+        RewriteError::Overlap(_) => 464,
+        RewriteError::NoRoom { .. } => 465,
+    }
+}
+
+/// The number of an error of records. It stays the same from version to version. `tools/make_errors` writes the arms.
+fn number_of_record(error: &RecordError) -> u32
+    ensures { result ≡ record_number (record_kind_of error.now) }
+{
+    match error {
+        RecordError::Record(_) => 466,
+        RecordError::Names => 467,
+    }
+}
+
+/// The headers of the bytes, in the mode of an image, or the number of an error.
+fn headers<'a>(bytes: &'a [u8], image: &Image) -> Result<Header<'a>, u32>
+    ensures { NumberReturns header_view result (headers_numbered bytes.entry.now image.now) }
+{
+    match headers_of(bytes, image) {
+        Ok(header) => Ok(header),
+        Err(error) => Err(number_of(&error)),
+    }
+}
+
+/// Tests the records: the number of an error if they are no list of resources.
+fn tested(resources: &[ResourceRecord], data: &[u8]) -> Result<(), u32>
+    ensures { NumberReturns (λ u. u) result (records_numbered data.now resources.now) }
+{
+    match require_records(resources, data) {
+        Ok(()) => Ok(()),
+        Err(error) => Err(number_of_record(&error)),
+    }
+}
+
+fn edited_length(
+    bytes: &[u8],
+    image: &Image,
+    resources: &[ResourceRecord],
+    data: &[u8],
+) -> Result<u64, u32>
+    ensures { NumberReturns (λ n. n) result
+        (length_numbered (edited_at bytes.now image.now data.now resources.now)) }
+{
+    let header = headers(bytes, image)?;
+    tested(resources, data)?;
+    match edited_len(bytes, &header, &Leaves::Records(resources, data)) {
+        Ok(length) => Ok(length as u64),
+        Err(error) => Err(number_of_rewrite(&error)),
+    }
+}
+
+/// Returns the length of the file that `pe_c_edit` writes with these arguments, which is that of the image.
+///
+/// Errors: those of `pe_c_edit`, but for that of the room.
+#[unsafe(no_mangle)]
+pub extern "C" fn pe_c_edited_length(
+    bytes: &[u8],
+    image: &Image,
+    resources: &[ResourceRecord],
+    data: &[u8],
+    out: &mut u64,
+) -> u32
+    ensures { HandsOutByNumber result out.old out.new
+        (length_numbered (edited_at bytes.now image.now data.now resources.now)) }
+{
+    match edited_length(bytes, image, resources, data) {
+        Ok(length) => {
+            *out = length;
+            DONE
+        }
+        Err(number) => number,
+    }
+}
+
+fn edit_to(
+    bytes: &[u8],
+    image: &Image,
+    resources: &[ResourceRecord],
+    data: &[u8],
+    room: &mut [u8],
+) -> Result<usize, u32>
+    ensures { NumberReturnsWritten result
+        (written_numbered (edited_at bytes.now image.now data.now resources.now) room.old)
+        room.old room.new }
+{
+    let header = headers(bytes, image)?;
+    tested(resources, data)?;
+    match write_edited(bytes, &header, &Leaves::Records(resources, data), room) {
+        Ok(length) => Ok(length),
+        Err(error) => Err(number_of_rewrite(&error)),
+    }
+}
+
+/// Writes the image with these resources in place of those that it has to the start of `room`, and its length to `out`. The rest
+/// of the room is unchanged. The resources are sorted by type, name and language: names before ids, names by their code units,
+/// ids and languages by their numbers. Their names and contents are ranges of `data`.
+///
+/// Errors: those of `pe_c_image`; `EDIT_RECORD`, `EDIT_NAMES`; `NO_OPTIONAL_HEADER`, `EDIT_NO_DIRECTORY`; `EDIT_SIGNED`;
+/// `EDIT_TOO_MANY`, `EDIT_NAME`, `EDIT_ORDER`, `EDIT_TABLES_TOO_LARGE`, `EDIT_TOO_LARGE`; `EDIT_HEADERS`, `SHORT` of the section
+/// table; `EDIT_ALIGNMENT`; `EDIT_NO_SECTION`, `EDIT_SECTION`, `EDIT_SHARED_SECTION`, `EDIT_SYMBOLS`, `EDIT_OVERLAP`,
+/// `EDIT_NO_ROOM`; `WRITE_FIT` if the file does not fit into the room. After an error `room` is unchanged.
+#[unsafe(no_mangle)]
+pub extern "C" fn pe_c_edit(
+    bytes: &[u8],
+    image: &Image,
+    resources: &[ResourceRecord],
+    data: &[u8],
+    room: &mut [u8],
+    out: &mut u64,
+) -> u32
+    ensures { HandsOutFile result out.old out.new room.old room.new
+        (written_numbered (edited_at bytes.now image.now data.now resources.now) room.old) }
+{
+    match edit_to(bytes, image, resources, data, room) {
+        Ok(length) => {
+            *out = length as u64;
+            DONE
+        }
+        Err(number) => number,
+    }
+}

@@ -1,0 +1,104 @@
+//! Blocks of version information written. A caller writes the innermost blocks first, one after the other, and passes their bytes
+//! to the block that has them.
+//! https://learn.microsoft.com/windows/win32/menurc/vs-versioninfo
+
+ghost use Rattle.std.specs.Prelude.{◌≡◌};
+ghost use Rattle.pe_version.specs.VersionRefusals.{block_view, version_kind_of};
+ghost use Rattle.pe_c.specs.ResourceEdits.{HandsOutByNumber, HandsOutFile, NumberReturns, NumberReturnsWritten, length_numbered, written_numbered};
+ghost use Rattle.pe_c.specs.VersionWrites.{block_at, block_with, version_number};
+
+use crate::results::{DONE, number_of};
+use pe_version::{NewBlock, VersionError, block_len, write_block};
+
+/// The number of an error of a version block. It stays the same from version to version. `tools/make_errors` writes the arms.
+fn number_of_version(error: &VersionError) -> u32
+    ensures { result ≡ version_number (version_kind_of error.now) }
+{
+    match error {
+        VersionError::Image(error) => number_of(error),
+        VersionError::Key => 468,
+        VersionError::Text => 469,
+        VersionError::TooLong(_) => 470,
+    }
+}
+
+fn block_length(block: &NewBlock<'_>) -> Result<u64, u32>
+    ensures { NumberReturns (λ n. n) result (length_numbered (block_at (block_view block.now))) }
+{
+    match block_len(block) {
+        Ok(length) => Ok(length as u64),
+        Err(error) => Err(number_of_version(&error)),
+    }
+}
+
+/// Returns the length of what `pe_c_write_block` writes with these arguments.
+///
+/// Errors: those of `pe_c_write_block`, but for that of the room.
+#[unsafe(no_mangle)]
+pub extern "C" fn pe_c_block_length(
+    key: &[u8],
+    is_text: u32,
+    value: &[u8],
+    children: &[u8],
+    out: &mut u64,
+) -> u32
+    ensures { HandsOutByNumber result out.old out.new
+        (length_numbered (block_at (block_with key.now is_text value.now children.now))) }
+{
+    let block = NewBlock {
+        key,
+        is_text: is_text != 0,
+        value,
+        children,
+    };
+    match block_length(&block) {
+        Ok(length) => {
+            *out = length;
+            DONE
+        }
+        Err(number) => number,
+    }
+}
+
+fn write_to(block: &NewBlock<'_>, room: &mut [u8]) -> Result<usize, u32>
+    ensures { NumberReturnsWritten result
+        (written_numbered (block_at (block_view block.now)) room.old) room.old room.new }
+{
+    match write_block(block, room) {
+        Ok(length) => Ok(length),
+        Err(error) => Err(number_of_version(&error)),
+    }
+}
+
+/// Writes a block to the start of `room`, with zeros up to a multiple of four, where the next one starts, and its length with
+/// them to `out`. The rest of the room is unchanged. The key is UTF-16 code units, little-endian, without a final zero; a value
+/// that is a text has a final zero.
+///
+/// Errors: `BLOCK_KEY`; `BLOCK_TEXT` if `is_text` is not 0; `BLOCK_TOO_LONG`; `WRITE_FIT` if the block does not fit into the
+/// room. After an error `room` is unchanged.
+#[unsafe(no_mangle)]
+pub extern "C" fn pe_c_write_block(
+    key: &[u8],
+    is_text: u32,
+    value: &[u8],
+    children: &[u8],
+    room: &mut [u8],
+    out: &mut u64,
+) -> u32
+    ensures { HandsOutFile result out.old out.new room.old room.new
+        (written_numbered (block_at (block_with key.now is_text value.now children.now)) room.old) }
+{
+    let block = NewBlock {
+        key,
+        is_text: is_text != 0,
+        value,
+        children,
+    };
+    match write_to(&block, room) {
+        Ok(length) => {
+            *out = length as u64;
+            DONE
+        }
+        Err(number) => number,
+    }
+}

@@ -1,0 +1,11 @@
+use Rattle.std.proofs.Common.{◌≡◌, true, refl}
+use Rattle.std.specs.Prelude.{nat_le}
+use Rattle.pe_edit.specs.RecordRefusals.{names_length}
+use Rattle.pe_edit.specs.Written.{total}
+use Rattle.pe_edit.proofs.Records.{all_names}
+use Rattle.pe_edit.proofs.record.require_names.Goals as goal
+
+pub returns : goal.returns
+returns c =
+    let few : nat_le (total names_length c.args.records.now) 16777216 ≡ true = all_names c.args.records.now c.loop-index.sum c.loop-index.index c.loop-index-test.false c.loop-index.invariant in
+    rw few refl
