@@ -63,7 +63,7 @@ const MADE: &[(&str, &[&str])] = &[
             "  Repro         68617368\n",
             "\nParts of sections (LTCG)\n",
             "  .text$mn  0x1000  16\n  .bss      0x2000  8\n",
-            "\n  PDB           a.pdb/497B72F6390A44FC878E5A2D63B6CC4B1/a.pdb\n  image         debug.bin/000000000/debug.bin\n",
+            "\n  PDB           a.pdb/497B72F6390A44FC878E5A2D63B6CC4B1/a.pdb\n  image         debug.bin/000000006000/debug.bin\n",
             "\"vc_features\":{\"before_vc_11\":1,\"c_and_cpp\":2,\"gs\":3,\"sdl\":4,\"guard_n\":5}",
             "\"extended_dll_characteristics\":{\"number\":65,\"flags\":{\"CET_COMPAT\":true,",
             "\"type\":{\"number\":2,\"name\":\"CodeView\"},\"size\":30,\"rva\":4096,\"file_offset\":1024,",
