@@ -1,5 +1,5 @@
-//! What the program says of twenty small images, a file that is none, a TE image and an object, byte for byte: a session for each, in
-//! `golden/NAME.txt`. `UPDATE_GOLDEN=1 cargo test --test golden` writes the sessions anew; what has changed in them has to
+//! What the program says of twenty small images, a file that is none, a TE image and an object, byte for byte: a session for
+//! each, in `golden/NAME.txt`. `UPDATE_GOLDEN=1 cargo test --test golden` writes the sessions anew; what has changed in them has to
 //! be read then, as `golden/README.md` says.
 
 #[path = "../../rust/tests/made/mod.rs"]
@@ -288,7 +288,7 @@ const MADE: &[(&str, &[&str])] = &[
             "object.bin: COFF object for x64\n  built         without a time stamp\n",
             "  COFF symbols  12 at file offset 0xa6, 22 bytes of strings\n",
             "  .text  r-x          0x0  0             0x8c         16        ",
-            "  .bss   rw-          0x0  0             0x0          0         ",
+            "  .bss   rw-          0x0  0             0x0          0\n",
             "  sections      .text    r-x        16 bytes at 0x8c       █",
             "  symbols       7, 1 of them undefined\n",
             "  0      .file              debug      0x0    0x0   FILE\n",
