@@ -17,7 +17,10 @@ fn of_part<T>(part: &Option<Part<T>>, of: impl Fn(&T) -> Table) -> Option<Table>
 /// The table of a part, or none where the image lacks it.
 fn table_of(facts: &Facts, topic: Topic) -> Option<Table> {
     match topic {
-        Topic::Headers => facts.headers.as_ref().map(|it| of_rows(tables::headers(it))),
+        Topic::Headers => {
+            let of_other = || facts.other_headers.as_ref().map(|it| of_rows(tables::other_headers(it)));
+            facts.headers.as_ref().map(|it| of_rows(tables::headers(it))).or_else(of_other)
+        }
         Topic::Hardening => facts.hardening.as_ref().map(|it| of_rows(tables::hardening(it))),
         Topic::Hashes => facts.hashes.as_ref().map(|it| of_rows(tables::hashes(it))),
         Topic::Sections => facts.sections.as_ref().map(|it| tables::sections(it)),
@@ -35,6 +38,7 @@ fn table_of(facts: &Facts, topic: Topic) -> Option<Table> {
         Topic::Clr => of_part(&facts.clr, |it| of_rows(tables::clr(it))),
         Topic::Rich => of_part(&facts.rich, tables::rich_tools),
         Topic::Resources => of_part(&facts.resources, tables::resources),
+        Topic::Symbols => of_part(&facts.symbols, tables::symbols),
         Topic::All => None,
     }
 }

@@ -17,18 +17,21 @@ pub mod imports;
 pub mod languages;
 pub mod load_config;
 pub mod ordinals;
+pub mod others;
 pub mod overlay;
 pub mod regions;
 pub mod relocations;
 pub mod resources;
 pub mod rich;
 pub mod sections;
+pub mod symbols;
 pub mod tls;
 pub mod version;
 
 use crate::names::{name_of, MACHINES};
 use chrono::{TimeZone, Utc};
 use clap::ValueEnum;
+use others::Other;
 use pe_c::{Error, Image};
 use serde::ser::SerializeMap;
 use serde::{Serialize, Serializer};
@@ -71,6 +74,8 @@ pub enum Topic {
     Rich,
     /// All resources, each in each language
     Resources,
+    /// COFF symbols, of objects; of images where they are named
+    Symbols,
     All,
 }
 
@@ -85,6 +90,10 @@ impl Topic {
 #[derive(Clone, Debug)]
 pub struct Wanted {
     topics: Vec<Topic>,
+    /// Whether COFF symbols of images are shown: images of mingw-w64 have tens of thousands, and few look for them.
+    has_symbols_of_images: bool,
+    /// Whether TE images and objects are shown too.
+    pub has_others: bool,
     /// Whether the parts that are hashed are so beside the file: sections, resources, and what a signature covers.
     has_hashes_of_parts: bool,
 }
@@ -92,28 +101,42 @@ pub struct Wanted {
 impl Wanted {
     /// The parts that are named: all where none is, and hashes only where they are not left out.
     pub fn parts(topics: &[Topic], has_hashes: bool) -> Wanted {
+        let has_symbols_of_images = topics.contains(&Topic::Symbols);
         let is_all = topics.is_empty() || topics.contains(&Topic::All);
         let named = Topic::value_variants().iter().copied();
         let topics = named.filter(|it| (is_all || topics.contains(it)) && (has_hashes || *it != Topic::Hashes));
-        Wanted { topics: topics.collect(), has_hashes_of_parts: has_hashes }
+        let topics = topics.collect();
+        Wanted { topics, has_symbols_of_images, has_others: false, has_hashes_of_parts: has_hashes }
     }
 
     /// What a summary speaks of: everything, each with fewer words.
     pub fn summary(has_hashes: bool) -> Wanted {
-        Wanted { has_hashes_of_parts: false, ..Wanted::parts(&[], has_hashes) }
+        Wanted { has_hashes_of_parts: false, ..Wanted::parts(&[], has_hashes).with_others() }
+    }
+
+    /// TE images and objects too.
+    pub fn with_others(self) -> Wanted {
+        Wanted { has_others: true, ..self }
+    }
+
+    fn has(&self, topic: Topic) -> bool {
+        self.topics.contains(&topic)
     }
 }
+
+const TE_IMAGE: &str = "a TE image";
+const OBJECT_AS_IT_SEEMS: &str = "a COFF object, as it seems";
 
 /// What a file is that is no image, by its first bytes.
 fn kind_of(bytes: &[u8]) -> Option<&'static str> {
     match bytes {
         [] => Some("an empty file"),
-        [b'V', b'Z', low, high, ..] if is_machine(*low, *high) => Some("a TE image"),
+        [b'V', b'Z', low, high, ..] if is_machine(*low, *high) => Some(TE_IMAGE),
         _ if bytes.starts_with(b"\x7fELF") => Some("an ELF file"),
         _ if bytes.starts_with(b"!<arch>\n") => Some("an archive of objects"),
         _ if bytes.starts_with(b"!<thin>\n") => Some("a thin archive of objects"),
         [0, 0, 0xFF, 0xFF, ..] => Some("an object of a short import or of large format"),
-        [low, high, ..] if is_machine(*low, *high) => Some("a COFF object, as it seems"),
+        [low, high, ..] if is_machine(*low, *high) => Some(OBJECT_AS_IT_SEEMS),
         _ if bytes.starts_with(b"MZ") => None,
         _ if bytes.iter().take(512).all(|it| matches!(it, b'\t' | b'\n' | b'\r' | 0x20..=0x7E)) => Some("a text"),
         _ => None,
@@ -302,7 +325,12 @@ pub struct Budget {
 
 impl Budget {
     pub fn of(image: &Image<'_>) -> Budget {
-        Budget { left: image.bytes().len().saturating_mul(READINGS), sections: image.sections().len() }
+        Budget { sections: image.sections().len(), ..Budget::without_rvas(image.bytes()) }
+    }
+
+    /// For entries that have no RVA.
+    pub fn without_rvas(bytes: &[u8]) -> Budget {
+        Budget { left: bytes.len().saturating_mul(READINGS), sections: 0 }
     }
 
     /// Takes so many bytes for an entry, if they are left.
@@ -524,12 +552,15 @@ pub struct Facts<'a> {
     /// The bytes of a path that is not UTF-8, by which it can be opened.
     pub file_hex: Option<String>,
     pub file_size: usize,
-    /// Why there is no image, and nothing else.
+    /// Why nothing is shown of the file.
     pub error: Option<Refusal>,
     /// What the file is, where it is no image, if that can be seen.
     pub file_kind: Option<&'static str>,
     #[serde(skip_serializing_if = "Option::is_none")]
     pub headers: Option<headers::Headers>,
+    /// Those of a TE image or of an object, which has no other.
+    #[serde(rename = "headers", skip_serializing_if = "Option::is_none")]
+    pub other_headers: Option<others::Headers>,
     #[serde(skip_serializing_if = "Option::is_none")]
     pub hardening: Option<hardening::Hardening>,
     #[serde(skip_serializing_if = "Option::is_none")]
@@ -564,6 +595,8 @@ pub struct Facts<'a> {
     pub rich: Option<Part<rich::Rich>>,
     #[serde(flatten)]
     pub resources: Option<Part<resources::Resources<'a>>>,
+    #[serde(flatten)]
+    pub symbols: Option<Part<List<symbols::Symbol<'a>>>>,
 }
 
 impl<'a> Facts<'a> {
@@ -578,6 +611,7 @@ impl<'a> Facts<'a> {
             hardening: None,
             hashes: None,
             headers: None,
+            other_headers: None,
             sections: None,
             imports: None,
             exports: None,
@@ -593,6 +627,7 @@ impl<'a> Facts<'a> {
             clr: None,
             rich: None,
             resources: None,
+            symbols: None,
         }
     }
 
@@ -603,7 +638,7 @@ impl<'a> Facts<'a> {
 
     /// Of an image the parts that are wanted.
     pub fn of(path: &Path, image: &'a Image<'_>, wanted: &Wanted) -> Facts<'a> {
-        let is_wanted = |topic| wanted.topics.contains(&topic);
+        let is_wanted = |topic| wanted.has(topic);
         let of_parts = wanted.has_hashes_of_parts;
         let has_checksum = of_parts || is_wanted(Topic::Hashes);
         let name = path.file_name().map(|name| name.to_string_lossy()).unwrap_or_default();
@@ -630,8 +665,41 @@ impl<'a> Facts<'a> {
             clr: is_wanted(Topic::Clr).then(|| clr::of(image)),
             rich: is_wanted(Topic::Rich).then(|| rich::of(image)),
             resources: is_wanted(Topic::Resources).then(|| resources::of(image, of_parts)),
+            symbols: wanted
+                .has_symbols_of_images
+                .then(|| symbols::of(image.symbols(), &sections::names_of(image), Budget::without_rvas(image.bytes()))),
             ..Facts::empty(path, image.bytes().len())
         }
+    }
+
+    /// The same of a TE image or an object.
+    pub fn of_other(path: &Path, other: &'a Other<'_>, wanted: &Wanted) -> Facts<'a> {
+        let facts = Facts {
+            file_kind: Some(other.kind()),
+            other_headers: wanted.has(Topic::Headers).then(|| others::headers_of(other)),
+            hashes: wanted.has(Topic::Hashes).then(|| hashes::of_bytes(other.bytes())),
+            sections: wanted.has(Topic::Sections).then(|| sections::of_other(other, wanted.has_hashes_of_parts)),
+            ..Facts::empty(path, other.bytes().len())
+        };
+        match other {
+            Other::Te(te) => Facts { debug: wanted.has(Topic::Debug).then(|| debug::of_te(te)), ..facts },
+            Other::Object(object) => {
+                let (bytes, names) = (object.bytes(), || sections::names_of_object(object));
+                let symbols = || symbols::of(object.symbols(), &names(), Budget::without_rvas(bytes));
+                Facts { symbols: wanted.has(Topic::Symbols).then(symbols), ..facts }
+            }
+        }
+    }
+
+    /// Whether the file is a TE image or an object, of which a part is not read.
+    pub fn is_not_read(&self, topic: Topic) -> bool {
+        let is_shown = match topic {
+            Topic::Headers | Topic::Hashes | Topic::Sections | Topic::All => true,
+            Topic::Debug => self.debug.is_some(),
+            Topic::Symbols => self.symbols.is_some(),
+            _ => false,
+        };
+        self.error.is_none() && self.file_kind.is_some() && !is_shown
     }
 
     /// Whether the image lacks a part that was read.
@@ -655,6 +723,7 @@ impl<'a> Facts<'a> {
             Topic::Clr => is_none(&self.clr),
             Topic::Rich => is_none(&self.rich),
             Topic::Resources => is_none(&self.resources),
+            Topic::Symbols => is_none(&self.symbols),
             Topic::Headers | Topic::Hardening | Topic::Hashes | Topic::All => false,
         }
     }
@@ -713,6 +782,7 @@ impl<'a> Facts<'a> {
             let refusal = part.refusal().or(part.present().and_then(|it| it.error.as_ref()));
             found.extend(refusal.map(|it| ("resources", it)));
         }
+        found.extend(self.symbols.iter().filter_map(Part::list_refusal).map(|it| ("symbols", it)));
         found
     }
 
@@ -724,6 +794,7 @@ impl<'a> Facts<'a> {
             ("delay imports", self.delay_imports.as_ref().and_then(Part::present).map(delay_imports::is_limited)),
             ("bound imports", self.bound_imports.as_ref().and_then(Part::present).map(bound_imports::is_limited)),
             ("resources", self.resources.as_ref().and_then(Part::present).map(|it| it.is_limited)),
+            ("symbols", self.symbols.as_ref().and_then(Part::present).map(|it| it.is_limited)),
         ];
         parts.into_iter().filter(|(_, is_limited)| *is_limited == Some(true)).map(|(part, _)| part).collect()
     }

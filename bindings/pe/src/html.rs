@@ -137,7 +137,7 @@ fn parts(facts: &Facts, regions: &[Region], html: &mut Html) {
     table("regions", "Regions of the file", &map::table(regions), html);
     if let Some(headers) = &facts.headers {
         list("headers", "Headers", tables::headers(headers), html);
-        table("directories", "Directories", &tables::directories(headers), html);
+        table("directories", "Directories", &tables::directories(&headers.directories), html);
     }
     if let Some(hashes) = &facts.hashes {
         list("hashes", "Hashes", tables::hashes(hashes), html);

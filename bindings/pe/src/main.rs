@@ -26,6 +26,7 @@ mod unwind;
 use arguments::{Arguments, Command, Files, Hashing, Output, Reading, Walk};
 use clap::error::ErrorKind;
 use clap::{CommandFactory, Parser, ValueEnum};
+use facts::others::Other;
 use facts::{Facts, Topic, Wanted};
 use files::Report;
 use page::Style;
@@ -99,7 +100,7 @@ fn summarise(arguments: &Arguments, out: &mut dyn Write) -> io::Result<Status> {
 
 /// Parts whole, as text or JSON.
 fn shown_whole(files: &Files, topics: &[Topic], how: How, out: &mut dyn Write) -> io::Result<Status> {
-    let wanted = Wanted::parts(topics, how.has_hashes);
+    let wanted = Wanted::parts(topics, how.has_hashes).with_others();
     let text = |facts: &Facts, style| if how.is_json { json(facts) } else { show::text(facts, style, topics) };
     let said = |facts: &Facts, style| text(facts, style).into();
     files::each(files, out, |path, bytes| shown(path, bytes, how.reading, &wanted, said))
@@ -252,7 +253,7 @@ fn misused(message: &str) -> ! {
 
 fn show_csv(files: &Files, topics: &[Topic], how: How, out: &mut dyn Write) -> io::Result<Status> {
     let [topic] = topics else { misused("--csv needs one PART, since a table has one kind of rows") };
-    let wanted = Wanted::parts(topics, how.has_hashes);
+    let wanted = Wanted::parts(topics, how.has_hashes).with_others();
     let text = |facts: &Facts, _| {
         let csv::Lines { head, rows } = csv::lines(facts, *topic, files.is_several());
         Said { head, ..Said::apart(rows, facts) }
@@ -321,7 +322,7 @@ impl From<String> for Said {
     }
 }
 
-/// What is said of an image. It is refused where one of its parts is.
+/// What is said of an image, or where that is wanted of a TE image or an object. It is refused where one of its parts is.
 fn shown(
     path: &Path,
     bytes: &[u8],
@@ -330,9 +331,11 @@ fn shown(
     text: impl Fn(&Facts, Style) -> Said,
 ) -> Report {
     let image = parsed(bytes, reading);
-    let (facts, is_image) = match &image {
-        Ok(image) => (Facts::of(path, image, wanted), true),
-        Err(error) => (Facts::refused(path, bytes, *error), !is_no_image(*error)),
+    let other = if image.is_err() && wanted.has_others && !reading.mapped { Other::parse(bytes) } else { None };
+    let (facts, is_image) = match (&image, &other) {
+        (Ok(image), _) => (Facts::of(path, image, wanted), true),
+        (Err(_), Some(other)) => (Facts::of_other(path, other, wanted), false),
+        (Err(error), None) => (Facts::refused(path, bytes, *error), !is_no_image(*error)),
     };
     let status = if facts.is_refused() { Status::Refused } else { Status::Done };
     let Said { head, text, complaints } = text(&facts, Style::of_stdout());

@@ -130,6 +130,41 @@ pub const DEBUG_TYPES: &Names = &[
     (20, "Extended DLL characteristics"),
 ];
 
+/// `IMAGE_SYM_CLASS_`
+pub const STORAGE_CLASSES: &Names = &[
+    (0, "NULL"),
+    (1, "AUTOMATIC"),
+    (2, "EXTERNAL"),
+    (3, "STATIC"),
+    (4, "REGISTER"),
+    (5, "EXTERNAL_DEF"),
+    (6, "LABEL"),
+    (7, "UNDEFINED_LABEL"),
+    (8, "MEMBER_OF_STRUCT"),
+    (9, "ARGUMENT"),
+    (10, "STRUCT_TAG"),
+    (11, "MEMBER_OF_UNION"),
+    (12, "UNION_TAG"),
+    (13, "TYPE_DEFINITION"),
+    (14, "UNDEFINED_STATIC"),
+    (15, "ENUM_TAG"),
+    (16, "MEMBER_OF_ENUM"),
+    (17, "REGISTER_PARAM"),
+    (18, "BIT_FIELD"),
+    (68, "FAR_EXTERNAL"),
+    (100, "BLOCK"),
+    (101, "FUNCTION"),
+    (102, "END_OF_STRUCT"),
+    (103, "FILE"),
+    (104, "SECTION"),
+    (105, "WEAK_EXTERNAL"),
+    (107, "CLR_TOKEN"),
+    (255, "END_OF_FUNCTION"),
+];
+
+/// `IMAGE_SYM_` in place of the number of a section
+pub const SECTION_NUMBERS: &[(i16, &str)] = &[(0, "undefined"), (-1, "absolute"), (-2, "debug")];
+
 /// `WIN_CERT_TYPE_`
 pub const CERTIFICATE_TYPES: &Names =
     &[(1, "X.509"), (2, "PKCS #7 signed data"), (3, "reserved"), (4, "terminal server stack signed")];

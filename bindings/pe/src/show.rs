@@ -15,9 +15,10 @@ use crate::facts::load_config::LoadConfig;
 use crate::facts::resources::Resources;
 use crate::facts::rich::Rich;
 use crate::facts::sections::Section;
+use crate::facts::symbols::Symbol;
 use crate::facts::tls::Tls;
 use crate::facts::version::Version;
-use crate::facts::{delay_imports, relocations, Facts, List, Part, Topic};
+use crate::facts::{delay_imports, others, relocations, Facts, List, Part, Topic};
 use crate::page::{Page, Style};
 use crate::tables::{self, Row};
 use chrono::{TimeZone, Utc};
@@ -35,6 +36,9 @@ pub fn text(facts: &Facts, style: Style, named: &[Topic]) -> String {
     page.heading(&(escaped(&facts.file) + &kind));
     if let Some(headers) = &facts.headers {
         headers_of(headers, &mut page);
+    }
+    if let Some(headers) = &facts.other_headers {
+        other_headers_of(headers, &mut page);
     }
     if let Some(hardening) = &facts.hardening {
         hardening_of(hardening, &mut page);
@@ -63,8 +67,12 @@ pub fn text(facts: &Facts, style: Style, named: &[Topic]) -> String {
     part(facts.clr.as_ref(), clr_of, &mut page);
     part(facts.rich.as_ref(), rich_of, &mut page);
     part(facts.resources.as_ref(), resources_of, &mut page);
+    part(facts.symbols.as_ref(), symbols_of, &mut page);
     for topic in named.iter().filter(|it| facts.is_absent(**it)) {
         page.row(&topic.name(), "none");
+    }
+    for topic in named.iter().filter(|it| facts.is_not_read(**it)) {
+        page.row(&topic.name(), format_args!("not read of {}", facts.file_kind.unwrap_or_default()));
     }
     for (part, refusal) in facts.refusals() {
         page.warning(format_args!("{part}: {refusal}"));
@@ -99,7 +107,16 @@ fn headers_of(headers: &Headers, page: &mut Page) {
         page.table(&tables::dos_header(all));
     }
     page.heading("Directories");
-    page.table(&tables::directories(headers));
+    page.table(&tables::directories(&headers.directories));
+}
+
+fn other_headers_of(headers: &others::Headers, page: &mut Page) {
+    page.heading("Headers");
+    rows(tables::other_headers(headers), page);
+    if let Some(directories) = tables::other_directories(headers) {
+        page.heading("Directories");
+        page.table(&directories);
+    }
 }
 
 fn hardening_of(hardening: &Hardening, page: &mut Page) {
@@ -218,6 +235,12 @@ fn resources_of(resources: &Resources, page: &mut Page) {
     page.heading("Resources");
     page.table(&tables::resources(resources));
     more(resources.is_limited, page);
+}
+
+fn symbols_of(symbols: &List<Symbol>, page: &mut Page) {
+    page.heading("Symbols");
+    page.table(&tables::symbols(symbols));
+    more(symbols.is_limited, page);
 }
 
 /// What is refused, as lines for standard error.

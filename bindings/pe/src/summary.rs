@@ -4,7 +4,7 @@ use crate::escape::escaped;
 use crate::facts::hardening::word;
 use crate::facts::headers::Headers;
 use crate::facts::sections::Section;
-use crate::facts::{count_of, counted, Facts, Part};
+use crate::facts::{count_of, counted, others, Facts, Part};
 use crate::page::{Page, Style};
 use crate::show::time_of;
 
@@ -21,8 +21,13 @@ pub fn text(facts: &Facts, style: Style) -> String {
     if let Some(headers) = &facts.headers {
         headers_of(headers, &mut page);
     }
+    if let Some(headers) = &facts.other_headers {
+        other_headers_of(headers, &mut page);
+    }
     hardening_of(facts, &mut page);
-    sections_of(facts.sections.as_deref().unwrap_or_default(), &mut page);
+    hashes_of(facts, &mut page);
+    let is_object = matches!(facts.other_headers, Some(others::Headers::Object(_)));
+    sections_of(facts.sections.as_deref().unwrap_or_default(), is_object, &mut page);
     tables_of(facts, &mut page);
     version_of(facts, &mut page);
     symbols_of(facts, &mut page);
@@ -34,11 +39,32 @@ pub fn text(facts: &Facts, style: Style) -> String {
 
 fn heading_of(facts: &Facts) -> String {
     let file = escaped(&facts.file);
-    let Some(headers) = &facts.headers else {
-        let kind = facts.file_kind.map_or(String::new(), |kind| format!(", {kind}"));
-        return format!("{file}: refused{kind}");
-    };
-    format!("{file}: {}", kind_of(headers))
+    match (&facts.headers, &facts.other_headers) {
+        (Some(headers), _) => format!("{file}: {}", kind_of(headers)),
+        (None, Some(headers)) => format!("{file}: {}", other_kind_of(headers)),
+        (None, None) => {
+            let kind = facts.file_kind.map_or(String::new(), |kind| format!(", {kind}"));
+            format!("{file}: refused{kind}")
+        }
+    }
+}
+
+/// What a TE image is for, or an object.
+fn other_kind_of(headers: &others::Headers) -> String {
+    match headers {
+        others::Headers::Te(it) => format!("TE image for {}, {}", it.machine, it.subsystem),
+        others::Headers::Object(it) => format!("COFF object for {}", it.machine),
+    }
+}
+
+fn other_headers_of(headers: &others::Headers, page: &mut Page) {
+    match headers {
+        others::Headers::Te(it) => {
+            page.row("entry point", format_args!("{:#x}, image base {:#x}", it.entry_rva, it.image_base_va));
+            page.row("stripped", format_args!("{} of headers", counted(it.stripped_size.into(), "byte")));
+        }
+        others::Headers::Object(it) => page.row("built", stamped(it.stamp.seconds)),
+    }
 }
 
 /// What kind of image it is.
@@ -92,6 +118,9 @@ fn hardening_of(facts: &Facts, page: &mut Page) {
     };
     let words: Vec<String> = [true, false].into_iter().filter_map(named).collect();
     page.row("hardening", words.join("; "));
+}
+
+fn hashes_of(facts: &Facts, page: &mut Page) {
     if let Some(hashes) = &facts.hashes {
         page.row("SHA-256", &hashes.sha256_hex);
     }
@@ -105,8 +134,15 @@ pub fn built(headers: &Headers) -> String {
     match (headers.is_reproducible, headers.stamp.seconds) {
         (true, 0) => "reproducibly".to_string(),
         (true, stamp) => format!("reproducibly, time stamp {stamp:#010x} is a hash"),
-        (false, 0) => "without a time stamp".to_string(),
-        (false, stamp) => format!("{} by its time stamp", time_of(stamp)),
+        (false, stamp) => stamped(stamp),
+    }
+}
+
+/// The same of a time stamp that is no hash.
+pub fn stamped(stamp: u32) -> String {
+    match stamp {
+        0 => "without a time stamp".to_string(),
+        _ => format!("{} by its time stamp", time_of(stamp)),
     }
 }
 
@@ -115,18 +151,20 @@ fn bar_of(entropy: f64) -> String {
     "█".repeat(full) + &"░".repeat(STEPS as usize - full.min(STEPS as usize))
 }
 
-/// A line for each section, with as much as there is room for.
-fn sections_of(sections: &[Section], page: &mut Page) {
+/// A line for each section, with as much as there is room for. Those of an object are in the file alone.
+fn sections_of(sections: &[Section], is_object: bool, page: &mut Page) {
     let width = sections.iter().map(|it| it.shown_name().to_string().chars().count()).max().unwrap_or(0).clamp(8, NAME);
     for (index, section) in sections.iter().enumerate() {
         let label = if index == 0 { "sections" } else { "" };
-        let (Section { permissions, rva, virtual_size, .. }, name) = (section, section.shown_name());
+        let (Section { permissions, rva, virtual_size, file_offset, file_size, .. }, name) =
+            (section, section.shown_name());
+        let (size, at) = if is_object { (file_size, file_offset) } else { (virtual_size, rva) };
         let entropy = |of: &dyn Fn(f64) -> String| section.entropy.map_or(String::new(), of);
-        let start = format!("{name:width$} {permissions} {virtual_size:>9} bytes at {rva:<#10x}");
+        let start = format!("{name:width$} {permissions} {size:>9} bytes at {at:<#10x}");
         let lines = [
             start.clone() + &entropy(&|it| format!(" {} {it:.2} bits a byte", bar_of(it))),
             start.trim_end().to_string() + &entropy(&|it| format!(" {it:.2} bits a byte")),
-            format!("{name} {permissions} {virtual_size} at {rva:#x}") + &entropy(&|it| format!(" {it:.2}")),
+            format!("{name} {permissions} {size} at {at:#x}") + &entropy(&|it| format!(" {it:.2}")),
         ];
         let [.., shortest] = &lines;
         page.row(label, lines.iter().find(|it| it.chars().count() <= page.room()).unwrap_or(shortest));
@@ -233,6 +271,11 @@ fn version_of(facts: &Facts, page: &mut Page) {
 }
 
 fn symbols_of(facts: &Facts, page: &mut Page) {
+    if let Some(symbols) = facts.symbols.as_ref().and_then(Part::present) {
+        let undefined = symbols.entries.iter().filter(|it| it.section_number == 0).count();
+        let count = count_of(symbols.entries.len(), symbols.is_limited);
+        page.row("symbols", format_args!("{count}, {undefined} of them undefined"));
+    }
     let Some(pdb) = facts.debug.as_ref().and_then(|it| it.pdb.present()) else { return };
     page.row("PDB", pdb.name);
     page.row("symbol key", &pdb.key);

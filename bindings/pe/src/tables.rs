@@ -9,18 +9,19 @@ use crate::facts::exports::Exports;
 use crate::facts::functions::Functions;
 use crate::facts::hardening::{word, Hardening};
 use crate::facts::hashes::Hashes;
-use crate::facts::headers::Headers;
+use crate::facts::headers::{Directory, Headers};
 use crate::facts::imports::{self, Library};
 use crate::facts::load_config::LoadConfig;
 use crate::facts::relocations::Page;
 use crate::facts::resources::{Label, Leaf, Resources};
 use crate::facts::rich::Rich;
 use crate::facts::sections::Section;
+use crate::facts::symbols::Symbol;
 use crate::facts::tls::Tls;
 use crate::facts::version::Version;
-use crate::facts::{counted, delay_imports, List, Name, Part};
+use crate::facts::{counted, delay_imports, others, List, Name, Part};
 use crate::show::time_of;
-use crate::summary::{built, checksum_of};
+use crate::summary::{built, checksum_of, stamped};
 
 /// A column: its head, and whether its cells are numbers.
 #[derive(Clone, Copy, Debug)]
@@ -79,6 +80,56 @@ pub fn headers(headers: &Headers) -> Vec<Row> {
     rows
 }
 
+/// The header of a TE image, or of an object.
+pub fn other_headers(headers: &others::Headers) -> Vec<Row> {
+    match headers {
+        others::Headers::Te(it) => vec![
+            ("machine", it.machine.to_string()),
+            ("subsystem", it.subsystem.to_string()),
+            ("entry point", format!("{:#x}", it.entry_rva)),
+            ("image base", format!("{:#x}", it.image_base_va)),
+            ("code", format!("at {:#x}", it.base_of_code_rva)),
+            ("stripped", format!("{} of headers", counted(it.stripped_size.into(), "byte"))),
+            ("counts", counted(it.number_of_sections.into(), "section")),
+        ],
+        others::Headers::Object(it) => {
+            let coff = (it.symbol_table_file_offset, it.number_of_symbols, it.string_table_size);
+            let mut rows = vec![
+                ("machine", it.machine.to_string()),
+                ("built", stamped(it.stamp.seconds)),
+                ("counts", counted(it.number_of_sections.into(), "section")),
+            ];
+            rows.extend(symbol_table(coff.0, coff.1, coff.2));
+            rows
+        }
+    }
+}
+
+/// The directories of a TE image, or nothing of an object.
+pub fn other_directories(headers: &others::Headers) -> Option<Table> {
+    match headers {
+        others::Headers::Te(it) => Some(directories(&it.directories)),
+        others::Headers::Object(_) => None,
+    }
+}
+
+pub fn symbols(symbols: &List<Symbol>) -> Table {
+    let rows = symbols.entries.iter().map(|it| {
+        let section = it.no_section().map(String::from).or(it.section.map(|name| name.to_string()));
+        vec![
+            it.index.to_string(),
+            it.name.to_string(),
+            section.unwrap_or_else(|| it.section_number.to_string()),
+            format!("{:#x}", it.value),
+            format!("{:#x}", it.r#type),
+            it.storage_class.to_string(),
+        ]
+    });
+    let columns =
+        &[number("index"), text("name"), text("section"), number("value"), number("type"), text("storage class")];
+    Table::new(columns, rows).limited(symbols.is_limited)
+}
+
 /// The rows of the optional header that few look at, and how many sections and symbols there are.
 fn more_headers(all: &AllHeaders) -> Vec<Row> {
     let mut rows = Vec::new();
@@ -102,15 +153,15 @@ fn more_headers(all: &AllHeaders) -> Vec<Row> {
     let directories = all.optional.as_ref().map_or(0, |it| it.number_of_rva_and_sizes);
     let counts = format!("{}, {directories} directories", counted((*number_of_sections).into(), "section"));
     rows.push(("counts", format!("{counts}, {size_of_optional_header} bytes of optional header")));
-    rows.extend(symbols(&all.coff));
+    let Coff { symbol_table_file_offset: offset, number_of_symbols: count, string_table_size, .. } = &all.coff;
+    rows.extend(symbol_table(*offset, *count, *string_table_size));
     rows
 }
 
 /// Where the COFF symbols are, or nothing without any.
-fn symbols(coff: &Coff) -> Option<Row> {
-    let strings = coff.string_table_size.map_or(String::new(), |it| format!(", {it} bytes of strings"));
-    let Coff { symbol_table_file_offset: offset, number_of_symbols: count, .. } = coff;
-    ((*offset, *count) != (0, 0)).then(|| ("COFF symbols", format!("{count} at file offset {offset:#x}{strings}")))
+fn symbol_table(offset: u32, count: u32, string_table_size: Option<usize>) -> Option<Row> {
+    let strings = string_table_size.map_or(String::new(), |it| format!(", {it} bytes of strings"));
+    ((offset, count) != (0, 0)).then(|| ("COFF symbols", format!("{count} at file offset {offset:#x}{strings}")))
 }
 
 /// The name in winnt.h, what it is, and the number of each field of the DOS header.
@@ -155,8 +206,8 @@ pub fn hashes(hashes: &Hashes) -> Vec<Row> {
     rows.into_iter().filter_map(|(label, value)| Some((label, value?.clone()))).collect()
 }
 
-pub fn directories(headers: &Headers) -> Table {
-    let rows = headers.directories.iter().map(|it| {
+pub fn directories(directories: &[Directory]) -> Table {
+    let rows = directories.iter().map(|it| {
         let start =
             it.rva.map(|rva| format!("RVA {rva:#x}")).or(it.file_offset.map(|offset| format!("offset {offset:#x}")));
         vec![it.name.to_string(), start.unwrap_or_default(), it.size.to_string()]

@@ -163,9 +163,9 @@ fn parts_are_shown_whole() {
 fn keys_are_paths_of_a_symbol_server() {
     let folder = Folder::new("key");
     let (out, _, status) = run(&["key", &folder.file("a.exe", &made::with_debug())]);
-    // The image's own path has its time stamp and its size in memory, both of which are 0 here.
+    // The image's own path has its time stamp, which is 0 here, and its size in memory.
     let paths =
-        "\n  PDB           a.pdb/497B72F6390A44FC878E5A2D63B6CC4B1/a.pdb\n  image         a.exe/000000000/a.exe\n";
+        "\n  PDB           a.pdb/497B72F6390A44FC878E5A2D63B6CC4B1/a.pdb\n  image         a.exe/000000006000/a.exe\n";
     assert_eq!((out.ends_with(&format!("a.exe{paths}")), out.lines().count(), status), (true, 3, 0), "{out}");
     let (out, _, status) = run(&["key", &folder.file("c.exe", &made::with_exports())]);
     assert_eq!((out.contains("\n  PDB           none, "), status), (true, 0), "{out}");

@@ -686,3 +686,178 @@ fn the_version_says_whether_the_library_was_proved() {
     assert_eq!((lines.len(), lines[0], status), (2, concat!("pe ", env!("CARGO_PKG_VERSION")), 0));
     assert!(lines[1].starts_with("library for C: "), "{out}");
 }
+
+/// The object of `made` with some of its bytes replaced.
+fn object_with(parts: &[(usize, &[u8])]) -> Vec<u8> {
+    let mut bytes = made::object();
+    for (offset, part) in parts {
+        bytes[*offset..][..part.len()].copy_from_slice(part);
+    }
+    bytes
+}
+
+#[test]
+fn objects_are_shown_with_their_symbols() {
+    // `.data` gets the name in the string table, and `.bss` 0x40 bytes, which are nowhere.
+    let all = json_of("object", &object_with(&[(0x3C, b"/4\0\0\0"), (0x74, b"\x40\0\0\0\0\0\0\0")]));
+    assert_eq!(
+        (&all["error"], &all["file_kind"], &all["file_size"]),
+        (&json!(null), &json!("a COFF object"), &json!(404))
+    );
+    // The values are those of llvm-readobj 14, `--file-headers --sections --symbols`, over the object as it is made.
+    assert_eq!(
+        all["headers"],
+        json!({
+            "machine": {"number": 0x8664, "name": "x64"}, "time_date_stamp": 0, "time": null, "number_of_sections": 3,
+            "symbol_table_file_offset": 0xA6, "number_of_symbols": 12, "string_table_size": 22
+        })
+    );
+    let fields =
+        |it: &Value| ["name", "long_name", "file_offset", "file_size", "permissions"].map(|field| it[field].clone());
+    let sections: Vec<_> = all["sections"].as_array().unwrap().iter().map(fields).collect();
+    assert_eq!(sections[0], [json!(".text"), json!(null), json!(0x8C), json!(16), json!("r-x")]);
+    assert_eq!(sections[1], [json!("/4"), json!("longer_than_eight"), json!(0), json!(0), json!("rw-")]);
+    assert_eq!(sections[2], [json!(".bss"), json!(null), json!(0), json!(0x40), json!("rw-")]);
+    let bss = &all["sections"][2];
+    assert_eq!((&bss["entropy"], &bss["sha256_hex"]), (&json!(null), &json!(null)));
+    let fields =
+        |it: &Value| ["index", "name", "value", "section_number", "section", "type"].map(|field| it[field].clone());
+    let symbols: Vec<_> = all["symbols"].as_array().unwrap().iter().map(fields).collect();
+    let row = |index, name, value, number, section: Option<&str>, kind| {
+        [json!(index), json!(name), json!(value), json!(number), json!(section), json!(kind)]
+    };
+    assert_eq!(
+        symbols,
+        [
+            row(0, ".file", 0, -2, None, 0),
+            row(2, "longer_than_eight", 1, 1, Some(".text"), 0x20),
+            row(4, ".text", 0, 1, Some(".text"), 0),
+            row(6, ".data", 0, 2, Some("longer_than_eight"), 0),
+            row(8, ".bss", 0, 3, Some(".bss"), 0),
+            row(10, "five", 5, -1, None, 0),
+            row(11, "outside", 0, 0, None, 0),
+        ]
+    );
+    let classes: Vec<&Value> =
+        all["symbols"].as_array().unwrap().iter().map(|it| &it["storage_class"]["name"]).collect();
+    assert_eq!(classes, ["FILE", "EXTERNAL", "STATIC", "STATIC", "STATIC", "EXTERNAL", "EXTERNAL"]);
+    assert_eq!(all["symbols"][1]["number_of_auxiliary_records"], 1);
+}
+
+#[test]
+fn names_of_symbols_are_escaped_and_refused_as_others() {
+    let folder = Folder::new("object-names");
+    let file = folder.file("a.o", &object_with(&[(0x16C, b"a\x1b[2J\n\xC2\x85")]));
+    let (out, _, status) = run(&["show", &file, "symbols"]);
+    assert!(out.contains("  11     a\\x1b[2J\\x0a\\u{85}  undefined  0x0    0x0   EXTERNAL\n"), "{out}");
+    assert_eq!((out.contains('\x1b'), status), (false, 0));
+    let (out, _, _) = run(&["show", &file, "--csv", "symbols"]);
+    assert!(out.starts_with("index,name,section,value,type,storage class\n0,.file,debug,0x0,0x0,FILE\n"), "{out}");
+    // A name that is not UTF-8 ends the list, and one past the string table too.
+    for part in [(0x16C, b"\xFFutside\0".as_slice()), (0x16C, b"\0\0\0\0\xFF\0\0\0")] {
+        let file = folder.file("b.o", &object_with(&[part]));
+        let (out, _, status) = run(&["--json", "--parts", "symbols", &file]);
+        let said: Value = serde_json::from_str(&out).unwrap();
+        let symbols = said["symbols"].as_array().unwrap();
+        assert_eq!((symbols.len(), &said["symbols_error"]["name"], status), (6, &json!("STRING_TABLE"), 1));
+    }
+}
+
+#[test]
+fn symbols_that_share_a_long_name_are_limited() {
+    const COUNT: usize = 2000;
+    let name = [vec![b'a'; 60_000], vec![0]].concat();
+    let symbol = [b"\0\0\0\0\x04\0\0\0".as_slice(), &[0; 8], b"\x02\0"].concat();
+    let mut bytes = made::object();
+    bytes.truncate(0xA6);
+    bytes[0x0C..0x10].copy_from_slice(&(COUNT as u32).to_le_bytes());
+    bytes.extend(symbol.repeat(COUNT));
+    bytes.extend((name.len() as u32 + 4).to_le_bytes());
+    bytes.extend(&name);
+    let said = json_of("object-limited", &bytes);
+    let count = said["symbols"].as_array().unwrap().len();
+    // Sixteen times the bytes of the file.
+    assert_eq!((count, &said["symbols_is_limited"]), (16 * bytes.len() / 60_008, &json!(true)));
+}
+
+#[test]
+fn te_images_are_shown_with_their_debug_data() {
+    let said = json_of("te", &made::te_image());
+    assert_eq!((&said["error"], &said["file_kind"]), (&json!(null), &json!("a TE image")));
+    // 0x128 bytes were stripped, and the header has 0x28: all offsets of the maker are less 0x100.
+    assert_eq!(
+        said["headers"],
+        json!({
+            "machine": {"number": 0x8664, "name": "x64"}, "subsystem": {"number": 10, "name": "EFI application"},
+            "number_of_sections": 1, "stripped_size": 0x128, "entry_rva": 0x1000, "base_of_code_rva": 0x1000,
+            "image_base_va": 0, "directories": [
+                {"index": 6, "name": "debug", "rva": 0x50, "file_offset": null, "size": 28}]
+        })
+    );
+    let section = &said["sections"][0];
+    assert_eq!(
+        (&section["name"], &section["rva"], &section["file_offset"]),
+        (&json!(".text"), &json!(0x1000), &json!(0x50))
+    );
+    let entry = &said["debug"]["entries"][0];
+    assert_eq!((&entry["type"]["name"], &entry["rva"], &entry["size"]), (&json!("CodeView"), &json!(0x70), &json!(30)));
+    assert_eq!(said["debug"]["pdb"]["key"], "131211101514171618191A1B1C1D1E1F9");
+    let folder = Folder::new("te-text");
+    let file = folder.file("a.te", &made::te_image());
+    let (out, _, status) = run(&["show", &file, "imports", "relocations", "symbols"]);
+    for part in ["imports      ", "relocations  ", "symbols      "] {
+        assert!(out.contains(&format!("\n  {part} not read of a TE image\n")), "{out}");
+    }
+    assert_eq!(status, 0);
+}
+
+#[test]
+fn what_only_looks_like_an_object_is_refused() {
+    let folder = Folder::new("no-objects");
+    for (kind, bytes) in [
+        // A machine without a name; `.text` a byte past the end; no section; section headers past the end.
+        (None, object_with(&[(0, b"\x34\x12")])),
+        (Some("a COFF object, as it seems"), object_with(&[(0x24, b"\x09\x01\0\0")])),
+        (Some("a COFF object, as it seems"), object_with(&[(2, b"\0")])),
+        (Some("a COFF object, as it seems"), object_with(&[(2, b"\x0A")])),
+        // A TE image whose section headers are truncated, and one that had fewer headers than it has.
+        (Some("a TE image"), made::te_image()[..0x4F].to_vec()),
+        (Some("a TE image"), [b"VZ\x64\x86\x01\x0A\x27\0".as_slice(), &made::te_image()[8..]].concat()),
+    ] {
+        let (line, _, status) = run(&["--json", &folder.file("a.bin", &bytes)]);
+        let said: Value = serde_json::from_str(&line).unwrap();
+        assert_eq!((said["file_kind"].as_str(), said.get("headers"), status), (kind, None, 1));
+        assert_eq!(said["error"]["name"], "BAD_MAGIC");
+    }
+    // With its end where the file has it, the section lies in it.
+    let file = folder.file("b.bin", &object_with(&[(0x24, b"\x08\x01\0\0")]));
+    assert_eq!(run(&[&file]).2, 0);
+    assert_eq!(run(&["--mapped", &file]).2, 1);
+    // Commands for images refuse it, and below a folder it is skipped.
+    for words in [["key", &file].as_slice(), &["digest", &file], &["find", "a", &file], &["unwind", &file, "1000"]] {
+        assert_eq!(run(words).2, 1, "{words:?}");
+    }
+    let (out, error, status) = run(&["-r", folder.0.to_str().unwrap()]);
+    assert_eq!((out.as_str(), error.as_str(), status), ("", "pe: 2 files skipped, no images\n", 0));
+}
+
+#[test]
+fn symbols_of_images_are_shown_where_they_are_named() {
+    let folder = Folder::new("image-symbols");
+    let mut bytes = made::with_long_section_name();
+    // Its one symbol is at 0x600: a name, a value, section 1.
+    bytes[0x600..0x60E].copy_from_slice(b"main\0\0\0\0\x07\0\0\0\x01\0");
+    let file = folder.file("a.exe", &bytes);
+    let (out, _, _) = run(&["--json", &file]);
+    let said: Value = serde_json::from_str(&out).unwrap();
+    assert_eq!((&said["file_kind"], said.get("symbols")), (&json!(null), None));
+    let (out, _, status) = run(&["--json", "--parts", "symbols", &file]);
+    let said: Value = serde_json::from_str(&out).unwrap();
+    let symbol = &said["symbols"][0];
+    assert_eq!(
+        (&symbol["name"], &symbol["value"], &symbol["section"], &said["symbols"][1], status),
+        (&json!("main"), &json!(7), &json!(".debug_info"), &json!(null), 0)
+    );
+    let (out, _, _) = run(&["show", &folder.file("b.exe", &made::with_exports()), "symbols"]);
+    assert!(out.ends_with("\n  symbols       none\n"), "{out}");
+}

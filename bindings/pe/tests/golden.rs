@@ -1,5 +1,5 @@
-//! What the program says of twenty small images and of a file that is none, byte for byte: a session for each, in
-//! `golden/NAME.txt`. `UPDATE_GOLDEN=1 cargo test --test golden` writes the sessions anew; what has changed in them has to
+//! What the program says of twenty small images, a file that is none, a TE image and an object, byte for byte: a session for
+//! each, in `golden/NAME.txt`. `UPDATE_GOLDEN=1 cargo test --test golden` writes the sessions anew; what has changed in them has to
 //! be read then, as `golden/README.md` says.
 
 #[path = "../../rust/tests/made/mod.rs"]
@@ -35,6 +35,8 @@ const ASKED: &[(&str, &str, &[&str])] = &[
     ("long_section_name", "sections", &["1000"]),
     ("x86_dll", "sections", &["1004"]),
     ("short", "headers", &["1000"]),
+    ("te_image", "debug", &["1000"]),
+    ("object", "symbols", &["1000"]),
 ];
 
 /// Values that follow from how each image is made, as they stand in its session: lines, ends of lines, and fields of JSON.
@@ -63,7 +65,7 @@ const MADE: &[(&str, &[&str])] = &[
             "  Repro         68617368\n",
             "\nParts of sections (LTCG)\n",
             "  .text$mn  0x1000  16\n  .bss      0x2000  8\n",
-            "\n  PDB           a.pdb/497B72F6390A44FC878E5A2D63B6CC4B1/a.pdb\n  image         debug.bin/000000000/debug.bin\n",
+            "\n  PDB           a.pdb/497B72F6390A44FC878E5A2D63B6CC4B1/a.pdb\n  image         debug.bin/000000006000/debug.bin\n",
             "\"vc_features\":{\"before_vc_11\":1,\"c_and_cpp\":2,\"gs\":3,\"sdl\":4,\"guard_n\":5}",
             "\"extended_dll_characteristics\":{\"number\":65,\"flags\":{\"CET_COMPAT\":true,",
             "\"type\":{\"number\":2,\"name\":\"CodeView\"},\"size\":30,\"rva\":4096,\"file_offset\":1024,",
@@ -267,6 +269,36 @@ const MADE: &[(&str, &[&str])] = &[
             "\"file_size\":2,\"error\":{\"number\":2,\"name\":\"SHORT\",\"text\":\"truncated\"},\"file_kind\":null}\nstatus 1\n",
         ],
     ),
+    (
+        "te_image",
+        &[
+            "te_image.bin: TE image for x64, EFI application\n  entry point   0x1000, image base 0x0\n",
+            "  stripped      296 bytes of headers\n",
+            "  debug      RVA 0x50   28\n",
+            "  CodeView  0x70  0xffffff00   30\n  PDB           a.pdb\n",
+            "  GUID          {13121110-1514-1716-1819-1A1B1C1D1E1F}, age 9\n",
+            "pe: te_image.bin: image: ",
+            "\"error\":null,\"file_kind\":\"a TE image\",\"headers\":{\"machine\":{\"number\":34404,\"name\":\"x64\"},",
+            "\"number_of_sections\":1,\"stripped_size\":296,\"entry_rva\":4096,\"base_of_code_rva\":4096,",
+        ],
+    ),
+    (
+        "object",
+        &[
+            "object.bin: COFF object for x64\n  built         without a time stamp\n",
+            "  COFF symbols  12 at file offset 0xa6, 22 bytes of strings\n",
+            "  .text  r-x          0x0  0             0x8c         16        ",
+            "  .bss   rw-          0x0  0             0x0          0\n",
+            "  sections      .text    r-x        16 bytes at 0x8c       █",
+            "  symbols       7, 1 of them undefined\n",
+            "  0      .file              debug      0x0    0x0   FILE\n",
+            "  2      longer_than_eight  .text      0x1    0x20  EXTERNAL\n",
+            "  10     five               absolute   0x5    0x0   EXTERNAL\n",
+            "  11     outside            undefined  0x0    0x0   EXTERNAL\n",
+            "\"error\":null,\"file_kind\":\"a COFF object\",\"headers\":{\"machine\":{\"number\":34404,\"name\":\"x64\"},",
+            "{\"index\":2,\"name\":\"longer_than_eight\",\"value\":1,\"section_number\":1,\"section\":\".text\",\"type\":32,",
+        ],
+    ),
 ];
 
 fn path_of(name: &str) -> PathBuf {
@@ -299,9 +331,10 @@ fn session_of(folder: &Folder, name: &str, part: &str, rvas: &[&str]) -> String 
     commands.iter().chain(&as_json).map(|words| step_of(folder, words)).collect()
 }
 
-/// The images of the tests, and a file that is none.
+/// The images of the tests, a file that is none, a TE image and an object.
 fn files() -> Vec<(&'static str, Vec<u8>)> {
-    made::all().into_iter().chain([("short", b"MZ".to_vec())]).collect()
+    let others = [("short", b"MZ".to_vec()), ("te_image", made::te_image()), ("object", made::object())];
+    made::all().into_iter().chain(others).collect()
 }
 
 #[test]

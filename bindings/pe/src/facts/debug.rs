@@ -2,7 +2,7 @@
 
 use super::{entry, field, hex_of, Flags, List, Name, Named, Part, Refusal, Stamp};
 use crate::names::{DEBUG_TYPES, EXTENDED_DLL_CHARACTERISTICS};
-use pe_c::{Error, Image, Repro};
+use pe_c::{DebugEntry, Error, Image, Repro, SymbolKey, Te};
 use serde::Serialize;
 
 #[derive(Clone, Debug, Serialize)]
@@ -144,7 +144,8 @@ impl Debug<'_> {
     }
 }
 
-/// `IMAGE_DEBUG_TYPE_` of these two.
+/// `IMAGE_DEBUG_TYPE_` of these three.
+const REPRO: u32 = 16;
 const EMBEDDED_PDB: u32 = 17;
 const PDB_CHECKSUM: u32 = 19;
 
@@ -154,7 +155,7 @@ const LTCG: u32 = 0x4C54_4347;
 pub fn of<'a>(image: &'a Image<'_>) -> Debug<'a> {
     Debug {
         entries: entries_of(image),
-        pdb: pdb_of(image),
+        pdb: pdb_of(image.symbol_key()),
         pdb20: image
             .pdb20()
             .map(|it| {
@@ -171,6 +172,23 @@ pub fn of<'a>(image: &'a Image<'_>) -> Debug<'a> {
         extended: image.debug_characteristics().map(|it| it.map(extended_of)).into(),
         embedded_pdb: embedded_of(image).into(),
         pdb_checksum: checksum_of(image).into(),
+    }
+}
+
+/// Of a TE image the entries, and the PDB.
+pub fn of_te<'a>(te: &Te<'a>) -> Debug<'a> {
+    let is_hash = matches!(te.first_debug_entry(REPRO), Ok(Some(_)));
+    let entries = te.debug_entries().map(|found| found.map(|it| List::of(it, |entry| entry_of(entry, is_hash))));
+    Debug {
+        entries: entries.into(),
+        pdb: pdb_of(te.symbol_key()),
+        pdb20: Part::Absent,
+        repro: Part::Absent,
+        pogo: Part::Absent,
+        vc_features: Part::Absent,
+        extended: Part::Absent,
+        embedded_pdb: Part::Absent,
+        pdb_checksum: Part::Absent,
     }
 }
 
@@ -193,22 +211,22 @@ fn extended_of(flags: u32) -> Extended {
 fn entries_of(image: &Image<'_>) -> Part<List<Entry>> {
     // The stamps of a reproducible build are a hash.
     let is_hash = matches!(image.repro(), Ok(Some(_)));
-    let entries = image.debug_entries().map(|found| {
-        found.map(|entries| {
-            List::of(entries, |entry| Entry {
-                r#type: Named::of(entry.data_type, DEBUG_TYPES),
-                size: entry.size_of_data,
-                rva: entry.address_of_raw_data,
-                file_offset: entry.pointer_to_raw_data,
-                stamp: Stamp { seconds: entry.time_date_stamp, is_hash },
-            })
-        })
-    });
+    let entries = image.debug_entries().map(|found| found.map(|it| List::of(it, |entry| entry_of(entry, is_hash))));
     entries.into()
 }
 
-fn pdb_of<'a>(image: &'a Image<'_>) -> Part<Pdb<'a>> {
-    let key = image.symbol_key().map(|found| {
+fn entry_of(entry: DebugEntry, is_hash: bool) -> Entry {
+    Entry {
+        r#type: Named::of(entry.data_type, DEBUG_TYPES),
+        size: entry.size_of_data,
+        rva: entry.address_of_raw_data,
+        file_offset: entry.pointer_to_raw_data,
+        stamp: Stamp { seconds: entry.time_date_stamp, is_hash },
+    }
+}
+
+fn pdb_of(found: Result<Option<SymbolKey<'_>>, Error>) -> Part<Pdb<'_>> {
+    let key = found.map(|found| {
         found.map(|key| Pdb {
             name: Name(key.name()),
             guid: key.guid.to_string(),

@@ -95,6 +95,11 @@ pub fn of(image: &Image<'_>, has_digest: bool) -> Hashes {
     Hashes { sha256_hex, imphash: imphash_of(image), rich_hash: rich_hash_of(image), authenticode_sha256_hex }
 }
 
+/// The hash of a file that is no image.
+pub fn of_bytes(bytes: &[u8]) -> Hashes {
+    Hashes { sha256_hex: sha256_of(bytes), imphash: None, rich_hash: None, authenticode_sha256_hex: None }
+}
+
 #[cfg(test)]
 mod tests {
     use super::*;

@@ -2,9 +2,10 @@
 
 use super::entropy::ByteCounts;
 use super::hashes::sha256_of;
-use super::Name;
+use super::others::Other;
+use super::{Budget, Name};
 use crate::names::permissions;
-use pe_c::{Image, Layout};
+use pe_c::{Coff, Image, Layout};
 use serde::Serialize;
 use std::ops::Range;
 
@@ -40,46 +41,115 @@ impl<'a> Section<'a> {
 }
 
 pub fn of<'a>(image: &'a Image<'_>, has_hashes: bool) -> Vec<Section<'a>> {
-    let mut counts = ByteCounts::of(image.bytes());
-    let mut left = if has_hashes { image.bytes().len() } else { 0 };
-    let sections = image.sections().iter().enumerate();
-    sections
-        .map(|(index, section)| {
-            let found = section_of(image, section, index < LONG_NAMES, &mut counts);
-            Section { sha256_hex: hash_of(image, section, &mut left), ..found }
-        })
-        .collect()
+    let mut content = Content::of(image.bytes(), has_hashes);
+    let range = |section: &_| range_of(image.layout(), section);
+    image.sections().iter().map(with(long_names_of(image), |section| content.of_section(range(section)))).collect()
 }
 
-/// The hash of a section, if it has bytes and so many are left.
-fn hash_of(image: &Image<'_>, section: &pe_c::Section, left: &mut usize) -> Option<String> {
-    let range = range_of(image.layout(), section);
-    let length = image.bytes().len();
-    let there = |offset: u64| usize::try_from(offset).map_or(length, |it| it.min(length));
-    let bytes = image.bytes().get(there(range.start)..there(range.end)).filter(|it| !it.is_empty())?;
-    *left = left.checked_sub(bytes.len())?;
-    Some(sha256_of(bytes))
+/// The long names of an image's sections. Without a string table, or one that is refused, the name of the header is what there is.
+fn long_names_of<'a>(image: &'a Image<'_>) -> impl FnMut(&'a pe_c::Section) -> Option<&'a [u8]> {
+    let mut indices = 0..LONG_NAMES;
+    move |section| indices.next().and_then(|_| image.long_section_name(section).ok().flatten())
 }
 
-fn section_of<'a>(
-    image: &'a Image<'_>,
-    section: &'a pe_c::Section,
-    is_looked_up: bool,
-    counts: &mut ByteCounts<'_>,
-) -> Section<'a> {
-    // Without a string table, or one that is refused, the name of the header is what there is.
-    let long_name = if is_looked_up { image.long_section_name(section).ok().flatten() } else { None };
-    Section {
-        name: Name(section.name()),
-        long_name: long_name.map(Name),
-        rva: section.virtual_address,
-        virtual_size: section.virtual_size,
-        file_offset: section.pointer_to_raw_data,
-        file_size: section.size_of_raw_data,
-        permissions: permissions(section.characteristics),
-        flags: section.characteristics,
-        entropy: counts.entropy_of(range_of(image.layout(), section)),
-        sha256_hex: None,
+fn names<'a>(
+    sections: &'a [pe_c::Section],
+    mut long_name: impl FnMut(&'a pe_c::Section) -> Option<&'a [u8]>,
+) -> Vec<Name<'a>> {
+    sections.iter().map(|it| Name(long_name(it).unwrap_or(it.name()))).collect()
+}
+
+/// The names of the sections alone.
+pub fn names_of<'a>(image: &'a Image<'_>) -> Vec<Name<'a>> {
+    names(image.sections(), long_names_of(image))
+}
+
+pub fn names_of_object<'a>(object: &'a Coff<'_>) -> Vec<Name<'a>> {
+    names(object.sections(), long_names_of_object(object))
+}
+
+/// The sections of a TE image or of an object. An object may have thousands that have long names.
+pub fn of_other<'a>(other: &'a Other<'_>, has_hashes: bool) -> Vec<Section<'a>> {
+    let mut content = Content::of(other.bytes(), has_hashes);
+    match other {
+        Other::Te(te) => {
+            let content = |section: &_| content.of_section(range_of(Layout::File, section));
+            te.sections().iter().map(with(|_| None, content)).collect()
+        }
+        Other::Object(object) => {
+            let content = |section: &pe_c::Section| {
+                // Zeros, as in `.bss`, have a size and no bytes.
+                let is_there = section.pointer_to_raw_data != 0;
+                content.of_section(if is_there { range_of(Layout::File, section) } else { 0..0 })
+            };
+            object.sections().iter().map(with(long_names_of_object(object), content)).collect()
+        }
+    }
+}
+
+/// The long names of an object's sections, until too many bytes are read for them: many could lead to one long string, or to
+/// one that does not end.
+fn long_names_of_object<'a>(object: &'a Coff<'_>) -> impl FnMut(&'a pe_c::Section) -> Option<&'a [u8]> {
+    let mut budget = Budget::without_rvas(object.bytes());
+    let length = object.string_table().ok().flatten().map_or(0, <[u8]>::len);
+    let mut is_limited = false;
+    move |section| {
+        if is_limited || !section.name().starts_with(b"/") {
+            return None;
+        }
+        let name = object.long_section_name(section).ok().flatten();
+        is_limited = !budget.takes(name.map_or(length, <[u8]>::len));
+        name.filter(|_| !is_limited)
+    }
+}
+
+/// What the bytes of sections look like.
+struct Content<'a> {
+    bytes: &'a [u8],
+    counts: ByteCounts<'a>,
+    /// How many bytes are still hashed.
+    left: usize,
+}
+
+impl<'a> Content<'a> {
+    fn of(bytes: &'a [u8], has_hashes: bool) -> Content<'a> {
+        Content { bytes, counts: ByteCounts::of(bytes), left: if has_hashes { bytes.len() } else { 0 } }
+    }
+
+    /// The entropy and the hash of a section.
+    fn of_section(&mut self, range: Range<u64>) -> (Option<f64>, Option<String>) {
+        (self.counts.entropy_of(range.clone()), self.hash_of(range))
+    }
+
+    /// The hash of a section, if it has bytes and so many are left.
+    fn hash_of(&mut self, range: Range<u64>) -> Option<String> {
+        let length = self.bytes.len();
+        let there = |offset: u64| usize::try_from(offset).map_or(length, |it| it.min(length));
+        let bytes = self.bytes.get(there(range.start)..there(range.end)).filter(|it| !it.is_empty())?;
+        self.left = self.left.checked_sub(bytes.len())?;
+        Some(sha256_of(bytes))
+    }
+}
+
+/// What a section header becomes, by its long name and by its entropy and hash.
+fn with<'a>(
+    mut long_name: impl FnMut(&'a pe_c::Section) -> Option<&'a [u8]>,
+    mut content: impl FnMut(&'a pe_c::Section) -> (Option<f64>, Option<String>),
+) -> impl FnMut(&'a pe_c::Section) -> Section<'a> {
+    move |section| {
+        let (entropy, sha256_hex) = content(section);
+        Section {
+            name: Name(section.name()),
+            long_name: long_name(section).map(Name),
+            rva: section.virtual_address,
+            virtual_size: section.virtual_size,
+            file_offset: section.pointer_to_raw_data,
+            file_size: section.size_of_raw_data,
+            permissions: permissions(section.characteristics),
+            flags: section.characteristics,
+            entropy,
+            sha256_hex,
+        }
     }
 }
 
