@@ -55,10 +55,10 @@ def made_images(room):
     return folder
 
 
-def contents_of(folder):
-    """The contents of the images of a folder."""
+def contents_of(folder, kinds=("bin",)):
+    """The contents of the images of a folder, or of other kinds of files."""
     found = []
-    for path in sorted(glob.glob(os.path.join(folder, "*.bin"))):
+    for path in sorted(path for kind in kinds for path in glob.glob(os.path.join(folder, f"*.{kind}"))):
         with open(path, "rb") as file:
             found.append(file.read())
     return found

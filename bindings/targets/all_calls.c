@@ -151,7 +151,7 @@ static void walk_stack(const struct file *file, const pe_c_range *table, const p
     for (int i = 0; i < 6; i++)
         frames[i] = walk;
     WALK(INNER + 1, pe_c_next_frame, walk, modules, 1, stack, sizeof stack, pieces, 3, &walk) {}
-    CALL(pe_c_next_frames, frames, modules, 1, stack, sizeof stack, pieces, 3, &other, frames, 6, &filled);
+    CALL(pe_c_next_frames, frames, modules, 1, stack, sizeof stack, pieces, 3, &other, frames, way % 2 ? 6 : 1, &filled);
     add(filled);
 }
 

@@ -1,4 +1,5 @@
-//! Writes the images of the tests to a folder, for other programs: `made FOLDER`.
+//! Writes the images of the tests to a folder, for other programs: `made FOLDER`. A TE image and an object have names of their
+//! own, since most programs take images alone.
 
 #[path = "../tests/made/mod.rs"]
 mod made;
@@ -8,5 +9,6 @@ fn main() -> std::io::Result<()> {
     for (name, bytes) in made::all().into_iter().chain(made::others()) {
         std::fs::write(format!("{folder}/{name}.bin"), bytes)?;
     }
-    Ok(())
+    std::fs::write(format!("{folder}/te_image.te"), made::te_image())?;
+    std::fs::write(format!("{folder}/object.obj"), made::object())
 }
