@@ -90,10 +90,17 @@ def checked_c(header):
 # ---- JavaScript
 
 
-# What the JavaScript passes itself, and calls that it makes in ways of its own or not at all: a walk of a stack is over several
-# images.
+# What the JavaScript passes itself, and calls that it makes in ways of its own.
 PASSED = {"image", "sections", "count", "view"}
-OWN_WAYS = re.compile(r"pe_c_(image|sections|text|abi_\d+|next_frames?)")
+OWN_WAYS = re.compile(r"pe_c_(image|sections|text|abi_\d+)")
+# Calls that it does not have: a walk of a stack is over several images; objects and TE images are no images, nor are those that
+# are refused; it has iterators in place of lists, and writes no images.
+NOT_IN_JS = re.compile(r"pe_c_(next_frames?|coff|coff_\w+|symbol|next_symbol|symbol_name|te|te_\w+|next_te_debug_entry|image_failure"
+                       r"|list_\w+|edited_length|edit|block_length|write_block)")
+
+
+def is_in_js(name):
+    return not OWN_WAYS.fullmatch(name) and not NOT_IN_JS.fullmatch(name)
 
 
 def js_parameters(call):
@@ -116,7 +123,7 @@ def js_parameters(call):
 def layouts_mjs(header):
     records = {name: [it.size, fields_of(it)] for name, it in header.records.items()}
     calls = {name: [first, *rest] for name, (first, rest) in
-             ((name, js_parameters(it)) for name, it in header.calls.items() if not OWN_WAYS.fullmatch(name))}
+             ((name, js_parameters(it)) for name, it in header.calls.items() if is_in_js(name))}
     results = {str(number): name for name, number in header.results.items()}
     lines = [f"// tools/make_targets makes this file of bindings/pe.h.\nexport const version = {json.dumps(header.version)};",
              f"export const abi = {header.abi};"]
@@ -188,7 +195,7 @@ def index_d_ts(header):
     numbers = "".join(f"  readonly {name}: {number};\n" for name, number in header.constants.items())
     parts.append(f"/** The constants of pe.h. */\nexport declare const constants: {{\n{numbers}}};")
     parts.append("/** The calls of pe.h on an image: what each is given, and what it returns. */\nexport interface Calls {\n"
-                 + "".join(call_type(it, header) for name, it in header.calls.items() if not OWN_WAYS.fullmatch(name)) + "}")
+                 + "".join(call_type(it, header) for name, it in header.calls.items() if is_in_js(name)) + "}")
     return "\n\n".join(parts) + "\n"
 
 

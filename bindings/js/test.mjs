@@ -120,6 +120,9 @@ test('the section map, in a view that the library makes', () => {
   const image = opened('imports'), [section] = image.sections;
   assert.deepEqual([0x1000, 0x11FF, 0xFFF, 0x9000].map((rva) => image.call('pe_c_section_at', { rva })), [0n, 0n, null, null]);
   assert.deepEqual(image.call('pe_c_section_range', { section }), { offset: 0x400n, length: 0x200n });
+  assert.deepEqual(image.call('pe_c_range_at', { rva: 0x1010 }), { offset: 0x410n, length: 0x1F0n });
+  assert.equal(image.call('pe_c_range_at', { rva: 0x9000 }), null);
+  assert.deepEqual([0x400n, 0x5FFn, 0x3FFn].map((offset) => image.call('pe_c_rva', { offset })), [0x1000, 0x11FF, null]);
 });
 
 /** The record of the first debug entry of a type. */
@@ -253,7 +256,7 @@ test('functions, records, codes and steps of ARM64', () => {
 const LISTS = ['debugEntries', 'exports', 'libraries', 'delayImports', 'versionBlocks', 'resourceLeaves', 'relocationBlocks'];
 
 test('each list of each image ends', () => {
-  for (const name of readdirSync(folder)) {
+  for (const name of readdirSync(folder).filter((it) => it.endsWith('.bin'))) {
     const image = attempt(() => opened(name.replace('.bin', '')));
     if (!image) continue;
     for (const list of LISTS) {

@@ -478,13 +478,17 @@ static void lists_of_functions(const struct file *file, const pe_c_view *view)
             && pe_c_unwind_record(IMAGE, &table, function.unwind, &record) == PE_C_DONE)
             LIST(pe_c_list_codes, pe_c_code, view, &record.codes);
     }
-    if (pe_c_arm64_table(IMAGE, &table) == PE_C_DONE) {
-        LIST(pe_c_list_arm64_functions, pe_c_arm64_function, view, &table, &next);
-        if (pe_c_arm64_function_at(BYTES, &table, 0, &arm64) == PE_C_DONE
+    if (pe_c_arm64_table(IMAGE, &table) != PE_C_DONE)
+        return;
+    LIST(pe_c_list_arm64_functions, pe_c_arm64_function, view, &table, &next);
+    /* The first functions may have packed data and no record. */
+    for (uint64_t i = 0; i < INNER; i++)
+        if (pe_c_arm64_function_at(BYTES, &table, i, &arm64) == PE_C_DONE
             && pe_c_arm64_unwind_record(IMAGE, &arm64, &info) == PE_C_DONE
-            && pe_c_arm64_codes(BYTES, &info.codes, 0, &codes) == PE_C_DONE)
+            && pe_c_arm64_codes(BYTES, &info.codes, 0, &codes) == PE_C_DONE) {
             LIST(pe_c_list_arm64_codes, pe_c_arm64_code, view, &codes);
-    }
+            return;
+        }
 }
 
 static void lists(const struct file *file)
