@@ -741,7 +741,7 @@ typedef struct {
     uint64_t image_base;            /* preferred virtual address of the image */
     uint32_t entry_point;           /* RVA */
     uint32_t base_of_code;          /* RVA */
-    pe_c_directory reloc_dir;       /* the base relocations */
+    pe_c_directory reloc_dir;       /* the base relocations; the RVA is reduced where it is absent too */
     pe_c_directory debug_dir;       /* the debug directory; both fields are 0 where it is absent */
     uint32_t rva_offset;            /* how many bytes the file is shorter: stripped_size less 40 */
     uint16_t signature;             /* 0x5A56, "VZ" */
@@ -1188,7 +1188,7 @@ uint32_t pe_c_next_frame(const pe_c_module *modules, size_t module_count, const 
 
 /* The same for several frames in one call, which tests the modules and the pieces once: each of `frames` is the walk as it is
  * after a frame, and `count` how many there are. PE_C_NOTHING where the walk was over before all were filled: the others stay
- * unchanged.
+ * unchanged. An array of no entries is always filled.
  * Errors, which change nothing: those of pe_c_next_frame. */
 uint32_t pe_c_next_frames(const pe_c_module *modules, size_t module_count, const uint8_t *memory, size_t memory_length,
                           const pe_c_memory_piece *pieces, size_t piece_count, pe_c_stack_walk *walk,

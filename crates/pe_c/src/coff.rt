@@ -28,7 +28,8 @@ pub struct Symbol {
     pub auxiliary: Range,
     /// The index of its entry; auxiliary records count.
     pub index: u64,
-    /// The name, padded with zeros; or four zeros, and the offset of a longer name in the string table, 4 bytes.
+    /// The name, padded with zeros; or four zeros, and the offset of a longer name in the string table, 4 bytes. It is taken for the
+    /// latter where it starts with a zero.
     pub name: [u8; 8],
     /// Its meaning depends on the storage class, for instance an offset in the section.
     pub value: u32,

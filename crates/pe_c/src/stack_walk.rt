@@ -397,7 +397,8 @@ fn next_frames<M: Memory>(
 }
 
 /// Fills `frames` with the next frames of a stack walk on x64: each is the walk as `pe_c_next_frame` leaves it after a frame. Sets
-/// `count` to how many there are. `NOTHING` where the walk was over before all were filled.
+/// `count` to how many there are. `NOTHING` where the walk was over before all were filled; of an empty array all are filled, also
+/// where the walk is over.
 ///
 /// The modules and the pieces of memory are tested once a call.
 ///

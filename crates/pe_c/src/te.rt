@@ -36,7 +36,7 @@ pub struct TeImage {
     pub entry_point: u32,
     /// The first byte of the code.
     pub base_of_code: u32,
-    /// The base relocations.
+    /// The base relocations. Its RVA is reduced where it is absent too.
     pub reloc_dir: DataDirectory,
     /// The debug directory. Both fields are 0 where it is absent.
     pub debug_dir: DataDirectory,

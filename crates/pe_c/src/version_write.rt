@@ -74,8 +74,8 @@ fn write_to(block: &NewBlock<'_>, room: &mut [u8]) -> Result<usize, u32>
 /// them to `out`. The rest of the room is unchanged. The key is UTF-16 code units, little-endian, without a final zero; a value
 /// that is a text has a final zero.
 ///
-/// Errors: `BLOCK_KEY`; `BLOCK_TEXT` if `is_text` is not 0; `BLOCK_TOO_LONG`; `WRITE_FIT` if the block does not fit into the
-/// room. After an error `room` is unchanged.
+/// Errors: `BLOCK_KEY` if the key has an odd number of bytes or a code unit of zero; `BLOCK_TEXT` if the value is a text of an odd
+/// number of bytes; `BLOCK_TOO_LONG`; `WRITE_FIT` if the block does not fit into the room. After an error `room` is unchanged.
 #[unsafe(no_mangle)]
 pub extern "C" fn pe_c_write_block(
     key: &[u8],

@@ -8,9 +8,9 @@ ghost use Rattle.pe_frame.specs.declared.walk.WalkEnd.{WalkEnd};
 ghost use Rattle.pe_c.specs.StackWalks.{HasEnd, IsOpen, ReturnsFrames, state_of};
 ghost use Rattle.pe_c.specs.declared.stack_walk.StackWalk.{StackWalk};
 
-/// Calls of `pe_c_next_frame` return, in turn, exactly the frames of a walk as pe_frame defines it, over the memory and the modules
-/// that are passed, at most as many as were asked for; the walk is then over for the reason for which that walk is, whose numbers it
-/// has.
+/// Calls of `pe_c_next_frame` return, in turn, exactly the frames of a walk as pe_frame defines it, over the memory and the
+/// modules that are passed, at most as many as were asked for; the walk is then over for the reason for which that walk is,
+/// whose numbers it has.
 #[tactic(auto, using(crate::proofs::FrameRuns::whole))]
 pub fn walks_give_the_frames()
     ensures { (memory : ℕ → Option ℕ) (modules : List Module) (w last : StackWalk)
