@@ -144,8 +144,8 @@ pub(crate) fn piece(file: &[u8], start: u64, offset: u64, size: u64) -> MemoryPi
 
 impl<'a> Dump<'a> {
     /// The pieces of memory (`MemoryListStream`); `None` without such a stream. Errors, in order: `Location`; `Short` if the
-    /// number of entries is truncated; `ListSize` if the
-    /// stream has another size than the number and so many entries, with 4 bytes between them or none. `piece` has the bytes of an entry.
+    /// number of entries is truncated; `ListSize` if the stream has another size than the number and so many entries, with 4
+    /// bytes between them or none. `piece` has the bytes of an entry.
     pub fn memory_list(&self) -> Result<Option<Table<'a, MemoryDescriptor>>>
         ensures { DumpReturns (option_map (λ t. records memory_descriptor t.bytes.now t.stride t.count)) result
             (memory_list (dump_view self.now)) }
@@ -168,8 +168,8 @@ impl<'a> Dump<'a> {
 }
 
 impl<'a> Dump<'a> {
-    /// The addresses of the bytes that the file has of the pieces of a list, in its order, of which an `AddressIndex` is made. Error:
-    /// memory runs out.
+    /// The addresses of the bytes that the file has of the pieces of a list, in its order, of which an `AddressIndex` is made.
+    /// Error: memory runs out.
     #[tactic(auto, unfolding(pe_core::specs::Rows::each))]
     pub fn memory_ranges<A: Allocator>(
         &self,
