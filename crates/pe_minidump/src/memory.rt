@@ -8,7 +8,7 @@
 //! <https://learn.microsoft.com/windows/win32/api/minidumpapiset/ns-minidumpapiset-minidump_memory_descriptor>
 //! <https://learn.microsoft.com/windows/win32/api/minidumpapiset/ns-minidumpapiset-minidump_memory64_list>
 
-ghost use Rattle.std.specs.Prelude.{◌≡◌, ◌+◌, ◌*◌, ◌≤◌, drop, length, IfOk};
+ghost use Rattle.std.specs.Prelude.{◌≡◌, ◌+◌, ◌*◌, ◌<◌, ◌≤◌, drop, length, IfErr, IfOk};
 ghost use Rattle.std.proofs.Common.{arith};
 ghost use Rattle.std.specs.Option.{option_map};
 ghost use Rattle.pe_core.specs.Rows.{each};
@@ -169,15 +169,16 @@ impl<'a> Dump<'a> {
 
 impl<'a> Dump<'a> {
     /// The addresses of the bytes that the file has of the pieces of a list, in its order, of which an `AddressIndex` is made.
-    /// Error: memory runs out.
+    /// Error: memory runs out, which it does not where the list is empty.
     #[tactic(auto, unfolding(pe_core::specs::Rows::each))]
     pub fn memory_ranges<A: Allocator>(
         &self,
         alloc: A,
         list: &Table<'_, MemoryDescriptor>,
     ) -> std::result::Result<Vec<AddressRange, A>, AllocError>
-        ensures { IfOk result (λ v. v.items ≡ each
+        ensures made { IfOk result (λ v. v.items ≡ each
             (λ k. piece_range self.now.bytes.now (memory_descriptor list.now.bytes.now (list.now.stride * k))) list.now.count) }
+        ensures refused { IfErr result (λ e. 0 < list.now.count) }
     {
         let mut ranges = Vec::new(alloc);
         for index in 0..list.len() {
