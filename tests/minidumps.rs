@@ -2,7 +2,6 @@
 //! obj2yaml 14.0.6 prints of them; all others are made by hand from minidumpapiset.h and winnt.h.
 
 use crate::images::image;
-use crate::refusing::Refusing;
 use pe_minidump::{
     AddressIndex, AddressRange, ContextArm64, ContextX64, Dump, DumpError, EXCEPTION_STREAM,
     FUNCTION_TABLE_STREAM, Location, MemoryDescriptor, ProcessTimes, ProcessorPower, module_ranges,
@@ -11,7 +10,11 @@ use std::alloc::{AllocError, Global};
 use std::test::Fail;
 
 /// A header with one entry of a directory after it, and the stream after that, at offset 44.
-fn with_stream(alloc: Global, stream_type: u8, stream: &[u8]) -> Result<Vec<u8>, AllocError> {
+pub(crate) fn with_stream(
+    alloc: Global,
+    stream_type: u8,
+    stream: &[u8],
+) -> Result<Vec<u8>, AllocError> {
     image(
         alloc,
         44 + stream.len(),
@@ -926,7 +929,6 @@ fn reads_contexts_of_arm64(rt: HostRuntime) -> Result<(), Fail> {
             DumpError::ContextFlags(0x40_0005)
         )
     );
-    // Flags of Breakpad's old contexts.
     crate::images::put(&mut bytes, &[(0, &[7, 0, 0, 0x80])]);
     assert!(rt; refused(ContextArm64::parse(&bytes), DumpError::Machine(0x8000_0007)));
     let size = DumpError::ContextSize {
@@ -942,7 +944,31 @@ fn reads_contexts_of_arm64(rt: HostRuntime) -> Result<(), Fail> {
     Ok(())
 }
 
-fn range(start: u64, size: u64) -> AddressRange {
+/// Contexts of other layouts: those of ARM64 that old versions of Breakpad wrote (`MDRawContextARM64_Old` of its
+/// minidump_cpu_arm64.h, with the flag 80000000h), and those of x86 (`CONTEXT` of winnt.h, with the flag 10000h).
+#[test]
+fn refuses_smaller_contexts(rt: HostRuntime) -> Result<(), Fail> {
+    for (size, flags) in [(796, b"\x07\0\0\x80"), (716, b"\x3F\0\x01\0")] {
+        let bytes = image(rt.alloc(), size, &[(0, flags)])?;
+        let needed = 912;
+        assert!(rt;
+            refused(
+                ContextArm64::parse(&bytes),
+                DumpError::ContextSize { size, needed }
+            )
+        );
+        let needed = 1232;
+        assert!(rt;
+            refused(
+                ContextX64::parse(&bytes),
+                DumpError::ContextSize { size, needed }
+            )
+        );
+    }
+    Ok(())
+}
+
+pub(crate) fn range(start: u64, size: u64) -> AddressRange {
     AddressRange { start, size }
 }
 
@@ -998,26 +1024,6 @@ fn index_of_many_ranges(rt: HostRuntime) -> Result<(), Fail> {
         assert_eq!(rt; index.find(start + 1000), Some(first as usize));
     }
     assert_eq!(rt; index.find(999), None);
-    Ok(())
-}
-
-/// Each request for memory refused: three of one range each, and two of merged lists.
-#[test]
-fn index_needs_memory(rt: HostRuntime) -> Result<(), Fail> {
-    let ranges = [range(0x500, 0x10), range(0x100, 0x500), range(0x300, 0x300)];
-    let mut refusals = 0;
-    for k in 0..10 {
-        let refusing = Refusing::new(rt.alloc(), k);
-        let is_made = match AddressIndex::new(&refusing, &ranges) {
-            Ok(index) => index.find(0x500) == Some(0),
-            Err(_) => false,
-        };
-        assert_eq!(rt; is_made, !refusing.has_refused());
-        if refusing.has_refused() {
-            refusals += 1;
-        }
-    }
-    assert_eq!(rt; refusals, 5);
     Ok(())
 }
 

@@ -1,11 +1,15 @@
-//! Whole images, TE images and objects where one request for memory is refused.
+//! Whole images, TE images, objects and the ranges of minidumps where one request for memory is refused.
 
 use crate::images::{
     headers_alone, object, te, with_debug, with_exports, with_imports, with_resources,
 };
+use crate::minidumps::{range, with_stream};
 use crate::refusing::Refusing;
 use crate::whole_images::in_mode;
 use pe_image::{Coff, Error, Limits, PE, ParseMode, Reason, Result, TE};
+use pe_minidump::{
+    AddressIndex, AddressRange, Dump, MemoryDescriptor, Module, Table, module_ranges,
+};
 use std::alloc::{Allocator, Global};
 use std::process::Abort;
 use std::test::Fail;
@@ -24,7 +28,7 @@ fn things_of<A: Allocator + Copy + Drop>(pe: PE<'_, A>) -> usize {
 
 /// A call that takes memory.
 #[derive(Clone, Copy, Debug)]
-enum Call {
+enum Call<'a> {
     Image(ParseMode),
     /// An image, within a limit of so many imports.
     Limited(ParseMode, u32),
@@ -32,9 +36,15 @@ enum Call {
     Object,
     /// The strings of an object, whose reading is granted all memory.
     Strings(Global),
+    /// An index of ranges, of which it finds the starts.
+    Index(&'a [AddressRange]),
+    /// The addresses of modules.
+    Modules(Table<'a, Module>),
+    /// The addresses of pieces of memory, of the dump in the bytes.
+    Memory(Dump<'a>, Table<'a, MemoryDescriptor>),
 }
 
-impl Call {
+impl Call<'_> {
     /// How many things the call returns: all that it puts into lists, and the resources.
     fn count<A: Allocator + Copy + Drop>(self, alloc: A, bytes: &[u8]) -> Result<usize> {
         Ok(match self {
@@ -49,6 +59,16 @@ impl Call {
                 Some(strings) => strings.to_vec(alloc)?.len(),
                 None => 0,
             },
+            Call::Index(ranges) => {
+                let index = AddressIndex::new(alloc, ranges)?;
+                let mut found = 0;
+                for range in ranges {
+                    found += usize::from(index.find(range.start).is_some());
+                }
+                found
+            }
+            Call::Modules(list) => module_ranges(alloc, &list)?.len(),
+            Call::Memory(dump, list) => dump.memory_ranges(alloc, &list)?.len(),
         })
     }
 }
@@ -58,7 +78,7 @@ impl Call {
 fn refuse_in_turn(
     rt: &impl Abort,
     alloc: Global,
-    call: Call,
+    call: Call<'_>,
     bytes: &[u8],
     want: usize,
 ) -> std::result::Result<u32, Fail> {
@@ -144,5 +164,40 @@ fn te_images_and_objects(rt: HostRuntime) -> std::result::Result<(), Fail> {
     assert_eq!(rt; refuse_in_turn(&rt, alloc, Call::Object, &bytes, 1)?, 1);
     let refused = refuse_in_turn(&rt, alloc, Call::Strings(alloc), &bytes, 1)?;
     assert!(rt; refused >= 1);
+    Ok(())
+}
+
+/// An index asks for the pieces of each range, and for those of the two halves together.
+#[test]
+fn indexes_of_addresses(rt: HostRuntime) -> std::result::Result<(), Fail> {
+    let alloc = rt.alloc();
+    let ranges = [range(0x500, 0x10), range(0x100, 0x500), range(0x300, 0x300)];
+    for (count, want) in [(0, 0), (1, 1), (3, 5)] {
+        let call = Call::Index(ranges.get(..count).unwrap_or_default());
+        assert_eq!(rt; refuse_in_turn(&rt, alloc, call, &[], count)?, want);
+    }
+    Ok(())
+}
+
+/// The list of ranges grows. That of no records asks for nothing.
+#[test]
+fn ranges_of_minidumps(rt: HostRuntime) -> std::result::Result<(), Fail> {
+    let alloc = rt.alloc();
+    for count in [0u8, 1, 100] {
+        let things = usize::from(count);
+        let mut stream = vec![in alloc; 0u8; 4 + 108 * things]?;
+        stream[0] = count;
+        let bytes = with_stream(alloc, 4, &stream)?;
+        let list = Dump::parse(&bytes)?.modules()?.ok_or("no modules")?;
+        let refused = refuse_in_turn(&rt, alloc, Call::Modules(list), &bytes, things)?;
+        assert_eq!(rt; refused > 0, count > 0, "{count} modules");
+        let mut stream = vec![in alloc; 0u8; 4 + 16 * things]?;
+        stream[0] = count;
+        let bytes = with_stream(alloc, 5, &stream)?;
+        let dump = Dump::parse(&bytes)?;
+        let list = dump.memory_list()?.ok_or("no memory")?;
+        let refused = refuse_in_turn(&rt, alloc, Call::Memory(dump, list), &bytes, things)?;
+        assert_eq!(rt; refused > 0, count > 0, "{count} pieces of memory");
+    }
     Ok(())
 }

@@ -6,6 +6,7 @@ use crate::directories::{at, image_of};
 use crate::exports::one_section;
 use crate::images::{put, te, with_every_directory, with_exports, with_imports, with_resources};
 use crate::imports::sharing;
+use crate::minidumps::with_stream;
 use crate::plans::{chain, offset_of, plan};
 use crate::refusing::Refusing;
 use crate::sections::counting;
@@ -17,6 +18,7 @@ use pe_directories::{
     BoundImportDirectory, DelayImports, DelayedDll, DelayedFunction, ImageBytes, IndexedImage,
 };
 use pe_image::{Coff, PE, TE};
+use pe_minidump::{AddressIndex, AddressRange, Dump, module_ranges};
 use pe_records::{AttributeCertificate, enumerate_certificates};
 use pe_resource::{ResourceString, VersionField};
 use pe_unwind::UnwindInfo;
@@ -46,6 +48,9 @@ const ENTRY: usize = TEXT + 16;
 
 /// The size of a piece of the section map: its start, and the section that covers it, if one does.
 const PIECE: usize = 24;
+
+/// The size of a piece of an index of addresses: its start, and the range that has it, if one does.
+const ADDRESS_PIECE: usize = 32;
 
 /// How many bytes a call may ask for.
 #[derive(Clone, Copy)]
@@ -80,14 +85,19 @@ impl Room {
         self.list(count, FOUND)
     }
 
-    /// And the index of so many sections: two pieces of each, and those of both halves before they are merged.
+    /// And the index of so many sections.
     fn index(self, sections: usize) -> Room {
-        if sections < 2 {
-            return self.list(2 * sections, PIECE);
+        self.pieces(sections, PIECE)
+    }
+
+    /// And the pieces of an index: two of each thing, and those of both halves before they are merged.
+    fn pieces(self, count: usize, size: usize) -> Room {
+        if count < 2 {
+            return self.list(2 * count, size);
         }
-        self.index(sections / 2)
-            .index(sections - sections / 2)
-            .list(2 * sections, PIECE)
+        self.pieces(count / 2, size)
+            .pieces(count - count / 2, size)
+            .list(2 * count, size)
     }
 
     /// And named exports: the offsets of their names, the names, the exports.
@@ -562,6 +572,51 @@ fn te_images_and_objects(rt: HostRuntime) -> Result<(), Fail> {
         assert_eq!(rt; Coff::parse(&asked, &bytes)?.sections.len(), count);
         let room = Room::NONE.list(count, size_of::<SectionTable>());
         room.check(&rt, &asked, "an object", count);
+    }
+    Ok(())
+}
+
+/// The index of ranges of addresses, each of one address.
+#[test]
+fn indexes_of_addresses(rt: HostRuntime) -> Result<(), Fail> {
+    let alloc = rt.alloc();
+    for count in COUNTS {
+        let mut ranges = Vec::new(alloc);
+        for start in 0..u64::from(count) {
+            ranges.push(AddressRange { start, size: 1 })?;
+        }
+        let asked = granting(alloc);
+        let index = AddressIndex::new(&asked, &ranges)?;
+        let last = ranges.len() - 1;
+        assert_eq!(rt; index.find(last as u64), Some(last));
+        let room = Room::NONE.pieces(ranges.len(), ADDRESS_PIECE);
+        room.check(&rt, &asked, "an index of addresses", ranges.len());
+    }
+    Ok(())
+}
+
+/// The ranges of modules, and of pieces of memory without bytes.
+#[test]
+fn ranges_of_minidumps(rt: HostRuntime) -> Result<(), Fail> {
+    let alloc = rt.alloc();
+    for count in COUNTS {
+        let things = count as usize;
+        let room = Room::NONE.growing(things, size_of::<AddressRange>());
+        let mut stream = vec![in alloc; 0; 4 + 108 * things]?;
+        put(&mut stream, &[(0, &count.to_le_bytes())]);
+        let bytes = with_stream(alloc, 4, &stream)?;
+        let list = Dump::parse(&bytes)?.modules()?.ok_or("no modules")?;
+        let asked = granting(alloc);
+        assert_eq!(rt; module_ranges(&asked, &list)?.len(), things);
+        room.check(&rt, &asked, "ranges of modules", things);
+        let mut stream = vec![in alloc; 0; 4 + 16 * things]?;
+        put(&mut stream, &[(0, &count.to_le_bytes())]);
+        let bytes = with_stream(alloc, 5, &stream)?;
+        let dump = Dump::parse(&bytes)?;
+        let list = dump.memory_list()?.ok_or("no memory")?;
+        let asked = granting(alloc);
+        assert_eq!(rt; dump.memory_ranges(&asked, &list)?.len(), things);
+        room.check(&rt, &asked, "ranges of memory", things);
     }
     Ok(())
 }

@@ -28,7 +28,7 @@ pub record Listed64 : Type 0 where
   pub base_rva : ℕ
   pub ranges : List ℕ
 
--- a list is refused if the bytes of its pieces would pass offset 2 ^ 64
+-- a list is refused if the bytes of its pieces would end past offset 2 ^ 64 - 1
 unfoldable pub memory64_of : List ℕ → Result Listed64 DumpRefusal
 memory64_of b =
     outcome (

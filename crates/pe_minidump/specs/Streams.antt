@@ -76,7 +76,8 @@ power_of b = record {
   processor_current_idle_state = le b 40 4;
 }
 
--- what is known of a process, in 24 bytes, or 44 with the speed of the processor; the flags say which parts are there
+-- what is known of a process, in 24 bytes, or 44 with the speed of the processor; the flags say which parts are there. Whether
+-- there are 44 says the length of the stream, and not size_of_info
 unfoldable pub misc_of : List ℕ → MiscInfo
 misc_of b = record {
   size_of_info = le b 0 4;

@@ -1,6 +1,6 @@
 //! The context of a thread on ARM64 (`ARM64_NT_CONTEXT`), 912 bytes. Its flags say which parts were saved, as on x64; the
 //! bit of the floating point registers is another one. Old versions of Breakpad wrote contexts of another layout, with flags
-//! 80000000h: these are refused as those of another machine.
+//! 80000000h: these have 796 bytes, and are refused as too small.
 //!
 //! <https://learn.microsoft.com/windows/win32/api/winnt/ns-winnt-arm64_nt_context>
 
@@ -128,8 +128,9 @@ fn vectors_of(bytes: &[u8]) -> [u128; 32]
 
 impl ContextArm64 {
     /// The registers that a context of ARM64 has. Errors, in order: `ContextSize` if it has fewer than 912 bytes, as that of
-    /// a thread without a context; `Machine` if it is one of another machine; `ContextFlags` if control or integer registers
-    /// were not saved.
+    /// a thread without a context, and one of x86; `Machine` if the flags do not have the bit `CONTEXT_ARM64`, 400000h;
+    /// `ContextFlags` if control or integer registers were not saved. Bits of other machines are not looked at: of which
+    /// machine the contexts of a dump are says `processor_architecture` of `SystemInfo`.
     #[tactic(auto, unfolding(crate::specs::Contexts::context_arm64))]
     pub fn parse(bytes: &[u8]) -> Result<ContextArm64>
         ensures { DumpReturns (λ c. c) result (context_arm64 bytes.now) }

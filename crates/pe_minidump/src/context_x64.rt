@@ -95,8 +95,9 @@ fn xmm_of(bytes: &[u8]) -> [u128; 16]
 
 impl ContextX64 {
     /// The registers that a context of x64 has. Errors, in order: `ContextSize` if it has fewer than 1,232 bytes, as that of
-    /// a thread without a context; `Machine` if it is one of another machine; `ContextFlags` if control or integer registers
-    /// were not saved.
+    /// a thread without a context, and those of x86 and ARM64; `Machine` if the flags do not have the bit `CONTEXT_AMD64`,
+    /// 100000h; `ContextFlags` if control or integer registers were not saved. Bits of other machines are not looked at: of
+    /// which machine the contexts of a dump are says `processor_architecture` of `SystemInfo`.
     #[tactic(auto, unfolding(crate::specs::Contexts::context_x64))]
     pub fn parse(bytes: &[u8]) -> Result<ContextX64>
         ensures { DumpReturns (λ c. c) result (context_x64 bytes.now) }

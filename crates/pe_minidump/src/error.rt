@@ -16,7 +16,7 @@ pub enum DumpError {
     #[error("directory of {count} entries at offset {rva:#x} passes the end of the file, {length} bytes")]
     Directory { rva: u32, count: u32, length: usize },
     /// Bytes that do not lie in the file: their offset and size, and how many bytes the file has. The size is 2^64 - 1 for the
-    /// pieces of a full dump, if their offsets pass 64 bits.
+    /// pieces of a full dump, if they end past offset 2^64 - 1.
     #[error("{size} bytes at offset {rva:#x} pass the end of the file, {length} bytes")]
     Location { rva: u64, size: u64, length: usize },
     /// The number of entries of a list, which do not have the size of its stream.

@@ -33,7 +33,7 @@ pub struct ExceptionRecord {
     pub exception_record: u64,
     /// The address of the instruction.
     pub exception_address: u64,
-    /// How many elements of `exception_information` are valid.
+    /// How many elements of `exception_information` are valid, as the file says: it may be above 15, which the array has.
     pub number_parameters: u32,
     /// The parameters. An access violation has two: 0 for a read, 1 for a write, 8 for execution, and the address.
     pub exception_information: [u64; 15],

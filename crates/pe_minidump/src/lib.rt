@@ -3,9 +3,11 @@
 //! to streams, one of each kind: threads, modules, pieces of memory, the exception, the system.
 //!
 //! A caller takes a `Dump` of the bytes of a file and asks it for streams. Each is read alone: one that is damaged is refused,
-//! and leaves all others as they are. No call copies bytes or allocates.
+//! and leaves all others as they are. No call copies the bytes of a file, and three alone allocate: `AddressIndex::new`,
+//! `module_ranges` and `Dump::memory_ranges`.
 //!
-//! Every call is proved to return what its definition in `specs/` says, for every byte string.
+//! Every call is proved to return what its definition in `specs/` says, for every byte string. `DumpRecord::at` alone asks
+//! something of its caller: that the record lies in the bytes.
 #![tactic(auto)]
 
 mod address_index;

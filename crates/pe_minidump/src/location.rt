@@ -13,7 +13,8 @@ ghost use Rattle.pe_minidump.specs.Refusals.{DumpReturns, Short};
 use crate::error::{DumpError, Result};
 use pe_core::read_u32;
 
-/// Where bytes stand in the file. A location of no bytes says that there are none, wherever it leads.
+/// Where bytes stand in the file. A location of no bytes says that there are none; one that leads past the end of the file is
+/// refused as any other.
 #[repr(C)]
 #[derive(Clone, Copy, Debug, Default, PartialEq)]
 pub struct Location {

@@ -8,7 +8,7 @@
 //! <https://learn.microsoft.com/windows/win32/api/minidumpapiset/ns-minidumpapiset-minidump_memory_descriptor>
 //! <https://learn.microsoft.com/windows/win32/api/minidumpapiset/ns-minidumpapiset-minidump_memory64_list>
 
-ghost use Rattle.std.specs.Prelude.{◌≡◌, ◌+◌, ◌*◌, ◌≤◌, drop, length, IfOk};
+ghost use Rattle.std.specs.Prelude.{◌≡◌, ◌+◌, ◌*◌, ◌<◌, ◌≤◌, drop, length, IfErr, IfOk};
 ghost use Rattle.std.proofs.Common.{arith};
 ghost use Rattle.std.specs.Option.{option_map};
 ghost use Rattle.pe_core.specs.Rows.{each};
@@ -144,8 +144,8 @@ pub(crate) fn piece(file: &[u8], start: u64, offset: u64, size: u64) -> MemoryPi
 
 impl<'a> Dump<'a> {
     /// The pieces of memory (`MemoryListStream`); `None` without such a stream. Errors, in order: `Location`; `Short` if the
-    /// number of entries is truncated; `ListSize` if the
-    /// stream has another size than the number and so many entries, with 4 bytes between them or none. `piece` has the bytes of an entry.
+    /// number of entries is truncated; `ListSize` if the stream has another size than the number and so many entries, with 4
+    /// bytes between them or none. `piece` has the bytes of an entry.
     pub fn memory_list(&self) -> Result<Option<Table<'a, MemoryDescriptor>>>
         ensures { DumpReturns (option_map (λ t. records memory_descriptor t.bytes.now t.stride t.count)) result
             (memory_list (dump_view self.now)) }
@@ -168,16 +168,17 @@ impl<'a> Dump<'a> {
 }
 
 impl<'a> Dump<'a> {
-    /// The addresses of the bytes that the file has of the pieces of a list, in its order, of which an `AddressIndex` is made. Error:
-    /// memory runs out.
+    /// The addresses of the bytes that the file has of the pieces of a list, in its order, of which an `AddressIndex` is made.
+    /// Error: memory runs out, which it does not where the list is empty.
     #[tactic(auto, unfolding(pe_core::specs::Rows::each))]
     pub fn memory_ranges<A: Allocator>(
         &self,
         alloc: A,
         list: &Table<'_, MemoryDescriptor>,
     ) -> std::result::Result<Vec<AddressRange, A>, AllocError>
-        ensures { IfOk result (λ v. v.items ≡ each
+        ensures made { IfOk result (λ v. v.items ≡ each
             (λ k. piece_range self.now.bytes.now (memory_descriptor list.now.bytes.now (list.now.stride * k))) list.now.count) }
+        ensures refused { IfErr result (λ e. 0 < list.now.count) }
     {
         let mut ranges = Vec::new(alloc);
         for index in 0..list.len() {

@@ -49,7 +49,8 @@ fn end_of_pieces(ranges: &[u8], base: u64) -> u128
 }
 
 impl<'a> Memory64List<'a> {
-    /// The list of a stream. Errors, in order: `Short`; `ListSize`; `Location` if the bytes of the pieces pass offset 2^64 - 1.
+    /// The list of a stream. Errors, in order: `Short`; `ListSize`; `Location` if the bytes of the pieces end past offset
+    /// 2^64 - 1.
     #[tactic(auto, unfolding(crate::specs::Memory64::memory64_of))]
     fn parse(file: &'a [u8], stream: &'a [u8]) -> Result<Memory64List<'a>>
         ensures list { DumpReturns {Y = Listed64}
@@ -152,7 +153,7 @@ impl<'a> Iterator for Memory64Pieces<'a> {
 impl<'a> Dump<'a> {
     /// The pieces of memory of a full dump (`Memory64ListStream`); `None` without such a stream. Errors, in order:
     /// `Location`; `Short` if the stream has fewer than 16 bytes; `ListSize` if it has another size than so many entries;
-    /// `Location` if the bytes of the pieces pass offset 2^64 - 1. It reads each entry once.
+    /// `Location` if the bytes of the pieces end past offset 2^64 - 1. It reads each entry once.
     pub fn memory64_list(&self) -> Result<Option<Memory64List<'a>>>
         ensures list { DumpReturns {Y = Option Listed64}
             (option_map (λ l. record { base_rva = l.base_rva; ranges = l.ranges.now })) result

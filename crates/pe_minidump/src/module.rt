@@ -5,7 +5,7 @@
 //! <https://learn.microsoft.com/windows/win32/api/minidumpapiset/ns-minidumpapiset-minidump_module_list>
 //! <https://learn.microsoft.com/windows/win32/api/minidumpapiset/ns-minidumpapiset-minidump_module>
 
-ghost use Rattle.std.specs.Prelude.{◌≡◌, ◌+◌, ◌*◌, ◌≤◌, length, IfOk};
+ghost use Rattle.std.specs.Prelude.{◌≡◌, ◌+◌, ◌*◌, ◌<◌, ◌≤◌, length, IfErr, IfOk};
 ghost use Rattle.pe_core.specs.Rows.{each};
 ghost use Rattle.pe_minidump.specs.Ranges.{module_range};
 ghost use Rattle.std.proofs.Common.{arith};
@@ -144,14 +144,16 @@ impl<'a> Dump<'a> {
     }
 }
 
-/// The addresses of the modules of a list, in its order, of which an `AddressIndex` is made. Error: memory runs out.
+/// The addresses of the modules of a list, in its order, of which an `AddressIndex` is made. Error: memory runs out, which it
+/// does not where the list is empty.
 #[tactic(auto, unfolding(pe_core::specs::Rows::each))]
 pub fn module_ranges<A: Allocator>(
     alloc: A,
     list: &Table<'_, Module>,
 ) -> std::result::Result<Vec<AddressRange, A>, AllocError>
-    ensures { IfOk result (λ v. v.items ≡ each
+    ensures made { IfOk result (λ v. v.items ≡ each
         (λ k. module_range (module_entry list.now.bytes.now (list.now.stride * k))) list.now.count) }
+    ensures refused { IfErr result (λ e. 0 < list.now.count) }
 {
     let mut ranges = Vec::new(alloc);
     for index in 0..list.len() {

@@ -93,7 +93,8 @@ pub struct MiscInfo {
     pub process_id: Option<u32>,
     /// How long it ran, with `MINIDUMP_MISC1_PROCESS_TIMES`.
     pub process_times: Option<ProcessTimes>,
-    /// The speed of the processor, with `MINIDUMP_MISC1_PROCESSOR_POWER_INFO` in a stream of at least 44 bytes.
+    /// The speed of the processor, with `MINIDUMP_MISC1_PROCESSOR_POWER_INFO` in a stream of at least 44 bytes, whatever
+    /// `size_of_info` is.
     pub processor_power: Option<ProcessorPower>,
 }
 

@@ -1,6 +1,6 @@
 //! The threads of a process, stream 3: `MINIDUMP_THREAD_LIST`, entries of 48 bytes (`MINIDUMP_THREAD`). The context has the
-//! registers of the thread: `ContextX64` reads that of x64. The thread that crashed has two: the one
-//! of the exception is that of the crash, and the one here may be that of the code which wrote the dump.
+//! registers of the thread: `ContextX64` reads that of x64, `ContextArm64` that of ARM64. The thread that crashed has two: the
+//! one of the exception is that of the crash, and the one here may be that of the code which wrote the dump.
 //!
 //! <https://learn.microsoft.com/windows/win32/api/minidumpapiset/ns-minidumpapiset-minidump_thread_list>
 //! <https://learn.microsoft.com/windows/win32/api/minidumpapiset/ns-minidumpapiset-minidump_thread>
