@@ -75,6 +75,11 @@ unfoldable pub only_if_there : List ℕ → Option Element → Result (Option El
 only_if_there b None = Ok None
 only_if_there b (Some x) = only_element b x >>= λ y. Ok (Some y)
 
+-- the same of one that may be left out, whose content has this tag
+unfoldable pub only_with_tag : ℕ → List ℕ → Option Element → Result (Option Element) SignatureError
+only_with_tag tag b None = Ok None
+only_with_tag tag b (Some x) = only_element b x >>= λ y. with_tag tag y >>= λ z. Ok (Some z)
+
 -- the content of an element
 unfoldable pub content_bytes : List ℕ → Element → List ℕ
 content_bytes b x = drop x.content (up_to_end b x)
