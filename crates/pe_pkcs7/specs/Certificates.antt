@@ -1,8 +1,8 @@
 -- Certificates. (RFC 5280: 4.1.) `b` are the bytes of the signature.
-use Rattle.std.specs.Prelude.{ℕ, ◌+◌, ◌*◌, ◌%◌, ◌^◌, ◌==◌, ◌&&◌, ◌||◌, List, [], ◌∷◌, length, slice_index, nat_lt, Bool, Option, Some, None, Result, Ok, Err, if◌then◌else◌}
+use Rattle.std.specs.Prelude.{ℕ, ◌+◌, ◌*◌, ◌%◌, ◌^◌, ◌==◌, ◌&&◌, ◌||◌, List, [], ◌∷◌, length, slice_index, nat_lt, Bool, Option, Some, None, Result, Ok, if◌then◌else◌}
 use Rattle.pe_core.specs.Refusals.{outcome, ◌>>=◌}
 use Rattle.pe_pkcs7.specs.Fields.{any_field, with_tag, field, optional, after, ends_at, part_of, only_element, only_with_tag, content_bytes}
-use Rattle.pe_pkcs7.specs.Tags.{BOOLEAN, INTEGER, BIT_STRING, OCTET_STRING, OBJECT_IDENTIFIER, UTC_TIME, GENERALIZED_TIME, SEQUENCE, SET, tagged, tagged_string}
+use Rattle.pe_pkcs7.specs.Tags.{BOOLEAN, INTEGER, BIT_STRING, OCTET_STRING, OBJECT_IDENTIFIER, UTC_TIME, GENERALIZED_TIME, SEQUENCE, tagged, tagged_string}
 use Rattle.pe_pkcs7.specs.declared.der.Element.{Element}
 use Rattle.pe_pkcs7.specs.declared.certificate.Certificate.{Certificate}
 use Rattle.pe_pkcs7.specs.declared.certificate.ToBeSigned.{ToBeSigned}
