@@ -146,6 +146,80 @@ fn extensions(rt: HostRuntime) -> Result<(), Fail> {
     Ok(())
 }
 
+/// The key usage of an extension whose value is these octets, an `OCTET STRING`.
+fn key_usage(bytes: &[u8]) -> std::result::Result<Option<u16>, SignatureError> {
+    let extension = Extension {
+        kind: at(6, 0, 0, 0),
+        critical: None,
+        value: element_at(bytes, 0)?,
+    };
+    extension.key_usage(bytes)
+}
+
+#[test]
+fn key_usages(rt: HostRuntime) -> Result<(), Fail> {
+    for (bytes, want) in [
+        (&b"\x04\x04\x03\x02\x02\x84"[..], Some(0x84)),
+        (b"\x04\x04\x03\x02\x00\x85", Some(0x85)),
+        (b"\x04\x04\x03\x02\x07\x80", Some(0x80)),
+        (b"\x04\x05\x03\x03\x07\x84\x80", Some(0x8084)),
+        // Unused bits that are set, and more than an octet has.
+        (b"\x04\x04\x03\x02\x07\x84", None),
+        (b"\x04\x04\x03\x02\x03\x84", None),
+        (b"\x04\x05\x03\x03\x07\x80\xC0", None),
+        (b"\x04\x04\x03\x02\xFF\x84", None),
+        (b"\x04\x04\x03\x02\x08\x00", None),
+        (b"\x04\x05\x03\x03\x08\x80\x00", None),
+        // No octet of bits, and three.
+        (b"\x04\x03\x03\x01\x00", None),
+        (b"\x04\x06\x03\x04\x00\x80\x80\x80", None),
+    ] {
+        assert_eq!(rt; key_usage(bytes)?, want);
+    }
+    Ok(())
+}
+
+/// What `ToBeSigned::parse` refuses in the certificate of the signature, where the octet at `offset` is another.
+fn refused_certificate(
+    mut bytes: Vec<u8>,
+    offset: usize,
+    octet: u8,
+) -> Result<SignatureError, Fail> {
+    bytes[offset] = octet;
+    match ToBeSigned::parse(&bytes, at(0x30, 174, 4, 256)) {
+        Ok(_) => Err(Fail::from("a certificate")),
+        Err(error) => Ok(error),
+    }
+}
+
+#[test]
+fn what_stands_in_version_and_extensions(rt: HostRuntime) -> Result<(), Fail> {
+    let tag = SignatureError::Tag {
+        offset: 180,
+        expected: 2,
+        found: 4,
+    };
+    assert_eq!(rt; refused_certificate(signature(rt.alloc())?, 180, 4)?, tag);
+    let trailing = SignatureError::Trailing {
+        offset: 182,
+        left: 1,
+    };
+    assert_eq!(rt;
+        refused_certificate(signature(rt.alloc())?, 181, 0)?,
+        trailing
+    );
+    let tag = SignatureError::Tag {
+        offset: 395,
+        expected: 0x30,
+        found: 0x31,
+    };
+    assert_eq!(rt;
+        refused_certificate(signature(rt.alloc())?, 395, 0x31)?,
+        tag
+    );
+    Ok(())
+}
+
 #[test]
 fn names(rt: HostRuntime) -> Result<(), Fail> {
     let bytes = signature(rt.alloc())?;
@@ -443,6 +517,7 @@ fn times(rt: HostRuntime) -> Result<(), Fail> {
         (b" 20500101000000Z", 0x18, 2050),
         (b" 20500101000000.5Z", 0x18, 2050),
         (b" 20500101000000.125Z", 0x18, 2050),
+        (b" 20500101000000.05Z", 0x18, 2050),
     ] {
         assert_eq!(rt; time(text, tag)?.year, year);
     }
@@ -457,6 +532,9 @@ fn times(rt: HostRuntime) -> Result<(), Fail> {
         (b" 20500101000000.Z", 0x18),
         (b" 20500101000000,5Z", 0x18),
         (b" 20500101000000.xZ", 0x18),
+        // A fraction whose last digit is 0.
+        (b" 20240101000000.0Z", 0x18),
+        (b" 20500101000000.50Z", 0x18),
         // Numbers that no time has.
         (b" 491331235959Z", 0x17),
         (b" 490031235959Z", 0x17),

@@ -1,12 +1,12 @@
 -- What is hashed is what DER writes.
-use Rattle.std.proofs.Common.{◌≡◌, ℕ, ◌-◌, ◌<◌, ◌≤◌, Bool, true, false, List, ◌∷◌, length, take, drop, min, Result, Ok, refl, ap, sym, ◌∙◌, arith}
+use Rattle.std.proofs.Common.{◌≡◌, ℕ, ◌-◌, ◌<◌, ◌≤◌, Bool, true, false, List, ◌∷◌, length, take, drop, Ok, refl, ap, sym, ◌∙◌, arith}
 use Rattle.std.proofs.lemmas.Bool.Decides.{nat_tests}
 use Rattle.std.proofs.lemmas.List.{length-take, get_or-take, get_or_past, places, same_lists}
 use Rattle.std.specs.Prelude.{slice_index, nat_lt}
 use Rattle.pe_core.specs.Bytes.{range, AreBytes}
 use Rattle.pe_pkcs7.specs.Der.{element_at}
-use Rattle.pe_pkcs7.specs.Encoding.{length_written, der, content_in, octets_in}
-use Rattle.pe_pkcs7.specs.Fields.{up_to_end, content_bytes, element_bytes}
+use Rattle.pe_pkcs7.specs.Encoding.{der, content_in, octets_in}
+use Rattle.pe_pkcs7.specs.Fields.{content_bytes, element_bytes}
 use Rattle.pe_pkcs7.specs.declared.der.Element.{Element}
 use Rattle.pe_pkcs7.proofs.Reading.{within}
 use Rattle.pe_pkcs7.proofs.Written.{written}

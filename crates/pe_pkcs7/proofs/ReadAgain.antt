@@ -1,5 +1,5 @@
 -- What DER writes is read.
-use Rattle.std.proofs.Common.{◌≡◌, ℕ, zero, suc, ◌+◌, ◌-◌, ◌*◌, ◌/◌, ◌%◌, ◌^◌, ◌<◌, ◌≤◌, ◌&&◌, ◌||◌, Bool, true, false, List, [], ◌∷◌, ◌++◌, length, length-drop, take, drop, Result, Ok, Err, if◌then◌else◌, append_assoc, refl, ap, sym, ◌∙◌, subst, arith}
+use Rattle.std.proofs.Common.{◌≡◌, ℕ, zero, suc, ◌+◌, ◌-◌, ◌/◌, ◌%◌, ◌^◌, ◌<◌, ◌≤◌, Bool, true, false, List, [], ◌∷◌, ◌++◌, length, length-drop, take, drop, Result, Ok, if◌then◌else◌, append_assoc, refl, ap, sym, ◌∙◌, subst, arith}
 use Rattle.std.proofs.Math.Nat.{pow-suc}
 use Rattle.std.proofs.Math.Seq.{drop-cons, take-append_seam, drop-append_seam}
 use Rattle.std.proofs.lemmas.Bool.Decides.{nat_tests}
@@ -8,11 +8,11 @@ use Rattle.std.specs.Prelude.{slice_index, nat_lt, ◌==◌}
 use Rattle.pe_core.specs.Bytes.{AreBytes}
 use Rattle.pe_core.specs.Refusals.{◌>>=◌}
 use Rattle.pe_pkcs7.specs.Der.{be, unless, lacks, octets_after, head_tests, length_octets, content_length, is_longer, length_tests, element_of, element_at}
-use Rattle.pe_pkcs7.specs.Encoding.{octets, octets_needed, length_written, der, content_in}
+use Rattle.pe_pkcs7.specs.Encoding.{octets, octets_needed, der, content_in}
 use Rattle.pe_pkcs7.specs.declared.der.Element.{Element}
 use Rattle.pe_pkcs7.specs.declared.error.SignatureError.{SignatureError}
 use Rattle.pe_pkcs7.proofs.Reading.{NoneHolds}
-use Rattle.pe_pkcs7.proofs.Written.{be_more, be_none, last_octet, later, short_length, long_length, range_is, written_short, written_long}
+use Rattle.pe_pkcs7.proofs.Written.{be_more, be_none, last_octet, later, short_length, long_length, written_short, written_long}
 
 -- ---- tests that all pass
 

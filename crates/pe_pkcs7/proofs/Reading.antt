@@ -1,11 +1,10 @@
 -- What is known of an element that is read.
-use Rattle.std.proofs.Common.{◌≡◌, ℕ, ◌+◌, ◌-◌, ◌<◌, ◌≤◌, Bool, true, false, List, [], ◌∷◌, length, Option, Some, None, Result, Ok, Err, refl, ap, sym, arith}
+use Rattle.std.proofs.Common.{◌≡◌, ℕ, ◌+◌, ◌<◌, ◌≤◌, Bool, true, false, List, [], ◌∷◌, length, Result, Ok, Err, refl, ap, sym, arith}
 use Rattle.std.proofs.lemmas.Bool.Decides.{nat_tests}
-use Rattle.std.specs.Prelude.{slice_index, nat_lt, ◌==◌, ◌%◌}
+use Rattle.std.specs.Prelude.{slice_index, nat_lt, ◌==◌}
 use Rattle.pe_core.specs.Refusals.{◌>>=◌}
 use Rattle.pe_pkcs7.specs.Der.{unless, lacks, octets_after, head_tests, length_octets, content_length, is_longer, length_tests, element_of, element_at}
 use Rattle.pe_pkcs7.specs.declared.der.Element.{Element}
-use Rattle.pe_pkcs7.specs.declared.error.SignatureError.{SignatureError}
 
 -- no test holds
 abbrev pub NoneHolds : {R : Type 0} → List (Bool × R) → Type 0

@@ -1,14 +1,14 @@
 -- What is read of an element is what DER writes.
-use Rattle.std.proofs.Common.{◌≡◌, ℕ, zero, suc, ◌+◌, ◌-◌, ◌*◌, ◌/◌, ◌%◌, ◌<◌, ◌≤◌, ◌&&◌, ◌||◌, Bool, true, false, List, [], ◌∷◌, ◌++◌, length, length-drop, take, drop, Option, Some, None, Result, Ok, Err, if◌then◌else◌, refl, ap, sym, ◌∙◌, subst, arith}
+use Rattle.std.proofs.Common.{◌≡◌, ℕ, zero, suc, ◌+◌, ◌-◌, ◌*◌, ◌/◌, ◌%◌, ◌<◌, ◌≤◌, false, List, [], ◌∷◌, ◌++◌, length, length-drop, take, drop, Ok, refl, ap, sym, ◌∙◌, subst, arith}
 use Rattle.std.proofs.Math.Seq.{drop-cons, take-add}
 use Rattle.std.proofs.lemmas.Bool.Decides.{nat_tests}
 use Rattle.std.proofs.lemmas.List.{length-take-le, places, same_lists}
-use Rattle.std.specs.Prelude.{slice_index, nat_lt, ◌==◌}
+use Rattle.std.specs.Prelude.{slice_index, ◌==◌}
 use Rattle.pe_core.specs.Bytes.{range, AreBytes}
 use Rattle.pe_pkcs7.specs.Der.{be, octets_after, content_length, is_longer, element_of, element_at}
 use Rattle.pe_pkcs7.specs.Encoding.{octets, octets_needed, length_written, der, content_in, octets_in}
 use Rattle.pe_pkcs7.specs.declared.der.Element.{Element}
-use Rattle.pe_pkcs7.proofs.Reading.{Parts, parts}
+use Rattle.pe_pkcs7.proofs.Reading.{parts}
 
 -- ---- bytes from an offset on
 

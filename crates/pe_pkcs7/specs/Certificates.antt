@@ -1,8 +1,8 @@
 -- Certificates. (RFC 5280: 4.1.) `b` are the bytes of the signature.
-use Rattle.std.specs.Prelude.{ℕ, ◌+◌, ◌*◌, ◌==◌, ◌||◌, List, [], ◌∷◌, length, slice_index, Bool, Option, Some, None, Result, Ok, Err, if◌then◌else◌}
+use Rattle.std.specs.Prelude.{ℕ, ◌+◌, ◌*◌, ◌%◌, ◌^◌, ◌==◌, ◌&&◌, ◌||◌, List, [], ◌∷◌, length, slice_index, nat_lt, Bool, Option, Some, None, Result, Ok, if◌then◌else◌}
 use Rattle.pe_core.specs.Refusals.{outcome, ◌>>=◌}
-use Rattle.pe_pkcs7.specs.Fields.{any_field, with_tag, field, optional, after, ends_at, part_of, only_element, only_if_there, content_bytes}
-use Rattle.pe_pkcs7.specs.Tags.{BOOLEAN, INTEGER, BIT_STRING, OCTET_STRING, OBJECT_IDENTIFIER, UTC_TIME, GENERALIZED_TIME, SEQUENCE, SET, tagged, tagged_string}
+use Rattle.pe_pkcs7.specs.Fields.{any_field, with_tag, field, optional, after, ends_at, part_of, only_element, only_with_tag, content_bytes}
+use Rattle.pe_pkcs7.specs.Tags.{BOOLEAN, INTEGER, BIT_STRING, OCTET_STRING, OBJECT_IDENTIFIER, UTC_TIME, GENERALIZED_TIME, SEQUENCE, tagged, tagged_string}
 use Rattle.pe_pkcs7.specs.declared.der.Element.{Element}
 use Rattle.pe_pkcs7.specs.declared.certificate.Certificate.{Certificate}
 use Rattle.pe_pkcs7.specs.declared.certificate.ToBeSigned.{ToBeSigned}
@@ -35,7 +35,7 @@ subject_fields s p =
     optional (tagged_string 1) s public_key.end >>= λ issuer_id.
     optional (tagged_string 2) s (after public_key.end issuer_id) >>= λ subject_id.
     optional (tagged 3) s (after (after public_key.end issuer_id) subject_id) >>= λ explicit.
-    only_if_there s explicit >>= λ extensions.
+    only_with_tag SEQUENCE s explicit >>= λ extensions.
     ends_at s (after (after (after public_key.end issuer_id) subject_id) explicit) (record {
       subject = subject;
       public_key = public_key;
@@ -48,6 +48,7 @@ unfoldable pub to_be_signed : List ℕ → Element → Result ToBeSigned Signatu
 to_be_signed b x =
     part_of SEQUENCE b x >>= λ s.
     optional (tagged 0) s x.content >>= λ version.
+    only_with_tag INTEGER s version >>= λ _.
     field INTEGER s (after x.content version) >>= λ serial.
     field SEQUENCE s serial.end >>= λ signature_algorithm.
     field SEQUENCE s signature_algorithm.end >>= λ issuer.
@@ -86,11 +87,15 @@ extension b x =
     field OCTET_STRING s (after kind.end critical) >>= λ value.
     ends_at s value.end (record { kind = kind; critical = critical; value = value })
 
+-- the low bits of the last octet of a BIT STRING that are not used: at most 7, and all 0 (X.690: 8.6.2.2, 11.2.1)
+abbrev pub unused_are_zero : ℕ → ℕ → Bool
+unused_are_zero count last = nat_lt count 8 && last % 2 ^ count == 0
+
 -- the bits of a BIT STRING of one octet or two; the one before them says how many bits of the last are not used
 abbrev pub usage_bits : List ℕ → Option ℕ
 usage_bits c =
-    if length c == 2 then Some (slice_index c 1)
-    else if length c == 3 then Some (slice_index c 1 + 256 * slice_index c 2)
+    if length c == 2 && unused_are_zero (slice_index c 0) (slice_index c 1) then Some (slice_index c 1)
+    else if length c == 3 && unused_are_zero (slice_index c 0) (slice_index c 2) then Some (slice_index c 1 + 256 * slice_index c 2)
     else None
 
 -- KeyUsage ::= BIT STRING, the content of an extension's OCTET STRING

@@ -1,7 +1,6 @@
 -- What DER writes for a tag and a content. (X.690: 8.1.1.1 the order, 8.1.3.4 and 8.1.3.5 lengths, 10.1 their shortest form.)
-use Rattle.std.specs.Prelude.{◌≡◌, ℕ, zero, suc, ◌+◌, ◌-◌, ◌/◌, ◌%◌, ◌^◌, ◌<◌, List, [], ◌∷◌, ◌++◌, length, drop, nat_lt, Result, Ok, if◌then◌else◌}
-use Rattle.pe_core.specs.Bytes.{range, AreBytes}
-use Rattle.pe_pkcs7.specs.Der.{element_at}
+use Rattle.std.specs.Prelude.{ℕ, zero, suc, ◌+◌, ◌-◌, ◌/◌, ◌%◌, List, [], ◌∷◌, ◌++◌, length, nat_lt, if◌then◌else◌}
+use Rattle.pe_core.specs.Bytes.{range}
 use Rattle.pe_pkcs7.specs.declared.der.Element.{Element}
 
 -- the lowest n octets of a number, the highest first

@@ -1,6 +1,6 @@
 -- The fields of a SEQUENCE, one after the other. (X.690: 8.9; the grammars of RFC 5652 and RFC 5280.) `b` are the bytes up to the
 -- end of the SEQUENCE, `p` is the offset where a field starts.
-use Rattle.std.specs.Prelude.{◌≡◌, ℕ, ◌+◌, ◌-◌, ◌==◌, ◌&&◌, List, [], ◌∷◌, length, take, drop, Bool, nat_le, nat_lt, slice_index, Option, Some, None, Result, Ok, Err, if◌then◌else◌}
+use Rattle.std.specs.Prelude.{◌≡◌, ℕ, ◌+◌, ◌-◌, ◌==◌, ◌&&◌, List, [], ◌∷◌, length, take, drop, nat_le, nat_lt, slice_index, Option, Some, None, Result, Ok, Err, if◌then◌else◌}
 use Rattle.std.specs.Option.{option_map}
 use Rattle.pe_core.specs.Refusals.{outcome, ◌>>=◌}
 use Rattle.pe_pkcs7.specs.Der.{element_at}
@@ -74,6 +74,11 @@ only_element b x = any_field (up_to_end b x) x.content >>= λ y. ends_at (up_to_
 unfoldable pub only_if_there : List ℕ → Option Element → Result (Option Element) SignatureError
 only_if_there b None = Ok None
 only_if_there b (Some x) = only_element b x >>= λ y. Ok (Some y)
+
+-- the same of one that may be left out, whose content has this tag
+unfoldable pub only_with_tag : ℕ → List ℕ → Option Element → Result (Option Element) SignatureError
+only_with_tag tag b None = Ok None
+only_with_tag tag b (Some x) = only_element b x >>= λ y. with_tag tag y >>= λ z. Ok (Some z)
 
 -- the content of an element
 unfoldable pub content_bytes : List ℕ → Element → List ℕ

@@ -1,6 +1,6 @@
 -- Names: the attributes of the relative distinguished names in turn. (RFC 5280, 4.1.2.4.) `b` are the bytes up to the end of a
 -- Name, `e` is the end of the relative distinguished name that is read, `p` is where its next attribute starts.
-use Rattle.std.specs.Prelude.{ℕ, ◌+◌, ◌-◌, ◌||◌, List, length, take, Bool, true, false, nat_lt, Option, Some, None, Result, Ok, Err, if◌then◌else◌}
+use Rattle.std.specs.Prelude.{ℕ, ◌+◌, ◌-◌, ◌||◌, List, length, take, Bool, true, false, nat_lt, Option, Some, None, Result, Ok, if◌then◌else◌}
 use Rattle.std.specs.Option.{option_map}
 use Rattle.pe_core.specs.Refusals.{◌>>=◌}
 use Rattle.pe_pkcs7.specs.Fields.{any_field, field, ends_at, part_of}

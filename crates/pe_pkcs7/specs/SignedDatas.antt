@@ -1,11 +1,11 @@
 -- What a signature is of, and what it contains. (RFC 5652: 3, 5.1, 5.2; RFC 2315: 7, 9. Microsoft, Windows Authenticode
 -- Portable Executable Signature Format: SpcIndirectDataContent, SpcPeImageData, SpcSpOpusInfo.) `b` are the bytes of the
 -- signature. A grammar stands above the definition that reads its fields.
-use Rattle.std.specs.Prelude.{ℕ, ◌==◌, ◌||◌, List, [], ◌∷◌, length, take, Bool, Option, Some, None, Result, Ok, Err, if◌then◌else◌}
+use Rattle.std.specs.Prelude.{ℕ, List, [], ◌∷◌, Result}
 use Rattle.std.specs.Str.{bytes_eq}
 use Rattle.pe_core.specs.Refusals.{outcome, ◌>>=◌}
 use Rattle.pe_pkcs7.specs.Der.{element_at}
-use Rattle.pe_pkcs7.specs.Fields.{any_field, any_optional, field, optional, after, ends_at, part_of, only_element, only_if_there, content_bytes}
+use Rattle.pe_pkcs7.specs.Fields.{any_optional, field, optional, after, ends_at, part_of, only_element, only_if_there, content_bytes}
 use Rattle.pe_pkcs7.specs.Tags.{INTEGER, BIT_STRING, OCTET_STRING, OBJECT_IDENTIFIER, SEQUENCE, SET, tagged}
 use Rattle.pe_pkcs7.specs.declared.der.Element.{Element}
 use Rattle.pe_pkcs7.specs.declared.signed_data.ContentInfo.{ContentInfo}

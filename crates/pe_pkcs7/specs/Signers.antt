@@ -1,5 +1,5 @@
 -- Signers and their attributes. (RFC 5652: 5.3, 11; RFC 5280: 4.1.2.4.) `b` are the bytes of the signature.
-use Rattle.std.specs.Prelude.{ℕ, ◌==◌, ◌||◌, List, [], ◌∷◌, drop, Bool, Option, Some, None, Result, Ok, Err, if◌then◌else◌}
+use Rattle.std.specs.Prelude.{ℕ, ◌==◌, ◌||◌, List, [], ◌∷◌, drop, Result}
 use Rattle.pe_core.specs.Refusals.{outcome, ◌>>=◌}
 use Rattle.pe_pkcs7.specs.Fields.{any_field, field, element_bytes, optional, after, ends_at, part_of}
 use Rattle.pe_pkcs7.specs.Tags.{INTEGER, OCTET_STRING, OBJECT_IDENTIFIER, SEQUENCE, SET, tagged, tagged_string}

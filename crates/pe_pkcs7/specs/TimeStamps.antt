@@ -1,7 +1,7 @@
 -- Time-stamp tokens. (RFC 3161: 2.4.1, 2.4.2.) `b` are the bytes of the signature.
-use Rattle.std.specs.Prelude.{ℕ, ◌==◌, List, [], ◌∷◌, Option, Some, None, Result, Ok, Err}
+use Rattle.std.specs.Prelude.{ℕ, List, Result, Ok}
 use Rattle.pe_core.specs.Refusals.{◌>>=◌}
-use Rattle.pe_pkcs7.specs.Fields.{field, optional, after, ends_at, part_of, only_element, up_to_end}
+use Rattle.pe_pkcs7.specs.Fields.{field, optional, after, ends_at, part_of, only_element}
 use Rattle.pe_pkcs7.specs.Tags.{BOOLEAN, INTEGER, OCTET_STRING, OBJECT_IDENTIFIER, GENERALIZED_TIME, SEQUENCE, tagged}
 use Rattle.pe_pkcs7.specs.declared.der.Element.{Element}
 use Rattle.pe_pkcs7.specs.declared.time_stamp.TstInfo.{TstInfo}

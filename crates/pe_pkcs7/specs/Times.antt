@@ -1,5 +1,5 @@
 -- Times. (RFC 5280: 4.1.2.5; X.680: 46 and 47; RFC 3161: 2.4.2.) `t` is the content of a UTCTime or a GeneralizedTime.
-use Rattle.std.specs.Prelude.{ℕ, ◌+◌, ◌-◌, ◌*◌, ◌==◌, ◌&&◌, ◌||◌, List, [], ◌∷◌, length, take, Bool, nat_le, nat_lt, slice_index, slice_range, Option, Some, None, Result, Ok, Err, if◌then◌else◌}
+use Rattle.std.specs.Prelude.{ℕ, ◌+◌, ◌-◌, ◌*◌, ◌==◌, ◌&&◌, ◌||◌, List, [], ◌∷◌, length, take, Bool, nat_le, nat_lt, slice_index, slice_range, not, Option, Some, None, Result, Err, if◌then◌else◌}
 use Rattle.std.specs.List.{list_all}
 use Rattle.pe_core.specs.Refusals.{outcome}
 use Rattle.pe_pkcs7.specs.Fields.{content_bytes}
@@ -42,9 +42,11 @@ utc_time t =
     if length t == 13 && list_all is_digit (take 12 t) && slice_index t 12 == 90
     then Some (time_from (utc_year (two_digits t 0)) t 2) else None
 
--- a fraction of a second is a dot and decimal digits, before the Z
+-- a fraction of a second is a dot and decimal digits, the last of which is not 0, before the Z (X.690: 11.7.3)
 unfoldable pub has_fraction : List ℕ → Bool
-has_fraction t = slice_index t 14 == 46 && nat_le 17 (length t) && list_all is_digit (slice_range t 15 (length t - 1))
+has_fraction t =
+    slice_index t 14 == 46 && nat_le 17 (length t) && list_all is_digit (slice_range t 15 (length t - 1))
+    && not (slice_index t (length t - 2) == 48)
 
 -- YYYYMMDDHHMMSSZ, or with a fraction of a second before the Z, which is left out
 unfoldable pub generalized_time : List ℕ → Option Time

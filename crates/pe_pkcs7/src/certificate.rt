@@ -3,12 +3,12 @@
 
 ghost use Rattle.std.specs.Prelude.{◌≡◌};
 ghost use Rattle.pe_pkcs7.specs.Fields.{element_bytes};
-ghost use Rattle.pe_pkcs7.specs.Certificates.{certificate, subject_fields, to_be_signed, time_field, validity, extension, usage_bits, key_usage};
+ghost use Rattle.pe_pkcs7.specs.Certificates.{certificate, subject_fields, to_be_signed, time_field, validity, extension, unused_are_zero, usage_bits, key_usage};
 
 use crate::der::Element;
 use crate::error::{Result, SignatureError};
 use crate::fields::{
-    after, any_field, field, only_element, only_if_there, optional, part_of, require_end,
+    after, any_field, field, only_element, only_with_tag, optional, part_of, require_end,
     require_tag,
 };
 use crate::tags::{
@@ -77,7 +77,7 @@ impl SubjectFields {
         let subject_id = optional(part, after_issuer_id, TAGGED_STRING_2)?;
         let after_ids = after(after_issuer_id, subject_id);
         let explicit = optional(part, after_ids, TAGGED_3)?;
-        let extensions = only_if_there(part, explicit)?;
+        let extensions = only_with_tag(part, explicit, SEQUENCE)?;
         require_end(part, after(after_ids, explicit))?;
         Ok(SubjectFields {
             subject,
@@ -90,7 +90,7 @@ impl SubjectFields {
 /// What is signed of a certificate.
 #[derive(Clone, Copy, Debug, Default, PartialEq)]
 pub struct ToBeSigned {
-    /// The version by `[0]`: an `INTEGER` that is 2 for version 3. Version 1 has none.
+    /// The version, an element `[0]` with an `INTEGER` in it that is 2 for version 3. Version 1 has none.
     pub version: Option<Element>,
     /// The serial number, an `INTEGER`.
     pub serial: Element,
@@ -104,19 +104,21 @@ pub struct ToBeSigned {
     pub subject: Element,
     /// The public key, a `SEQUENCE` of an `AlgorithmIdentifier` and a `BIT STRING`.
     pub public_key: Element,
-    /// The extensions, a `SEQUENCE OF Extension`.
+    /// The extensions, a `SEQUENCE OF Extension`: what stands in `[3]`.
     pub extensions: Option<Element>,
 }
 
 impl ToBeSigned {
     /// What `Certificate::to_be_signed` says. Errors, in order: `Tag` if it is no `SEQUENCE`; for each field `Missing`, those of
-    /// `element_at`, `Tag`; `Missing`, those of `element_at` and `Trailing` of the extensions; `Trailing`.
+    /// `element_at`, `Tag`, and after the version and the extensions those of the one element that stands in each: `Missing`, those
+    /// of `element_at`, `Trailing`, `Tag`; at last `Trailing`.
     #[tactic(auto, unfolding(crate::specs::Certificates::to_be_signed))]
     pub fn parse(bytes: &[u8], element: Element) -> Result<ToBeSigned>
         ensures { result ≡ to_be_signed bytes.now element }
     {
         let part = part_of(bytes, element, SEQUENCE)?;
         let version = optional(part, element.content, TAGGED_0)?;
+        only_with_tag(part, version, INTEGER)?;
         let serial = field(part, after(element.content, version), INTEGER)?;
         let signature_algorithm = field(part, serial.end, SEQUENCE)?;
         let issuer = field(part, signature_algorithm.end, SEQUENCE)?;
@@ -177,13 +179,22 @@ impl Validity {
     }
 }
 
-/// The bits of a `BIT STRING` of one octet or two. `None` if it has more or none.
+/// Whether at most 7 bits of the last octet of a `BIT STRING` are not used, and all of these are 0.
+fn unused_are_zero(count: u8, last: u8) -> bool
+    ensures { result ≡ unused_are_zero count last }
+{
+    count < 8 && last % (1 << count) == 0
+}
+
+/// The bits of a `BIT STRING` of one octet or two. `None` if it has more or none, or unused bits that DER does not allow.
 fn usage_bits(content: &[u8]) -> Option<u16>
     ensures { result ≡ usage_bits content.now }
 {
     match content.len() {
-        2 => Some(u16::from(content[1])),
-        3 => Some(u16::from(content[1]) + 256 * u16::from(content[2])),
+        2 if unused_are_zero(content[0], content[1]) => Some(u16::from(content[1])),
+        3 if unused_are_zero(content[0], content[2]) => {
+            Some(u16::from(content[1]) + 256 * u16::from(content[2]))
+        }
         _ => None,
     }
 }
@@ -218,10 +229,11 @@ impl Extension {
     }
 
     /// What the key of a certificate is for, of the extension with the kind `KEY_USAGE`: in the low octet 80h
-    /// `digitalSignature`, 40h `contentCommitment`, 20h `keyEncipherment`, 10h `dataEncipherment`, 8 `keyAgreement`, 4 `keyCertSign`, 2 `cRLSign`, 1
-    /// `encipherOnly`; 8000h `decipherOnly`. `None` if the bits are more than two octets, or none. Errors, in order: `Tag` if
-    /// the value is no `OCTET STRING`; `Missing`, those of `element_at` and `Trailing` of its content; `Tag` if that is no
-    /// `BIT STRING`.
+    /// `digitalSignature`, 40h `contentCommitment`, 20h `keyEncipherment`, 10h `dataEncipherment`, 8 `keyAgreement`,
+    /// 4 `keyCertSign`, 2 `cRLSign`, 1 `encipherOnly`; 8000h `decipherOnly`. `None` if the bits are more than two octets, or none,
+    /// or if the octet before them counts more than 7 bits of the last octet that are not used, or one of these is set. Errors,
+    /// in order: `Tag` if the value is no `OCTET STRING`; `Missing`, those of `element_at` and `Trailing` of its content; `Tag`
+    /// if that is no `BIT STRING`.
     #[tactic(auto, unfolding(crate::specs::Certificates::key_usage))]
     pub fn key_usage(&self, bytes: &[u8]) -> Result<Option<u16>>
         ensures { result ≡ key_usage bytes.now self.now.value }

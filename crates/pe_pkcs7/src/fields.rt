@@ -4,7 +4,7 @@
 ghost use Rattle.std.specs.Prelude.{◌≡◌, ◌<◌, ◌≤◌, ◌-◌, take, drop, length, IfOk, IfSome, Some, None};
 ghost use Rattle.std.specs.Iterator.{at_most};
 ghost use Rattle.std.specs.Str.{bytes_eq};
-ghost use Rattle.pe_pkcs7.specs.Fields.{up_to_end, first_element, elements_left, most_elements, any_field, any_optional, with_tag, field, optional, after, ends_at, part_of, only_element, only_if_there, content_bytes, element_bytes, Gives};
+ghost use Rattle.pe_pkcs7.specs.Fields.{up_to_end, first_element, elements_left, most_elements, any_field, any_optional, with_tag, field, optional, after, ends_at, part_of, only_element, only_if_there, only_with_tag, content_bytes, element_bytes, Gives};
 ghost use Rattle.pe_pkcs7.specs.Walks.{Steps};
 
 use crate::der::{Element, element_at};
@@ -139,6 +139,21 @@ pub(crate) fn only_if_there(bytes: &[u8], element: Option<Element>) -> Result<Op
 {
     match element {
         Some(element) => Ok(Some(only_element(bytes, element)?)),
+        None => Ok(None),
+    }
+}
+
+/// The same of an element in it that has this tag. Errors, in order: those of `only_element`, `Tag`.
+#[tactic(auto, unfolding(crate::specs::Fields::only_with_tag))]
+pub(crate) fn only_with_tag(
+    bytes: &[u8],
+    element: Option<Element>,
+    tag: u8,
+) -> Result<Option<Element>>
+    ensures { result ≡ only_with_tag tag bytes.now element }
+{
+    match element {
+        Some(element) => Ok(Some(require_tag(only_element(bytes, element)?, tag)?)),
         None => Ok(None),
     }
 }

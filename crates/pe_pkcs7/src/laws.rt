@@ -41,9 +41,9 @@ pub fn written_elements_are_read()
 {}
 
 /// What a caller hashes, of an element that is read in a part of the bytes. All of its octets, as of a certificate's part that is
-/// signed, are what DER writes for its tag and content. The octets that a signer signs are what DER writes for the attributes
-/// with the tag of a `SET`, not with `[0]`: tag, length and content (RFC 5652, 5.4). The content, which `messageDigest`
-/// covers, is neither the tag nor the length.
+/// signed, are what DER writes for its tag and content. The octets that a signer signs are the octets of the attributes as they
+/// stand, under the tag 31h of a `SET` and not under `[0]`: tag, length and content (RFC 5652, 5.4). DER also sorts a `SET OF`,
+/// which is not tested. The content, which `messageDigest` covers, is neither the tag nor the length.
 pub fn hashed_octets_are_written_by_der()
     ensures whole { (b : List ℕ) (e q : ℕ) (x : Element) → AreBytes b → element_at (take e b) q ≡ Ok x →
         element_bytes b x ≡ der x.tag (content_bytes b x) }

@@ -80,7 +80,8 @@ impl SignerInfo {
 
 impl SignerInfo {
     /// What the signature is over if there are signed attributes, in two pieces: the octet 31h, the tag of a `SET` in place of
-    /// `[0]`, and the other octets of the attributes (RFC 5652, 5.4). `None` if there are none: it is over what is signed.
+    /// `[0]`, and the other octets of the attributes as they stand (RFC 5652, 5.4); that they are sorted, as DER sorts a
+    /// `SET OF`, is not tested. `None` if there are none: it is over what is signed.
     pub fn signed_bytes<'a>(&self, bytes: &'a [u8]) -> Option<(u8, &'a [u8])>
         ensures { option_map (λ s. s.0 ∷ s.1.now) result
             ≡ option_map (signed_octets bytes.entry.now) self.now.signed_attributes }

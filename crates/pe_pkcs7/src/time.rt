@@ -18,6 +18,7 @@ const SIZE_OF_GENERALIZED_TIME: usize = 15;
 /// A time in UTC.
 #[derive(Clone, Copy, Debug, Default, PartialEq)]
 pub struct Time {
+    /// 0 to 9999; of a `UTCTime` 1950 to 2049.
     pub year: u32,
     /// 1 to 12.
     pub month: u32,
@@ -25,7 +26,9 @@ pub struct Time {
     pub day: u32,
     /// 0 to 23.
     pub hour: u32,
+    /// 0 to 59.
     pub minute: u32,
+    /// 0 to 59: no leap second.
     pub second: u32,
 }
 
@@ -83,13 +86,17 @@ fn utc_time(text: &[u8]) -> Option<Time>
     Some(time_from(century + year, text, 2))
 }
 
-/// Whether a fraction of a second follows the fourteen digits of a `GeneralizedTime`, up to its last octet.
+/// Whether a fraction of a second follows the fourteen digits of a `GeneralizedTime`, up to its last octet: a dot and digits, the
+/// last of which is not 0.
 #[tactic(auto, unfolding(crate::specs::Times::has_fraction))]
 fn has_fraction(text: &[u8]) -> bool
     requires { 15 ≤ length text.now }
     ensures { result ≡ has_fraction text.now }
 {
-    text[14] == b'.' && text.len() >= 17 && are_digits(&text[15..text.len() - 1])
+    text[14] == b'.'
+        && text.len() >= 17
+        && are_digits(&text[15..text.len() - 1])
+        && text[text.len() - 2] != b'0'
 }
 
 /// The time that a `GeneralizedTime` is: fourteen digits, a fraction of a second or none, and `Z`. `None` if it is none.

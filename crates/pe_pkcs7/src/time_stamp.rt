@@ -45,7 +45,7 @@ impl LastFields {
     }
 }
 
-/// What a time-stamp token says.
+/// What a time-stamp token says. Its `ordering` and its extensions are read past, and are not kept.
 #[derive(Clone, Copy, Debug, Default, PartialEq)]
 pub struct TstInfo {
     /// The version, an `INTEGER`: 1.
