@@ -243,7 +243,7 @@ The code of the library is proved. No proof covers the compilation to WebAssembl
 
 It is not the interface of pe.h. A call NAME of pe.h is Z_pe_cZ_NAME. Its first parameter is an instance, which
 Z_pe_c_instantiate makes after wasm_rt_init and Z_pe_c_init_module. Pointers are offsets in the memory of the instance, as numbers
-of 64 bits: what a call reads is copied into that memory first, behind the offset that Z_pe_cZ___heap_base points to where the
+of 64 bits: what a call reads is copied into that memory first, after the offset that Z_pe_cZ___heap_base points to where the
 module has one, and what it writes is copied out. The memory has less than 4 GiB, and wasm_rt_grow_memory makes it larger. What a
 call does wrong there reaches no other memory: an access beyond it ends in wasm_rt_trap. An instance is for one thread at a time.
 """

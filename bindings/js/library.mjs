@@ -213,7 +213,7 @@ export class Image {
     return true;
   }
 
-  /** Makes any call of pe.h but pe_c_image, pe_c_sections and pe_c_text: see index.d.ts. */
+  /** Makes a call of pe.h that takes one image, but for pe_c_image, pe_c_sections and pe_c_text: see index.d.ts. */
   call(name, given = {}) {
     const kept = this.#memory.free;
     try {

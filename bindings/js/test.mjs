@@ -1,5 +1,5 @@
 // node test.mjs FOLDER: tests the package pe-c as it is installed, over the images that the tests of the cargo crate
-// make. Each call of pe.h has to be made by some test, and to succeed. The last line is 'N passed, M failed'.
+// make. Each call that the package has is to be made by some test, and to succeed. The last line is 'N passed, M failed'.
 import { strict as assert } from 'node:assert';
 import { readFileSync, readdirSync } from 'node:fs';
 import { join } from 'node:path';

@@ -303,7 +303,7 @@ fn imports_in_lists(rt: HostRuntime) -> Result<(), Fail> {
         assert_eq!(rt; (answer, written), (DONE, count));
         assert_eq!(rt; entries.map(|entry| of_range(entry.name)), names);
     }
-    // The second import becomes one by a name at 0xA0, behind its hint, that is not UTF-8.
+    // The second import becomes one by a name at 0xA0, after its hint, that is not UTF-8.
     put(
         &mut bytes,
         &[
