@@ -7,10 +7,10 @@ use Rattle.pe_frame.specs.declared.arm64.operation.Arm64Operation.{Arm64Operatio
 use Rattle.pe_frame.specs.declared.arm64.operation.Arm64Register.TheVariants.{X}
 use Rattle.pe_frame.specs.declared.arm64.registers.Arm64Registers.{Arm64Registers}
 use Rattle.pe_frame.specs.declared.error.FrameError.{FrameError}
-use Rattle.pe_frame.specs.Arm64Operations.{Arm64Effect, Lower, Store, PointFrame, SignLink, effects_of, all_effects}
+use Rattle.pe_frame.specs.Arm64Operations.{Arm64Effect, Lower, Store, SetFramePointer, SignLink, effects_of, all_effects}
 use Rattle.pe_frame.specs.Arm64Undoing.{frame_pointer, link_register, put_pc, put_saved, put_sp, stripped, reverted, reverted_all, undone_codes, returned_arm64}
 use Rattle.pe_frame.specs.Arm64Steps.{prolog_length, Leaves, StepsArm64}
-use Rattle.pe_frame.specs.Arm64Machine.{Arm64Machine, held, caused, run_arm64, points_frame, KeepsPlace, IsArm64Prolog, IsArm64Caller}
+use Rattle.pe_frame.specs.Arm64Machine.{Arm64Machine, held, caused, run_arm64, sets_frame_pointer, KeepsStackPointerArm64, IsArm64Prolog, IsArm64Caller}
 use Rattle.pe_frame.specs.Arm64Frames.{Arm64Part, effects_at, IsArm64Frame}
 use Rattle.pe_frame.proofs.Arm64Streams.{step_by_codes}
 use Rattle.pe_frame.proofs.Arm64Effects.{reverted-append, undone-effects, operations-drop, prolog-drop}
@@ -26,42 +26,42 @@ then_left m e a g next mid is all = sym (ap (λ (r : Result Arm64Registers Frame
 
 -- the stack pointer in an epilog is not above where it was at the function's entry
 pub middle : (m : ℕ → Option ℕ) (a b : List Arm64Effect) (s : Arm64Machine) (g mid : Arm64Registers) → IsArm64Prolog (a ++ b) s → Holds (λ x v. m x ≡ Some v) (a ++ b) s →
-    KeepsPlace (points_frame (a ++ b)) (a ++ b) (run_arm64 (a ++ b) s) g → reverted_all m a g ≡ Ok mid → mid.sp ≤ s.sp
+    KeepsStackPointerArm64 (sets_frame_pointer (a ++ b)) (a ++ b) (run_arm64 (a ++ b) s) g → reverted_all m a g ≡ Ok mid → mid.sp ≤ s.sp
 middle m [] b s g mid p h k e =
-    let le = keeps_le (points_frame b) b (run_arm64 b s) g k in
+    let le = keeps_le (sets_frame_pointer b) b (run_arm64 b s) g k in
     let low = sinks b s p in
     let same : g.sp ≡ mid.sp = ap (λ (u : Arm64Registers). u.sp) (ok_same g mid e) in
     omega (arith, le, low, same)
 middle m (Lower n ∷ a) b s g mid p h k e =
     let before = a ++ b in
     let t = run_arm64 before s in
-    let le : g.sp ≤ t.sp - n = keeps_le (points_frame before) (Lower n ∷ before) (caused (Lower n) t) g k in
+    let le : g.sp ≤ t.sp - n = keeps_le (sets_frame_pointer before) (Lower n ∷ before) (caused (Lower n) t) g k in
     let low = sinks before s p.1 in
     let small = (entered before s p.1).stack in
     let next = put_sp g (g.sp + n) in
     let step = lowered_ok m n g (omega (arith, le, low, small, p.0)) in
-    middle m a b s next mid p.1 h (keeps_lowered (points_frame before) n before t g p.0 k) (then_left m (Lower n) a g next mid step e)
+    middle m a b s next mid p.1 h (keeps_lowered (sets_frame_pointer before) n before t g p.0 k) (then_left m (Lower n) a g next mid step e)
 middle m (Store r o ∷ a) b s g mid p h k e =
     let before = a ++ b in
     let t = run_arm64 before s in
-    let at : g.sp ≡ t.sp = keeps_at_store (points_frame before) r o before (caused (Store r o) t) g k in
+    let at : g.sp ≡ t.sp = keeps_at_store (sets_frame_pointer before) r o before (caused (Store r o) t) g k in
     let v = held t r in
     let next = put_saved g r v in
     let word : m (g.sp + o) ≡ Some v = ap (λ (x : ℕ). m (x + o)) at ∙ h.0 in
     let step = stored_ok m r o v g (omega (arith, at, p.0.2)) word in
-    middle m a b s next mid p.1 h.1 (keeps_stored (points_frame before) r o v before t g p.0.1 k) (then_left m (Store r o) a g next mid step e)
-middle m (PointFrame n ∷ a) b s g mid p h k e =
+    middle m a b s next mid p.1 h.1 (keeps_stored (sets_frame_pointer before) r o v before t g p.0.1 k) (then_left m (Store r o) a g next mid step e)
+middle m (SetFramePointer n ∷ a) b s g mid p h k e =
     let before = a ++ b in
     let t = run_arm64 before s in
     let many = count before s p.1 in
     let frame : frame_pointer g ≡ t.sp + n = k.2 ∙ get_or-set_same t.general 29 (t.sp + n) 0 (omega (arith, many)) in
     let next = put_sp g t.sp in
     let step = framed_ok m n t.sp g frame in
-    middle m a b s next mid p.1 h (keeps_exact (points_frame before) before t next p.0.0 refl) (then_left m (PointFrame n) a g next mid step e)
+    middle m a b s next mid p.1 h (keeps_exact (sets_frame_pointer before) before t next p.0.0 refl) (then_left m (SetFramePointer n) a g next mid step e)
 middle m (SignLink ∷ a) b s g mid p h k e =
     let before = a ++ b in
     let next = put_saved g (X 30) (stripped (link_register g)) in
-    middle m a b s next mid p.1 h (keeps_signed (points_frame before) (stripped (link_register g)) before (run_arm64 before s) g k) (then_left m SignLink a g next mid refl e)
+    middle m a b s next mid p.1 h (keeps_signed (sets_frame_pointer before) (stripped (link_register g)) before (run_arm64 before s) g k) (then_left m SignLink a g next mid refl e)
 
 effects-append : (os ps : List Arm64Operation) → all_effects (os ++ ps) ≡ all_effects os ++ all_effects ps
 effects-append [] ps = refl
@@ -89,7 +89,7 @@ epilog_caller m i p place run g now x left frame done step =
     let word = known m (run_arm64 es s).memory es s frame.body.memory (holds es s prolog) in
     let low : now.sp ≤ s.sp =
     middle m a b s g now (subst (λ (fs : List Arm64Effect). IsArm64Prolog fs s) both prolog) (subst (λ (fs : List Arm64Effect). Holds (λ y v. m y ≡ Some v) fs s) both word)
-    (subst (λ (fs : List Arm64Effect). KeepsPlace (points_frame fs) fs (run_arm64 fs s) g) both frame.body.stack) done in
+    (subst (λ (fs : List Arm64Effect). KeepsStackPointerArm64 (sets_frame_pointer fs) fs (run_arm64 fs s) g) both frame.body.stack) done in
     let rest : reverted_all m b now ≡ Ok e.entry =
     sym (ap (λ (r : Result Arm64Registers FrameError). r >>= reverted_all m b) done)
     ∙ (sym (reverted-append m a b g) ∙ (ap (λ (fs : List Arm64Effect). reverted_all m fs g) (sym both) ∙ e.is)) in

@@ -1,19 +1,22 @@
 -- The frames that a step of a walk on ARM64 finds, and where it comes to the bottom.
 use Rattle.pe_core.specs.Refusals.{Refusal, ◌>>=◌}
+use Rattle.pe_core.specs.SectionMap.{rounded_up}
 use Rattle.std.proofs.Common.{◌≡◌, ◌≢◌, ◌⊎◌, inl, inr, ℕ, ◌<◌, ◌≤◌, ◌==◌, leb, Bool, true, false, ◌&&◌, cond, List, Option, Some, None, Result, Ok, Err, refl, ap, sym, ◌∙◌, subst, arith}
 use Rattle.std.proofs.lemmas.Bool.{eqb-true}
 use Rattle.std.proofs.lemmas.Bool.Decides.{nat_tests}
-use Rattle.std.specs.Option.{option_map}
+use Rattle.std.specs.Option.{option_map, option_map_or, option_or}
 use Rattle.pe_unwind.specs.Arm64Record.{Arm64InfoView}
 use Rattle.pe_unwind.specs.Arm64Unwinding.{info_of_function}
 use Rattle.pe_unwind.specs.ExceptionTable.{ExceptionView}
 use Rattle.pe_unwind.specs.declared.arm64.codes.Arm64UnwindCode.{Arm64UnwindCode}
 use Rattle.pe_unwind.specs.declared.arm64.function.Arm64RuntimeFunction.{Arm64RuntimeFunction}
-use Rattle.pe_frame.specs.Arm64Packed.{is_canonical, packed_left, stepped_packed}
+use Rattle.pe_frame.specs.Arm64Packed.{is_canonical, packed_left, stepped_arm64_packed}
 use Rattle.pe_frame.specs.Arm64Steps.{StepsOutArm64}
-use Rattle.pe_frame.specs.Arm64Undoing.{caller_out, entry_of, left_arm64, link_register, put_pc, returned_arm64, undone_codes}
-use Rattle.pe_frame.specs.Arm64Walks.{Process, Calls, CallsBy, CallsByInfo, CallsFound, CallsIn, after_leaf, called_frame, frame_after, frame_of, has_called, leaf_caller, lookup_address, outside_caller, place_of, stepped_out_packed}
+use Rattle.pe_frame.specs.Arm64Undoing.{caller_by_codes, entry_of, left_arm64, link_register, put_pc, returned_arm64, undone_codes}
+use Rattle.pe_frame.specs.Arm64Walks.{Calls, CallsBy, CallsByInfo, CallsFound, CallsIn, after_leaf, called_frame, code_return, frame_after, frame_of, has_called, caller_of_leaf, lookup_address, caller_outside, place_of, returned_to, scanned, stepped_out_packed, without_records}
+use Rattle.pe_frame.specs.FrameWalks.{Process}
 use Rattle.pe_frame.specs.Modules.{is_after_call_arm64, module_at}
+use Rattle.pe_frame.specs.Scans.{first_return, most_words}
 use Rattle.pe_frame.specs.declared.arm64.entry.Arm64Entry.{Arm64Entry}
 use Rattle.pe_frame.specs.declared.arm64.registers.Arm64Registers.{Arm64Registers}
 use Rattle.pe_frame.specs.declared.arm64.walk.Arm64StackFrame.{Arm64StackFrame}
@@ -21,7 +24,7 @@ use Rattle.pe_frame.specs.declared.error.FrameError.{FrameError}
 use Rattle.pe_frame.specs.declared.error.FrameError.TheVariants.{NotRising}
 use Rattle.pe_frame.specs.declared.modules.Module.{Module}
 use Rattle.pe_frame.specs.declared.walk.Way.{Way}
-use Rattle.pe_frame.specs.declared.walk.Way.TheVariants.{Records, Leaf, Interrupt}
+use Rattle.pe_frame.specs.declared.walk.Way.TheVariants.{Records, Leaf, Interrupt, Scanned}
 use Rattle.pe_frame.specs.declared.walk.WalkEnd.{WalkEnd}
 use Rattle.pe_frame.specs.declared.walk.WalkEnd.TheVariants as ends
 
@@ -53,32 +56,64 @@ unless_called : (b : Bool) (end : WalkEnd) (rest : Result Arm64StackFrame WalkEn
 unless_called true end rest t is = absurd (cc is)
 unless_called false end rest t is = (refl, is)
 
-leaf_if : (modules : List Module) (s t : Arm64StackFrame) (u : Arm64Registers) → t ≡ frame_of modules Leaf u → s.has_called ≡ false → IsNext modules s t
-leaf_if modules s t u same waits = record {
-  made = (Leaf, u, same);
+guess_if : (modules : List Module) (s t : Arm64StackFrame) (way : Way) (u : Arm64Registers) → t ≡ frame_of modules way u → way ≢ Records → s.has_called ≡ false → IsNext modules s t
+guess_if modules s t way u same other waits = record {
+  made = (way, u, same);
   led = inr waits;
-  rises = not_records s t modules Leaf u same (λ e. cc e);
+  rises = not_records s t modules way u same other;
 }
 
-next_leaf : (modules : List Module) (s t : Arm64StackFrame) → Ok t ≡ leaf_caller modules s → IsNext modules s t
-next_leaf modules s t is =
+-- a frame that is found without records is made of registers, and not by records
+abbrev IsGuessed : List Module → Arm64StackFrame → Type 0
+IsGuessed modules t = (way : Way) × (u : Arm64Registers) × (t ≡ frame_of modules way u) × (way ≢ Records)
+
+scan_made : (modules : List Module) (g : Arm64Registers) (o : Option (ℕ × ℕ)) (t : Arm64StackFrame) → Some t ≡ option_map (λ found. frame_of modules Scanned (returned_to g found)) o → IsGuessed modules t
+scan_made modules g (Some found) t is =
+    let same : t ≡ frame_of modules Scanned (returned_to g found) = cc is in
+    (Scanned, returned_to g found, same, λ e. cc e)
+scan_made modules g None t is = absurd (cc is)
+
+found_made : (memory : ℕ → Option ℕ) (modules : List Module) (g : Arm64Registers) (b : Bool) (t : Arm64StackFrame) → Some t ≡ option_or (cond b (Some (frame_of modules Leaf (after_leaf g))) None) (scanned memory modules g) → IsGuessed modules t
+found_made memory modules g true t is =
+    let same : t ≡ frame_of modules Leaf (after_leaf g) = cc is in
+    (Leaf, after_leaf g, same, λ e. cc e)
+found_made memory modules g false t is =
+    scan_made modules g (first_return most_words memory (code_return modules) (rounded_up g.sp 8)) t is
+
+-- what is found, or else what is left
+found_or : (o : Option Arm64StackFrame) (rest : Result Arm64StackFrame WalkEnd) (t : Arm64StackFrame) → Ok t ≡ option_map_or Ok o rest → (Some t ≡ o) ⊎ (Ok t ≡ rest)
+found_or (Some f) rest t is = let same : t ≡ f = cc is in inl (ap (λ (x : Arm64StackFrame). Some x) same)
+found_or None rest t is = inr is
+
+guessed_next : (memory : ℕ → Option ℕ) (modules : List Module) (s t : Arm64StackFrame) → s.has_called ≡ false → Some t ≡ without_records memory modules s.registers → IsNext modules s t
+guessed_next memory modules s t waits is =
+    let made = found_made memory modules s.registers (is_after_call_arm64 modules (link_register s.registers)) t is in
+    guess_if modules s t made.0 made.1 made.2 made.3 waits
+
+leaf_or : (memory : ℕ → Option ℕ) (modules : List Module) (s t : Arm64StackFrame) → s.has_called ≡ false → (Some t ≡ without_records memory modules s.registers) ⊎ (Ok t ≡ cond (link_register s.registers == 0) (Err ends.Bottom) (Ok (frame_of modules Leaf (after_leaf s.registers)))) → IsNext modules s t
+leaf_or memory modules s t waits (inl is) = guessed_next memory modules s t waits is
+leaf_or memory modules s t waits (inr is) =
     let u = after_leaf s.registers in
-    let rest = cond (link_register s.registers == 0) (Err ends.Bottom) (Ok (frame_of modules Leaf u)) in
-    let waits = unless_called s.has_called ends.NoFunction rest t is in
-    let goes = unless_called (link_register s.registers == 0) ends.Bottom (Ok (frame_of modules Leaf u)) t waits.1 in
+    let goes = unless_called (link_register s.registers == 0) ends.Bottom (Ok (frame_of modules Leaf u)) t is in
     let same : t ≡ frame_of modules Leaf u = cc goes.1 in
-    leaf_if modules s t u same waits.0
+    guess_if modules s t Leaf u same (λ e. cc e) waits
 
-if_after : (b : Bool) (end : WalkEnd) (f t : Arm64StackFrame) → Ok t ≡ cond b (Ok f) (Err end) → t ≡ f
-if_after true end f t is = cc is
-if_after false end f t is = absurd (cc is)
+next_leaf : (memory : ℕ → Option ℕ) (modules : List Module) (s t : Arm64StackFrame) → Ok t ≡ caller_of_leaf memory modules s → IsNext modules s t
+next_leaf memory modules s t is =
+    let rest = cond (link_register s.registers == 0) (Err ends.Bottom) (Ok (frame_of modules Leaf (after_leaf s.registers))) in
+    let found = without_records memory modules s.registers in
+    let waits = unless_called s.has_called ends.NoFunction (option_map_or Ok found rest) t is in
+    leaf_or memory modules s t waits.0 (found_or found rest t waits.1)
 
-next_outside : (modules : List Module) (s t : Arm64StackFrame) → Ok t ≡ outside_caller modules s → IsNext modules s t
-next_outside modules s t is =
-    let u = after_leaf s.registers in
-    let b = is_after_call_arm64 modules (link_register s.registers) in
-    let waits = unless_called s.has_called ends.NoModule (cond b (Ok (frame_of modules Leaf u)) (Err ends.NoModule)) t is in
-    leaf_if modules s t u (if_after b ends.NoModule (frame_of modules Leaf u) t waits.1) waits.0
+outside_or : (memory : ℕ → Option ℕ) (modules : List Module) (s t : Arm64StackFrame) → s.has_called ≡ false → (Some t ≡ without_records memory modules s.registers) ⊎ (Ok t ≡ Err ends.NoModule) → IsNext modules s t
+outside_or memory modules s t waits (inl is) = guessed_next memory modules s t waits is
+outside_or memory modules s t waits (inr is) = absurd (cc is)
+
+next_outside : (memory : ℕ → Option ℕ) (modules : List Module) (s t : Arm64StackFrame) → Ok t ≡ caller_outside memory modules s → IsNext modules s t
+next_outside memory modules s t is =
+    let found = without_records memory modules s.registers in
+    let waits = unless_called s.has_called ends.NoModule (option_map_or Ok found (Err ends.NoModule)) t is in
+    outside_or memory modules s t waits.0 (found_or found (Err ends.NoModule) t waits.1)
 
 -- a step that no interrupt left does not sink
 abbrev StaysAbove : ℕ → Result (Arm64Registers × Bool) FrameError → Type 0
@@ -125,7 +160,7 @@ left_above : (p : ℕ) (e : Arm64Entry) (x : Result Arm64Registers FrameError) (
 left_above p e (Ok u) v is = left_above_if p e.has_pc e.is_interrupt u v is
 left_above p e (Err d) v is = absurd (cc is)
 
-codes_above : (m : ℕ → Option ℕ) (g : Arm64Registers) (x : Result (List Arm64UnwindCode) FrameError) (v : Arm64Registers) → (x >>= λ cs. caller_out m cs g) ≡ Ok (v, false) → g.sp ≤ v.sp
+codes_above : (m : ℕ → Option ℕ) (g : Arm64Registers) (x : Result (List Arm64UnwindCode) FrameError) (v : Arm64Registers) → (x >>= λ cs. caller_by_codes m cs g) ≡ Ok (v, false) → g.sp ≤ v.sp
 codes_above m g (Ok cs) v is = left_above g.sp (entry_of cs) (undone_codes m cs g) v is
 codes_above m g (Err d) v is = absurd (cc is)
 
@@ -142,7 +177,7 @@ packed_above_if false p x e w is = absurd (cc is)
 
 packed_above : (m : ℕ → Option ℕ) (d place : ℕ) (g : Arm64Registers) → StaysAbove g.sp (stepped_out_packed m d place g)
 packed_above m d place g u is =
-    out_above g.sp false (stepped_packed m d place g) u (λ w. packed_above_if (is_canonical d) g.sp (undone_codes m (packed_left d place) g) _ w) is
+    out_above g.sp false (stepped_arm64_packed m d place g) u (λ w. packed_above_if (is_canonical d) g.sp (undone_codes m (packed_left d place) g) _ w) is
 
 -- the frame that records lead to, unless it is the bottom
 records_if : (modules : List Module) (s t : Arm64StackFrame) (u : Arm64Registers) (b : Bool) → Ok t ≡ cond b (Err ends.Bottom) (Ok (frame_of modules Records u)) → t ≡ frame_of modules Records u
@@ -188,15 +223,15 @@ next_by_info p m f s t (Some (Ok i)) h = next_after p.modules s t h.0 (step_abov
 
 next_found : (p : Process) (m : Module) (e : ExceptionView) (s t : Arm64StackFrame) (found : Result (Option Arm64RuntimeFunction) Refusal) → CallsFound p m e s found (Ok t) → IsNext p.modules s t
 next_found p m e s t (Err r) h = absurd h
-next_found p m e s t (Ok None) h = next_leaf p.modules s t h
+next_found p m e s t (Ok None) h = next_leaf p.memory p.modules s t h
 next_found p m e s t (Ok (Some f)) h = next_by_info p m f s t (info_of_function e m.sections.now m.opts f) h
 
 next_by : (p : Process) (m : Module) (s t : Arm64StackFrame) (o : Option ExceptionView) → CallsBy p m s o (Ok t) → IsNext p.modules s t
-next_by p m s t None h = next_leaf p.modules s t h
+next_by p m s t None h = next_leaf p.memory p.modules s t h
 next_by p m s t (Some e) h = next_found p m e s t h.0 h.2
 
 next_in : (p : Process) (s t : Arm64StackFrame) (o : Option Module) → CallsIn p s o (Ok t) → IsNext p.modules s t
-next_in p s t None h = next_outside p.modules s t h
+next_in p s t None h = next_outside p.memory p.modules s t h
 next_in p s t (Some m) h = next_by p m s t (option_map (λ e. e.now) m.exceptions) h
 
 next : (p : Process) (s t : Arm64StackFrame) → Calls p s (Ok t) → IsNext p.modules s t
@@ -239,10 +274,10 @@ packed_of : (x : Result Arm64Registers FrameError) (u : Arm64Registers) (b : Boo
 packed_of (Ok c) u b is = ap (λ (g : Arm64Registers). Ok g) (first_of_pair c u false b is)
 packed_of (Err e) u b is = absurd (cc is)
 
-pub frame_is_packed_step : (p : Process) (m : Module) (f : Arm64RuntimeFunction) (s t : Arm64StackFrame) → CallsByInfo p m f s None (Ok t) → stepped_packed p.memory f.unwind_data (place_of m f s) s.registers ≡ Ok t.registers
+pub frame_is_packed_step : (p : Process) (m : Module) (f : Arm64RuntimeFunction) (s t : Arm64StackFrame) → CallsByInfo p m f s None (Ok t) → stepped_arm64_packed p.memory f.unwind_data (place_of m f s) s.registers ≡ Ok t.registers
 frame_is_packed_step p m f s t h =
     let out = out_of p.modules s t (stepped_out_packed p.memory f.unwind_data (place_of m f s) s.registers) h in
-    packed_of (stepped_packed p.memory f.unwind_data (place_of m f s) s.registers) t.registers out.0 out.1
+    packed_of (stepped_arm64_packed p.memory f.unwind_data (place_of m f s) s.registers) t.registers out.0 out.1
 
 -- ---- the bottom
 
@@ -267,10 +302,10 @@ records_at_bottom p m f s i h =
     let zero = left_for_0 p.modules s h.0 h.2 in
     (zero.0, subst (λ (x : Result (Arm64Registers × Bool) FrameError). StepsOutArm64 p.memory i (place_of m f s) s.registers x) zero.1 h.1, zero.2)
 
-pub packed_at_bottom : (p : Process) (m : Module) (f : Arm64RuntimeFunction) (s : Arm64StackFrame) → CallsByInfo p m f s None (Err ends.Bottom) → (u : Arm64Registers) × (stepped_packed p.memory f.unwind_data (place_of m f s) s.registers ≡ Ok u) × (u.pc ≡ 0)
+pub packed_at_bottom : (p : Process) (m : Module) (f : Arm64RuntimeFunction) (s : Arm64StackFrame) → CallsByInfo p m f s None (Err ends.Bottom) → (u : Arm64Registers) × (stepped_arm64_packed p.memory f.unwind_data (place_of m f s) s.registers ≡ Ok u) × (u.pc ≡ 0)
 packed_at_bottom p m f s h =
     let zero = left_for_0 p.modules s (stepped_out_packed p.memory f.unwind_data (place_of m f s) s.registers) h in
-    (zero.0, packed_of (stepped_packed p.memory f.unwind_data (place_of m f s) s.registers) zero.0 false zero.1, zero.2)
+    (zero.0, packed_of (stepped_arm64_packed p.memory f.unwind_data (place_of m f s) s.registers) zero.0 false zero.1, zero.2)
 
 uncalled : (b : Bool) (end : WalkEnd) (rest : Result Arm64StackFrame WalkEnd) → (ends.Bottom ≡ end → ⊥) → Err ends.Bottom ≡ cond b (Err end) rest → (b ≡ false) × (Err ends.Bottom ≡ rest)
 uncalled true end rest other is = let same : ends.Bottom ≡ end = cc is in absurd (other same)
@@ -280,16 +315,19 @@ returns_to_0 : (n : ℕ) (f : Arm64StackFrame) (b : Bool) → (n == 0) ≡ b →
 returns_to_0 n f true at is = eqb-true n 0 at
 returns_to_0 n f false at is = absurd (cc is)
 
-pub leaf_at_bottom : (modules : List Module) (s : Arm64StackFrame) → leaf_caller modules s ≡ Err ends.Bottom → (s.has_called ≡ false) × (link_register s.registers ≡ 0)
-leaf_at_bottom modules s is =
+no_frame : (o : Option Arm64StackFrame) (rest : Result Arm64StackFrame WalkEnd) → Err ends.Bottom ≡ option_map_or Ok o rest → (o ≡ None) × (Err ends.Bottom ≡ rest)
+no_frame None rest is = (refl, is)
+no_frame (Some f) rest is = absurd (cc is)
+
+pub leaf_at_bottom : (memory : ℕ → Option ℕ) (modules : List Module) (s : Arm64StackFrame) → caller_of_leaf memory modules s ≡ Err ends.Bottom → (s.has_called ≡ false) × (without_records memory modules s.registers ≡ None) × (link_register s.registers ≡ 0)
+leaf_at_bottom memory modules s is =
+    let rest = cond (link_register s.registers == 0) (Err ends.Bottom) (Ok (frame_of modules Leaf (after_leaf s.registers))) in
     let waits = uncalled s.has_called ends.NoFunction _ (λ e. cc e) (sym is) in
-    (waits.0, returns_to_0 (link_register s.registers) (frame_of modules Leaf (after_leaf s.registers)) (link_register s.registers == 0) refl waits.1)
+    let lost = no_frame (without_records memory modules s.registers) rest waits.1 in
+    (waits.0, lost.0, returns_to_0 (link_register s.registers) (frame_of modules Leaf (after_leaf s.registers)) (link_register s.registers == 0) refl lost.1)
 
-no_bottom_if : (b : Bool) (f : Arm64StackFrame) → Err ends.Bottom ≡ cond b (Ok f) (Err ends.NoModule) → ⊥
-no_bottom_if true f is = cc is
-no_bottom_if false f is = cc is
-
-pub outside_at_bottom : (modules : List Module) (s : Arm64StackFrame) → outside_caller modules s ≡ Err ends.Bottom → ⊥
-outside_at_bottom modules s is =
+pub outside_at_bottom : (memory : ℕ → Option ℕ) (modules : List Module) (s : Arm64StackFrame) → caller_outside memory modules s ≡ Err ends.Bottom → ⊥
+outside_at_bottom memory modules s is =
     let waits = uncalled s.has_called ends.NoModule _ (λ e. cc e) (sym is) in
-    no_bottom_if (is_after_call_arm64 modules (link_register s.registers)) (frame_of modules Leaf (after_leaf s.registers)) waits.1
+    let lost = no_frame (without_records memory modules s.registers) (Err ends.NoModule) waits.1 in
+    cc lost.1

@@ -13,10 +13,10 @@ use Rattle.pe_unwind.specs.declared.arm64.codes.Arm64UnwindCode.{Arm64UnwindCode
 use Rattle.pe_unwind.specs.Arm64Record.{Arm64InfoView}
 use Rattle.pe_frame.specs.declared.arm64.registers.Arm64Registers.{Arm64Registers}
 use Rattle.pe_frame.specs.declared.error.FrameError.{FrameError}
-use Rattle.pe_frame.specs.Arm64Undoing.{link_register, put_pc, undone_codes, returned_arm64, left_arm64, entry_by, entry_of, caller_by, caller_out}
+use Rattle.pe_frame.specs.Arm64Undoing.{link_register, put_pc, undone_codes, returned_arm64, left_arm64, entry_by, entry_of, caller_by_list, caller_by_codes}
 use Rattle.pe_frame.specs.Arm64Steps.{prolog_length, ran_arm64, Leaves, StepsArm64}
-use Rattle.pe_frame.specs.Arm64Packed.{packed_left, is_canonical, stepped_packed}
-use Rattle.pe_frame.specs.Arm64Machine.{run_arm64, points_frame, IsArm64Caller}
+use Rattle.pe_frame.specs.Arm64Packed.{packed_left, is_canonical, stepped_arm64_packed}
+use Rattle.pe_frame.specs.Arm64Machine.{run_arm64, sets_frame_pointer, IsArm64Caller}
 use Rattle.pe_frame.specs.Arm64Frames.{Arm64Part, effects_at, IsArm64Frame}
 use Rattle.pe_frame.proofs.Arm64Streams.{step_by_codes}
 use Rattle.pe_frame.proofs.Arm64Effects.{known_codes, undone-effects, operations-drop, prolog-drop}
@@ -53,10 +53,10 @@ alone_left p e (Ok u) call = rw call (alone (returned_arm64 p u) e.is_interrupt)
 alone_left p e (Err d) call = refl
 
 -- the registers of a caller that called
-alone_called : (m : ℕ → Option ℕ) (cs : List Arm64UnwindCode) (g : Arm64Registers) → (entry_of cs).has_pc ≡ false → registers_alone (caller_out m cs g) ≡ caller_by m cs g
+alone_called : (m : ℕ → Option ℕ) (cs : List Arm64UnwindCode) (g : Arm64Registers) → (entry_of cs).has_pc ≡ false → registers_alone (caller_by_codes m cs g) ≡ caller_by_list m cs g
 alone_called m cs g call = alone_left g.sp (entry_of cs) (undone_codes m cs g) call
 
-pub alone_known : (m : ℕ → Option ℕ) (cs : List Arm64UnwindCode) (os : List Arm64Operation) (g : Arm64Registers) → operations cs ≡ Some os → registers_alone (caller_out m cs g) ≡ caller_by m cs g
+pub alone_known : (m : ℕ → Option ℕ) (cs : List Arm64UnwindCode) (os : List Arm64Operation) (g : Arm64Registers) → operations cs ≡ Some os → registers_alone (caller_by_codes m cs g) ≡ caller_by_list m cs g
 alone_known m cs os g known = alone_called m cs g (called cs os known)
 
 -- undoing the codes of the instructions that have run gives the registers of the caller
@@ -68,7 +68,7 @@ arm64_undone m p place g x frame step =
     let undone : undone_codes m (ran_arm64 place p.codes) g ≡ Ok e.entry =
     undone-effects m (ran_arm64 place p.codes) (drop (prolog_length p.codes - place) p.operations) g (operations-drop (prolog_length p.codes - place) p.codes p.operations frame.known) ∙ e.is in
     let prolog = prolog-drop (prolog_length p.codes - place) p.operations p.entry frame.prolog in
-    let le = keeps_le (points_frame es) es (run_arm64 es p.entry) g frame.body.stack in
+    let le = keeps_le (sets_frame_pointer es) es (run_arm64 es p.entry) g frame.body.stack in
     let low = sinks es p.entry prolog in
     let back : returned_arm64 g.sp e.entry ≡ Ok (put_pc e.entry (link_register e.entry)) = returned_ok g.sp e.entry (omega (arith, le, low, e.stack)) in
     let is : x ≡ Ok (put_pc e.entry (link_register e.entry)) =
@@ -95,12 +95,12 @@ arm64_caller m i p place stand g x left frame step =
 
 -- so does a step by packed unwind data, which is one by a record that leaves their codes
 pub packed_caller : (m : ℕ → Option ℕ) (d : ℕ) (p : Arm64Part) (place stand : ℕ) (g : Arm64Registers) (x : Result Arm64Registers FrameError) → packed_left d place ≡ ran_arm64 stand p.codes → is_canonical d ≡ true →
-    IsArm64Frame p stand m g → x ≡ stepped_packed m d place g → (u : Arm64Registers) × (x ≡ Ok u) × IsArm64Caller (effects_at stand p) p.entry g u
+    IsArm64Frame p stand m g → x ≡ stepped_arm64_packed m d place g → (u : Arm64Registers) × (x ≡ Ok u) × IsArm64Caller (effects_at stand p) p.entry g u
 packed_caller m d p place stand g x left canonical frame step =
-    arm64_undone m p stand g x frame (step ∙ (canonical_step m d place g canonical ∙ ap (λ (cs : List Arm64UnwindCode). caller_by m cs g) left))
+    arm64_undone m p stand g x frame (step ∙ (canonical_step m d place g canonical ∙ ap (λ (cs : List Arm64UnwindCode). caller_by_list m cs g) left))
 
 pub packed_as_codes : (m : ℕ → Option ℕ) (d : ℕ) (i : Arm64InfoView) (place : ℕ) (g : Arm64Registers) (x : Result Arm64Registers FrameError) → is_canonical d ≡ true → Leaves i place (Ok (packed_left d place)) →
-    StepsArm64 m i place g x → stepped_packed m d place g ≡ x
+    StepsArm64 m i place g x → stepped_arm64_packed m d place g ≡ x
 packed_as_codes m d i place g x canonical left step =
     canonical_step m d place g canonical
     ∙ sym (step_by_codes m i (packed_left d place) place g x left step ∙ alone_called m (packed_left d place) g (none_has_pc (packed_left d place) (left_called d place canonical)))

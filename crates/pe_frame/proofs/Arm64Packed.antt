@@ -10,11 +10,11 @@ use Rattle.pe_unwind.specs.declared.arm64.codes.Arm64UnwindCode.TheVariants.{All
 use Rattle.pe_unwind.specs.Arm64Words.{bits}
 use Rattle.pe_frame.specs.declared.arm64.packed.PackedFrame.{PackedFrame}
 use Rattle.pe_frame.specs.declared.arm64.registers.Arm64Registers.{Arm64Registers}
-use Rattle.pe_frame.specs.Arm64Undoing.{caller_by, entry_by}
+use Rattle.pe_frame.specs.Arm64Undoing.{caller_by_list, entry_by}
 use Rattle.pe_frame.specs.Arm64Operations.{is_save_next}
 use Rattle.pe_frame.specs.Arm64Steps.{is_end_c, prolog_length, ran_arm64, epilog_start, left_in_epilog}
 use Rattle.pe_frame.specs.Arm64CodeLists.{Adds}
-use Rattle.pe_frame.specs.Arm64Packed.{packed_frame, float_count, is_chained, sign_codes, integer_pair, integer_pairs, single_register, last_integers, alone_codes, float_pair, float_pairs, last_float, home_codes, allocation, local_codes, frame_codes, point_codes, freed_codes, saved_codes, canonical_codes, epilog_codes, packed_codes, packed_length, left_after, packed_left, is_canonical, stepped_packed}
+use Rattle.pe_frame.specs.Arm64Packed.{packed_frame, float_count, is_chained, sign_codes, integer_pair, integer_pairs, single_register, last_integers, alone_codes, float_pair, float_pairs, last_float, home_codes, allocation, local_codes, frame_codes, point_codes, freed_codes, saved_codes, canonical_codes, epilog_codes, packed_codes, packed_length, left_after, packed_left, is_canonical, stepped_arm64_packed}
 use Rattle.pe_frame.proofs.Arm64Places.{left_yes, left_no}
 
 -- a code that neither depends on others nor ends a prolog nor is of a frame of the operating system
@@ -230,7 +230,7 @@ pub epilog_is : (d : ℕ) (xs : List Arm64UnwindCode) → is_canonical d ≡ tru
 epilog_is d xs e whole = ap (λ (ys : List Arm64UnwindCode). length ys) whole ∙ sym (prolog-length (epilog_codes (packed_frame d)) (epilog_alone d e).inside)
 
 -- a step undoes what is left
-pub canonical_step : (m : ℕ → Option ℕ) (d place : ℕ) (g : Arm64Registers) → is_canonical d ≡ true → stepped_packed m d place g ≡ caller_by m (packed_left d place) g
+pub canonical_step : (m : ℕ → Option ℕ) (d place : ℕ) (g : Arm64Registers) → is_canonical d ≡ true → stepped_arm64_packed m d place g ≡ caller_by_list m (packed_left d place) g
 canonical_step m d place g canonical = rw canonical refl
 
 -- what is left before the end of the prolog, or in a fragment

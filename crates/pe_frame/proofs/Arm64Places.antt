@@ -7,7 +7,7 @@ use Rattle.pe_unwind.specs.Arm64Words.{bits}
 use Rattle.pe_frame.specs.declared.arm64.epilog.Arm64Epilog.{Arm64Epilog}
 use Rattle.pe_frame.specs.declared.arm64.registers.Arm64Registers.{Arm64Registers}
 use Rattle.pe_frame.specs.declared.error.FrameError.{FrameError}
-use Rattle.pe_frame.specs.Arm64Undoing.{caller_out}
+use Rattle.pe_frame.specs.Arm64Undoing.{caller_by_codes}
 use Rattle.pe_frame.specs.Arm64Steps.{CodesThen, AreOver, HasArm64Codes, prolog_length, ran_arm64, epilog_at, epilog_start, left_in_epilog, epilog_after, LeavesIn, Leaves, StepsOutArm64}
 use Rattle.pe_frame.specs.Arm64Reading.{ReadsCodes, read_only, StepsIn}
 
@@ -31,13 +31,13 @@ left_no place start n es cs is test =
 
 -- a step by what an epilog leaves
 pub step_in : (m : ℕ → Option ℕ) (i : Arm64InfoView) (place : ℕ) (cs es : List Arm64UnwindCode) (e : Arm64Epilog) (g : Arm64Registers) (count n start : ℕ) (r : Result (Arm64Registers × Bool) FrameError) → CodesThen AreOver (drop e.index i.codes) es →
-    n ≡ prolog_length es → count ≡ bits i.header 0 18 → start ≡ epilog_start count e.start n → r ≡ caller_out m (left_in_epilog place start es cs) g → StepsIn m i place cs (Some e) g r
+    n ≡ prolog_length es → count ≡ bits i.header 0 18 → start ≡ epilog_start count e.start n → r ≡ caller_by_codes m (left_in_epilog place start es cs) g → StepsIn m i place cs (Some e) g r
 step_in m i place cs es e g count n start r are length count_is start_is is =
     let at : start ≡ epilog_start (bits i.header 0 18) e.start (prolog_length es) =
     start_is ∙ (ap (λ (k : ℕ). epilog_start k e.start n) count_is ∙ ap (λ (k : ℕ). epilog_start (bits i.header 0 18) e.start k) length) in (
       Ok (left_in_epilog place (epilog_start (bits i.header 0 18) e.start (prolog_length es)) es cs),
       (Ok es, are, refl),
-      is ∙ ap (λ (s : ℕ). caller_out m (left_in_epilog place s es cs) g) at,
+      is ∙ ap (λ (s : ℕ). caller_by_codes m (left_in_epilog place s es cs) g) at,
     )
 
 pub step_by : (m : ℕ → Option ℕ) (i : Arm64InfoView) (place n : ℕ) (cs : List Arm64UnwindCode) (e x : Option Arm64Epilog) (g : Arm64Registers) (r : Result (Arm64Registers × Bool) FrameError) → CodesThen AreOver i.codes cs →
@@ -46,10 +46,10 @@ step_by m i place n cs e x g r are length after is step =
     let epilog : e ≡ epilog_after i place cs = sym is ∙ (after ∙ ap (λ (k : ℕ). if nat_lt place k then None else epilog_at i place) length) in
     (step.0, (Ok cs, are, subst (λ (y : Option Arm64Epilog). LeavesIn i place cs y step.0) epilog step.1), step.2)
 
-pub step_ran : (m : ℕ → Option ℕ) (i : Arm64InfoView) (place n s : ℕ) (cs : List Arm64UnwindCode) (g : Arm64Registers) (r : Result (Arm64Registers × Bool) FrameError) → n ≡ prolog_length cs → s ≡ n - place → r ≡ caller_out m (drop s cs) g →
+pub step_ran : (m : ℕ → Option ℕ) (i : Arm64InfoView) (place n s : ℕ) (cs : List Arm64UnwindCode) (g : Arm64Registers) (r : Result (Arm64Registers × Bool) FrameError) → n ≡ prolog_length cs → s ≡ n - place → r ≡ caller_by_codes m (drop s cs) g →
     StepsIn m i place cs None g r
 step_ran m i place n s cs g r length is step =
-    (Ok (ran_arm64 place cs), refl, step ∙ ap (λ (k : ℕ). caller_out m (drop k cs) g) (is ∙ ap (λ (k : ℕ). k - place) length))
+    (Ok (ran_arm64 place cs), refl, step ∙ ap (λ (k : ℕ). caller_by_codes m (drop k cs) g) (is ∙ ap (λ (k : ℕ). k - place) length))
 
 leaves_by : (i : Arm64InfoView) (place : ℕ) (cs ds : List Arm64UnwindCode) (e : Option Arm64Epilog) → CodesThen AreOver i.codes cs → epilog_after i place cs ≡ e → LeavesIn i place cs e (Ok ds) → Leaves i place (Ok ds)
 leaves_by i place cs ds e are is left = (Ok cs, are, subst (λ (y : Option Arm64Epilog). LeavesIn i place cs y (Ok ds)) (sym is) left)

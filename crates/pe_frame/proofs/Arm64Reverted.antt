@@ -6,9 +6,9 @@ use Rattle.pe_frame.specs.declared.arm64.operation.Arm64Register.{Arm64Register}
 use Rattle.pe_frame.specs.declared.arm64.operation.Arm64Register.TheVariants.{X, D}
 use Rattle.pe_frame.specs.declared.arm64.registers.Arm64Registers.{Arm64Registers}
 use Rattle.pe_frame.specs.Machine.{chosen}
-use Rattle.pe_frame.specs.Arm64Operations.{Arm64Effect, Lower, Store, PointFrame, SignLink, is_register}
+use Rattle.pe_frame.specs.Arm64Operations.{Arm64Effect, Lower, Store, SetFramePointer, SignLink, is_register}
 use Rattle.pe_frame.specs.Arm64Undoing.{frame_pointer, link_register, put_saved, put_sp, stripped, reverted, reverted_all}
-use Rattle.pe_frame.specs.Arm64Machine.{Arm64Machine, caused, run_arm64, points_frame, LeavesFrame, KeepsPlace, stores, stores_float, IsArm64Prolog}
+use Rattle.pe_frame.specs.Arm64Machine.{Arm64Machine, caused, run_arm64, sets_frame_pointer, KeepsFramePointer, KeepsStackPointerArm64, stores, stores_float, IsArm64Prolog}
 use Rattle.pe_frame.proofs.Undone.{above_ok, number_ok, restored_by}
 use Rattle.pe_frame.proofs.Arm64Runs.{Holds, entered, count, same, same_float, sinks}
 
@@ -33,31 +33,31 @@ lowered_ok m n g room = rw (above_ok g.sp n room) refl
 pub stored_ok : (m : ℕ → Option ℕ) (r : Arm64Register) (o v : ℕ) (g : Arm64Registers) → g.sp + o < 2 ^ 64 → m (g.sp + o) ≡ Some v → reverted m (Store r o) g ≡ Ok (put_saved g r v)
 stored_ok m r o v g room word = rw (above_ok g.sp o room) (rw (number_ok m (g.sp + o) v word) refl)
 
-pub framed_ok : (m : ℕ → Option ℕ) (n t : ℕ) (g : Arm64Registers) → frame_pointer g ≡ t + n → reverted m (PointFrame n) g ≡ Ok (put_sp g t)
+pub framed_ok : (m : ℕ → Option ℕ) (n t : ℕ) (g : Arm64Registers) → frame_pointer g ≡ t + n → reverted m (SetFramePointer n) g ≡ Ok (put_sp g t)
 framed_ok m n t g is =
     let test : ltb (t + n) n ≡ false = grind (arith, nat_tests) in
     let back : t + n - n ≡ t = omega arith in
     rw is (rw test (ap (λ (a : ℕ). Ok (put_sp g a)) back))
 
 -- the stack pointer is not above where the prolog left it, and there where the last effect is a store
-pub keeps_le : (b : Bool) (es : List Arm64Effect) (t : Arm64Machine) (g : Arm64Registers) → KeepsPlace b es t g → g.sp ≤ t.sp
+pub keeps_le : (b : Bool) (es : List Arm64Effect) (t : Arm64Machine) (g : Arm64Registers) → KeepsStackPointerArm64 b es t g → g.sp ≤ t.sp
 keeps_le false es t g k = omega (arith, k)
 keeps_le true es t g k = k.0
 
-pub keeps_at_store : (b : Bool) (r : Arm64Register) (o : ℕ) (before : List Arm64Effect) (t : Arm64Machine) (g : Arm64Registers) → KeepsPlace b (Store r o ∷ before) t g → g.sp ≡ t.sp
+pub keeps_at_store : (b : Bool) (r : Arm64Register) (o : ℕ) (before : List Arm64Effect) (t : Arm64Machine) (g : Arm64Registers) → KeepsStackPointerArm64 b (Store r o ∷ before) t g → g.sp ≡ t.sp
 keeps_at_store false r o before t g k = k
 keeps_at_store true r o before t g k = k.1 tt
 
-pub keeps_exact : (b : Bool) (es : List Arm64Effect) (t : Arm64Machine) (g : Arm64Registers) → b ≡ false → g.sp ≡ t.sp → KeepsPlace b es t g
+pub keeps_exact : (b : Bool) (es : List Arm64Effect) (t : Arm64Machine) (g : Arm64Registers) → b ≡ false → g.sp ≡ t.sp → KeepsStackPointerArm64 b es t g
 keeps_exact false es t g e at = at
 keeps_exact true es t g e at = cc
 
-pub keeps_lowered : (b : Bool) (n : ℕ) (before : List Arm64Effect) (t : Arm64Machine) (g : Arm64Registers) → n ≤ t.sp → KeepsPlace b (Lower n ∷ before) (caused (Lower n) t) g → KeepsPlace b before t (put_sp g (g.sp + n))
+pub keeps_lowered : (b : Bool) (n : ℕ) (before : List Arm64Effect) (t : Arm64Machine) (g : Arm64Registers) → n ≤ t.sp → KeepsStackPointerArm64 b (Lower n ∷ before) (caused (Lower n) t) g → KeepsStackPointerArm64 b before t (put_sp g (g.sp + n))
 keeps_lowered false n before t g small k = let e : g.sp ≡ t.sp - n = k in omega arith
 keeps_lowered true n before t g small k =
     (let le : g.sp ≤ t.sp - n = k.0 in omega arith, λ late. let e : g.sp ≡ t.sp - n = k.1 late in omega arith, k.2)
 
-pub keeps_stored : (b : Bool) (r : Arm64Register) (o v : ℕ) (before : List Arm64Effect) (t : Arm64Machine) (g : Arm64Registers) → LeavesFrame b r → KeepsPlace b (Store r o ∷ before) (caused (Store r o) t) g → KeepsPlace b before t (put_saved g r v)
+pub keeps_stored : (b : Bool) (r : Arm64Register) (o v : ℕ) (before : List Arm64Effect) (t : Arm64Machine) (g : Arm64Registers) → KeepsFramePointer b r → KeepsStackPointerArm64 b (Store r o ∷ before) (caused (Store r o) t) g → KeepsStackPointerArm64 b before t (put_saved g r v)
 keeps_stored false (X q) o v before t g other k = k
 keeps_stored false (D q) o v before t g other k = k
 keeps_stored true (X q) o v before t g other k =
@@ -65,7 +65,7 @@ keeps_stored true (X q) o v before t g other k =
     (k.0, λ _. k.1 tt, get_or-set_other g.general q 29 v 0 apart ∙ k.2)
 keeps_stored true (D q) o v before t g other k = (k.0, λ _. k.1 tt, k.2)
 
-pub keeps_signed : (b : Bool) (v : ℕ) (before : List Arm64Effect) (t : Arm64Machine) (g : Arm64Registers) → KeepsPlace b (SignLink ∷ before) (caused SignLink t) g → KeepsPlace b before t (put_saved g (X 30) v)
+pub keeps_signed : (b : Bool) (v : ℕ) (before : List Arm64Effect) (t : Arm64Machine) (g : Arm64Registers) → KeepsStackPointerArm64 b (SignLink ∷ before) (caused SignLink t) g → KeepsStackPointerArm64 b before t (put_saved g (X 30) v)
 keeps_signed false v before t g k = k
 keeps_signed true v before t g k =
     (k.0, k.1, get_or-set_other g.general 30 29 v 0 (omega arith) ∙ (k.2 ∙ get_or-set_other t.general 30 29 _ 0 (omega arith)))
@@ -100,50 +100,50 @@ x_small q e = grind (arith, nat_tests)
 d_small : (q : ℕ) → is_register (D q) ≡ true → q < 8
 d_small q e = grind (arith, nat_tests)
 
-not_x : (b : Bool) (q : ℕ) → LeavesFrame b (X q) → (b ≡ false) ⊎ (q ≢ 29)
+not_x : (b : Bool) (q : ℕ) → KeepsFramePointer b (X q) → (b ≡ false) ⊎ (q ≢ 29)
 not_x false q other = inl refl
 not_x true q other = inr (λ e. other (ap X e))
 
 pub reverts : (m : ℕ → Option ℕ) (es : List Arm64Effect) (s : Arm64Machine) (g : Arm64Registers) → IsArm64Prolog es s → Holds (λ a v. m a ≡ Some v) es s → length g.general ≡ 31 → length g.float ≡ 8
-    → KeepsPlace (points_frame es) es (run_arm64 es s) g → Link es s g → Reverts m es s g
+    → KeepsStackPointerArm64 (sets_frame_pointer es) es (run_arm64 es s) g → Link es s g → Reverts m es s g
 reverts m [] s g p h len flen k link =
     record { entry = g; is = refl; stack = k; link = elim link [ inl e ↦ cc | inr e ↦ e ]; registers = λ r other. refl; floats = λ r. refl }
 reverts m (Lower n ∷ before) s g p h len flen k link =
     let t = run_arm64 before s in
-    let le : g.sp ≤ t.sp - n = keeps_le (points_frame before) (Lower n ∷ before) (caused (Lower n) t) g k in
+    let le : g.sp ≤ t.sp - n = keeps_le (sets_frame_pointer before) (Lower n ∷ before) (caused (Lower n) t) g k in
     let low = sinks before s p.1 in
     let small = (entered before s p.1).stack in
     let next = put_sp g (g.sp + n) in
     let step = lowered_ok m n g (omega (arith, le, low, small, p.0)) in
-    let rest = reverts m before s next p.1 h len flen (keeps_lowered (points_frame before) n before t g p.0 k) link in
+    let rest = reverts m before s next p.1 h len flen (keeps_lowered (sets_frame_pointer before) n before t g p.0 k) link in
     record { entry = rest.entry; is = then_all m (Lower n) before g next rest.entry step rest.is; stack = rest.stack; link = rest.link; registers = rest.registers; floats = rest.floats }
 reverts m (Store (X q) o ∷ before) s g p h len flen k link =
     let t = run_arm64 before s in
-    let at : g.sp ≡ t.sp = keeps_at_store (points_frame before) (X q) o before (caused (Store (X q) o) t) g k in
+    let at : g.sp ≡ t.sp = keeps_at_store (sets_frame_pointer before) (X q) o before (caused (Store (X q) o) t) g k in
     let v = get_or t.general q 0 in
     let next = put_saved g (X q) v in
     let word : m (g.sp + o) ≡ Some v = ap (λ (a : ℕ). m (a + o)) at ∙ h.0 in
     let step = stored_ok m (X q) o v g (omega (arith, at, p.0.2)) word in
     let inside : q < length g.general = omega (arith, len, x_small q p.0.0) in
-    let rest = reverts m before s next p.1 h.1 (length-set g.general q v ∙ len) flen (keeps_stored (points_frame before) (X q) o v before t g p.0.1 k) (link_stored q o v before s g len refl link) in
+    let rest = reverts m before s next p.1 h.1 (length-set g.general q v ∙ len) flen (keeps_stored (sets_frame_pointer before) (X q) o v before t g p.0.1 k) (link_stored q o v before s g len refl link) in
     record {
       entry = rest.entry;
       is = then_all m (Store (X q) o) before g next rest.entry step rest.is;
       stack = rest.stack;
       link = rest.link;
       registers = λ r other. rest.registers r other
-          ∙ read_back g.general s.general q v r (stores before r) inside (λ e. ap (λ (i : ℕ). get_or t.general i 0) e ∙ same before s r other (not_x (points_frame before) r (subst (λ (i : ℕ). LeavesFrame (points_frame before) (X i)) e p.0.1)));
+          ∙ read_back g.general s.general q v r (stores before r) inside (λ e. ap (λ (i : ℕ). get_or t.general i 0) e ∙ same before s r other (not_x (sets_frame_pointer before) r (subst (λ (i : ℕ). KeepsFramePointer (sets_frame_pointer before) (X i)) e p.0.1)));
       floats = rest.floats;
     }
 reverts m (Store (D q) o ∷ before) s g p h len flen k link =
     let t = run_arm64 before s in
-    let at : g.sp ≡ t.sp = keeps_at_store (points_frame before) (D q) o before (caused (Store (D q) o) t) g k in
+    let at : g.sp ≡ t.sp = keeps_at_store (sets_frame_pointer before) (D q) o before (caused (Store (D q) o) t) g k in
     let v = get_or t.float q 0 in
     let next = put_saved g (D q) v in
     let word : m (g.sp + o) ≡ Some v = ap (λ (a : ℕ). m (a + o)) at ∙ h.0 in
     let step = stored_ok m (D q) o v g (omega (arith, at, p.0.2)) word in
     let inside : q < length g.float = omega (arith, flen, d_small q p.0.0) in
-    let rest = reverts m before s next p.1 h.1 len (length-set g.float q v ∙ flen) (keeps_stored (points_frame before) (D q) o v before t g p.0.1 k) link in
+    let rest = reverts m before s next p.1 h.1 len (length-set g.float q v ∙ flen) (keeps_stored (sets_frame_pointer before) (D q) o v before t g p.0.1 k) link in
     record {
       entry = rest.entry;
       is = then_all m (Store (D q) o) before g next rest.entry step rest.is;
@@ -153,15 +153,15 @@ reverts m (Store (D q) o ∷ before) s g p h len flen k link =
       floats = λ r. rest.floats r
           ∙ read_back g.float s.float q v r (stores_float before r) inside (λ e. ap (λ (i : ℕ). get_or t.float i 0) e ∙ ap (λ (xs : List ℕ). get_or xs r 0) (same_float before s));
     }
-reverts m (PointFrame n ∷ before) s g p h len flen k link =
+reverts m (SetFramePointer n ∷ before) s g p h len flen k link =
     let t = run_arm64 before s in
     let many = count before s p.1 in
     let frame : frame_pointer g ≡ t.sp + n = k.2 ∙ get_or-set_same t.general 29 (t.sp + n) 0 (omega (arith, many)) in
     let next = put_sp g t.sp in
     let step = framed_ok m n t.sp g frame in
     let link_next : Link before s next = elim link [ inl saved ↦ inl saved | inr kept ↦ inr (kept ∙ get_or-set_other t.general 29 30 _ 0 (omega arith)) ] in
-    let rest = reverts m before s next p.1 h len flen (keeps_exact (points_frame before) before t next p.0.0 refl) link_next in
-    record { entry = rest.entry; is = then_all m (PointFrame n) before g next rest.entry step rest.is; stack = rest.stack; link = rest.link; registers = rest.registers; floats = rest.floats }
+    let rest = reverts m before s next p.1 h len flen (keeps_exact (sets_frame_pointer before) before t next p.0.0 refl) link_next in
+    record { entry = rest.entry; is = then_all m (SetFramePointer n) before g next rest.entry step rest.is; stack = rest.stack; link = rest.link; registers = rest.registers; floats = rest.floats }
 reverts m (SignLink ∷ before) s g p h len flen k link =
     let t = run_arm64 before s in
     let many = count before s p.1 in
@@ -169,7 +169,7 @@ reverts m (SignLink ∷ before) s g p h len flen k link =
     let w = stripped (link_register g) in
     let next = put_saved g (X 30) w in
     let signed : (stores before 30 ≡ true) ⊎ (link_register g ≡ v) = elim link [ inl saved ↦ inl saved | inr kept ↦ inr (kept ∙ get_or-set_same t.general 30 v 0 (omega (arith, many))) ] in
-    let rest = reverts m before s next p.1 h (length-set g.general 30 w ∙ len) flen (keeps_signed (points_frame before) w before t g k) (link_signed v before s g len p.1 p.0.1 signed) in
+    let rest = reverts m before s next p.1 h (length-set g.general 30 w ∙ len) flen (keeps_signed (sets_frame_pointer before) w before t g k) (link_signed v before s g len p.1 p.0.1 signed) in
     record {
       entry = rest.entry;
       is = then_all m SignLink before g next rest.entry refl rest.is;

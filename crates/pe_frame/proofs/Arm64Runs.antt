@@ -6,8 +6,8 @@ use Rattle.std.proofs.lemmas.List.{get_or-set_same, get_or-set_other, length-set
 use Rattle.pe_frame.specs.declared.arm64.operation.Arm64Register.{Arm64Register}
 use Rattle.pe_frame.specs.declared.arm64.operation.Arm64Register.TheVariants.{X, D}
 use Rattle.pe_frame.specs.Machine.{loaded, stored, Apart}
-use Rattle.pe_frame.specs.Arm64Operations.{Arm64Effect, Lower, Store, PointFrame, SignLink}
-use Rattle.pe_frame.specs.Arm64Machine.{Arm64Machine, held, run_arm64, stored_at, points_frame, IsArm64Entered, IsArm64Prolog}
+use Rattle.pe_frame.specs.Arm64Operations.{Arm64Effect, Lower, Store, SetFramePointer, SignLink}
+use Rattle.pe_frame.specs.Arm64Machine.{Arm64Machine, held, run_arm64, stored_at, sets_frame_pointer, IsArm64Entered, IsArm64Prolog}
 use Rattle.pe_frame.proofs.Words.{loaded-stored, loaded-apart}
 
 pub entered : (es : List Arm64Effect) (s : Arm64Machine) → IsArm64Prolog es s → IsArm64Entered s
@@ -19,7 +19,7 @@ pub count : (es : List Arm64Effect) (s : Arm64Machine) → IsArm64Prolog es s �
 count [] s p = p.count
 count (Lower n ∷ before) s p = count before s p.1
 count (Store r o ∷ before) s p = count before s p.1
-count (PointFrame n ∷ before) s p = length-set _ _ _ ∙ count before s p.1
+count (SetFramePointer n ∷ before) s p = length-set _ _ _ ∙ count before s p.1
 count (SignLink ∷ before) s p = length-set _ _ _ ∙ count before s p.1
 
 -- no effect changes a floating-point register
@@ -27,16 +27,16 @@ pub same_float : (es : List Arm64Effect) (s : Arm64Machine) → (run_arm64 es s)
 same_float [] s = refl
 same_float (Lower n ∷ before) s = same_float before s
 same_float (Store r o ∷ before) s = same_float before s
-same_float (PointFrame n ∷ before) s = same_float before s
+same_float (SetFramePointer n ∷ before) s = same_float before s
 same_float (SignLink ∷ before) s = same_float before s
 
 -- nor an integer register but the link register, and x29 where it is set
-pub same : (es : List Arm64Effect) (s : Arm64Machine) (r : ℕ) → r ≢ 30 → (points_frame es ≡ false) ⊎ (r ≢ 29) → get_or (run_arm64 es s).general r 0 ≡ get_or s.general r 0
+pub same : (es : List Arm64Effect) (s : Arm64Machine) (r : ℕ) → r ≢ 30 → (sets_frame_pointer es ≡ false) ⊎ (r ≢ 29) → get_or (run_arm64 es s).general r 0 ≡ get_or s.general r 0
 same [] s r link frame = refl
 same (Lower n ∷ before) s r link frame = same before s r link frame
 same (Store q o ∷ before) s r link frame = same before s r link frame
-same (PointFrame n ∷ before) s r link (inl e) = cc
-same (PointFrame n ∷ before) s r link (inr other) = get_or-set_other _ 29 r _ 0 other ∙ same before s r link (inr other)
+same (SetFramePointer n ∷ before) s r link (inl e) = cc
+same (SetFramePointer n ∷ before) s r link (inr other) = get_or-set_other _ 29 r _ 0 other ∙ same before s r link (inr other)
 same (SignLink ∷ before) s r link frame = get_or-set_other _ 30 r _ 0 link ∙ same before s r link frame
 
 set_small : (g : List ℕ) (i v r : ℕ) → i < length g → v < 2 ^ 64 → get_or g r 0 < 2 ^ 64 → get_or (set g i v) r 0 < 2 ^ 64
@@ -51,7 +51,7 @@ pub values : (es : List Arm64Effect) (s : Arm64Machine) (r : ℕ) → IsArm64Pro
 values [] s r p = p.values r
 values (Lower n ∷ before) s r p = values before s r p.1
 values (Store q o ∷ before) s r p = values before s r p.1
-values (PointFrame n ∷ before) s r p =
+values (SetFramePointer n ∷ before) s r p =
     let len = count before s p.1 in
     set_small (run_arm64 before s).general 29 ((run_arm64 before s).sp + n) r (omega (arith, len)) p.0.1 (values before s r p.1)
 values (SignLink ∷ before) s r p =
@@ -90,7 +90,7 @@ holds (Store r o ∷ before) s p = (
   loaded-stored (run_arm64 before s).memory ((run_arm64 before s).sp + o) (held (run_arm64 before s) r) (held_small before s r p.1),
   holds_stored (run_arm64 before s).memory ((run_arm64 before s).sp + o) (held (run_arm64 before s) r) before s p.0.3 (holds before s p.1),
 )
-holds (PointFrame n ∷ before) s p = holds before s p.1
+holds (SetFramePointer n ∷ before) s p = holds before s p.1
 holds (SignLink ∷ before) s p = holds before s p.1
 
 -- the same of a memory that agrees there

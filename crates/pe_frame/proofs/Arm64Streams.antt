@@ -19,7 +19,7 @@ use Rattle.pe_frame.specs.declared.arm64.registers.Arm64Registers.{Arm64Register
 use Rattle.pe_frame.specs.declared.error.FrameError.{FrameError}
 use Rattle.pe_frame.specs.declared.error.FrameError.TheVariants.{Codes}
 use Rattle.pe_frame.specs.Steps.{Then, OfCodes, error_kind, by_kind, registers_alone}
-use Rattle.pe_frame.specs.Arm64Undoing.{caller_out}
+use Rattle.pe_frame.specs.Arm64Undoing.{caller_by_codes}
 use Rattle.pe_frame.specs.Arm64Steps.{is_end, CodesThen, AreOver, AreTruncated, IsOfTruncated, HasArm64Codes, prolog_length, ran_arm64, epilog_start, left_in_epilog, epilog_after, LeavesIn, Leaves, StepsArm64, StepsOutArm64}
 use Rattle.pe_frame.specs.Arm64Reading.{IsFirstCode, read_only}
 use Rattle.pe_frame.proofs.OneStep.{same_then}
@@ -128,10 +128,10 @@ one_left i place x y h k = one_by i place h.0 k.0 x y h.1 k.1 h.2 k.2
 
 -- there is one step, up to the numbers in a refusal of codes
 pub one_arm64_step : (m : ℕ → Option ℕ) (i : Arm64InfoView) (place : ℕ) (g : Arm64Registers) (x y : Result Arm64Registers FrameError) → StepsArm64 m i place g x → StepsArm64 m i place g y → by_kind x ≡ by_kind y
-one_arm64_step m i place g x y h k = rw h.2 (rw k.2 (same_then h.0 k.0 (λ cs. registers_alone (caller_out m cs g)) (one_left i place h.0 k.0 h.1 k.1)))
+one_arm64_step m i place g x y h k = rw h.2 (rw k.2 (same_then h.0 k.0 (λ cs. registers_alone (caller_by_codes m cs g)) (one_left i place h.0 k.0 h.1 k.1)))
 
 pub one_arm64_step_out : (m : ℕ → Option ℕ) (i : Arm64InfoView) (place : ℕ) (g : Arm64Registers) (x y : Result (Arm64Registers × Bool) FrameError) → StepsOutArm64 m i place g x → StepsOutArm64 m i place g y → by_kind x ≡ by_kind y
-one_arm64_step_out m i place g x y h k = rw h.2 (rw k.2 (same_then h.0 k.0 (λ cs. caller_out m cs g) (one_left i place h.0 k.0 h.1 k.1)))
+one_arm64_step_out m i place g x y h k = rw h.2 (rw k.2 (same_then h.0 k.0 (λ cs. caller_by_codes m cs g) (one_left i place h.0 k.0 h.1 k.1)))
 
 -- the registers alone of what a step returns
 alone_then : (x : Result (List Arm64UnwindCode) FrameError) (f : List Arm64UnwindCode → Result (Arm64Registers × Bool) FrameError) → registers_alone (x >>= f) ≡ (x >>= λ cs. registers_alone (f cs))
@@ -139,7 +139,7 @@ alone_then (Ok cs) f = refl
 alone_then (Err e) f = refl
 
 pub registers_of_arm64_step : (m : ℕ → Option ℕ) (i : Arm64InfoView) (place : ℕ) (g : Arm64Registers) (left : Result (Arm64Registers × Bool) FrameError) → StepsOutArm64 m i place g left → StepsArm64 m i place g (registers_alone left)
-registers_of_arm64_step m i place g left h = (h.0, h.1, ap registers_alone h.2 ∙ alone_then h.0 (λ cs. caller_out m cs g))
+registers_of_arm64_step m i place g left h = (h.0, h.1, ap registers_alone h.2 ∙ alone_then h.0 (λ cs. caller_by_codes m cs g))
 
 ok_by_kind : {A : Type 0} (x : Result A FrameError) (a : A) → by_kind x ≡ by_kind (Ok a) → x ≡ Ok a
 ok_by_kind (Ok b) a e = cc
@@ -147,9 +147,9 @@ ok_by_kind (Err b) a e = cc
 
 -- a step by a record that leaves these codes undoes them
 pub step_by_codes : (m : ℕ → Option ℕ) (i : Arm64InfoView) (cs : List Arm64UnwindCode) (place : ℕ) (g : Arm64Registers) (x : Result Arm64Registers FrameError) → Leaves i place (Ok cs) →
-    StepsArm64 m i place g x → x ≡ registers_alone (caller_out m cs g)
+    StepsArm64 m i place g x → x ≡ registers_alone (caller_by_codes m cs g)
 step_by_codes m i cs place g x left step =
-    step.2 ∙ ap (λ (c : Result (List Arm64UnwindCode) FrameError). c >>= λ ds. registers_alone (caller_out m ds g)) (ok_by_kind step.0 cs (one_left i place step.0 (Ok cs) step.1 left))
+    step.2 ∙ ap (λ (c : Result (List Arm64UnwindCode) FrameError). c >>= λ ds. registers_alone (caller_by_codes m ds g)) (ok_by_kind step.0 cs (one_left i place step.0 (Ok cs) step.1 left))
 
 -- codes of bytes
 abbrev SomeCodes : List ℕ → Type 0
@@ -207,9 +207,9 @@ some_left i place all =
 pub some_arm64_step : (m : ℕ → Option ℕ) (i : Arm64InfoView) (place : ℕ) (g : Arm64Registers) → All (λ x. x < 256) i.codes → (x : Result Arm64Registers FrameError) × StepsArm64 m i place g x
 some_arm64_step m i place g all =
     let left = some_left i place all in
-    (left.0 >>= λ cs. registers_alone (caller_out m cs g), (left.0, left.1, refl))
+    (left.0 >>= λ cs. registers_alone (caller_by_codes m cs g), (left.0, left.1, refl))
 
 pub some_arm64_step_out : (m : ℕ → Option ℕ) (i : Arm64InfoView) (place : ℕ) (g : Arm64Registers) → All (λ x. x < 256) i.codes → (x : Result (Arm64Registers × Bool) FrameError) × StepsOutArm64 m i place g x
 some_arm64_step_out m i place g all =
     let left = some_left i place all in
-    (left.0 >>= λ cs. caller_out m cs g, (left.0, left.1, refl))
+    (left.0 >>= λ cs. caller_by_codes m cs g, (left.0, left.1, refl))

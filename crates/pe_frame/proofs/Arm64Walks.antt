@@ -8,7 +8,8 @@ use Rattle.pe_unwind.specs.Arm64Unwinding.{info_of_function}
 use Rattle.pe_unwind.specs.ExceptionTable.{ExceptionView}
 use Rattle.pe_unwind.specs.declared.arm64.function.Arm64RuntimeFunction.{Arm64RuntimeFunction}
 use Rattle.pe_frame.specs.AddressRanges.{has_address}
-use Rattle.pe_frame.specs.Arm64Walks.{AreSortedModules, Calls, CallsBy, CallsByInfo, CallsFound, CallsIn, HasSortedTable, IsSortedModule, Process, frame_after, lookup_address, place_of}
+use Rattle.pe_frame.specs.Arm64Walks.{AreSortedModules, Calls, CallsBy, CallsByInfo, CallsFound, CallsIn, HasSortedTable, IsSortedModule, frame_after, lookup_address, place_of}
+use Rattle.pe_frame.specs.FrameWalks.{Process}
 use Rattle.pe_frame.specs.Modules.{module_at, module_base, module_size}
 use Rattle.pe_frame.specs.Steps.{ErrorKind, by_kind, error_kind}
 use Rattle.pe_frame.specs.Walks.{IsUnreadable, OfError, OfRecords, by_end_kind}

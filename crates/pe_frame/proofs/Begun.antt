@@ -8,7 +8,7 @@ use Rattle.pe_unwind.specs.declared.unwind_code.UnwindCode.{UnwindCode}
 use Rattle.pe_unwind.specs.declared.unwind_code.UnwindOperation.{UnwindOperation}
 use Rattle.pe_frame.specs.Memory.{stack_word}
 use Rattle.pe_unwind.specs.declared.unwind_code.UnwindOperation.TheVariants.{PushNonVolatile, Alloc, SetFPRegister, SaveNonVolatile, SaveXMM, Epilog, SaveXMM128, PushMachineFrame, Noop}
-use Rattle.pe_frame.specs.Undoing.{Frame, offset_number, ran}
+use Rattle.pe_frame.specs.Undoing.{FrameRegister, bytes_above, ran}
 use Rattle.pe_frame.specs.Machine.{Machine, Apart, IsFirst, IsProlog, MayFollow, MayMove, SavesNone, base, done, loaded, number_at, run, slots}
 use Rattle.pe_frame.specs.Frames.{FallsFrom, IsInOrder, is_of_epilog, prolog_codes}
 
@@ -20,11 +20,11 @@ Thinner xs [] = xs ≡ []
 Thinner xs (o ∷ ys) =
     ((is_of_epilog o ≡ true) × Thinner xs ys) ⊎ ((more : List UnwindOperation) × (xs ≡ o ∷ more) × Thinner more ys)
 
-does_nothing : (f : Frame) (o : UnwindOperation) (s : Machine) → is_of_epilog o ≡ true → done f o s ≡ s
+does_nothing : (f : FrameRegister) (o : UnwindOperation) (s : Machine) → is_of_epilog o ≡ true → done f o s ≡ s
 does_nothing f (Epilog a b) s e = refl
 does_nothing f other s e = cc
 
-thin_run : (f : Frame) (xs ys : List UnwindOperation) (s : Machine) → Thinner xs ys → run f xs s ≡ run f ys s
+thin_run : (f : FrameRegister) (xs ys : List UnwindOperation) (s : Machine) → Thinner xs ys → run f xs s ≡ run f ys s
 thin_run f xs [] s t = rw t refl
 thin_run f xs (o ∷ ys) s (inl t) = thin_run f xs ys s t.1 ∙ sym (does_nothing f o (run f ys s) t.0)
 thin_run f xs (o ∷ ys) s (inr t) = rw t.1 (ap (done f o) (thin_run f t.0 ys s t.2))
@@ -51,18 +51,18 @@ thin_first : (xs ys : List UnwindOperation) → Thinner xs ys → IsFirst ys →
 thin_first xs [] t h = rw t tt
 thin_first xs (o ∷ ys) t h = absurd h
 
-kept_slots : (c : Bool) (f : Frame) (o : UnwindOperation) (ys : List UnwindOperation) (s : Machine) → is_of_epilog o ≡ true → slots c f (o ∷ ys) s ≡ slots c f ys s
+kept_slots : (c : Bool) (f : FrameRegister) (o : UnwindOperation) (ys : List UnwindOperation) (s : Machine) → is_of_epilog o ≡ true → slots c f (o ∷ ys) s ≡ slots c f ys s
 kept_slots c f (Epilog a b) ys s e = refl
 kept_slots c f other ys s e = cc
 
-slots_after : (c : Bool) (f : Frame) (o : UnwindOperation) (xs ys : List UnwindOperation) (s : Machine) → run f xs s ≡ run f ys s → slots c f xs s ≡ slots c f ys s → slots c f (o ∷ xs) s ≡ slots c f (o ∷ ys) s
+slots_after : (c : Bool) (f : FrameRegister) (o : UnwindOperation) (xs ys : List UnwindOperation) (s : Machine) → run f xs s ≡ run f ys s → slots c f xs s ≡ slots c f ys s → slots c f (o ∷ xs) s ≡ slots c f (o ∷ ys) s
 slots_after c f (PushNonVolatile r) xs ys s e h = rw (e, h) refl
 slots_after c f (SaveNonVolatile r a) xs ys s e h = rw (e, h) refl
 slots_after c f (SaveXMM128 r a) xs ys s e h = rw (e, h) refl
 slots_after c f (PushMachineFrame a) xs ys s e h = rw h refl
 slots_after c f other xs ys s e h = h
 
-thin_slots : (c : Bool) (f : Frame) (xs ys : List UnwindOperation) (s : Machine) → Thinner xs ys → slots c f xs s ≡ slots c f ys s
+thin_slots : (c : Bool) (f : FrameRegister) (xs ys : List UnwindOperation) (s : Machine) → Thinner xs ys → slots c f xs s ≡ slots c f ys s
 thin_slots c f xs [] s t = rw t refl
 thin_slots c f xs (o ∷ ys) s (inl t) = thin_slots c f xs ys s t.1 ∙ sym (kept_slots c f o ys s t.0)
 thin_slots c f xs (o ∷ ys) s (inr t) = rw t.1 (slots_after c f o t.0 ys s (thin_run f t.0 ys s t.2) (thin_slots c f t.0 ys s t.2))
@@ -72,17 +72,17 @@ still_apart : (a : ℕ) (at there : List ℕ) → at ≡ there → AllByRecursio
 still_apart a at there e h = rw e h
 
 -- what may follow operations may follow them without those of epilogs
-thin_follow : (c : Bool) (f : Frame) (xs ys : List UnwindOperation) (s t : Machine) (o : UnwindOperation) → Thinner xs ys → MayFollow c f ys s t o → MayFollow c f xs s t o
-thin_follow c f xs ys s t (PushNonVolatile r) thin h = (h.0, h.1, thin_move t.frame xs ys thin h.2, h.3)
-thin_follow c f xs ys s t (Alloc n) thin h = (thin_move t.frame xs ys thin h.0, h.1)
+thin_follow : (c : Bool) (f : FrameRegister) (xs ys : List UnwindOperation) (s t : Machine) (o : UnwindOperation) → Thinner xs ys → MayFollow c f ys s t o → MayFollow c f xs s t o
+thin_follow c f xs ys s t (PushNonVolatile r) thin h = (h.0, h.1, thin_move t.frame_base xs ys thin h.2, h.3)
+thin_follow c f xs ys s t (Alloc n) thin h = (thin_move t.frame_base xs ys thin h.0, h.1)
 thin_follow c f xs ys s t SetFPRegister thin h = h
 thin_follow c f xs ys s t (SaveNonVolatile r a) thin h =
-    (h.0, h.1, h.2, still_apart (base t + offset_number a) _ _ (thin_slots c f xs ys s thin) h.3)
+    (h.0, h.1, h.2, still_apart (base t + bytes_above a) _ _ (thin_slots c f xs ys s thin) h.3)
 thin_follow c f xs ys s t (SaveXMM128 r a) thin h = (
   h.0,
   h.1,
-  still_apart (base t + offset_number a) _ _ (thin_slots c f xs ys s thin) h.2,
-  still_apart (base t + offset_number a + 8) _ _ (thin_slots c f xs ys s thin) h.3,
+  still_apart (base t + bytes_above a) _ _ (thin_slots c f xs ys s thin) h.2,
+  still_apart (base t + bytes_above a + 8) _ _ (thin_slots c f xs ys s thin) h.3,
 )
 thin_follow c f xs ys s t (Epilog a b) thin h = h
 thin_follow c f xs ys s t Noop thin h = h
@@ -90,7 +90,7 @@ thin_follow c f xs ys s t (PushMachineFrame e) thin h = (thin_first xs ys thin h
 thin_follow c f xs ys s t (SaveXMM r a) thin h = absurd h
 
 -- a prolog without them is one
-thin_prolog : (c : Bool) (f : Frame) (xs ys : List UnwindOperation) (s : Machine) → Thinner xs ys → IsProlog c f ys s → IsProlog c f xs s
+thin_prolog : (c : Bool) (f : FrameRegister) (xs ys : List UnwindOperation) (s : Machine) → Thinner xs ys → IsProlog c f ys s → IsProlog c f xs s
 thin_prolog c f xs [] s t p = rw t p
 thin_prolog c f xs (o ∷ ys) s (inl t) p = thin_prolog c f xs ys s t.1 p.1
 thin_prolog c f xs (o ∷ ys) s (inr t) p =
@@ -128,12 +128,12 @@ all_ran last offset (c ∷ cs) falls h =
           rw test (inr (ran (Some offset) cs, refl, all_ran c.code_offset offset cs on.1 (omega (arith, on.0))))
     ]
 
-prolog_with : (c : Bool) (f : Frame) (s : Machine) (b : Bool) (o : UnwindOperation) (xs : List UnwindOperation) → is_of_epilog o ≡ true → IsProlog c f xs s → IsProlog c f (if b then o ∷ xs else xs) s
+prolog_with : (c : Bool) (f : FrameRegister) (s : Machine) (b : Bool) (o : UnwindOperation) (xs : List UnwindOperation) → is_of_epilog o ≡ true → IsProlog c f xs s → IsProlog c f (if b then o ∷ xs else xs) s
 prolog_with c f s true (Epilog x y) xs e p = (tt, p)
 prolog_with c f s true other xs e p = absurd (cc e)
 prolog_with c f s false o xs e p = p
 
-first_ran : (c : Bool) (f : Frame) (codes : List UnwindCode) (s : Machine) (last offset : ℕ) → FallsFrom last (prolog_codes codes) → IsProlog c f (ran None codes) s → IsProlog c f (ran (Some offset) codes) s
+first_ran : (c : Bool) (f : FrameRegister) (codes : List UnwindCode) (s : Machine) (last offset : ℕ) → FallsFrom last (prolog_codes codes) → IsProlog c f (ran None codes) s → IsProlog c f (ran (Some offset) codes) s
 first_ran c f [] s last offset falls p = p
 first_ran c f (d ∷ ds) s last offset falls p =
     elim (either (is_of_epilog d.operation)) [
@@ -148,7 +148,7 @@ first_ran c f (d ∷ ds) s last offset falls p =
           ]
     ]
 
-pub begun : (c : Bool) (f : Frame) (codes : List UnwindCode) (s : Machine) (limit : Option ℕ) → IsInOrder limit codes → IsProlog c f (ran None codes) s → IsProlog c f (ran limit codes) s
+pub begun : (c : Bool) (f : FrameRegister) (codes : List UnwindCode) (s : Machine) (limit : Option ℕ) → IsInOrder limit codes → IsProlog c f (ran None codes) s → IsProlog c f (ran limit codes) s
 begun c f codes s None order p = p
 begun c f codes s (Some offset) order p = first_ran c f codes s order.0 offset order.1 p
 

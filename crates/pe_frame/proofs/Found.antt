@@ -10,7 +10,8 @@ use Rattle.pe_unwind.specs.declared.function_table.RuntimeFunction.{RuntimeFunct
 use Rattle.pe_frame.specs.Jumps.{StepsInImage}
 use Rattle.pe_frame.specs.Modules.{is_after_call, module_at}
 use Rattle.pe_frame.specs.Undoing.{popped}
-use Rattle.pe_frame.specs.Walks.{Calls, CallsBy, CallsByPlan, CallsFound, CallsIn, after_leaf, code_of_frame, frame_after, frame_of, has_called, is_bottom, leaf_caller, leaf_frame, lookup_address, outside_caller, returned_to, scanned, without_records}
+use Rattle.pe_frame.specs.FrameWalks.{Process}
+use Rattle.pe_frame.specs.Walks.{Calls, CallsBy, CallsByPlan, CallsFound, CallsIn, after_leaf, code_of_frame, frame_after, frame_of, has_called, is_bottom, caller_of_leaf, leaf_frame, lookup_address, caller_outside, returned_to, scanned, without_records}
 use Rattle.pe_frame.specs.declared.error.FrameError.{FrameError}
 use Rattle.pe_frame.specs.declared.modules.Module.{Module}
 use Rattle.pe_frame.specs.declared.registers.Registers.{Registers}
@@ -73,13 +74,13 @@ unless_called : (b : Bool) (end : WalkEnd) (rest answer : Result StackFrame Walk
 unless_called true end rest answer t is = absurd (cc is)
 unless_called false end rest answer t is = (refl, is)
 
-next_leaf : (memory : ℕ → Option ℕ) (modules : List Module) (s t : StackFrame) → Ok t ≡ leaf_caller memory modules s → IsNext modules s t
+next_leaf : (memory : ℕ → Option ℕ) (modules : List Module) (s t : StackFrame) → Ok t ≡ caller_of_leaf memory modules s → IsNext modules s t
 next_leaf memory modules s t is =
     let rest = option_map_or Ok (without_records memory modules s.registers) (after_leaf modules (popped memory s.registers)) in
     let both = unless_called s.has_called ends.NoFunction rest rest t is in
     (made_found modules (without_records memory modules s.registers) (after_leaf modules (popped memory s.registers)) t (made_without memory modules s.registers t) (made_after modules (popped memory s.registers) t) both.1, inr both.0)
 
-next_outside : (memory : ℕ → Option ℕ) (modules : List Module) (s t : StackFrame) → Ok t ≡ outside_caller memory modules s → IsNext modules s t
+next_outside : (memory : ℕ → Option ℕ) (modules : List Module) (s t : StackFrame) → Ok t ≡ caller_outside memory modules s → IsNext modules s t
 next_outside memory modules s t is =
     let rest = option_map_or Ok (without_records memory modules s.registers) (Err ends.NoModule) in
     let both = unless_called s.has_called ends.NoModule rest rest t is in
@@ -115,18 +116,18 @@ next_in : (memory : ℕ → Option ℕ) (modules : List Module) (s t : StackFram
 next_in memory modules s t None h = next_outside memory modules s t h
 next_in memory modules s t (Some m) h = next_by memory modules m s t (option_map (λ e. e.now) m.exceptions) h
 
-next : (memory : ℕ → Option ℕ) (modules : List Module) (s t : StackFrame) → Calls memory modules s (Ok t) → IsNext modules s t
-next memory modules s t h = next_in memory modules s t (module_at modules (lookup_address s)) h
+next : (p : Process) (s t : StackFrame) → Calls p s (Ok t) → IsNext p.modules s t
+next p s t h = next_in p.memory p.modules s t (module_at p.modules (lookup_address s)) h
 
-pub says_whether : (memory : ℕ → Option ℕ) (modules : List Module) (s t : StackFrame) → Calls memory modules s (Ok t) → t.has_called ≡ has_called modules t.way (t.registers).rip
-says_whether memory modules s t h = says modules t (next memory modules s t h).0
+pub says_whether : (p : Process) (s t : StackFrame) → Calls p s (Ok t) → t.has_called ≡ has_called p.modules t.way (t.registers).rip
+says_whether p s t h = says p.modules t (next p s t h).0
 
 not_guessed : (s t : StackFrame) → ((t.way ≡ Records) ⊎ (t.way ≡ Interrupt)) ⊎ (s.has_called ≡ false) → s.has_called ≡ true → (t.way ≡ Records) ⊎ (t.way ≡ Interrupt)
 not_guessed s t (inl led) called = led
 not_guessed s t (inr not) called = absurd (cc (sym called ∙ not))
 
-pub led_on : (memory : ℕ → Option ℕ) (modules : List Module) (s t : StackFrame) → Calls memory modules s (Ok t) → s.has_called ≡ true → (t.way ≡ Records) ⊎ (t.way ≡ Interrupt)
-led_on memory modules s t h called = not_guessed s t (next memory modules s t h).1 called
+pub led_on : (p : Process) (s t : StackFrame) → Calls p s (Ok t) → s.has_called ≡ true → (t.way ≡ Records) ⊎ (t.way ≡ Interrupt)
+led_on p s t h called = not_guessed s t (next p s t h).1 called
 
 -- ---- the bottom
 
@@ -171,14 +172,14 @@ no_frame : (o : Option StackFrame) (rest : Result StackFrame WalkEnd) → Err en
 no_frame None rest is = (refl, is)
 no_frame (Some f) rest is = absurd (cc is)
 
-pub leaf_at_bottom : (memory : ℕ → Option ℕ) (modules : List Module) (s : StackFrame) → leaf_caller memory modules s ≡ Err ends.Bottom → (s.has_called ≡ false) × (without_records memory modules s.registers ≡ None) × (u : Registers) × (popped memory s.registers ≡ Ok u) × (u.rip ≡ 0)
+pub leaf_at_bottom : (memory : ℕ → Option ℕ) (modules : List Module) (s : StackFrame) → caller_of_leaf memory modules s ≡ Err ends.Bottom → (s.has_called ≡ false) × (without_records memory modules s.registers ≡ None) × (u : Registers) × (popped memory s.registers ≡ Ok u) × (u.rip ≡ 0)
 leaf_at_bottom memory modules s is =
     let waits = uncalled s.has_called ends.NoFunction _ (λ e. cc e) (sym is) in
     let lost = no_frame (without_records memory modules s.registers) (after_leaf modules (popped memory s.registers)) waits.1 in
     let zero = popped_to_0 modules (popped memory s.registers) lost.1 in
     (waits.0, lost.0, zero.0, zero.1, zero.2)
 
-pub outside_at_bottom : (memory : ℕ → Option ℕ) (modules : List Module) (s : StackFrame) → outside_caller memory modules s ≡ Err ends.Bottom → ⊥
+pub outside_at_bottom : (memory : ℕ → Option ℕ) (modules : List Module) (s : StackFrame) → caller_outside memory modules s ≡ Err ends.Bottom → ⊥
 outside_at_bottom memory modules s is =
     let waits = uncalled s.has_called ends.NoModule _ (λ e. cc e) (sym is) in
     let lost = no_frame (without_records memory modules s.registers) (Err ends.NoModule) waits.1 in

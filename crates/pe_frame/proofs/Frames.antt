@@ -9,9 +9,9 @@ use Rattle.pe_unwind.specs.declared.unwind_code.UnwindOperation.{UnwindOperation
 use Rattle.pe_unwind.specs.UnwindRecord.{UnwindInfoView}
 use Rattle.pe_frame.specs.declared.error.FrameError.{FrameError}
 use Rattle.pe_frame.specs.declared.registers.Registers.{Registers}
-use Rattle.pe_frame.specs.Undoing.{Frame, ran, is_framed, is_interrupted, pointer, entered, put_register, put_rip}
-use Rattle.pe_frame.specs.Steps.{known_codes, frame_of, limit_of, Enters, Undoes, Steps, returned, by_kind}
-use Rattle.pe_frame.specs.Machine.{top, loaded, run, chosen, saves, saves_xmm, KeepsFrame}
+use Rattle.pe_frame.specs.Undoing.{FrameRegister, ran, any_sets_frame_register, is_interrupted, stack_pointer, entered, put_register, put_rip}
+use Rattle.pe_frame.specs.Steps.{known_codes, frame_register_in, limit_of, Enters, UndoesRecords, Steps, returned, by_kind}
+use Rattle.pe_frame.specs.Machine.{machine_stack_pointer, loaded, run, chosen, saves, saves_xmm, KeepsStackPointer}
 use Rattle.pe_frame.specs.Frames.{Part, infos, left, IsRecord, StopsIn, SavesOrKeeps, registers_of, AreFrames, restored, restored_xmm, Leaves, IsCaller}
 use Rattle.pe_frame.proofs.Begun.{begun}
 use Rattle.pe_frame.proofs.OneStep.{one_step}
@@ -26,7 +26,7 @@ codes_there (c ∷ cs) = rw (codes_there cs) refl
 -- one part undone
 pub record Entry (c : Bool) (limit : Option ℕ) (p : Part) (m : ℕ → Option ℕ) (g : Registers) : Type 0 where
   pub entry : Registers
-  pub is : entered m (frame_of p.info) limit p.codes g ≡ Ok (entry, is_interrupted (ran limit p.codes))
+  pub is : entered m (frame_register_in p.info) limit p.codes g ≡ Ok (entry, is_interrupted (ran limit p.codes))
   pub count : length entry.general ≡ 16
   pub xmm_count : length entry.xmm ≡ 16
   pub leaves : undone.LeavesAt (ran limit p.codes) p.entry entry
@@ -35,11 +35,11 @@ pub record Entry (c : Bool) (limit : Option ℕ) (p : Part) (m : ℕ → Option 
 
 pub entry_of : (c : Bool) (limit : Option ℕ) (p : Part) (m : ℕ → Option ℕ) (g : Registers) → IsRecord c p → StopsIn c limit p m g → Entry c limit p m g
 entry_of c limit p m g record_is stops =
-    let f = frame_of p.info in
+    let f = frame_register_in p.info in
     let codes = ran limit p.codes in
     let q = begun c f p.codes p.entry limit stops.order record_is.prolog in
     let held = known m (run f codes p.entry).memory c f codes p.entry stops.body.memory (holds c f codes p.entry q) in
-    let at = undone.has_base c f (is_framed (ran None p.codes)) codes p.entry g record_is.frame q stops.body.frame in
+    let at = undone.has_base c f (any_sets_frame_register (ran None p.codes)) codes p.entry g record_is.frame q stops.body.frame in
     let un = undone.undoes m at.base c f codes p.entry g q held stops.body.count stops.body.xmm_count at.saves at.points in
     record {
       entry = un.entry;
@@ -51,42 +51,42 @@ entry_of c limit p m g record_is stops =
       xmm_registers = un.xmm_registers;
     }
 
-enters : (c : Bool) (limit : Option ℕ) (p : Part) (m : ℕ → Option ℕ) (g : Registers) (answer : Result (Registers × Bool) FrameError) → IsRecord c p → entered m (frame_of p.info) limit p.codes g ≡ answer → Enters m limit p.info g answer
+enters : (c : Bool) (limit : Option ℕ) (p : Part) (m : ℕ → Option ℕ) (g : Registers) (answer : Result (Registers × Bool) FrameError) → IsRecord c p → entered m (frame_register_in p.info) limit p.codes g ≡ answer → Enters m limit p.info g answer
 enters c limit p m g answer record_is e = (Ok p.codes, (map Ok p.codes, record_is.items, sym (codes_there p.codes)), sym e)
 
 -- the part before it has been undone: the stack pointer is where that part was entered, and so is each frame register
 pub record Agrees (parts : List Part) (w v : Registers) : Type 0 where
   pub count : length v.general ≡ 16
   pub xmm_count : length v.xmm ≡ 16
-  pub stack : pointer v ≡ pointer w
-  pub frames : AllByRecursion (λ o. IsSome (left None o).frame → get_or v.general (o.info.frame_register).0 0 ≡ get_or w.general (o.info.frame_register).0 0) parts
+  pub stack : stack_pointer v ≡ stack_pointer w
+  pub frames : AllByRecursion (λ o. IsSome (left None o).frame_base → get_or v.general (o.info.frame_register).0 0 ≡ get_or w.general (o.info.frame_register).0 0) parts
 
 some_of : (x : Option ℕ) → IsSome x → (b : ℕ) × (x ≡ Some b)
 some_of None h = cc
 some_of (Some b) h = (b, refl)
 
-keeps_by : (f : Frame) (codes : List UnwindOperation) (frame : Option ℕ) (there : List ℕ) (w v : Registers) → pointer v ≡ pointer w
-    → (IsSome frame → get_or v.general f.register 0 ≡ get_or w.general f.register 0) → KeepsFrame f codes frame there w → KeepsFrame f codes frame there v
+keeps_by : (f : FrameRegister) (codes : List UnwindOperation) (frame : Option ℕ) (there : List ℕ) (w v : Registers) → stack_pointer v ≡ stack_pointer w
+    → (IsSome frame → get_or v.general f.register 0 ≡ get_or w.general f.register 0) → KeepsStackPointer f codes frame there w → KeepsStackPointer f codes frame there v
 keeps_by f codes None there w v at same k = at ∙ k
 keeps_by f codes (Some b) there w v at same k =
-    (let le : pointer w ≤ get_or there 4 0 = k.0 in omega arith, λ late. at ∙ k.1 late, same refl ∙ k.2)
+    (let le : stack_pointer w ≤ get_or there 4 0 = k.0 in omega arith, λ late. at ∙ k.1 late, same refl ∙ k.2)
 
-stops_also : (c : Bool) (q : Part) (m : ℕ → Option ℕ) (w v : Registers) → length v.general ≡ 16 → length v.xmm ≡ 16 → pointer v ≡ pointer w →
-    (IsSome (left None q).frame → get_or v.general (q.info.frame_register).0 0 ≡ get_or w.general (q.info.frame_register).0 0) → StopsIn c None q m w → StopsIn c None q m v
+stops_also : (c : Bool) (q : Part) (m : ℕ → Option ℕ) (w v : Registers) → length v.general ≡ 16 → length v.xmm ≡ 16 → stack_pointer v ≡ stack_pointer w →
+    (IsSome (left None q).frame_base → get_or v.general (q.info.frame_register).0 0 ≡ get_or w.general (q.info.frame_register).0 0) → StopsIn c None q m w → StopsIn c None q m v
 stops_also c q m w v count xmm_count stack same stops = record {
   order = stops.order;
   body = record {
     count = count;
     xmm_count = xmm_count;
-    frame = keeps_by (frame_of q.info) (ran None q.codes) (left None q).frame (left None q).general w v stack same stops.body.frame;
+    frame = keeps_by (frame_register_in q.info) (ran None q.codes) (left None q).frame_base (left None q).general w v stack same stops.body.frame;
     memory = stops.body.memory;
   };
 }
 
 keeps_also : (q : Part) (parts : List Part) (w v : Registers) →
-    AllByRecursion (λ o. IsSome (left None o).frame → get_or v.general (o.info.frame_register).0 0 ≡ get_or w.general (o.info.frame_register).0 0) parts →
-    AllByRecursion (λ o. IsSome (left None o).frame → SavesOrKeeps None q w (o.info.frame_register).0) parts →
-    AllByRecursion (λ o. IsSome (left None o).frame → SavesOrKeeps None q v (o.info.frame_register).0) parts
+    AllByRecursion (λ o. IsSome (left None o).frame_base → get_or v.general (o.info.frame_register).0 0 ≡ get_or w.general (o.info.frame_register).0 0) parts →
+    AllByRecursion (λ o. IsSome (left None o).frame_base → SavesOrKeeps None q w (o.info.frame_register).0) parts →
+    AllByRecursion (λ o. IsSome (left None o).frame_base → SavesOrKeeps None q v (o.info.frame_register).0) parts
 keeps_also q [] w v same keeps = tt
 keeps_also q (o ∷ parts) w v same keeps = (
   λ framed. elim (keeps.0 framed) [ inl saved ↦ inl saved | inr kept ↦ inr (same.0 framed ∙ kept) ],
@@ -107,10 +107,10 @@ frames_also m (q ∷ o ∷ parts) w v agrees frames = (
 )
 
 -- a frame register that is set is not the stack pointer
-set_other : (c : Bool) (o : Part) → IsRecord c o → IsSome (left None o).frame → (o.info.frame_register).0 ≢ 4
+set_other : (c : Bool) (o : Part) → IsRecord c o → IsSome (left None o).frame_base → (o.info.frame_register).0 ≢ 4
 set_other c o record_is framed =
-    let some = some_of (left None o).frame framed in
-    undone.set_other c (frame_of o.info) (ran None o.codes) o.entry some.0 record_is.prolog some.1
+    let some = some_of (left None o).frame_base framed in
+    undone.set_other c (frame_register_in o.info) (ran None o.codes) o.entry some.0 record_is.prolog some.1
 
 chosen_kept : (b : Bool) (old now : ℕ) → (b ≡ true) ⊎ (now ≡ old) → chosen b old now ≡ old
 chosen_kept true old now h = refl
@@ -118,15 +118,15 @@ chosen_kept false old now (inl h) = cc
 chosen_kept false old now (inr h) = h
 
 frame_agrees : (c d : Bool) (limit : Option ℕ) (p o : Part) (m : ℕ → Option ℕ) (g : Registers) (e : Entry c limit p m g) → IsRecord d o →
-    (IsSome (left None o).frame → SavesOrKeeps limit p g (o.info.frame_register).0) →
-    IsSome (left None o).frame → get_or e.entry.general (o.info.frame_register).0 0 ≡ get_or p.entry.general (o.info.frame_register).0 0
+    (IsSome (left None o).frame_base → SavesOrKeeps limit p g (o.info.frame_register).0) →
+    IsSome (left None o).frame_base → get_or e.entry.general (o.info.frame_register).0 0 ≡ get_or p.entry.general (o.info.frame_register).0 0
 frame_agrees c d limit p o m g e record_is keeps framed =
     let r = (o.info.frame_register).0 in
     e.registers r (set_other d o record_is framed) ∙ chosen_kept (saves (ran limit p.codes) r) (get_or p.entry.general r 0) (get_or g.general r 0) (keeps framed)
 
 frames_agree : (c : Bool) (limit : Option ℕ) (p : Part) (m k : ℕ → Option ℕ) (g w : Registers) (e : Entry c limit p m g) (parts : List Part) → AreFrames k parts None w →
-    AllByRecursion (λ o. IsSome (left None o).frame → SavesOrKeeps limit p g (o.info.frame_register).0) parts →
-    AllByRecursion (λ o. IsSome (left None o).frame → get_or e.entry.general (o.info.frame_register).0 0 ≡ get_or p.entry.general (o.info.frame_register).0 0) parts
+    AllByRecursion (λ o. IsSome (left None o).frame_base → SavesOrKeeps limit p g (o.info.frame_register).0) parts →
+    AllByRecursion (λ o. IsSome (left None o).frame_base → get_or e.entry.general (o.info.frame_register).0 0 ≡ get_or p.entry.general (o.info.frame_register).0 0) parts
 frames_agree c limit p m k g w e [] frames keeps = tt
 frames_agree c limit p m k g w e (o ∷ []) frames keeps = (frame_agrees c true limit p o m g e frames.0 keeps.0, tt)
 frames_agree c limit p m k g w e (o ∷ q ∷ parts) frames keeps =
@@ -141,7 +141,7 @@ LeftAt (p ∷ q ∷ parts) limit b v = LeftAt (q ∷ parts) None b v
 pub record Walked (parts : List Part) (limit : Option ℕ) (m : ℕ → Option ℕ) (g : Registers) : Type 0 where
   pub entry : Registers
   pub interrupted : Bool
-  pub is : Undoes m (infos parts) limit false g (Ok (entry, interrupted))
+  pub is : UndoesRecords m (infos parts) limit false g (Ok (entry, interrupted))
   pub count : length entry.general ≡ 16
   pub left_at : LeftAt parts limit interrupted entry
   pub registers : (r : ℕ) → r ≢ 4 → get_or entry.general r 0 ≡ restored parts limit r (get_or g.general r 0)
@@ -163,8 +163,8 @@ walked m (p ∷ []) limit g frames =
     }
 walked m (p ∷ q ∷ parts) limit g frames =
     let e = entry_of false limit p m g frames.0 frames.2 in
-    let is : entered m (frame_of p.info) limit p.codes g ≡ Ok (e.entry, false) = e.is ∙ ap (λ (b : Bool). Ok (e.entry, b)) frames.1 in
-    let stack : pointer e.entry ≡ top p.entry = undone.left_plain (ran limit p.codes) p.entry e.entry frames.1 e.leaves in
+    let is : entered m (frame_register_in p.info) limit p.codes g ≡ Ok (e.entry, false) = e.is ∙ ap (λ (b : Bool). Ok (e.entry, b)) frames.1 in
+    let stack : stack_pointer e.entry ≡ machine_stack_pointer p.entry = undone.left_plain (ran limit p.codes) p.entry e.entry frames.1 e.leaves in
     let next = frames_also m (q ∷ parts) (registers_of p.entry) e.entry (record {
       count = e.count;
       xmm_count = e.xmm_count;
@@ -187,20 +187,20 @@ abbrev pub root_of : Part → List Part → Part
 root_of p [] = p
 root_of p (q ∷ parts) = root_of q parts
 
-not_above_by : (f : Frame) (codes : List UnwindOperation) (frame : Option ℕ) (there : List ℕ) (g : Registers) → KeepsFrame f codes frame there g → pointer g ≤ get_or there 4 0
+not_above_by : (f : FrameRegister) (codes : List UnwindOperation) (frame : Option ℕ) (there : List ℕ) (g : Registers) → KeepsStackPointer f codes frame there g → stack_pointer g ≤ get_or there 4 0
 not_above_by f codes None there g k = omega arith
 not_above_by f codes (Some b) there g k = k.0
 
 -- the stack pointer is not above where a part was entered
-not_above : (c : Bool) (limit : Option ℕ) (p : Part) (m : ℕ → Option ℕ) (g : Registers) → IsRecord c p → StopsIn c limit p m g → pointer g ≤ top p.entry
+not_above : (c : Bool) (limit : Option ℕ) (p : Part) (m : ℕ → Option ℕ) (g : Registers) → IsRecord c p → StopsIn c limit p m g → stack_pointer g ≤ machine_stack_pointer p.entry
 not_above c limit p m g record_is stops =
-    let f = frame_of p.info in
+    let f = frame_register_in p.info in
     let codes = ran limit p.codes in
     let low = sinks c f codes p.entry (begun c f p.codes p.entry limit stops.order record_is.prolog) in
-    let here = not_above_by f codes (run f codes p.entry).frame (run f codes p.entry).general g stops.body.frame in
+    let here = not_above_by f codes (run f codes p.entry).frame_base (run f codes p.entry).general g stops.body.frame in
     omega arith
 
-pub root_above : (m : ℕ → Option ℕ) (p : Part) (parts : List Part) (limit : Option ℕ) (g : Registers) → AreFrames m (p ∷ parts) limit g → pointer g ≤ top (root_of p parts).entry
+pub root_above : (m : ℕ → Option ℕ) (p : Part) (parts : List Part) (limit : Option ℕ) (g : Registers) → AreFrames m (p ∷ parts) limit g → stack_pointer g ≤ machine_stack_pointer (root_of p parts).entry
 root_above m p [] limit g frames = not_above true limit p m g frames.0 frames.2
 root_above m p (q ∷ parts) limit g frames =
     let here = not_above false limit p m g frames.0 frames.2 in
@@ -209,20 +209,20 @@ root_above m p (q ∷ parts) limit g frames =
 
 -- the known memory has the eight bytes that the stack pointer points at where the function was entered
 root_word : (m : ℕ → Option ℕ) (p : Part) (parts : List Part) (limit : Option ℕ) (g : Registers) → AreFrames m (p ∷ parts) limit g →
-    m (top (root_of p parts).entry) ≡ Some (loaded (root_of p parts).entry.memory (top (root_of p parts).entry))
+    m (machine_stack_pointer (root_of p parts).entry) ≡ Some (loaded (root_of p parts).entry.memory (machine_stack_pointer (root_of p parts).entry))
 root_word m p [] limit g frames =
-    let f = frame_of p.info in
+    let f = frame_register_in p.info in
     let codes = ran limit p.codes in
     let q = begun true f p.codes p.entry limit frames.2.order frames.0.prolog in
     let held = known m (run f codes p.entry).memory true f codes p.entry frames.2.body.memory (holds true f codes p.entry q) in
     return_slot (λ a v. m a ≡ Some v) f codes p.entry held
 root_word m p (q ∷ parts) limit g frames = root_word m q parts None (registers_of p.entry) frames.4
 
-root_room : (m : ℕ → Option ℕ) (p : Part) (parts : List Part) (limit : Option ℕ) (g : Registers) → AreFrames m (p ∷ parts) limit g → top (root_of p parts).entry + 8 < 2 ^ 64
+root_room : (m : ℕ → Option ℕ) (p : Part) (parts : List Part) (limit : Option ℕ) (g : Registers) → AreFrames m (p ∷ parts) limit g → machine_stack_pointer (root_of p parts).entry + 8 < 2 ^ 64
 root_room m p [] limit g frames = frames.1
 root_room m p (q ∷ parts) limit g frames = root_room m q parts None (registers_of p.entry) frames.4
 
-left_stack : (p : Part) (parts : List Part) (limit : Option ℕ) (v : Registers) → LeftAt (p ∷ parts) limit false v → pointer v ≡ top (root_of p parts).entry
+left_stack : (p : Part) (parts : List Part) (limit : Option ℕ) (v : Registers) → LeftAt (p ∷ parts) limit false v → stack_pointer v ≡ machine_stack_pointer (root_of p parts).entry
 left_stack p [] limit v h = undone.left_plain (ran limit p.codes) p.entry v (sym h.1) h.0
 left_stack p (q ∷ parts) limit v h = left_stack q parts None v h
 
@@ -230,33 +230,33 @@ left_interrupt : (p : Part) (parts : List Part) (limit : Option ℕ) (v : Regist
 left_interrupt p [] limit v h = undone.after_interrupt (ran limit p.codes) p.entry v (sym h.1) h.0
 left_interrupt p (q ∷ parts) limit v h = left_interrupt q parts None v h
 
-left_return : (p : Part) (parts : List Part) (limit : Option ℕ) (v u : Registers) → LeftAt (p ∷ parts) limit false v → pointer u ≡ top (root_of p parts).entry + 8 →
-    u.rip ≡ loaded (root_of p parts).entry.memory (top (root_of p parts).entry) → Leaves (p ∷ parts) limit u
+left_return : (p : Part) (parts : List Part) (limit : Option ℕ) (v u : Registers) → LeftAt (p ∷ parts) limit false v → stack_pointer u ≡ machine_stack_pointer (root_of p parts).entry + 8 →
+    u.rip ≡ loaded (root_of p parts).entry.memory (machine_stack_pointer (root_of p parts).entry) → Leaves (p ∷ parts) limit u
 left_return p [] limit v u h at rip = undone.after_plain (ran limit p.codes) p.entry u (sym h.1) at rip
 left_return p (q ∷ parts) limit v u h at rip = left_return q parts None v u h at rip
 
 -- the caller, once the records are undone
 abbrev pub Called : (ℕ → Option ℕ) → List Part → Option ℕ → Registers → (Registers × Bool) → Type 0
-Called m parts limit g e = (u : Registers) × (returned m (pointer g) e ≡ Ok u) × IsCaller parts limit g u
+Called m parts limit g e = (u : Registers) × (returned m (stack_pointer g) e ≡ Ok u) × IsCaller parts limit g u
 
-popped_ok : (m : ℕ → Option ℕ) (t a p : ℕ) (v : Registers) → pointer v ≡ t → m t ≡ Some a → t + 8 < 2 ^ 64 → p ≤ t → length v.general ≡ 16 →
+popped_ok : (m : ℕ → Option ℕ) (t a p : ℕ) (v : Registers) → stack_pointer v ≡ t → m t ≡ Some a → t + 8 < 2 ^ 64 → p ≤ t → length v.general ≡ 16 →
     returned m p (v, false) ≡ Ok (put_rip (put_register v 4 (t + 8)) a)
 popped_ok m t a p v at word room low count =
-    let here : m (pointer v) ≡ Some a = ap m at ∙ word in
+    let here : m (stack_pointer v) ≡ Some a = ap m at ∙ word in
     let set_stack : get_or (set v.general 4 (t + 8)) 4 0 ≡ t + 8 = pointer_set v.general (t + 8) count in
     let test : ltb p (t + 8) ≡ true = lt-ltb p (t + 8) (omega arith) in
-    rw (undone.number_ok m (pointer v) a here) (rw (undone.raised_at 8 t v at room) (rw set_stack (rw test refl)))
+    rw (undone.number_ok m (stack_pointer v) a here) (rw (undone.raised_at 8 t v at room) (rw set_stack (rw test refl)))
 
 pub called : (m : ℕ → Option ℕ) (p : Part) (parts : List Part) (limit : Option ℕ) (g v : Registers) (b : Bool) → AreFrames m (p ∷ parts) limit g → length v.general ≡ 16 → LeftAt (p ∷ parts) limit b v
     → ((r : ℕ) → r ≢ 4 → get_or v.general r 0 ≡ restored (p ∷ parts) limit r (get_or g.general r 0)) → ((r : ℕ) → get_or v.xmm r 0 ≡ restored_xmm (p ∷ parts) limit r (get_or g.xmm r 0)) → Called m (p ∷ parts) limit g (v, b)
 called m p parts limit g v true frames count at registers xmm_registers =
     (v, refl, record { leaves = left_interrupt p parts limit v at; registers = registers; xmm_registers = xmm_registers })
 called m p parts limit g v false frames count at registers xmm_registers =
-    let t = top (root_of p parts).entry in
+    let t = machine_stack_pointer (root_of p parts).entry in
     let a = loaded (root_of p parts).entry.memory t in
     let u = put_rip (put_register v 4 (t + 8)) a in (
       u,
-      popped_ok m t a (pointer g) v (left_stack p parts limit v at) (root_word m p parts limit g frames) (root_room m p parts limit g frames) (root_above m p parts limit g frames) count,
+      popped_ok m t a (stack_pointer g) v (left_stack p parts limit v at) (root_word m p parts limit g frames) (root_room m p parts limit g frames) (root_above m p parts limit g frames) count,
       record {
         leaves = left_return p parts limit v u at (pointer_set v.general (t + 8) count) refl;
         registers = λ r other. get_or-set_other v.general 4 r (t + 8) 0 other ∙ registers r other;
@@ -277,7 +277,7 @@ caller_by m p parts offset limit g x e frames steps =
     let w = walked m (p ∷ parts) limit g frames in
     let last = called m p parts limit g w.entry w.interrupted frames w.count w.left_at w.registers w.xmm_registers in
     let one : Steps m (infos (p ∷ parts)) offset g (Ok last.0) =
-    (Ok (w.entry, w.interrupted), subst (λ (l : Option ℕ). Undoes m (infos (p ∷ parts)) l false g (Ok (w.entry, w.interrupted))) (sym e) w.is, sym last.1) in
+    (Ok (w.entry, w.interrupted), subst (λ (l : Option ℕ). UndoesRecords m (infos (p ∷ parts)) l false g (Ok (w.entry, w.interrupted))) (sym e) w.is, sym last.1) in
     (last.0, same_ok x last.0 (one_step m (infos (p ∷ parts)) offset g x (Ok last.0) steps one), last.2)
 
 pub caller_after_prolog : (m : ℕ → Option ℕ) (p : Part) (parts : List Part) (offset : ℕ) (g : Registers) (x : Result Registers FrameError) → p.info.size_of_prolog ≤ offset →

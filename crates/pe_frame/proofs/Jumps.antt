@@ -16,8 +16,8 @@ use Rattle.pe_frame.specs.Epilogs.{epilog_at, executed, executed_all}
 use Rattle.pe_frame.specs.EpilogFrames.{IsEpilogOfParts, AreReady}
 use Rattle.pe_frame.specs.Frames.{AreFrames, IsCaller, Part, infos}
 use Rattle.pe_frame.specs.Jumps.{IsEntry, IsPlace, IsPlaceIn, LeavesFor, Place, StepsInImage, StepsInImageFrom, before_last, place_in, rising_out, target_of}
-use Rattle.pe_frame.specs.Steps.{StepsOut, Then, Undoes, by_kind, frame_of, limit_of, registers_alone, returned_out, rising}
-use Rattle.pe_frame.specs.Undoing.{Frame, base_of, entered, is_framed, pointer, popped, ran}
+use Rattle.pe_frame.specs.Steps.{UndoesFunction, Then, UndoesRecords, by_kind, frame_register_in, limit_of, registers_alone, returned_out, rising}
+use Rattle.pe_frame.specs.Undoing.{FrameRegister, frame_base_of, entered, any_sets_frame_register, stack_pointer, popped, ran}
 use Rattle.pe_frame.specs.declared.epilog.Instruction.{Instruction}
 use Rattle.pe_frame.specs.declared.epilog.Instruction.TheVariants.{Jump}
 use Rattle.pe_frame.specs.declared.error.FrameError.{FrameError}
@@ -61,33 +61,33 @@ some_place law e sections opts (Some a) =
 
 -- ---- one step
 
-one_out : (m : ℕ → Option ℕ) (plan : List UnwindInfoView) (offset : ℕ) (g : Registers) (x y : Result (Registers × Bool) FrameError) → StepsOut m plan offset g x → StepsOut m plan offset g y → by_kind x ≡ by_kind y
+one_out : (m : ℕ → Option ℕ) (plan : List UnwindInfoView) (offset : ℕ) (g : Registers) (x y : Result (Registers × Bool) FrameError) → UndoesFunction m plan offset g x → UndoesFunction m plan offset g y → by_kind x ≡ by_kind y
 one_out m plan offset g x y h k =
-    rw h.2 (rw k.2 (same_then h.0 k.0 (returned_out m (pointer g)) (one_undoing m plan (limit_of plan offset) false g h.0 k.0 h.1 k.1)))
+    rw h.2 (rw k.2 (same_then h.0 k.0 (returned_out m (stack_pointer g)) (one_undoing m plan (limit_of plan offset) false g h.0 k.0 h.1 k.1)))
 
-some_out : (m : ℕ → Option ℕ) (plan : List UnwindInfoView) (offset : ℕ) (g : Registers) → (left : Result (Registers × Bool) FrameError) × StepsOut m plan offset g left
+some_out : (m : ℕ → Option ℕ) (plan : List UnwindInfoView) (offset : ℕ) (g : Registers) → (left : Result (Registers × Bool) FrameError) × UndoesFunction m plan offset g left
 some_out m plan offset g =
     let entry = some_undoing m plan (limit_of plan offset) false g in
-    (entry.0 >>= returned_out m (pointer g), (entry.0, entry.1, refl))
+    (entry.0 >>= returned_out m (stack_pointer g), (entry.0, entry.1, refl))
 
-one_from : (m : ℕ → Option ℕ) (plan : List UnwindInfoView) (offset : ℕ) (h : Result Registers FrameError) (x y : Result (Registers × Bool) FrameError) → Then h (StepsOut m plan offset) x → Then h (StepsOut m plan offset) y → by_kind x ≡ by_kind y
+one_from : (m : ℕ → Option ℕ) (plan : List UnwindInfoView) (offset : ℕ) (h : Result Registers FrameError) (x y : Result (Registers × Bool) FrameError) → Then h (UndoesFunction m plan offset) x → Then h (UndoesFunction m plan offset) y → by_kind x ≡ by_kind y
 one_from m plan offset (Ok h) x y k l = one_out m plan offset h x y k l
 one_from m plan offset (Err e) x y k l = ap by_kind (k ∙ sym l)
 
-some_from : (m : ℕ → Option ℕ) (plan : List UnwindInfoView) (offset : ℕ) (h : Result Registers FrameError) → (x : Result (Registers × Bool) FrameError) × Then h (StepsOut m plan offset) x
+some_from : (m : ℕ → Option ℕ) (plan : List UnwindInfoView) (offset : ℕ) (h : Result Registers FrameError) → (x : Result (Registers × Bool) FrameError) × Then h (UndoesFunction m plan offset) x
 some_from m plan offset (Ok h) = some_out m plan offset h
 some_from m plan offset (Err e) = (Err e, refl)
 
 one_left : (place : Option Place) (m : ℕ → Option ℕ) (rest : List Instruction) (g : Registers) (x y : Result (Registers × Bool) FrameError) → LeavesFor place m rest g x → LeavesFor place m rest g y → by_kind x ≡ by_kind y
 one_left None m rest g x y h k = ap by_kind (h ∙ sym k)
 one_left (Some place) m rest g x y h k =
-    rw h.2 (rw k.2 (same_then h.0 k.0 (rising_out (pointer g)) (one_from m place.plan place.offset (executed_all m (before_last rest) g) h.0 k.0 h.1 k.1)))
+    rw h.2 (rw k.2 (same_then h.0 k.0 (rising_out (stack_pointer g)) (one_from m place.plan place.offset (executed_all m (before_last rest) g) h.0 k.0 h.1 k.1)))
 
 some_left : (place : Option Place) (m : ℕ → Option ℕ) (rest : List Instruction) (g : Registers) → (x : Result (Registers × Bool) FrameError) × LeavesFor place m rest g x
-some_left None m rest g = ((executed_all m rest g >>= rising (pointer g)) >>= λ u. Ok (u, false), refl)
+some_left None m rest g = ((executed_all m rest g >>= rising (stack_pointer g)) >>= λ u. Ok (u, false), refl)
 some_left (Some place) m rest g =
     let left = some_from m place.plan place.offset (executed_all m (before_last rest) g) in
-    (left.0 >>= rising_out (pointer g), (left.0, left.1, refl))
+    (left.0 >>= rising_out (stack_pointer g), (left.0, left.1, refl))
 
 pub one_in_image : (law : RecordLaw) (e : ExceptionView) (sections : List SectionTable) (opts : ParseOptions) (o : Option (List Instruction)) (m : ℕ → Option ℕ) (plan : List UnwindInfoView) (offset : ℕ) (g : Registers) (x y : Result (Registers × Bool) FrameError) →
     NeverFalls (functions (table_of e)) → StepsInImageFrom e sections opts o m plan offset g x → StepsInImageFrom e sections opts o m plan offset g y → by_kind x ≡ by_kind y
@@ -121,43 +121,43 @@ apart : (u v : Registers) → ◌≡◌ {A = Result (Registers × Bool) FrameErr
 apart u v e = let same : false ≡ true = ap is_left e in cc same
 
 -- a step that no interrupt took out of a function raised the stack pointer
-out_rose : (m : ℕ → Option ℕ) (p : ℕ) (entry : Result (Registers × Bool) FrameError) (u : Registers) → Ok (u, false) ≡ (entry >>= returned_out m p) → p < pointer u
+out_rose : (m : ℕ → Option ℕ) (p : ℕ) (entry : Result (Registers × Bool) FrameError) (u : Registers) → Ok (u, false) ≡ (entry >>= returned_out m p) → p < stack_pointer u
 out_rose m p (Ok (v, true)) u e = absurd (apart u v e)
 out_rose m p (Ok (v, false)) u e =
     let w = went (popped m v >>= rising p) (λ c. Ok (c, false)) (u, false) (sym e) in
     let c = went (popped m v) (rising p) w.value w.first in
     let up = rose p c.value w.value c.next in
     let same = same_pair w.value u w.next in
-    subst (λ (x : Registers). p < pointer x) (up.same ∙ same) up.low
+    subst (λ (x : Registers). p < stack_pointer x) (up.same ∙ same) up.low
 out_rose m p (Err d) u e = absurd (cc e)
 
 pub ok_alone : (left : Result (Registers × Bool) FrameError) (u : Registers) → registers_alone left ≡ Ok u → (b : Bool) × (left ≡ Ok (u, b))
 ok_alone (Ok v) u e = let same : v.0 ≡ u = cc e in (v.1, ap (λ (x : Registers). Ok (x, v.1)) same)
 ok_alone (Err d) u e = absurd (cc e)
 
-risen : (p : ℕ) (u : Registers) (b : Bool) → (b ≡ false → p < pointer u) → rising_out p (u, b) ≡ Ok (u, b)
+risen : (p : ℕ) (u : Registers) (b : Bool) → (b ≡ false → p < stack_pointer u) → rising_out p (u, b) ≡ Ok (u, b)
 risen p u true low = refl
 risen p u false low =
-    let test : ltb p (pointer u) ≡ true = lt-ltb p (pointer u) (low refl) in
+    let test : ltb p (stack_pointer u) ≡ true = lt-ltb p (stack_pointer u) (low refl) in
     rw test refl
 
 abbrev FollowedTo : List Part → Option ℕ → Registers → Result (Registers × Bool) FrameError → Type 0
 FollowedTo parts limit h x = (u : Registers × Bool) × (x ≡ Ok u) × IsCaller parts limit h u.0
 
-followed_from : (m : ℕ → Option ℕ) (p : Part) (parts : List Part) (offset : ℕ) (rest : List Instruction) (g h : Registers) (x : Result (Registers × Bool) FrameError) → executed_all m (before_last rest) g ≡ Ok h → pointer g ≤ pointer h →
+followed_from : (m : ℕ → Option ℕ) (p : Part) (parts : List Part) (offset : ℕ) (rest : List Instruction) (g h : Registers) (x : Result (Registers × Bool) FrameError) → executed_all m (before_last rest) g ≡ Ok h → stack_pointer g ≤ stack_pointer h →
     AreFrames m (p ∷ parts) (limit_of (infos (p ∷ parts)) offset) h → LeavesFor (Some (record { offset = offset; plan = infos (p ∷ parts) })) m rest g x → FollowedTo (p ∷ parts) (limit_of (infos (p ∷ parts)) offset) h x
 followed_from m p parts offset rest g h x ran low frames leaves =
     let plan = infos (p ∷ parts) in
-    let steps : StepsOut m plan offset h leaves.0 = subst (λ (r : Result Registers FrameError). Then r (StepsOut m plan offset) leaves.0) ran leaves.1 in
+    let steps : UndoesFunction m plan offset h leaves.0 = subst (λ (r : Result Registers FrameError). Then r (UndoesFunction m plan offset) leaves.0) ran leaves.1 in
     let called = caller_at m plan p parts offset h (registers_alone leaves.0) (registers_of_step m plan offset h leaves.0 steps) refl frames in
     let out = ok_alone leaves.0 called.0 called.1 in
-    let above : out.0 ≡ false → pointer g < pointer called.0 =
-    λ plain. (let rise = out_rose m (pointer h) steps.0 called.0 (ap (λ (b : Bool). Ok (called.0, b)) (sym plain) ∙ (sym out.1 ∙ steps.2)) in omega (arith, rise, low)) in
-    ((called.0, out.0), leaves.2 ∙ (ap (λ (l : Result (Registers × Bool) FrameError). l >>= rising_out (pointer g)) out.1 ∙ risen (pointer g) called.0 out.0 above), called.2)
+    let above : out.0 ≡ false → stack_pointer g < stack_pointer called.0 =
+    λ plain. (let rise = out_rose m (stack_pointer h) steps.0 called.0 (ap (λ (b : Bool). Ok (called.0, b)) (sym plain) ∙ (sym out.1 ∙ steps.2)) in omega (arith, rise, low)) in
+    ((called.0, out.0), leaves.2 ∙ (ap (λ (l : Result (Registers × Bool) FrameError). l >>= rising_out (stack_pointer g)) out.1 ∙ risen (stack_pointer g) called.0 out.0 above), called.2)
 
 pub followed : (law : RecordLaw) (e : ExceptionView) (sections : List SectionTable) (opts : ParseOptions) (m : ℕ → Option ℕ) (plan : List UnwindInfoView) (start rva offset : ℕ) (code : List ℕ) (rest : List Instruction) (p : Part) (parts : List Part) (g h : Registers) (x : Result (Registers × Bool) FrameError) →
     epilog_at plan start rva code ≡ Some rest → NeverFalls (functions (table_of e)) → IsPlace e sections opts (target_of rest) (Some (record { offset = offset; plan = infos (p ∷ parts) })) →
-    executed_all m (before_last rest) g ≡ Ok h → pointer g ≤ pointer h → AreFrames m (p ∷ parts) (limit_of (infos (p ∷ parts)) offset) h → StepsInImage e sections opts m plan start rva code g x → FollowedTo (p ∷ parts) (limit_of (infos (p ∷ parts)) offset) h x
+    executed_all m (before_last rest) g ≡ Ok h → stack_pointer g ≤ stack_pointer h → AreFrames m (p ∷ parts) (limit_of (infos (p ∷ parts)) offset) h → StepsInImage e sections opts m plan start rva code g x → FollowedTo (p ∷ parts) (limit_of (infos (p ∷ parts)) offset) h x
 followed law e sections opts m plan start rva offset code rest p parts g h x decodes sorted place ran low frames steps =
     let there = subst (λ (o : Option (List Instruction)). StepsInImageFrom e sections opts o m plan (rva - start) g x) decodes steps in
     let same = one_place law e sections opts (target_of rest) there.0 (Some (record { offset = offset; plan = infos (p ∷ parts) })) sorted there.1 place in
@@ -174,7 +174,7 @@ returned_in_image law e sections opts m p parts before rest i start rva code g h
     let there = subst (λ (o : Option (List Instruction)). StepsInImageFrom e sections opts o m (infos (p ∷ parts)) (rva - start) h x) decodes steps in
     let same = one_place law e sections opts (target_of (i ∷ rest)) there.0 None sorted there.1 place in
     let leaves = subst (λ (q : Option Place). LeavesFor q m (i ∷ rest) h x) same there.2 in
-    let test : ltb (pointer h) (pointer c.caller) ≡ true = lt-ltb (pointer h) (pointer c.caller) c.ends.below in
+    let test : ltb (stack_pointer h) (stack_pointer c.caller) ≡ true = lt-ltb (stack_pointer h) (stack_pointer c.caller) c.ends.below in
     (c.caller, leaves ∙ rw c.ends.all (rw test refl), c.is)
 
 -- ---- a jump to a place where nothing of a function has run
@@ -188,33 +188,33 @@ run_jump m (i ∷ j ∷ is) a g e =
     then_same (executed m i g) (executed_all m (j ∷ is)) (λ v. executed_all m (before_last (j ∷ is)) v >>= popped m) (λ v. run_jump m (j ∷ is) a v e)
     ∙ sym (then_then (executed m i g) (executed_all m (before_last (j ∷ is))) (popped m))
 
-entry_base : (f : Frame) (sets : Bool) (g : Registers) → (f.register ≡ 0) ⊎ (sets ≡ true) → base_of f sets false g ≡ Ok (pointer g)
+entry_base : (f : FrameRegister) (sets : Bool) (g : Registers) → (f.register ≡ 0) ⊎ (sets ≡ true) → frame_base_of f sets false g ≡ Ok (stack_pointer g)
 entry_base f true g h = refl
 entry_base f false g (inl e) = rw e refl
 entry_base f false g (inr e) = absurd (cc e)
 
-nothing_undone : (m : ℕ → Option ℕ) (f : Frame) (limit : Option ℕ) (codes : List UnwindCode) (g : Registers) → ran limit codes ≡ [] → (f.register ≡ 0) ⊎ (is_framed (ran None codes) ≡ true) → entered m f limit codes g ≡ Ok (g, false)
-nothing_undone m f limit codes g none framed = rw none (rw (entry_base f (is_framed (ran None codes)) g framed) refl)
+nothing_undone : (m : ℕ → Option ℕ) (f : FrameRegister) (limit : Option ℕ) (codes : List UnwindCode) (g : Registers) → ran limit codes ≡ [] → (f.register ≡ 0) ⊎ (any_sets_frame_register (ran None codes) ≡ true) → entered m f limit codes g ≡ Ok (g, false)
+nothing_undone m f limit codes g none framed = rw none (rw (entry_base f (any_sets_frame_register (ran None codes)) g framed) refl)
 
 same_out : (x : Result (Registers × Bool) FrameError) (u : Registers × Bool) → by_kind x ≡ by_kind (Ok u) → x ≡ Ok u
 same_out (Ok v) u e = cc
 same_out (Err d) u e = cc
 
-entry_steps : (m : ℕ → Option ℕ) (place : Place) (t u : Registers) → IsEntry place → popped m t ≡ Ok u → pointer t < pointer u → StepsOut m place.plan place.offset t (Ok (u, false))
+entry_steps : (m : ℕ → Option ℕ) (place : Place) (t u : Registers) → IsEntry place → popped m t ≡ Ok u → stack_pointer t < stack_pointer u → UndoesFunction m place.plan place.offset t (Ok (u, false))
 entry_steps m place t u entry pops low =
     let limit = limit_of place.plan place.offset in
-    let is : entered m (frame_of entry.info) limit entry.codes t ≡ Ok (t, false) = nothing_undone m (frame_of entry.info) limit entry.codes t entry.none entry.frame in
-    let one : Undoes m (entry.info ∷ []) limit false t (Ok (t, false)) = (Ok (t, false), (Ok entry.codes, entry.known, sym is), refl) in
-    let all : Undoes m place.plan limit false t (Ok (t, false)) = subst (λ (is : List UnwindInfoView). Undoes m is limit false t (Ok (t, false))) (sym entry.alone) one in
-    let test : ltb (pointer t) (pointer u) ≡ true = lt-ltb (pointer t) (pointer u) low in
+    let is : entered m (frame_register_in entry.info) limit entry.codes t ≡ Ok (t, false) = nothing_undone m (frame_register_in entry.info) limit entry.codes t entry.none entry.frame in
+    let one : UndoesRecords m (entry.info ∷ []) limit false t (Ok (t, false)) = (Ok (t, false), (Ok entry.codes, entry.known, sym is), refl) in
+    let all : UndoesRecords m place.plan limit false t (Ok (t, false)) = subst (λ (is : List UnwindInfoView). UndoesRecords m is limit false t (Ok (t, false))) (sym entry.alone) one in
+    let test : ltb (stack_pointer t) (stack_pointer u) ≡ true = lt-ltb (stack_pointer t) (stack_pointer u) low in
     (Ok (t, false), all, rw pops (rw test refl))
 
-entered_from : (m : ℕ → Option ℕ) (place : Place) (rest : List Instruction) (h t u : Registers) (x : Result (Registers × Bool) FrameError) → IsEntry place → executed_all m (before_last rest) h ≡ Ok t → popped m t ≡ Ok u → pointer t < pointer u → pointer h < pointer u →
+entered_from : (m : ℕ → Option ℕ) (place : Place) (rest : List Instruction) (h t u : Registers) (x : Result (Registers × Bool) FrameError) → IsEntry place → executed_all m (before_last rest) h ≡ Ok t → popped m t ≡ Ok u → stack_pointer t < stack_pointer u → stack_pointer h < stack_pointer u →
     LeavesFor (Some place) m rest h x → x ≡ Ok (u, false)
 entered_from m place rest h t u x entry ran_so_far pops low below leaves =
-    let steps : StepsOut m place.plan place.offset t leaves.0 = subst (λ (r : Result Registers FrameError). Then r (StepsOut m place.plan place.offset) leaves.0) ran_so_far leaves.1 in
+    let steps : UndoesFunction m place.plan place.offset t leaves.0 = subst (λ (r : Result Registers FrameError). Then r (UndoesFunction m place.plan place.offset) leaves.0) ran_so_far leaves.1 in
     let is : leaves.0 ≡ Ok (u, false) = same_out leaves.0 (u, false) (one_out m place.plan place.offset t leaves.0 (Ok (u, false)) steps (entry_steps m place t u entry pops low)) in
-    leaves.2 ∙ (ap (λ (l : Result (Registers × Bool) FrameError). l >>= rising_out (pointer h)) is ∙ risen (pointer h) u false (λ e. below))
+    leaves.2 ∙ (ap (λ (l : Result (Registers × Bool) FrameError). l >>= rising_out (stack_pointer h)) is ∙ risen (stack_pointer h) u false (λ e. below))
 
 target_there : (e : ExceptionView) (sections : List SectionTable) (opts : ParseOptions) (target : Option ℕ) (place : Place) → IsPlace e sections opts target (Some place) → (a : ℕ) × (target ≡ Some a)
 target_there e sections opts None place is = absurd (cc is)

@@ -21,12 +21,12 @@ pub mod SomeFunction
 pub mod SomeShortPlan
 pub mod FunctionSteps
 pub mod SomeWalk
-pub mod WholeWalks
 pub mod FrameWalks
 pub mod Scans
 pub mod Found
 pub mod Frames
 pub mod Tails
+pub mod Targets
 pub mod Returned
 pub mod Samples
 pub mod Arm64Streams

@@ -1,5 +1,5 @@
--- There is one walk, up to the numbers in a refusal.
-use Rattle.std.proofs.Common.{◌≡◌, ℕ, zero, suc, ◌-◌, Bool, true, false, cond, List, [], ◌∷◌, Option, Some, None, Result, Ok, Err, refl, ap, sym, ◌∙◌, subst}
+-- Each frame has one caller, up to the numbers in a refusal.
+use Rattle.std.proofs.Common.{◌≡◌, ℕ, ◌-◌, Bool, true, false, cond, List, [], ◌∷◌, Option, Some, None, Result, Ok, Err, ap, sym, ◌∙◌, subst}
 use Rattle.std.specs.List.{find}
 use Rattle.std.specs.Option.{option_map}
 use Rattle.pe_core.specs.Refusals.{Refusal}
@@ -11,9 +11,10 @@ use Rattle.pe_unwind.specs.declared.function_table.RuntimeFunction.{RuntimeFunct
 use Rattle.pe_plan.proofs.RecordLaw.{RecordLaw}
 use Rattle.pe_frame.specs.AddressRanges.{has_address}
 use Rattle.pe_frame.specs.Epilogs.{epilog_at}
+use Rattle.pe_frame.specs.FrameWalks.{Process}
 use Rattle.pe_frame.specs.Modules.{module_at, module_base, module_size}
 use Rattle.pe_frame.specs.Steps.{ErrorKind, by_kind, error_kind}
-use Rattle.pe_frame.specs.Walks.{AreSortedModules, Calls, CallsBy, CallsByPlan, CallsFound, CallsIn, FollowsBy, HasSortedTable, IsSortedModule, IsUnreadable, IsWalk, IsWalkBy, OfError, OfRecords, WalkState, by_end_kind, code_of_frame, end_kind, frame_after, lookup_address, walk_after}
+use Rattle.pe_frame.specs.Walks.{AreSortedModules, Calls, CallsBy, CallsByPlan, CallsFound, CallsIn, HasSortedTable, IsSortedModule, IsUnreadable, OfError, OfRecords, by_end_kind, code_of_frame, frame_after, lookup_address}
 use Rattle.pe_frame.specs.declared.error.FrameError.{FrameError}
 use Rattle.pe_frame.specs.declared.modules.Module.{Module}
 use Rattle.pe_frame.specs.declared.registers.Registers.{Registers}
@@ -79,35 +80,6 @@ sorted_found : (p : Module → Bool) (modules : List Module) → AreSortedModule
 sorted_found p [] sorted = tt
 sorted_found p (m ∷ ms) sorted = sorted_one m (find p ms) (p m) sorted.0 (sorted_found p ms sorted.1)
 
-one_caller : (law : RecordLaw) (memory : ℕ → Option ℕ) (modules : List Module) (s : StackFrame) (x y : Result StackFrame WalkEnd) → AreSortedModules modules → Calls memory modules s x → Calls memory modules s y → by_end_kind x ≡ by_end_kind y
-one_caller law memory modules s x y sorted h k =
-    one_in law memory modules s (module_at modules (lookup_address s)) x y (sorted_found (has_address module_base module_size (lookup_address s)) modules sorted) h k
-
--- ---- one walk
-
-one_following : (law : RecordLaw) (returned : Bool) (w : WalkState) (x y : Result StackFrame WalkEnd) → AreSortedModules w.modules → FollowsBy returned w x → FollowsBy returned w y → by_end_kind x ≡ by_end_kind y
-one_following law true w x y sorted h k = one_caller law w.memory w.modules w.frame x y sorted h k
-one_following law false w x y sorted h k = ap by_end_kind (h ∙ sym k)
-
-one_walk_by : (law : RecordLaw) (n : ℕ) (w : WalkState) (frames others : List StackFrame) (end other : WalkEnd) → AreSortedModules w.modules → IsWalkBy n w frames end → IsWalkBy n w others other → (frames ≡ others) × (end_kind end ≡ end_kind other)
-one_walk_by law zero w frames others end other sorted h k =
-    (h.0 ∙ sym k.0, ap end_kind (h.1 ∙ sym k.1))
-one_walk_by law (suc n) w [] [] end other sorted h k =
-    let same = one_following law w.has_returned w (Err end) (Err other) sorted h k in
-    (refl, cc same)
-one_walk_by law (suc n) w [] (y ∷ ys) end other sorted h k =
-    let same = one_following law w.has_returned w (Err end) (Ok y) sorted h k.0 in
-    absurd (cc same)
-one_walk_by law (suc n) w (x ∷ xs) [] end other sorted h k =
-    let same = one_following law w.has_returned w (Ok x) (Err other) sorted h.0 k in
-    absurd (cc same)
-one_walk_by law (suc n) w (x ∷ xs) (y ∷ ys) end other sorted h k =
-    let both = one_following law w.has_returned w (Ok x) (Ok y) sorted h.0 k.0 in
-    let same : x ≡ y = cc both in
-    let here = subst (λ (s : StackFrame). IsWalkBy n (walk_after w (Ok s)) xs end) same h.1 in
-    let rest = one_walk_by law n (walk_after w (Ok y)) xs ys end other sorted here k.1 in
-    (ap (λ (s : StackFrame). s ∷ xs) same ∙ ap (λ (fs : List StackFrame). y ∷ fs) rest.0, rest.1)
-
-pub one_walk : (law : RecordLaw) (w : WalkState) (frames others : List StackFrame) (end other : WalkEnd) → AreSortedModules w.modules → IsWalk w frames end → IsWalk w others other → (frames ≡ others) × (end_kind end ≡ end_kind other)
-one_walk law w frames others end other sorted h k =
-    one_walk_by law w.remaining w frames others end other sorted h k
+pub one_caller : (law : RecordLaw) (p : Process) → AreSortedModules p.modules → (s : StackFrame) (x y : Result StackFrame WalkEnd) → Calls p s x → Calls p s y → by_end_kind x ≡ by_end_kind y
+one_caller law p sorted s x y h k =
+    one_in law p.memory p.modules s (module_at p.modules (lookup_address s)) x y (sorted_found (has_address module_base module_size (lookup_address s)) p.modules sorted) h k

@@ -14,10 +14,10 @@ use Rattle.pe_frame.specs.declared.epilog.Instruction.TheVariants.{Add, Lea, Pop
 use Rattle.pe_frame.specs.declared.error.FrameError.{FrameError}
 use Rattle.pe_frame.specs.declared.error.FrameError.TheVariants.{Address, Operation, NotRising}
 use Rattle.pe_frame.specs.declared.registers.Registers.{Registers}
-use Rattle.pe_frame.specs.Undoing.{Frame, offset_number, pointer, put_register, put_xmm, put_rip, number, above, require_integer, raised, undone, undone_all, popped, is_framed, is_interrupted, ran}
+use Rattle.pe_frame.specs.Undoing.{FrameRegister, bytes_above, stack_pointer, put_register, put_xmm, put_rip, number, above, require_integer, raised, undone, undone_all, popped, any_sets_frame_register, is_interrupted, ran}
 use Rattle.pe_unwind.specs.UnwindRecord.{UnwindInfoView}
-use Rattle.pe_frame.specs.Steps.{frame_of, rising}
-use Rattle.pe_frame.specs.Machine.{Machine, top, base, run, IsProlog, PushesLate, KeepsFrame, saves, saves_xmm, chosen}
+use Rattle.pe_frame.specs.Steps.{frame_register_in, rising}
+use Rattle.pe_frame.specs.Machine.{Machine, machine_stack_pointer, base, run, IsProlog, PushesLate, KeepsStackPointer, saves, saves_xmm, chosen}
 use Rattle.pe_frame.specs.Frames.{Part, infos, left, registers_of, SavesOrKeeps, AreFrames, restored, restored_xmm, IsCaller}
 use Rattle.pe_frame.specs.Epilogs.{moved, epilog_at, executed, executed_all, StepsFrom, StepsWithCode}
 use Rattle.pe_frame.specs.EpilogFrames.{Exits, Pops, moves, allocated, pushes, LeadsBack, Leads, Frees, FreesAndPops, AreRestored, IsBack, IsEpilogOfParts, AreReady}
@@ -46,7 +46,7 @@ went (Err d) f y e = cc
 -- registers that are so far above others
 pub record IsAbove (n : ℕ) (g v : Registers) : Type 0 where
   pub count : length v.general ≡ 16
-  pub pointer_is : pointer v ≡ pointer g + n
+  pub pointer_is : stack_pointer v ≡ stack_pointer g + n
 
 picked : (b : Bool) (x y : ℕ) (d : FrameError) → (if b then Ok x else Err d) ≡ Ok y → y ≡ x
 picked true x y d e = cc
@@ -54,19 +54,19 @@ picked false x y d e = cc
 
 raised_rose : (n : ℕ) (g v : Registers) → length g.general ≡ 16 → raised n g ≡ Ok v → IsAbove n g v
 raised_rose n g v len e =
-    let w = went (above (pointer g) n) (λ a. Ok (put_register g 4 a)) v e in
+    let w = went (above (stack_pointer g) n) (λ a. Ok (put_register g 4 a)) v e in
     let same : put_register g 4 w.value ≡ v = cc in
-    let sum : w.value ≡ pointer g + n = picked (ltb (pointer g + n) (2 ^ 64)) (pointer g + n) w.value (Address (pointer g)) w.first in
+    let sum : w.value ≡ stack_pointer g + n = picked (ltb (stack_pointer g + n) (2 ^ 64)) (stack_pointer g + n) w.value (Address (stack_pointer g)) w.first in
     record {
       count = ap (λ (x : Registers). length x.general) (sym same) ∙ (length-set g.general 4 w.value ∙ len);
-      pointer_is = ap pointer (sym same) ∙ (pointer_set g.general w.value len ∙ sum);
+      pointer_is = ap stack_pointer (sym same) ∙ (pointer_set g.general w.value len ∙ sum);
     }
 
 push_rose : (m : ℕ → Option ℕ) (b : ℕ) (r : Register) (g v : Registers) → r.0 ≢ 4 → length g.general ≡ 16 → undone m b (PushNonVolatile r) g ≡ Ok v → IsAbove 8 g v
 push_rose m b r g v other len e =
-    let w = went (require_integer (PushNonVolatile r) r.0) (λ i. number m (pointer g) >>= λ k. raised 8 (put_register g i k)) v e in
+    let w = went (require_integer (PushNonVolatile r) r.0) (λ i. number m (stack_pointer g) >>= λ k. raised 8 (put_register g i k)) v e in
     let index : w.value ≡ r.0 = picked (ltb r.0 16) r.0 w.value (Operation (PushNonVolatile r)) w.first in
-    let x = went (number m (pointer g)) (λ k. raised 8 (put_register g w.value k)) v w.next in
+    let x = went (number m (stack_pointer g)) (λ k. raised 8 (put_register g w.value k)) v w.next in
     let rose = raised_rose 8 (put_register g w.value x.value) v (length-set g.general w.value x.value ∙ len) x.next in
     record {
       count = rose.count;
@@ -75,17 +75,17 @@ push_rose m b r g v other len e =
 
 pub popped_rose : (m : ℕ → Option ℕ) (g u : Registers) → length g.general ≡ 16 → popped m g ≡ Ok u → IsAbove 8 g u
 popped_rose m g u len e =
-    let w = went (number m (pointer g)) (λ a. raised 8 g >>= λ v. Ok (put_rip v a)) u e in
+    let w = went (number m (stack_pointer g)) (λ a. raised 8 g >>= λ v. Ok (put_rip v a)) u e in
     let x = went (raised 8 g) (λ v. Ok (put_rip v w.value)) u w.next in
     let rose = raised_rose 8 g x.value len x.first in
     let same : put_rip x.value w.value ≡ u = cc in
-    record { count = ap (λ (y : Registers). length y.general) (sym same) ∙ rose.count; pointer_is = ap pointer (sym same) ∙ rose.pointer_is }
+    record { count = ap (λ (y : Registers). length y.general) (sym same) ∙ rose.count; pointer_is = ap stack_pointer (sym same) ∙ rose.pointer_is }
 
 -- what comes to the same registers came to them by the same way
 all_of : (m : ℕ → Option ℕ) (is js : List Instruction) (g u : Registers) → is ≡ js → executed_all m is g ≡ Ok u → executed_all m js g ≡ Ok u
 all_of m is js g u e h = ap (λ (ks : List Instruction). executed_all m ks g) (sym e) ∙ h
 
-put_same : (g : Registers) → put_register g 4 (pointer g) ≡ g
+put_same : (g : Registers) → put_register g 4 (stack_pointer g) ≡ g
 put_same g = ap (λ (xs : List ℕ). record { general = xs; xmm = g.xmm; rip = g.rip }) (set-get_or g.general 4 0)
 
 -- pops of an epilog pop no stack pointer
@@ -105,7 +105,7 @@ exit_alone : (m : ℕ → Option ℕ) (is : List Instruction) (g : Registers) �
 exit_alone m is g p = rw p.2 (then_ok (executed m p.0 g) ∙ exit_pops m p.0 g p.1)
 
 -- where undoing the pushes and popping the return address comes to the caller, pops and the exit do
-pops_come : (m : ℕ → Option ℕ) (b : ℕ) (codes : List UnwindOperation) (is : List Instruction) (g e u : Registers) → Spares codes → Reaches b (pointer g) codes → length g.general ≡ 16 →
+pops_come : (m : ℕ → Option ℕ) (b : ℕ) (codes : List UnwindOperation) (is : List Instruction) (g e u : Registers) → Spares codes → Reaches b (stack_pointer g) codes → length g.general ≡ 16 →
     undone_all m b codes g ≡ Ok e → popped m e ≡ Ok u → Pops codes is → executed_all m is g ≡ Ok u
 pops_come m b [] is g e u spares reaches len un up p =
     let same : g ≡ e = cc in
@@ -113,13 +113,13 @@ pops_come m b [] is g e u spares reaches len un up p =
 pops_come m b (PushNonVolatile r ∷ before) is g e u spares reaches len un up p =
     let w = went (undone m b (PushNonVolatile r) g) (undone_all m b before) e un in
     let rose = push_rose m b r g w.value spares.0 len w.first in
-    let on : Reaches b (pointer w.value) before = subst (λ (k : ℕ). Reaches b k before) (sym rose.pointer_is) reaches in
+    let on : Reaches b (stack_pointer w.value) before = subst (λ (k : ℕ). Reaches b k before) (sym rose.pointer_is) reaches in
     let rest = pops_come m b before p.0 w.value e u spares.1 on rose.count w.next up p.2 in
     rw p.1 (ap (λ (x : Result Registers FrameError). x >>= executed_all m p.0) w.first ∙ rest)
 pops_come m b (SetFPRegister ∷ before) is g e u spares reaches len un up p =
     let same : put_register g 4 b ≡ g = ap (λ (k : ℕ). put_register g 4 k) (sym reaches.0) ∙ put_same g in
     let here : undone_all m b before g ≡ Ok e = ap (λ (x : Registers). undone_all m b before x) (sym same) ∙ un in
-    let on : Reaches b (pointer g) before = subst (λ (k : ℕ). Reaches b k before) (sym reaches.0) reaches.1 in
+    let on : Reaches b (stack_pointer g) before = subst (λ (k : ℕ). Reaches b k before) (sym reaches.0) reaches.1 in
     pops_come m b before is g e u spares on len here up p
 pops_come m b (other ∷ before) is g e u spares reaches len un up p = absurd p
 
@@ -134,12 +134,12 @@ trail b p codes = p
 
 -- undoing goes through it
 abbrev Trails : (ℕ → Option ℕ) → ℕ → List UnwindOperation → Registers → Registers → Type 0
-Trails m b codes g e = undone_all m b (pushes codes) (put_register g 4 (trail b (pointer g) codes)) ≡ Ok e
+Trails m b codes g e = undone_all m b (pushes codes) (put_register g 4 (trail b (stack_pointer g) codes)) ≡ Ok e
 
-trails_here : (m : ℕ → Option ℕ) (b : ℕ) (codes : List UnwindOperation) (g e : Registers) → undone_all m b codes g ≡ Ok e → undone_all m b codes (put_register g 4 (pointer g)) ≡ Ok e
+trails_here : (m : ℕ → Option ℕ) (b : ℕ) (codes : List UnwindOperation) (g e : Registers) → undone_all m b codes g ≡ Ok e → undone_all m b codes (put_register g 4 (stack_pointer g)) ≡ Ok e
 trails_here m b codes g e h = ap (λ (x : Registers). undone_all m b codes x) (put_same g) ∙ h
 
-trails_next : (m : ℕ → Option ℕ) (b : ℕ) (before : List UnwindOperation) (g v e : Registers) (p : ℕ) → put_register g 4 p ≡ v → pointer v ≡ p → Trails m b before v e →
+trails_next : (m : ℕ → Option ℕ) (b : ℕ) (before : List UnwindOperation) (g v e : Registers) (p : ℕ) → put_register g 4 p ≡ v → stack_pointer v ≡ p → Trails m b before v e →
     undone_all m b (pushes before) (put_register g 4 (trail b p before)) ≡ Ok e
 trails_next m b before g v e p same at t =
     let put : put_register v 4 (trail b p before) ≡ put_register g 4 (trail b p before) =
@@ -148,14 +148,14 @@ trails_next m b before g v e p same at t =
 
 -- what freeing stack did
 record IsRaised (n : ℕ) (g v : Registers) : Type 0 where
-  pub same : put_register g 4 (pointer g + n) ≡ v
+  pub same : put_register g 4 (stack_pointer g + n) ≡ v
   pub count : length v.general ≡ 16
-  pub pointer_is : pointer v ≡ pointer g + n
+  pub pointer_is : stack_pointer v ≡ stack_pointer g + n
 
 raised_is : (n : ℕ) (g v : Registers) → length g.general ≡ 16 → raised n g ≡ Ok v → IsRaised n g v
 raised_is n g v len e =
-    let w = went (above (pointer g) n) (λ a. Ok (put_register g 4 a)) v e in
-    let sum : w.value ≡ pointer g + n = picked (ltb (pointer g + n) (2 ^ 64)) (pointer g + n) w.value (Address (pointer g)) w.first in
+    let w = went (above (stack_pointer g) n) (λ a. Ok (put_register g 4 a)) v e in
+    let sum : w.value ≡ stack_pointer g + n = picked (ltb (stack_pointer g + n) (2 ^ 64)) (stack_pointer g + n) w.value (Address (stack_pointer g)) w.first in
     let put : put_register g 4 w.value ≡ v = cc in
     let rose = raised_rose n g v len e in
     record { same = ap (λ (k : ℕ). put_register g 4 k) (sym sum) ∙ put; count = rose.count; pointer_is = rose.pointer_is }
@@ -165,7 +165,7 @@ trails m b [] g e len h = trails_here m b [] g e h
 trails m b (Alloc n ∷ before) g e len h =
     let w = went (raised n g) (undone_all m b before) e h in
     let r = raised_is n g w.value len w.first in
-    trails_next m b before g w.value e (pointer g + n) r.same r.pointer_is (trails m b before w.value e r.count w.next)
+    trails_next m b before g w.value e (stack_pointer g + n) r.same r.pointer_is (trails m b before w.value e r.count w.next)
 trails m b (SetFPRegister ∷ before) g e len h =
     let v : Registers = put_register g 4 b in
     let count : length v.general ≡ 16 = length-set g.general 4 b ∙ len in
@@ -192,18 +192,18 @@ exact_alloc None b p n t u e small h = tt
 exact_alloc (Some c) b p n t u e small h = (let at : p ≡ u = h.0 in omega arith, h.1)
 
 -- from there on the stack pointer moves by what was allocated
-trail_sum : (c : Bool) (f : Frame) (codes : List UnwindOperation) (s : Machine) (b p : ℕ) → IsProlog c f codes s → IsExact (run f codes s).frame b p (top (run f codes s)) → trail b p (moves codes) ≡ p + allocated (moves codes)
+trail_sum : (c : Bool) (f : FrameRegister) (codes : List UnwindOperation) (s : Machine) (b p : ℕ) → IsProlog c f codes s → IsExact (run f codes s).frame_base b p (machine_stack_pointer (run f codes s)) → trail b p (moves codes) ≡ p + allocated (moves codes)
 trail_sum c f [] s b p q h = omega arith
 trail_sum c f (Alloc n ∷ before) s b p q h =
-    let t = top (run f before s) in
-    let set_top : top (run f (Alloc n ∷ before) s) ≡ t - n = pointer_set (run f before s).general (t - n) (count c f before s q.1) in
-    let next = trail_sum c f before s b (p + n) q.1 (exact_alloc (run f before s).frame b p n t (top (run f (Alloc n ∷ before) s)) set_top q.0.1 h) in
+    let t = machine_stack_pointer (run f before s) in
+    let set_top : machine_stack_pointer (run f (Alloc n ∷ before) s) ≡ t - n = pointer_set (run f before s).general (t - n) (count c f before s q.1) in
+    let next = trail_sum c f before s b (p + n) q.1 (exact_alloc (run f before s).frame_base b p n t (machine_stack_pointer (run f (Alloc n ∷ before) s)) set_top q.0.1 h) in
     omega (arith, next)
 trail_sum c f (SetFPRegister ∷ before) s b p q h =
-    let next = trail_sum c f before s b b q.1 (exact_none (run f before s).frame b b (top (run f before s)) q.0.1) in
-    let t = pointer_other (run f before s).general f.register (top (run f before s) + f.offset) q.0.0.savable.other in
-    let at : p ≡ top (run f (SetFPRegister ∷ before) s) = h.0 in
-    let is : top (run f before s) ≡ b = h.1 in
+    let next = trail_sum c f before s b b q.1 (exact_none (run f before s).frame_base b b (machine_stack_pointer (run f before s)) q.0.1) in
+    let t = pointer_other (run f before s).general f.register (machine_stack_pointer (run f before s) + f.offset) q.0.0.savable.other in
+    let at : p ≡ machine_stack_pointer (run f (SetFPRegister ∷ before) s) = h.0 in
+    let is : machine_stack_pointer (run f before s) ≡ b = h.1 in
     omega (arith, next)
 trail_sum c f (PushNonVolatile r ∷ before) s b p q h = omega arith
 trail_sum c f (SaveXMM r o ∷ before) s b p q h = absurd q.0
@@ -211,35 +211,35 @@ trail_sum c f (PushMachineFrame x ∷ before) s b p q h = omega arith
 trail_sum c f (other ∷ before) s b p q h = trail_sum c f before s b p q.1 h
 
 -- from the last push on the pops come to the base of the frame
-reaches_pops : (c : Bool) (f : Frame) (codes : List UnwindOperation) (s : Machine) (b p : ℕ) → IsProlog c f codes s → IsExact (run f codes s).frame b p (top (run f codes s)) → Reaches b p (moves codes)
+reaches_pops : (c : Bool) (f : FrameRegister) (codes : List UnwindOperation) (s : Machine) (b p : ℕ) → IsProlog c f codes s → IsExact (run f codes s).frame_base b p (machine_stack_pointer (run f codes s)) → Reaches b p (moves codes)
 reaches_pops c f [] s b p q h = tt
 reaches_pops c f (PushNonVolatile r ∷ before) s b p q h =
-    let t = top (run f before s) in
-    let set_top : top (run f (PushNonVolatile r ∷ before) s) ≡ t - 8 = pointer_set (run f before s).general (t - 8) (count c f before s q.1) in
-    reaches_pops c f before s b (p + 8) q.1 (exact_alloc (run f before s).frame b p 8 t (top (run f (PushNonVolatile r ∷ before) s)) set_top q.0.3 h)
+    let t = machine_stack_pointer (run f before s) in
+    let set_top : machine_stack_pointer (run f (PushNonVolatile r ∷ before) s) ≡ t - 8 = pointer_set (run f before s).general (t - 8) (count c f before s q.1) in
+    reaches_pops c f before s b (p + 8) q.1 (exact_alloc (run f before s).frame_base b p 8 t (machine_stack_pointer (run f (PushNonVolatile r ∷ before) s)) set_top q.0.3 h)
 reaches_pops c f (SetFPRegister ∷ before) s b p q h =
-    let t : top (run f (SetFPRegister ∷ before) s) ≡ top (run f before s) = pointer_other (run f before s).general f.register (top (run f before s) + f.offset) q.0.0.savable.other in
-    (h.0 ∙ (t ∙ h.1), reaches_pops c f before s b b q.1 (exact_none (run f before s).frame b b (top (run f before s)) q.0.1))
+    let t : machine_stack_pointer (run f (SetFPRegister ∷ before) s) ≡ machine_stack_pointer (run f before s) = pointer_other (run f before s).general f.register (machine_stack_pointer (run f before s) + f.offset) q.0.0.savable.other in
+    (h.0 ∙ (t ∙ h.1), reaches_pops c f before s b b q.1 (exact_none (run f before s).frame_base b b (machine_stack_pointer (run f before s)) q.0.1))
 reaches_pops c f (Alloc n ∷ before) s b p q h = tt
 reaches_pops c f (SaveXMM r o ∷ before) s b p q h = absurd q.0
 reaches_pops c f (PushMachineFrame x ∷ before) s b p q h = tt
 reaches_pops c f (other ∷ before) s b p q h = reaches_pops c f before s b p q.1 h
 
 -- so they do from where what was allocated is freed
-reaches_of : (c : Bool) (f : Frame) (codes : List UnwindOperation) (s : Machine) (b p : ℕ) → IsProlog c f codes s → IsExact (run f codes s).frame b p (top (run f codes s)) → Reaches b (trail b p (moves codes)) (pushes (moves codes))
+reaches_of : (c : Bool) (f : FrameRegister) (codes : List UnwindOperation) (s : Machine) (b p : ℕ) → IsProlog c f codes s → IsExact (run f codes s).frame_base b p (machine_stack_pointer (run f codes s)) → Reaches b (trail b p (moves codes)) (pushes (moves codes))
 reaches_of c f [] s b p q h = tt
 reaches_of c f (Alloc n ∷ before) s b p q h =
-    let t = top (run f before s) in
-    let set_top : top (run f (Alloc n ∷ before) s) ≡ t - n = pointer_set (run f before s).general (t - n) (count c f before s q.1) in
-    reaches_of c f before s b (p + n) q.1 (exact_alloc (run f before s).frame b p n t (top (run f (Alloc n ∷ before) s)) set_top q.0.1 h)
-reaches_of c f (SetFPRegister ∷ before) s b p q h = reaches_of c f before s b b q.1 (exact_none (run f before s).frame b b (top (run f before s)) q.0.1)
+    let t = machine_stack_pointer (run f before s) in
+    let set_top : machine_stack_pointer (run f (Alloc n ∷ before) s) ≡ t - n = pointer_set (run f before s).general (t - n) (count c f before s q.1) in
+    reaches_of c f before s b (p + n) q.1 (exact_alloc (run f before s).frame_base b p n t (machine_stack_pointer (run f (Alloc n ∷ before) s)) set_top q.0.1 h)
+reaches_of c f (SetFPRegister ∷ before) s b p q h = reaches_of c f before s b b q.1 (exact_none (run f before s).frame_base b b (machine_stack_pointer (run f before s)) q.0.1)
 reaches_of c f (PushNonVolatile r ∷ before) s b p q h = reaches_pops c f (PushNonVolatile r ∷ before) s b p q h
 reaches_of c f (SaveXMM r o ∷ before) s b p q h = absurd q.0
 reaches_of c f (PushMachineFrame x ∷ before) s b p q h = tt
 reaches_of c f (other ∷ before) s b p q h = reaches_of c f before s b p q.1 h
 
 -- `lea` leads there, and from there the pops come to the base of the frame
-record IsLed (f : Frame) (d b p : ℕ) (codes : List UnwindOperation) (frame : Option ℕ) : Type 0 where
+record IsLed (f : FrameRegister) (d b p : ℕ) (codes : List UnwindOperation) (frame : Option ℕ) : Type 0 where
   pub framed : IsSome frame
   pub reaches : Reaches b (trail b p codes) (pushes codes)
   pub is : trail b p codes < 2 ^ 64 → moved (b + f.offset) d ≡ trail b p codes
@@ -252,7 +252,7 @@ led_here : (b o d p size : ℕ) → p + size ≡ b → moved o (d + size) ≡ 0 
 led_here b o d p size at h small = omega arith
 
 -- it does so back over registers that were pushed since it was set
-led_back : (f : Frame) (codes : List UnwindOperation) (d b p size : ℕ) → LeadsBack f d size codes → Reaches b (p + size) codes → p < 2 ^ 64 → moved (b + f.offset) d ≡ p
+led_back : (f : FrameRegister) (codes : List UnwindOperation) (d b p size : ℕ) → LeadsBack f d size codes → Reaches b (p + size) codes → p < 2 ^ 64 → moved (b + f.offset) d ≡ p
 led_back f [] d b p size h reaches small = absurd h
 led_back f (PushNonVolatile r ∷ before) d b p size h reaches small =
     let sum : p + size + 8 ≡ p + (size + 8) = omega arith in
@@ -263,7 +263,7 @@ led_back f (SetFPRegister ∷ before) d b p size h reaches small =
 led_back f (other ∷ before) d b p size h reaches small = absurd h
 
 -- such a prolog set a frame register
-set_before : (c : Bool) (f : Frame) (codes : List UnwindOperation) (s : Machine) (d size : ℕ) → IsProlog c f codes s → LeadsBack f d size (moves codes) → IsSome (run f codes s).frame
+set_before : (c : Bool) (f : FrameRegister) (codes : List UnwindOperation) (s : Machine) (d size : ℕ) → IsProlog c f codes s → LeadsBack f d size (moves codes) → IsSome (run f codes s).frame_base
 set_before c f [] s d size q h = absurd h
 set_before c f (PushNonVolatile r ∷ before) s d size q h = set_before c f before s d (size + 8) q.1 h
 set_before c f (Alloc n ∷ before) s d size q h = absurd h
@@ -272,16 +272,16 @@ set_before c f (SaveXMM r o ∷ before) s d size q h = absurd q.0
 set_before c f (PushMachineFrame x ∷ before) s d size q h = absurd h
 set_before c f (other ∷ before) s d size q h = set_before c f before s d size q.1 h
 
-led_by : (c : Bool) (f : Frame) (codes : List UnwindOperation) (s : Machine) (d b p : ℕ) → IsProlog c f codes s → Leads f d (moves codes) → (PushesLate codes → IsExact (run f codes s).frame b p (top (run f codes s))) →
-    IsLed f d b p (moves codes) (run f codes s).frame
+led_by : (c : Bool) (f : FrameRegister) (codes : List UnwindOperation) (s : Machine) (d b p : ℕ) → IsProlog c f codes s → Leads f d (moves codes) → (PushesLate codes → IsExact (run f codes s).frame_base b p (machine_stack_pointer (run f codes s))) →
+    IsLed f d b p (moves codes) (run f codes s).frame_base
 led_by c f [] s d b p q h exact = absurd h
 led_by c f (Alloc n ∷ before) s d b p q h exact =
-    let t = top (run f before s) in
-    let set_top : top (run f (Alloc n ∷ before) s) ≡ t - n = pointer_set (run f before s).general (t - n) (count c f before s q.1) in
-    let next = led_by c f before s d b (p + n) q.1 h (λ late. exact_alloc (run f before s).frame b p n t (top (run f (Alloc n ∷ before) s)) set_top q.0.1 (exact late)) in
+    let t = machine_stack_pointer (run f before s) in
+    let set_top : machine_stack_pointer (run f (Alloc n ∷ before) s) ≡ t - n = pointer_set (run f before s).general (t - n) (count c f before s q.1) in
+    let next = led_by c f before s d b (p + n) q.1 h (λ late. exact_alloc (run f before s).frame_base b p n t (machine_stack_pointer (run f (Alloc n ∷ before) s)) set_top q.0.1 (exact late)) in
     record { framed = next.framed; reaches = next.reaches; is = next.is }
 led_by c f (SetFPRegister ∷ before) s d b p q h exact =
-    let none = exact_none (run f before s).frame b b (top (run f before s)) q.0.1 in
+    let none = exact_none (run f before s).frame_base b b (machine_stack_pointer (run f before s)) q.0.1 in
     let sum = trail_sum c f before s b b q.1 none in
     record { framed = refl; reaches = reaches_of c f before s b b q.1 none; is = λ small. led b f.offset d (allocated (moves before)) h (omega (arith, sum)) ∙ sym sum }
 led_by c f (PushNonVolatile r ∷ before) s d b p q h exact =
@@ -292,7 +292,7 @@ led_by c f (PushMachineFrame x ∷ before) s d b p q h exact = absurd h
 led_by c f (other ∷ before) s d b p q h exact = led_by c f before s d b p q.1 h exact
 
 -- writing the stack pointer changes no register that was saved
-restored_moved : (c : Bool) (f : Frame) (codes : List UnwindOperation) (s : Machine) (g : Registers) (x : ℕ) → IsProlog c f codes s → AreRestored codes s g → AreRestored codes s (put_register g 4 x)
+restored_moved : (c : Bool) (f : FrameRegister) (codes : List UnwindOperation) (s : Machine) (g : Registers) (x : ℕ) → IsProlog c f codes s → AreRestored codes s g → AreRestored codes s (put_register g 4 x)
 restored_moved c f [] s g x p h = tt
 restored_moved c f (SaveNonVolatile r o ∷ before) s g x p h = (get_or-set_other g.general 4 r.0 x 0 p.0.0.other ∙ h.0, restored_moved c f before s g x p.1 h.1)
 restored_moved c f (SaveXMM r o ∷ before) s g x p h = absurd p.0
@@ -329,73 +329,73 @@ stays_then m b o before g v e step same h =
     ap (λ (x : Result Registers FrameError). x >>= undone_all m b before) (sym stays) ∙ h
 
 -- where saved registers are restored, undoing their saves changes nothing
-unsaved : (m : ℕ → Option ℕ) (b : ℕ) (c : Bool) (f : Frame) (codes : List UnwindOperation) (s : Machine) (g e : Registers) (is : List Instruction) → IsProlog c f codes s → Holds (λ a v. m a ≡ Some v) c f codes s →
-    undone.HasBase (run f codes s).frame codes (top (run f codes s)) b → undone.Points (run f codes s).frame codes (top (run f codes s)) (pointer g) → AreRestored codes s g → Pops (pushes (moves codes)) is → length g.general ≡ 16 → undone_all m b codes g ≡ Ok e → undone_all m b (moves codes) g ≡ Ok e
+unsaved : (m : ℕ → Option ℕ) (b : ℕ) (c : Bool) (f : FrameRegister) (codes : List UnwindOperation) (s : Machine) (g e : Registers) (is : List Instruction) → IsProlog c f codes s → Holds (λ a v. m a ≡ Some v) c f codes s →
+    undone.HasBase (run f codes s).frame_base codes (machine_stack_pointer (run f codes s)) b → undone.Points (run f codes s).frame_base codes (machine_stack_pointer (run f codes s)) (stack_pointer g) → AreRestored codes s g → Pops (pushes (moves codes)) is → length g.general ≡ 16 → undone_all m b codes g ≡ Ok e → undone_all m b (moves codes) g ≡ Ok e
 unsaved m b c f [] s g e is p k hb pt r q len h = h
 unsaved m b c f (PushNonVolatile i ∷ before) s g e is p k hb pt r q len h =
-    let t = top (run f before s) in
+    let t = machine_stack_pointer (run f before s) in
     let set_top = pointer_set (run f before s).general (t - 8) (count c f before s p.1) in
-    let at : pointer g ≡ t - 8 = undone.pushed_points (run f before s).frame i before _ (pointer g) pt ∙ set_top in
+    let at : stack_pointer g ≡ t - 8 = undone.pushed_points (run f before s).frame_base i before _ (stack_pointer g) pt ∙ set_top in
     let low = sinks c f before s p.1 in
     let room = (entered c f before s p.1).values 4 in
     let v = get_or s.general i.0 0 in
-    let next : Registers = put_register (put_register g i.0 v) 4 (pointer g + 8) in
+    let next : Registers = put_register (put_register g i.0 v) 4 (stack_pointer g + 8) in
     let step = undone.pop_ok m b i g v p.0.0.number p.0.0.other (ap m at ∙ k.0) (omega (arith, p.0.3)) in
     let len_set : length (set g.general i.0 v) ≡ 16 = length-set g.general i.0 v ∙ len in
-    let len_next : length next.general ≡ 16 = length-set (set g.general i.0 v) 4 (pointer g + 8) ∙ len_set in
-    let stack : pointer next ≡ t = pointer_set (set g.general i.0 v) (pointer g + 8) len_set ∙ omega (arith, p.0.3) in
-    let still : AreRestored before s next = restored_moved c f before s (put_register g i.0 v) (pointer g + 8) p.1 (restored_put before s g i.0 len p.0.0.number r) in
-    let hb_next = undone.base_moved (run f before s).frame (PushNonVolatile i ∷ before) before _ t b p.0.2 hb in
+    let len_next : length next.general ≡ 16 = length-set (set g.general i.0 v) 4 (stack_pointer g + 8) ∙ len_set in
+    let stack : stack_pointer next ≡ t = pointer_set (set g.general i.0 v) (stack_pointer g + 8) len_set ∙ omega (arith, p.0.3) in
+    let still : AreRestored before s next = restored_moved c f before s (put_register g i.0 v) (stack_pointer g + 8) p.1 (restored_put before s g i.0 len p.0.0.number r) in
+    let hb_next = undone.base_moved (run f before s).frame_base (PushNonVolatile i ∷ before) before _ t b p.0.2 hb in
     let after : undone_all m b before next ≡ Ok e = ap (λ (x : Result Registers FrameError). x >>= undone_all m b before) (sym step) ∙ h in
-    let rest = unsaved m b c f before s next e q.0 p.1 k.1 hb_next (undone.points_exact _ before t (pointer next) stack) still (pops_pushes (moves before) q.0 q.2) len_next after in
+    let rest = unsaved m b c f before s next e q.0 p.1 k.1 hb_next (undone.points_exact _ before t (stack_pointer next) stack) still (pops_pushes (moves before) q.0 q.2) len_next after in
     ap (λ (x : Result Registers FrameError). x >>= undone_all m b (moves before)) step ∙ rest
 unsaved m b c f (Alloc n ∷ before) s g e is p k hb pt r q len h =
-    let t = top (run f before s) in
-    let set_top : top (run f (Alloc n ∷ before) s) ≡ t - n = pointer_set (run f before s).general (t - n) (count c f before s p.1) in
+    let t = machine_stack_pointer (run f before s) in
+    let set_top : machine_stack_pointer (run f (Alloc n ∷ before) s) ≡ t - n = pointer_set (run f before s).general (t - n) (count c f before s p.1) in
     let w = went (raised n g) (undone_all m b before) e h in
     let a = raised_is n g w.value len w.first in
-    let still : AreRestored before s w.value = subst (λ (x : Registers). AreRestored before s x) a.same (restored_moved c f before s g (pointer g + n) p.1 r) in
-    let hb_next = undone.base_moved (run f before s).frame (Alloc n ∷ before) before (top (run f (Alloc n ∷ before) s)) (top (run f before s)) b p.0.0 hb in
-    let here : undone.Points (run f before s).frame (Alloc n ∷ before) (t - n) (pointer g) = subst (λ (x : ℕ). undone.Points (run f before s).frame (Alloc n ∷ before) x (pointer g)) set_top pt in
-    let pt_next : undone.Points (run f before s).frame before t (pointer w.value) = subst (λ (x : ℕ). undone.Points (run f before s).frame before t x) (sym a.pointer_is) (undone.points_raised (run f before s).frame before t (pointer g) n p.0.1 here) in
+    let still : AreRestored before s w.value = subst (λ (x : Registers). AreRestored before s x) a.same (restored_moved c f before s g (stack_pointer g + n) p.1 r) in
+    let hb_next = undone.base_moved (run f before s).frame_base (Alloc n ∷ before) before (machine_stack_pointer (run f (Alloc n ∷ before) s)) (machine_stack_pointer (run f before s)) b p.0.0 hb in
+    let here : undone.Points (run f before s).frame_base (Alloc n ∷ before) (t - n) (stack_pointer g) = subst (λ (x : ℕ). undone.Points (run f before s).frame_base (Alloc n ∷ before) x (stack_pointer g)) set_top pt in
+    let pt_next : undone.Points (run f before s).frame_base before t (stack_pointer w.value) = subst (λ (x : ℕ). undone.Points (run f before s).frame_base before t x) (sym a.pointer_is) (undone.points_raised (run f before s).frame_base before t (stack_pointer g) n p.0.1 here) in
     let rest = unsaved m b c f before s w.value e is p.1 k hb_next pt_next still q a.count w.next in
     ap (λ (x : Result Registers FrameError). x >>= undone_all m b (moves before)) w.first ∙ rest
 unsaved m b c f (SetFPRegister ∷ before) s g e is p k hb pt r q len h =
-    let hb_next = undone.base_none (run f before s).frame before (top (run f before s)) b p.0.1 (inr hb) in
-    let stack : pointer (put_register g 4 b) ≡ top (run f before s) = pointer_set g.general b len ∙ sym hb in
-    let pt_next = undone.points_exact (run f before s).frame before (top (run f before s)) (pointer (put_register g 4 b)) stack in
+    let hb_next = undone.base_none (run f before s).frame_base before (machine_stack_pointer (run f before s)) b p.0.1 (inr hb) in
+    let stack : stack_pointer (put_register g 4 b) ≡ machine_stack_pointer (run f before s) = pointer_set g.general b len ∙ sym hb in
+    let pt_next = undone.points_exact (run f before s).frame_base before (machine_stack_pointer (run f before s)) (stack_pointer (put_register g 4 b)) stack in
     unsaved m b c f before s (put_register g 4 b) e is p.1 k hb_next pt_next (restored_moved c f before s g b p.1 r) q (length-set g.general 4 b ∙ len) h
 unsaved m b c f (SaveNonVolatile i o ∷ before) s g e is p k hb pt r q len h =
-    let t = top (run f before s) in
+    let t = machine_stack_pointer (run f before s) in
     let v = get_or s.general i.0 0 in
-    let is_base : base (run f before s) ≡ b = undone.base_saved (run f before s).frame i o before t b hb in
-    let word : m (b + offset_number o) ≡ Some v = ap (λ (x : ℕ). m (x + offset_number o)) (sym is_base) ∙ k.0 in
+    let is_base : base (run f before s) ≡ b = undone.base_saved (run f before s).frame_base i o before t b hb in
+    let word : m (b + bytes_above o) ≡ Some v = ap (λ (x : ℕ). m (x + bytes_above o)) (sym is_base) ∙ k.0 in
     let step = undone.load_ok m b i o g v p.0.0.number word (omega (arith, p.0.2)) in
     let same : put_register g i.0 v ≡ g =
     ap (λ (x : ℕ). put_register g i.0 x) (sym r.0) ∙ ap (λ (xs : List ℕ). record { general = xs; xmm = g.xmm; rip = g.rip }) (set-get_or g.general i.0 0) in
-    let hb_next = undone.base_saved_rest (run f before s).frame i o before t b hb in
-    unsaved m b c f before s g e is p.1 k.1 hb_next (undone.points_weaker (run f before s).frame (SaveNonVolatile i o ∷ before) before (top (run f before s)) (pointer g) (λ z. z) pt) r.1 q len (stays_then m b (SaveNonVolatile i o) before g (put_register g i.0 v) e step same h)
+    let hb_next = undone.base_saved_rest (run f before s).frame_base i o before t b hb in
+    unsaved m b c f before s g e is p.1 k.1 hb_next (undone.points_weaker (run f before s).frame_base (SaveNonVolatile i o ∷ before) before (machine_stack_pointer (run f before s)) (stack_pointer g) (λ z. z) pt) r.1 q len (stays_then m b (SaveNonVolatile i o) before g (put_register g i.0 v) e step same h)
 unsaved m b c f (SaveXMM i o ∷ before) s g e is p k hb pt r q len h = absurd p.0
 unsaved m b c f (Epilog x y ∷ before) s g e is p k hb pt r q len h =
-    unsaved m b c f before s g e is p.1 k (undone.base_weaker (run f before s).frame (Epilog x y ∷ before) before (top (run f before s)) b (λ z. z) hb) (undone.points_weaker (run f before s).frame (Epilog x y ∷ before) before (top (run f before s)) (pointer g) (λ z. z) pt) r q len h
+    unsaved m b c f before s g e is p.1 k (undone.base_weaker (run f before s).frame_base (Epilog x y ∷ before) before (machine_stack_pointer (run f before s)) b (λ z. z) hb) (undone.points_weaker (run f before s).frame_base (Epilog x y ∷ before) before (machine_stack_pointer (run f before s)) (stack_pointer g) (λ z. z) pt) r q len h
 unsaved m b c f (SaveXMM128 i o ∷ before) s g e is p k hb pt r q len h =
-    let t = top (run f before s) in
+    let t = machine_stack_pointer (run f before s) in
     let v = get_or s.xmm (i.0 - 17) 0 in
-    let is_base : base (run f before s) ≡ b = undone.base_xmm (run f before s).frame i o before t b hb in
-    let low : m (b + offset_number o) ≡ Some (v % 2 ^ 64) = ap (λ (x : ℕ). m (x + offset_number o)) (sym is_base) ∙ k.0 in
-    let high : m (b + offset_number o + 8) ≡ Some (v / 2 ^ 64) = ap (λ (x : ℕ). m (x + offset_number o + 8)) (sym is_base) ∙ k.1.0 in
+    let is_base : base (run f before s) ≡ b = undone.base_xmm (run f before s).frame_base i o before t b hb in
+    let low : m (b + bytes_above o) ≡ Some (v % 2 ^ 64) = ap (λ (x : ℕ). m (x + bytes_above o)) (sym is_base) ∙ k.0 in
+    let high : m (b + bytes_above o + 8) ≡ Some (v / 2 ^ 64) = ap (λ (x : ℕ). m (x + bytes_above o + 8)) (sym is_base) ∙ k.1.0 in
     let step = undone.load_xmm m b i o g v p.0.0.least p.0.0.most low high (omega (arith, p.0.1)) in
     let same : put_xmm g (i.0 - 17) v ≡ g =
     ap (λ (x : ℕ). put_xmm g (i.0 - 17) x) (sym r.0) ∙ ap (λ (xs : List ℕ). record { general = g.general; xmm = xs; rip = g.rip }) (set-get_or g.xmm (i.0 - 17) 0) in
-    let hb_next = undone.base_wide_rest (run f before s).frame i o before t b hb in
-    unsaved m b c f before s g e is p.1 k.1.1 hb_next (undone.points_weaker (run f before s).frame (SaveXMM128 i o ∷ before) before (top (run f before s)) (pointer g) (λ z. z) pt) r.1 q len (stays_then m b (SaveXMM128 i o) before g (put_xmm g (i.0 - 17) v) e step same h)
+    let hb_next = undone.base_wide_rest (run f before s).frame_base i o before t b hb in
+    unsaved m b c f before s g e is p.1 k.1.1 hb_next (undone.points_weaker (run f before s).frame_base (SaveXMM128 i o ∷ before) before (machine_stack_pointer (run f before s)) (stack_pointer g) (λ z. z) pt) r.1 q len (stays_then m b (SaveXMM128 i o) before g (put_xmm g (i.0 - 17) v) e step same h)
 unsaved m b c f (PushMachineFrame x ∷ before) s g e is p k hb pt r q len h = absurd q
 unsaved m b c f (Noop ∷ before) s g e is p k hb pt r q len h =
-    unsaved m b c f before s g e is p.1 k (undone.base_weaker (run f before s).frame (Noop ∷ before) before (top (run f before s)) b (λ z. z) hb) (undone.points_weaker (run f before s).frame (Noop ∷ before) before (top (run f before s)) (pointer g) (λ z. z) pt) r q len h
+    unsaved m b c f before s g e is p.1 k (undone.base_weaker (run f before s).frame_base (Noop ∷ before) before (machine_stack_pointer (run f before s)) b (λ z. z) hb) (undone.points_weaker (run f before s).frame_base (Noop ∷ before) before (machine_stack_pointer (run f before s)) (stack_pointer g) (λ z. z) pt) r q len h
 
 -- the frame register has its value from the prolog
-value_of : (c : Bool) (f : Frame) (codes : List UnwindOperation) (s : Machine) (b : ℕ) (g : Registers) (frame : Option ℕ) → IsProlog c f codes s → (run f codes s).frame ≡ frame → IsSome frame →
-    undone.HasBase frame codes (top (run f codes s)) b → KeepsFrame f codes frame (run f codes s).general g → get_or g.general f.register 0 ≡ b + f.offset
+value_of : (c : Bool) (f : FrameRegister) (codes : List UnwindOperation) (s : Machine) (b : ℕ) (g : Registers) (frame : Option ℕ) → IsProlog c f codes s → (run f codes s).frame_base ≡ frame → IsSome frame →
+    undone.HasBase frame codes (machine_stack_pointer (run f codes s)) b → KeepsStackPointer f codes frame (run f codes s).general g → get_or g.general f.register 0 ≡ b + f.offset
 value_of c f codes s b g None p e some hb k = cc
 value_of c f codes s b g (Some x) p e some hb k =
     let i = undone.is_set c f codes s x p e in
@@ -406,7 +406,7 @@ exact_of None codes t b p hb back = tt
 exact_of (Some c) codes t b p hb back = (back refl, hb)
 
 -- with a register that was pushed late, a body keeps it so
-kept_late : (f : Frame) (codes : List UnwindOperation) (frame : Option ℕ) (there : List ℕ) (b : ℕ) (g : Registers) → undone.HasBase frame codes (get_or there 4 0) b → KeepsFrame f codes frame there g → PushesLate codes → IsExact frame b (pointer g) (get_or there 4 0)
+kept_late : (f : FrameRegister) (codes : List UnwindOperation) (frame : Option ℕ) (there : List ℕ) (b : ℕ) (g : Registers) → undone.HasBase frame codes (get_or there 4 0) b → KeepsStackPointer f codes frame there g → PushesLate codes → IsExact frame b (stack_pointer g) (get_or there 4 0)
 kept_late f codes None there b g hb k late = tt
 kept_late f codes (Some c) there b g hb k late = (k.1 late, hb)
 
@@ -427,12 +427,12 @@ pops_no_lea (PushNonVolatile r ∷ before) is p = subst HasNoLea (sym p.1) tt
 pops_no_lea (SetFPRegister ∷ before) is p = pops_no_lea before is p
 pops_no_lea (other ∷ before) is p = absurd p
 
-back_of : (is : List Instruction) (left : Machine) (g : Registers) → HasNoLea is → IsBack is left g → IsSome left.frame → pointer g ≡ top left
+back_of : (is : List Instruction) (left : Machine) (g : Registers) → HasNoLea is → IsBack is left g → IsSome left.frame_base → stack_pointer g ≡ machine_stack_pointer left
 back_of [] left g none h = h
 back_of (Lea r d ∷ is) left g none h = absurd none
 back_of (other ∷ is) left g none h = h
 
-spares_moves : (c : Bool) (f : Frame) (codes : List UnwindOperation) (s : Machine) → IsProlog c f codes s → Spares (moves codes)
+spares_moves : (c : Bool) (f : FrameRegister) (codes : List UnwindOperation) (s : Machine) → IsProlog c f codes s → Spares (moves codes)
 spares_moves c f [] s p = tt
 spares_moves c f (PushNonVolatile r ∷ before) s p = (p.0.0.other, spares_moves c f before s p.1)
 spares_moves c f (SaveXMM r o ∷ before) s p = absurd p.0
@@ -461,7 +461,7 @@ plain (PushMachineFrame e ∷ before) is p = absurd p
 plain (other ∷ before) is p = plain before is p
 
 all_rise : (m : ℕ → Option ℕ) (codes : List UnwindOperation) (is : List Instruction) (g u : Registers) → Spares codes → Pops codes is → length g.general ≡ 16 →
-    executed_all m is g ≡ Ok u → pointer g < pointer u
+    executed_all m is g ≡ Ok u → stack_pointer g < stack_pointer u
 all_rise m [] is g u p q len e =
     let rose = popped_rose m g u len (sym (exit_alone m is g q) ∙ e) in
     omega (arith, rose.pointer_is)
@@ -479,10 +479,10 @@ none_append (j ∷ before) rest i e = cc
 
 -- once the first instruction has run, the stack pointer is below that of the caller wherever the others have come to
 rises : (m : ℕ → Option ℕ) (codes : List UnwindOperation) (is before rest : List Instruction) (i : Instruction) (g h u : Registers) → Spares codes → Pops codes is →
-    is ≡ before ++ (i ∷ rest) → length g.general ≡ 16 → executed_all m before g ≡ Ok h → executed_all m is g ≡ Ok u → pointer h < pointer u
+    is ≡ before ++ (i ∷ rest) → length g.general ≡ 16 → executed_all m before g ≡ Ok h → executed_all m is g ≡ Ok u → stack_pointer h < stack_pointer u
 rises m codes is [] rest i g h u p q at len ran all =
     let same : g ≡ h = cc in
-    subst (λ (x : Registers). pointer x < pointer u) same (all_rise m codes is g u p q len all)
+    subst (λ (x : Registers). stack_pointer x < stack_pointer u) same (all_rise m codes is g u p q len all)
 rises m [] is (j ∷ before) rest i g h u p q at len ran all =
     let both : q.0 ∷ [] ≡ j ∷ (before ++ (i ∷ rest)) = sym q.2 ∙ at in
     let none : [] ≡ before ++ (i ∷ rest) = cc in
@@ -502,7 +502,7 @@ rises m (other ∷ codes) is (j ∷ before) rest i g h u p q at len ran all = ab
 
 -- the same where an instruction has freed the stack
 trimmed : (m : ℕ → Option ℕ) (codes : List UnwindOperation) (t j : Instruction) (is before rest : List Instruction) (i : Instruction) (g h u : Registers) → Spares codes → Pops codes is →
-    t ∷ is ≡ j ∷ (before ++ (i ∷ rest)) → ((v : Registers) → executed m t g ≡ Ok v → length v.general ≡ 16) → executed_all m (j ∷ before) g ≡ Ok h → executed_all m (t ∷ is) g ≡ Ok u → pointer h < pointer u
+    t ∷ is ≡ j ∷ (before ++ (i ∷ rest)) → ((v : Registers) → executed m t g ≡ Ok v → length v.general ≡ 16) → executed_all m (j ∷ before) g ≡ Ok h → executed_all m (t ∷ is) g ≡ Ok u → stack_pointer h < stack_pointer u
 trimmed m codes t j is before rest i g h u p q both len ran all =
     let head : t ≡ j = cc in
     let others : is ≡ before ++ (i ∷ rest) = cc in
@@ -514,21 +514,21 @@ trimmed m codes t j is before rest i g h u p q both len ran all =
 
 pub record Rose (p : ℕ) (w u : Registers) : Type 0 where
   pub same : w ≡ u
-  pub low : p < pointer w
+  pub low : p < stack_pointer w
 
-rose_by : (b : Bool) (p : ℕ) (w u : Registers) (d : FrameError) → (b ≡ true → p < pointer w) → (if b then Ok w else Err d) ≡ Ok u → Rose p w u
+rose_by : (b : Bool) (p : ℕ) (w u : Registers) (d : FrameError) → (b ≡ true → p < stack_pointer w) → (if b then Ok w else Err d) ≡ Ok u → Rose p w u
 rose_by true p w u d low e = record { same = cc; low = low refl }
 rose_by false p w u d low e = cc
 
 pub rose : (p : ℕ) (w u : Registers) → rising p w ≡ Ok u → Rose p w u
-rose p w u e = rose_by (ltb p (pointer w)) p w u (NotRising (pointer w)) (λ t. grind (arith, nat_tests)) e
+rose p w u e = rose_by (ltb p (stack_pointer w)) p w u (NotRising (stack_pointer w)) (λ t. grind (arith, nat_tests)) e
 
-step_of : (o : Option (List Instruction)) (rest : List Instruction) (m : ℕ → Option ℕ) (plan : List UnwindInfoView) (offset : ℕ) (h u : Registers) (x : Result Registers FrameError) → o ≡ Some rest → executed_all m rest h ≡ Ok u → pointer h < pointer u →
+step_of : (o : Option (List Instruction)) (rest : List Instruction) (m : ℕ → Option ℕ) (plan : List UnwindInfoView) (offset : ℕ) (h u : Registers) (x : Result Registers FrameError) → o ≡ Some rest → executed_all m rest h ≡ Ok u → stack_pointer h < stack_pointer u →
     StepsFrom o m plan offset h x → x ≡ Ok u
 step_of None rest m plan offset h u x e ran low steps = cc
 step_of (Some is) rest m plan offset h u x e ran low steps =
     let same : is ≡ rest = cc in
-    let test : ltb (pointer h) (pointer u) ≡ true = lt-ltb (pointer h) (pointer u) low in
+    let test : ltb (stack_pointer h) (stack_pointer u) ≡ true = lt-ltb (stack_pointer h) (stack_pointer u) low in
     steps ∙ rw same (rw ran (rw test refl))
 
 -- registers, and whether an interrupt entered the function
@@ -545,18 +545,18 @@ entry_same (Ok u) b v e =
 entry_same (Err d) b v e = cc
 
 -- the instruction that frees stack leads the stack pointer to the last push
-freed : (m : ℕ → Option ℕ) (b : ℕ) (c : Bool) (f : Frame) (codes : List UnwindOperation) (s : Machine) (g : Registers) (i : Instruction) (is : List Instruction) → IsProlog c f codes s → Frees f (moves codes) i →
-    undone.HasBase (run f codes s).frame codes (top (run f codes s)) b → KeepsFrame f codes (run f codes s).frame (run f codes s).general g → IsBack (i ∷ is) (run f codes s) g → trail b (pointer g) (moves codes) < 2 ^ 64 →
-    executed m i g ≡ Ok (put_register g 4 (trail b (pointer g) (moves codes)))
+freed : (m : ℕ → Option ℕ) (b : ℕ) (c : Bool) (f : FrameRegister) (codes : List UnwindOperation) (s : Machine) (g : Registers) (i : Instruction) (is : List Instruction) → IsProlog c f codes s → Frees f (moves codes) i →
+    undone.HasBase (run f codes s).frame_base codes (machine_stack_pointer (run f codes s)) b → KeepsStackPointer f codes (run f codes s).frame_base (run f codes s).general g → IsBack (i ∷ is) (run f codes s) g → trail b (stack_pointer g) (moves codes) < 2 ^ 64 →
+    executed m i g ≡ Ok (put_register g 4 (trail b (stack_pointer g) (moves codes)))
 freed m b c f codes s g (Add n) is p e hb k back small =
-    let exact = exact_of (run f codes s).frame codes (top (run f codes s)) b (pointer g) hb back in
-    let sum = trail_sum c f codes s b (pointer g) p exact in
-    let at : pointer g + n ≡ trail b (pointer g) (moves codes) = ap (λ (x : ℕ). pointer g + x) e ∙ sym sum in
-    undone.raised_at n (pointer g) g refl (omega (arith, at)) ∙ ap (λ (x : ℕ). Ok (put_register g 4 x)) at
+    let exact = exact_of (run f codes s).frame_base codes (machine_stack_pointer (run f codes s)) b (stack_pointer g) hb back in
+    let sum = trail_sum c f codes s b (stack_pointer g) p exact in
+    let at : stack_pointer g + n ≡ trail b (stack_pointer g) (moves codes) = ap (λ (x : ℕ). stack_pointer g + x) e ∙ sym sum in
+    undone.raised_at n (stack_pointer g) g refl (omega (arith, at)) ∙ ap (λ (x : ℕ). Ok (put_register g 4 x)) at
 freed m b c f codes s g (Lea r d) is p e hb k back small =
-    let l = led_by c f codes s d b (pointer g) p e.1 (kept_late f codes (run f codes s).frame (run f codes s).general b g hb k) in
-    let value = value_of c f codes s b g (run f codes s).frame p refl l.framed hb k in
-    let at : moved (get_or g.general r 0) d ≡ trail b (pointer g) (moves codes) =
+    let l = led_by c f codes s d b (stack_pointer g) p e.1 (kept_late f codes (run f codes s).frame_base (run f codes s).general b g hb k) in
+    let value = value_of c f codes s b g (run f codes s).frame_base p refl l.framed hb k in
+    let at : moved (get_or g.general r 0) d ≡ trail b (stack_pointer g) (moves codes) =
     ap (λ (x : ℕ). moved (get_or g.general x 0) d) e.0 ∙ (ap (λ (x : ℕ). moved x d) value ∙ l.is small) in
     ap (λ (x : ℕ). Ok (put_register g 4 x)) at
 freed m b c f codes s g other is p e hb k back small = absurd e
@@ -564,52 +564,52 @@ freed m b c f codes s g other is p e hb k back small = absurd e
 -- an epilog comes to the caller, and the rest of it starts below
 pub record Ends (m : ℕ → Option ℕ) (i : Instruction) (rest : List Instruction) (h u : Registers) : Type 0 where
   pub all : executed_all m (i ∷ rest) h ≡ Ok u
-  pub below : pointer h < pointer u
+  pub below : stack_pointer h < stack_pointer u
 
-ends_by : (m : ℕ → Option ℕ) (before rest : List Instruction) (i : Instruction) (g h u : Registers) → executed_all m before g ≡ Ok h → executed_all m (before ++ (i ∷ rest)) g ≡ Ok u → pointer h < pointer u → Ends m i rest h u
+ends_by : (m : ℕ → Option ℕ) (before rest : List Instruction) (i : Instruction) (g h u : Registers) → executed_all m before g ≡ Ok h → executed_all m (before ++ (i ∷ rest)) g ≡ Ok u → stack_pointer h < stack_pointer u → Ends m i rest h u
 ends_by m before rest i g h u ran all low = record { all = sym (executed_append m before (i ∷ rest) g ∙ rw ran refl) ∙ all; below = low }
 
 freed_below : (m : ℕ → Option ℕ) (codes : List UnwindOperation) (t : Instruction) (is before rest : List Instruction) (i : Instruction) (g v h u : Registers) → Spares codes → Pops codes is → t ∷ is ≡ before ++ (i ∷ rest) →
-    executed m t g ≡ Ok v → length v.general ≡ 16 → executed_all m before g ≡ Ok h → executed_all m (t ∷ is) g ≡ Ok u → pointer g < pointer u → pointer h < pointer u
+    executed m t g ≡ Ok v → length v.general ≡ 16 → executed_all m before g ≡ Ok h → executed_all m (t ∷ is) g ≡ Ok u → stack_pointer g < stack_pointer u → stack_pointer h < stack_pointer u
 freed_below m codes t is [] rest i g v h u p q at step len ran all low =
     let same : g ≡ h = cc in
-    subst (λ (x : Registers). pointer x < pointer u) same low
+    subst (λ (x : Registers). stack_pointer x < stack_pointer u) same low
 freed_below m codes t is (j ∷ before) rest i g v h u p q at step len ran all low =
     trimmed m codes t j is before rest i g h u p q at (λ w x. let both : Ok v ≡ Ok w = sym step ∙ x in let same : v ≡ w = cc in ap (λ (y : Registers). length y.general) (sym same) ∙ len) ran all
 
 -- the pops, from the last push on
 popped_rest : (m : ℕ → Option ℕ) (b t : ℕ) (codes : List UnwindOperation) (is : List Instruction) (g e u : Registers) → Spares codes → Reaches b t codes → length g.general ≡ 16 → undone_all m b codes (put_register g 4 t) ≡ Ok e → popped m e ≡ Ok u → Pops codes is → executed_all m is (put_register g 4 t) ≡ Ok u
 popped_rest m b t codes is g e u spares reaches len un up q =
-    let at : pointer (put_register g 4 t) ≡ t = pointer_set g.general t len in
+    let at : stack_pointer (put_register g 4 t) ≡ t = pointer_set g.general t len in
     pops_come m b codes is (put_register g 4 t) e u spares (subst (λ (k : ℕ). Reaches b k codes) (sym at) reaches) (length-set g.general 4 t ∙ len) un up q
 
 -- the instruction that frees stack leads where the pops come to the base of the frame
-reaches_freed : (b : ℕ) (c : Bool) (f : Frame) (codes : List UnwindOperation) (s : Machine) (g : Registers) (i : Instruction) (is : List Instruction) → IsProlog c f codes s → Frees f (moves codes) i →
-    undone.HasBase (run f codes s).frame codes (top (run f codes s)) b → KeepsFrame f codes (run f codes s).frame (run f codes s).general g → IsBack (i ∷ is) (run f codes s) g → Reaches b (trail b (pointer g) (moves codes)) (pushes (moves codes))
-reaches_freed b c f codes s g (Add n) is p e hb k back = reaches_of c f codes s b (pointer g) p (exact_of (run f codes s).frame codes (top (run f codes s)) b (pointer g) hb back)
+reaches_freed : (b : ℕ) (c : Bool) (f : FrameRegister) (codes : List UnwindOperation) (s : Machine) (g : Registers) (i : Instruction) (is : List Instruction) → IsProlog c f codes s → Frees f (moves codes) i →
+    undone.HasBase (run f codes s).frame_base codes (machine_stack_pointer (run f codes s)) b → KeepsStackPointer f codes (run f codes s).frame_base (run f codes s).general g → IsBack (i ∷ is) (run f codes s) g → Reaches b (trail b (stack_pointer g) (moves codes)) (pushes (moves codes))
+reaches_freed b c f codes s g (Add n) is p e hb k back = reaches_of c f codes s b (stack_pointer g) p (exact_of (run f codes s).frame_base codes (machine_stack_pointer (run f codes s)) b (stack_pointer g) hb back)
 reaches_freed b c f codes s g (Lea r d) is p e hb k back =
-    (led_by c f codes s d b (pointer g) p e.1 (kept_late f codes (run f codes s).frame (run f codes s).general b g hb k)).reaches
+    (led_by c f codes s d b (stack_pointer g) p e.1 (kept_late f codes (run f codes s).frame_base (run f codes s).general b g hb k)).reaches
 reaches_freed b c f codes s g other is p e hb k back = absurd e
 
-last_push_fits : (m : ℕ → Option ℕ) (t : ℕ) (codes : List UnwindOperation) (is : List Instruction) (g u : Registers) → Spares codes → Pops codes is → length g.general ≡ 16 → executed_all m is (put_register g 4 t) ≡ Ok u → pointer u < 2 ^ 64 → t < 2 ^ 64
+last_push_fits : (m : ℕ → Option ℕ) (t : ℕ) (codes : List UnwindOperation) (is : List Instruction) (g u : Registers) → Spares codes → Pops codes is → length g.general ≡ 16 → executed_all m is (put_register g 4 t) ≡ Ok u → stack_pointer u < 2 ^ 64 → t < 2 ^ 64
 last_push_fits m t codes is g u p q len all small =
     let low = all_rise m codes is (put_register g 4 t) u p q (length-set g.general 4 t ∙ len) all in
     omega (arith, pointer_set g.general t len)
 
-ends_of : (m : ℕ → Option ℕ) (b : ℕ) (c : Bool) (f : Frame) (codes : List UnwindOperation) (s : Machine) (g h e u : Registers) (is before rest : List Instruction) (i : Instruction) → IsProlog c f codes s →
-    undone.HasBase (run f codes s).frame codes (top (run f codes s)) b → KeepsFrame f codes (run f codes s).frame (run f codes s).general g → IsBack is (run f codes s) g → length g.general ≡ 16 → FreesAndPops f (moves codes) is →
-    is ≡ before ++ (i ∷ rest) → executed_all m before g ≡ Ok h → Trails m b (moves codes) g e → popped m e ≡ Ok u → pointer u < 2 ^ 64 → pointer g < pointer u → Ends m i rest h u
+ends_of : (m : ℕ → Option ℕ) (b : ℕ) (c : Bool) (f : FrameRegister) (codes : List UnwindOperation) (s : Machine) (g h e u : Registers) (is before rest : List Instruction) (i : Instruction) → IsProlog c f codes s →
+    undone.HasBase (run f codes s).frame_base codes (machine_stack_pointer (run f codes s)) b → KeepsStackPointer f codes (run f codes s).frame_base (run f codes s).general g → IsBack is (run f codes s) g → length g.general ≡ 16 → FreesAndPops f (moves codes) is →
+    is ≡ before ++ (i ∷ rest) → executed_all m before g ≡ Ok h → Trails m b (moves codes) g e → popped m e ≡ Ok u → stack_pointer u < 2 ^ 64 → stack_pointer g < stack_pointer u → Ends m i rest h u
 ends_of m b c f codes s g h e u is before rest i p hb k back len (inl (none, pops)) at ran un up small low =
-    let exact = exact_of (run f codes s).frame codes (top (run f codes s)) b (pointer g) hb (back_of is (run f codes s) g (pops_no_lea (pushes (moves codes)) is pops) back) in
-    let sum : trail b (pointer g) (moves codes) ≡ pointer g = trail_sum c f codes s b (pointer g) p exact ∙ omega (arith, none) in
-    let same : put_register g 4 (trail b (pointer g) (moves codes)) ≡ g = ap (λ (x : ℕ). put_register g 4 x) sum ∙ put_same g in
+    let exact = exact_of (run f codes s).frame_base codes (machine_stack_pointer (run f codes s)) b (stack_pointer g) hb (back_of is (run f codes s) g (pops_no_lea (pushes (moves codes)) is pops) back) in
+    let sum : trail b (stack_pointer g) (moves codes) ≡ stack_pointer g = trail_sum c f codes s b (stack_pointer g) p exact ∙ omega (arith, none) in
+    let same : put_register g 4 (trail b (stack_pointer g) (moves codes)) ≡ g = ap (λ (x : ℕ). put_register g 4 x) sum ∙ put_same g in
     let spares = spares_pushes (moves codes) (spares_moves c f codes s p) in
-    let there = popped_rest m b (trail b (pointer g) (moves codes)) (pushes (moves codes)) is g e u spares (reaches_of c f codes s b (pointer g) p exact) len un up pops in
+    let there = popped_rest m b (trail b (stack_pointer g) (moves codes)) (pushes (moves codes)) is g e u spares (reaches_of c f codes s b (stack_pointer g) p exact) len un up pops in
     let all : executed_all m is g ≡ Ok u = subst (λ (x : Registers). executed_all m is x ≡ Ok u) same there in
     let below = rises m (pushes (moves codes)) is before rest i g h u spares pops at len ran all in
     ends_by m before rest i g h u ran (all_of m is (before ++ (i ∷ rest)) g u at all) below
 ends_of m b c f codes s g h e u is before rest i p hb k back len (inr (j, js, first, frees, pops)) at ran un up small low =
-    let t = trail b (pointer g) (moves codes) in
+    let t = trail b (stack_pointer g) (moves codes) in
     let spares = spares_pushes (moves codes) (spares_moves c f codes s p) in
     let back_first = subst (λ (x : List Instruction). IsBack x (run f codes s) g) first back in
     let there = popped_rest m b t (pushes (moves codes)) js g e u spares (reaches_freed b c f codes s g j js p frees hb k back_first) len un up pops in
@@ -620,7 +620,7 @@ ends_of m b c f codes s g h e u is before rest i p hb k back len (inr (j, js, fi
     ends_by m before rest i g h u ran (all_of m (j ∷ js) (before ++ (i ∷ rest)) g u (sym first ∙ at) all) below
 
 -- the pops of an epilog
-pops_of : (f : Frame) (codes : List UnwindOperation) (is : List Instruction) → FreesAndPops f codes is → (js : List Instruction) × Pops (pushes codes) js
+pops_of : (f : FrameRegister) (codes : List UnwindOperation) (is : List Instruction) → FreesAndPops f codes is → (js : List Instruction) × Pops (pushes codes) js
 pops_of f codes is (inl (none, pops)) = (is, pops)
 pops_of f codes is (inr (j, js, first, frees, pops)) = (js, pops)
 
@@ -633,7 +633,7 @@ pub record Comes (m : ℕ → Option ℕ) (parts : List Part) (i : Instruction) 
 comes_alone : (m : ℕ → Option ℕ) (p : Part) (before rest : List Instruction) (i : Instruction) (g h : Registers) → AreFrames m (p ∷ []) None g → IsEpilogOfParts (p ∷ []) (before ++ (i ∷ rest)) → AreReady (p ∷ []) (before ++ (i ∷ rest)) g →
     executed_all m before g ≡ Ok h → Comes m (p ∷ []) i rest g h
 comes_alone m p before rest i g h frames epilog ready ran_so_far =
-    let f = frame_of p.info in
+    let f = frame_register_in p.info in
     let codes = ran None p.codes in
     let is = before ++ (i ∷ rest) in
     let body = frames.2.body in
@@ -641,29 +641,29 @@ comes_alone m p before rest i g h frames epilog ready ran_so_far =
     let pops = pops_of f (moves codes) is epilog in
     let calm = plain codes pops.0 pops.1 in
     let e = entry_of true None p m g frames.0 frames.2 in
-    let b = undone.has_base true f (is_framed codes) codes p.entry g frames.0.frame prolog body.frame in
+    let b = undone.has_base true f (any_sets_frame_register codes) codes p.entry g frames.0.frame prolog body.frame in
     let last = called m p [] None g e.entry false frames e.count (e.leaves, sym calm) e.registers e.xmm_registers in
-    let left = went (popped m e.entry) (rising (pointer g)) last.0 last.1 in
-    let up = rose (pointer g) left.value last.0 left.next in
+    let left = went (popped m e.entry) (rising (stack_pointer g)) last.0 last.1 in
+    let up = rose (stack_pointer g) left.value last.0 left.next in
     let to_caller : popped m e.entry ≡ Ok last.0 = left.first ∙ ap Ok up.same in
-    let low : pointer g < pointer last.0 = subst (λ (y : Registers). pointer g < pointer y) up.same up.low in
+    let low : stack_pointer g < stack_pointer last.0 = subst (λ (y : Registers). stack_pointer g < stack_pointer y) up.same up.low in
     let in_base : (undone_all m b.base codes g >>= with_kind (is_interrupted codes)) ≡ with_kind (is_interrupted codes) e.entry = rw b.is at e.is in
     let undoes = entry_same (undone_all m b.base codes g) (is_interrupted codes) e.entry in_base in
     let held = known m (run f codes p.entry).memory true f codes p.entry body.memory (holds true f codes p.entry prolog) in
     let moves_undone = unsaved m b.base true f codes p.entry g e.entry pops.0 prolog held b.saves b.points ready.restored pops.1 body.count undoes in
     let trail_undone = trails m b.base (moves codes) g e.entry body.count moves_undone in
     let above_return = popped_rose m e.entry last.0 e.count to_caller in
-    let at_entry : pointer e.entry ≡ top p.entry = undone.left_plain codes p.entry e.entry calm e.leaves in
-    let small : pointer last.0 < 2 ^ 64 = omega (arith, above_return.pointer_is, frames.1) in
+    let at_entry : stack_pointer e.entry ≡ machine_stack_pointer p.entry = undone.left_plain codes p.entry e.entry calm e.leaves in
+    let small : stack_pointer last.0 < 2 ^ 64 = omega (arith, above_return.pointer_is, frames.1) in
     let ends = ends_of m b.base true f codes p.entry g h e.entry last.0 is before rest i prolog b.saves body.frame ready.back body.count epilog refl ran_so_far trail_undone to_caller small low in
     record { caller = last.0; ends = ends; is = last.2 }
 
 -- a part that only saved registers left the stack pointer where it was
-record IsStill (f : Frame) (codes : List UnwindOperation) (s : Machine) : Type 0 where
+record IsStill (f : FrameRegister) (codes : List UnwindOperation) (s : Machine) : Type 0 where
   pub general : (run f codes s).general ≡ s.general
-  pub frame : (run f codes s).frame ≡ None
+  pub frame : (run f codes s).frame_base ≡ None
 
-still : (c : Bool) (f : Frame) (codes : List UnwindOperation) (s : Machine) → IsProlog c f codes s → moves codes ≡ [] → IsStill f codes s
+still : (c : Bool) (f : FrameRegister) (codes : List UnwindOperation) (s : Machine) → IsProlog c f codes s → moves codes ≡ [] → IsStill f codes s
 still c f [] s p e = record { general = refl; frame = p.frame }
 still c f (SaveNonVolatile r o ∷ before) s p e = let i = still c f before s p.1 e in record { general = i.general; frame = i.frame }
 still c f (Epilog x y ∷ before) s p e = let i = still c f before s p.1 e in record { general = i.general; frame = i.frame }
@@ -671,7 +671,7 @@ still c f (SaveXMM128 r o ∷ before) s p e = let i = still c f before s p.1 e i
 still c f (Noop ∷ before) s p e = let i = still c f before s p.1 e in record { general = i.general; frame = i.frame }
 still c f (other ∷ before) s p e = cc
 
-still_pointer : (f : Frame) (codes : List UnwindOperation) (s : Machine) (frame : Option ℕ) (there : List ℕ) (g : Registers) → frame ≡ None → there ≡ s.general → KeepsFrame f codes frame there g → pointer g ≡ top s
+still_pointer : (f : FrameRegister) (codes : List UnwindOperation) (s : Machine) (frame : Option ℕ) (there : List ℕ) (g : Registers) → frame ≡ None → there ≡ s.general → KeepsStackPointer f codes frame there g → stack_pointer g ≡ machine_stack_pointer s
 still_pointer f codes s None there g none same k = k ∙ ap (λ (xs : List ℕ). get_or xs 4 0) same
 still_pointer f codes s (Some b) there g none same k = cc
 
@@ -710,8 +710,8 @@ chosen_same false old now h = refl
 
 -- so the frame registers of the parts around it are
 frames_kept : (p : Part) (parts : List Part) (g : Registers) → moves (ran None p.codes) ≡ [] → AreRestored (ran None p.codes) p.entry g →
-    AllByRecursion (λ o. IsSome (left None o).frame → SavesOrKeeps None p g (o.info.frame_register).0) parts →
-    AllByRecursion (λ o. IsSome (left None o).frame → get_or g.general (o.info.frame_register).0 0 ≡ get_or p.entry.general (o.info.frame_register).0 0) parts
+    AllByRecursion (λ o. IsSome (left None o).frame_base → SavesOrKeeps None p g (o.info.frame_register).0) parts →
+    AllByRecursion (λ o. IsSome (left None o).frame_base → get_or g.general (o.info.frame_register).0 0 ≡ get_or p.entry.general (o.info.frame_register).0 0) parts
 frames_kept p [] g e h keeps = tt
 frames_kept p (o ∷ parts) g e h keeps = (
   λ framed. elim (keeps.0 framed) [ inl saved ↦ restored_is (ran None p.codes) p.entry g (o.info.frame_register).0 e h saved | inr kept ↦ kept ],
@@ -723,9 +723,9 @@ pub comes : (m : ℕ → Option ℕ) (p : Part) (parts : List Part) (before rest
 comes m p [] before rest i g h frames epilog ready ran_so_far = comes_alone m p before rest i g h frames epilog ready ran_so_far
 comes m p (q ∷ parts) before rest i g h frames epilog ready ran_so_far =
     let codes = ran None p.codes in
-    let stays = still false (frame_of p.info) codes p.entry frames.0.prolog epilog.0 in
+    let stays = still false (frame_register_in p.info) codes p.entry frames.0.prolog epilog.0 in
     let body = frames.2.body in
-    let at = still_pointer (frame_of p.info) codes p.entry (run (frame_of p.info) codes p.entry).frame (run (frame_of p.info) codes p.entry).general g stays.frame stays.general body.frame in
+    let at = still_pointer (frame_register_in p.info) codes p.entry (run (frame_register_in p.info) codes p.entry).frame_base (run (frame_register_in p.info) codes p.entry).general g stays.frame stays.general body.frame in
     let next = frames_also m (q ∷ parts) (registers_of p.entry) g (record {
       count = body.count;
       xmm_count = body.xmm_count;

@@ -3,30 +3,30 @@ use Rattle.std.proofs.Common.{◌≡◌, ℕ, ◌+◌, ◌-◌, ◌/◌, ◌%◌
 use Rattle.std.specs.List.{AllByRecursion}
 use Rattle.pe_unwind.specs.declared.unwind_code.UnwindOperation.{UnwindOperation}
 use Rattle.pe_unwind.specs.declared.unwind_code.UnwindOperation.TheVariants.{PushNonVolatile, Alloc, SetFPRegister, SaveNonVolatile, SaveXMM, Epilog, SaveXMM128, PushMachineFrame, Noop}
-use Rattle.pe_frame.specs.Undoing.{Frame, offset_number, error_size}
-use Rattle.pe_frame.specs.Machine.{Machine, top, base, loaded, stored, run, slots, Apart, IsProlog}
+use Rattle.pe_frame.specs.Undoing.{FrameRegister, bytes_above, error_size}
+use Rattle.pe_frame.specs.Machine.{Machine, machine_stack_pointer, base, loaded, stored, run, slots, Apart, IsProlog}
 use Rattle.pe_frame.proofs.Words.{loaded-stored, loaded-apart}
 use Rattle.pe_frame.proofs.Runs.{entered, same, same_xmm, slots_above}
 
 -- each slot has what was saved there
 abbrev pub HoldsReturn : (ℕ → ℕ → Type 0) → Bool → Machine → Type 0
-HoldsReturn P true s = P (top s) (loaded s.memory (top s))
+HoldsReturn P true s = P (machine_stack_pointer s) (loaded s.memory (machine_stack_pointer s))
 HoldsReturn P false s = Unit {0}
 
-abbrev pub Holds : (ℕ → ℕ → Type 0) → Bool → Frame → List UnwindOperation → Machine → Type 0
+abbrev pub Holds : (ℕ → ℕ → Type 0) → Bool → FrameRegister → List UnwindOperation → Machine → Type 0
 Holds P c f [] s = HoldsReturn P c s
-Holds P c f (PushNonVolatile r ∷ before) s = P (top (run f before s) - 8) (get_or s.general r.0 0) × Holds P c f before s
-Holds P c f (SaveNonVolatile r o ∷ before) s = P (base (run f before s) + offset_number o) (get_or s.general r.0 0) × Holds P c f before s
+Holds P c f (PushNonVolatile r ∷ before) s = P (machine_stack_pointer (run f before s) - 8) (get_or s.general r.0 0) × Holds P c f before s
+Holds P c f (SaveNonVolatile r o ∷ before) s = P (base (run f before s) + bytes_above o) (get_or s.general r.0 0) × Holds P c f before s
 Holds P c f (SaveXMM128 r o ∷ before) s =
-    P (base (run f before s) + offset_number o) (get_or s.xmm (r.0 - 17) 0 % 2 ^ 64)
-    × (P (base (run f before s) + offset_number o + 8) (get_or s.xmm (r.0 - 17) 0 / 2 ^ 64) × Holds P c f before s)
+    P (base (run f before s) + bytes_above o) (get_or s.xmm (r.0 - 17) 0 % 2 ^ 64)
+    × (P (base (run f before s) + bytes_above o + 8) (get_or s.xmm (r.0 - 17) 0 / 2 ^ 64) × Holds P c f before s)
 Holds P c f (PushMachineFrame e ∷ before) s =
-    P (top s + error_size e) (loaded s.memory (top s + error_size e))
-    × (P (top s + error_size e + 24) (loaded s.memory (top s + error_size e + 24)) × Holds P c f before s)
+    P (machine_stack_pointer s + error_size e) (loaded s.memory (machine_stack_pointer s + error_size e))
+    × (P (machine_stack_pointer s + error_size e + 24) (loaded s.memory (machine_stack_pointer s + error_size e + 24)) × Holds P c f before s)
 Holds P c f (other ∷ before) s = Holds P c f before s
 
 -- a store elsewhere leaves it
-holds_stored : (mem : ℕ → ℕ) (x w : ℕ) (c : Bool) (f : Frame) (codes : List UnwindOperation) (s : Machine) → AllByRecursion (Apart x) (slots c f codes s) → Holds (λ a v. loaded mem a ≡ v) c f codes s → Holds (λ a v. loaded (stored mem x w) a ≡ v) c f codes s
+holds_stored : (mem : ℕ → ℕ) (x w : ℕ) (c : Bool) (f : FrameRegister) (codes : List UnwindOperation) (s : Machine) → AllByRecursion (Apart x) (slots c f codes s) → Holds (λ a v. loaded mem a ≡ v) c f codes s → Holds (λ a v. loaded (stored mem x w) a ≡ v) c f codes s
 holds_stored mem x w true f [] s apart h = loaded-apart mem x w _ apart.0 ∙ h
 holds_stored mem x w false f [] s apart h = tt
 holds_stored mem x w c f (PushNonVolatile r ∷ before) s apart h = (loaded-apart mem x w _ apart.0 ∙ h.0, holds_stored mem x w c f before s apart.1 h.1)
@@ -46,24 +46,24 @@ stored_value : (mem : ℕ → ℕ) (x w v : ℕ) → w ≡ v → v < 2 ^ 64 → 
 stored_value mem x w v e small = loaded-stored mem x w (omega arith) ∙ e
 
 -- the memory that a prolog leaves has what it saved
-pub holds : (c : Bool) (f : Frame) (codes : List UnwindOperation) (s : Machine) → IsProlog c f codes s → Holds (λ a v. loaded (run f codes s).memory a ≡ v) c f codes s
+pub holds : (c : Bool) (f : FrameRegister) (codes : List UnwindOperation) (s : Machine) → IsProlog c f codes s → Holds (λ a v. loaded (run f codes s).memory a ≡ v) c f codes s
 holds true f [] s p = refl
 holds false f [] s p = tt
 holds c f (PushNonVolatile r ∷ before) s p = (
-  stored_value (run f before s).memory (top (run f before s) - 8) _ _ (same c f before s r.0 p.1 p.0.0.other p.0.1) ((entered c f before s p.1).values r.0),
-  holds_stored (run f before s).memory (top (run f before s) - 8) _ c f before s (below_all (slots c f before s) (top (run f before s)) p.0.3 (slots_above c f before s p.1)) (holds c f before s p.1),
+  stored_value (run f before s).memory (machine_stack_pointer (run f before s) - 8) _ _ (same c f before s r.0 p.1 p.0.0.other p.0.1) ((entered c f before s p.1).values r.0),
+  holds_stored (run f before s).memory (machine_stack_pointer (run f before s) - 8) _ c f before s (below_all (slots c f before s) (machine_stack_pointer (run f before s)) p.0.3 (slots_above c f before s p.1)) (holds c f before s p.1),
 )
 holds c f (Alloc n ∷ before) s p = holds c f before s p.1
 holds c f (SetFPRegister ∷ before) s p = holds c f before s p.1
 holds c f (SaveNonVolatile r o ∷ before) s p = (
-  stored_value (run f before s).memory (base (run f before s) + offset_number o) _ _ (same c f before s r.0 p.1 p.0.0.other p.0.1) ((entered c f before s p.1).values r.0),
-  holds_stored (run f before s).memory (base (run f before s) + offset_number o) _ c f before s p.0.3 (holds c f before s p.1),
+  stored_value (run f before s).memory (base (run f before s) + bytes_above o) _ _ (same c f before s r.0 p.1 p.0.0.other p.0.1) ((entered c f before s p.1).values r.0),
+  holds_stored (run f before s).memory (base (run f before s) + bytes_above o) _ c f before s p.0.3 (holds c f before s p.1),
 )
 holds c f (SaveXMM r o ∷ before) s p = absurd p.0
 holds c f (Epilog a b ∷ before) s p = holds c f before s p.1
 holds c f (SaveXMM128 r o ∷ before) s p =
     let t = run f before s in
-    let a = base t + offset_number o in
+    let a = base t + bytes_above o in
     let v = get_or s.xmm (r.0 - 17) 0 in
     let w = get_or t.xmm (r.0 - 17) 0 in
     let is : w ≡ v = ap (λ (xs : List ℕ). get_or xs (r.0 - 17) 0) (same_xmm f before s) in
@@ -82,7 +82,7 @@ holds c f (PushMachineFrame e ∷ o ∷ before) s p = absurd p.0.0
 holds c f (Noop ∷ before) s p = holds c f before s p.1
 
 -- the same of a memory that agrees on the slots
-pub known : (m : ℕ → Option ℕ) (mem : ℕ → ℕ) (c : Bool) (f : Frame) (codes : List UnwindOperation) (s : Machine) → AllByRecursion (λ a. m a ≡ Some (loaded mem a)) (slots c f codes s) → Holds (λ a v. loaded mem a ≡ v) c f codes s → Holds (λ a v. m a ≡ Some v) c f codes s
+pub known : (m : ℕ → Option ℕ) (mem : ℕ → ℕ) (c : Bool) (f : FrameRegister) (codes : List UnwindOperation) (s : Machine) → AllByRecursion (λ a. m a ≡ Some (loaded mem a)) (slots c f codes s) → Holds (λ a v. loaded mem a ≡ v) c f codes s → Holds (λ a v. m a ≡ Some v) c f codes s
 known m mem true f [] s all h = all.0 ∙ ap Some h
 known m mem false f [] s all h = tt
 known m mem c f (PushNonVolatile r ∷ before) s all h = (all.0 ∙ ap Some h.0, known m mem c f before s all.1 h.1)
@@ -92,7 +92,7 @@ known m mem c f (PushMachineFrame e ∷ before) s all h = (all.0 ∙ ap Some h.0
 known m mem c f (other ∷ before) s all h = known m mem c f before s all h
 
 -- the return address is among it
-pub return_slot : (P : ℕ → ℕ → Type 0) (f : Frame) (codes : List UnwindOperation) (s : Machine) → Holds P true f codes s → P (top s) (loaded s.memory (top s))
+pub return_slot : (P : ℕ → ℕ → Type 0) (f : FrameRegister) (codes : List UnwindOperation) (s : Machine) → Holds P true f codes s → P (machine_stack_pointer s) (loaded s.memory (machine_stack_pointer s))
 return_slot P f [] s h = h
 return_slot P f (PushNonVolatile r ∷ before) s h = return_slot P f before s h.1
 return_slot P f (SaveNonVolatile r o ∷ before) s h = return_slot P f before s h.1

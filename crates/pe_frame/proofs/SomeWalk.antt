@@ -1,5 +1,5 @@
--- There is a walk from each state.
-use Rattle.std.proofs.Common.{◌≢◌, ℕ, zero, suc, ◌-◌, Bool, true, false, List, [], ◌∷◌, Option, Some, None, Result, Ok, Err, refl, ap}
+-- Each frame has a caller, or a reason why it has none.
+use Rattle.std.proofs.Common.{◌≢◌, ℕ, ◌-◌, List, Option, Some, None, Result, Ok, Err, refl, ap}
 use Rattle.std.specs.Option.{option_map}
 use Rattle.pe_core.specs.Refusals.{Refusal, Memory}
 use Rattle.pe_unwind.specs.ExceptionTable.{ExceptionView, table_of}
@@ -9,7 +9,8 @@ use Rattle.pe_unwind.specs.declared.function_table.RuntimeFunction.{RuntimeFunct
 use Rattle.pe_plan.proofs.RecordLaw.{RecordLaw}
 use Rattle.pe_frame.specs.Epilogs.{epilog_at}
 use Rattle.pe_frame.specs.Modules.{module_at}
-use Rattle.pe_frame.specs.Walks.{Calls, CallsBy, CallsByPlan, CallsFound, CallsIn, Follows, FollowsBy, IsWalk, IsWalkBy, WalkState, code_of_frame, frame_after, leaf_caller, lookup_address, outside_caller, walk_after}
+use Rattle.pe_frame.specs.FrameWalks.{Process}
+use Rattle.pe_frame.specs.Walks.{Calls, CallsBy, CallsByPlan, CallsFound, CallsIn, code_of_frame, frame_after, caller_of_leaf, lookup_address, caller_outside}
 use Rattle.pe_frame.specs.declared.modules.Module.{Module}
 use Rattle.pe_frame.specs.declared.walk.StackFrame.{StackFrame}
 use Rattle.pe_frame.specs.declared.walk.WalkEnd.{WalkEnd}
@@ -18,8 +19,6 @@ use Rattle.pe_frame.proofs.Jumps.{some_in_image}
 use Rattle.pe_frame.proofs.SomeError.{some_error}
 use Rattle.pe_frame.proofs.SomeFunction.{some_function}
 use Rattle.pe_frame.proofs.SomeShortPlan.{some_short_plan}
-
--- ---- one caller
 
 abbrev Caller : (Result StackFrame WalkEnd → Type 0) → Type 0
 Caller Is = (answer : Result StackFrame WalkEnd) × Is answer
@@ -34,46 +33,22 @@ some_by_plan law memory modules m e f s (Ok (Some plan)) other =
     (frame_after memory modules left.0, (left.0, left.1, refl))
 
 some_found : (law : RecordLaw) (memory : ℕ → Option ℕ) (modules : List Module) (m : Module) (e : ExceptionView) (s : StackFrame) (found : Option RuntimeFunction) → Caller (CallsFound memory modules m e s found)
-some_found law memory modules m e s None = (leaf_caller memory modules s, refl)
+some_found law memory modules m e s None = (caller_of_leaf memory modules s, refl)
 some_found law memory modules m e s (Some f) =
     let plan = some_short_plan law (links_of e m.sections.now m.opts) e.content f in
     let caller = some_by_plan law memory modules m e f s plan.0 plan.2 in
     (caller.0, (plan.0, plan.1, caller.1))
 
 some_by : (law : RecordLaw) (memory : ℕ → Option ℕ) (modules : List Module) (m : Module) (s : StackFrame) (o : Option ExceptionView) → Caller (CallsBy memory modules m s o)
-some_by law memory modules m s None = (leaf_caller memory modules s, refl)
+some_by law memory modules m s None = (caller_of_leaf memory modules s, refl)
 some_by law memory modules m s (Some e) =
     let found = some_function (table_of e) (lookup_address s - m.base) in
     let caller = some_found law memory modules m e s found.0 in
     (caller.0, (found.0, found.1, caller.1))
 
 some_in : (law : RecordLaw) (memory : ℕ → Option ℕ) (modules : List Module) (s : StackFrame) (o : Option Module) → Caller (CallsIn memory modules s o)
-some_in law memory modules s None = (outside_caller memory modules s, refl)
+some_in law memory modules s None = (caller_outside memory modules s, refl)
 some_in law memory modules s (Some m) = some_by law memory modules m s (option_map (λ e. e.now) m.exceptions)
 
-pub some_caller : (law : RecordLaw) (memory : ℕ → Option ℕ) (modules : List Module) (s : StackFrame) → Caller (Calls memory modules s)
-some_caller law memory modules s = some_in law memory modules s (module_at modules (lookup_address s))
-
--- ---- one walk
-
-some_following : (law : RecordLaw) (returned : Bool) (w : WalkState) → Caller (FollowsBy returned w)
-some_following law true w = some_caller law w.memory w.modules w.frame
-some_following law false w = (Ok w.frame, refl)
-
-abbrev Walk : ℕ → WalkState → Type 0
-Walk n w = (frames : List StackFrame) × (end : WalkEnd) × IsWalkBy n w frames end
-
-by_following : (n : ℕ) (w : WalkState) → ((v : WalkState) → Walk n v) → (answer : Result StackFrame WalkEnd) → Follows w answer → Walk (suc n) w
-by_following n w more (Ok s) follows =
-    let rest = more (walk_after w (Ok s)) in
-    (s ∷ rest.0, rest.1, (follows, rest.2))
-by_following n w more (Err end) follows = ([], end, follows)
-
-from : (law : RecordLaw) (n : ℕ) (w : WalkState) → Walk n w
-from law zero w = ([], w.end, (refl, refl))
-from law (suc n) w =
-    let next = some_following law w.has_returned w in
-    by_following n w (λ v. from law n v) next.0 next.1
-
-pub some_walk : (law : RecordLaw) (w : WalkState) → (frames : List StackFrame) × (end : WalkEnd) × IsWalk w frames end
-some_walk law w = from law w.remaining w
+pub some_caller : (law : RecordLaw) (p : Process) (s : StackFrame) → Caller (Calls p s)
+some_caller law p s = some_in law p.memory p.modules s (module_at p.modules (lookup_address s))

@@ -11,9 +11,9 @@ use Rattle.pe_unwind.proofs.Streams.{one_code, starts_some}
 use Rattle.pe_frame.specs.declared.error.FrameError.{FrameError}
 use Rattle.pe_frame.specs.declared.record.Survey.{Survey}
 use Rattle.pe_frame.specs.declared.registers.Registers.{Registers}
-use Rattle.pe_frame.specs.Undoing.{has_run, ran, undone, undone_all, sets_frame, interrupts, is_framed, is_interrupted}
+use Rattle.pe_frame.specs.Undoing.{has_run, ran, undone, undone_all, sets_frame_register, interrupts, any_sets_frame_register, is_interrupted}
 use Rattle.pe_frame.specs.Steps.{known_codes}
-use Rattle.pe_frame.specs.Survey.{surveyed, joined_surveys, noted, undone_code}
+use Rattle.pe_frame.specs.Survey.{surveyed, joined_surveys, survey_with, undone_code}
 
 -- what the iterator gave stands before what it has left
 pub code_before : (s t : CodeStream) (code : UnwindCode) (rest : List (Result UnwindCode Error)) → ReturnsCode s (Some (Ok code)) t → AreItems t rest → AreItems s (Ok code ∷ rest)
@@ -29,21 +29,21 @@ or_three : (a b c : Bool) → (a || (b || c)) ≡ ((a || b) || c)
 or_three true b c = refl
 or_three false b c = refl
 
-framed_before : (b : Bool) (o : UnwindOperation) (os : List UnwindOperation) → is_framed (if b then o ∷ os else os) ≡ (is_framed (if b then o ∷ [] else []) || is_framed os)
-framed_before true o os = ap (λ (x : Bool). x || is_framed os) (sym (or_false (sets_frame o)))
+framed_before : (b : Bool) (o : UnwindOperation) (os : List UnwindOperation) → any_sets_frame_register (if b then o ∷ os else os) ≡ (any_sets_frame_register (if b then o ∷ [] else []) || any_sets_frame_register os)
+framed_before true o os = ap (λ (x : Bool). x || any_sets_frame_register os) (sym (or_false (sets_frame_register o)))
 framed_before false o os = refl
 
 interrupted_before : (b : Bool) (o : UnwindOperation) (os : List UnwindOperation) → is_interrupted (if b then o ∷ os else os) ≡ (is_interrupted (if b then o ∷ [] else []) || is_interrupted os)
 interrupted_before true o os = ap (λ (x : Bool). x || is_interrupted os) (sym (or_false (interrupts o)))
 interrupted_before false o os = refl
 
-same_survey : (a b : Survey) → a.sets_frame ≡ b.sets_frame → a.has_set_frame ≡ b.has_set_frame → a.is_interrupted ≡ b.is_interrupted → a ≡ b
+same_survey : (a b : Survey) → a.sets_frame_register ≡ b.sets_frame_register → a.has_set_frame_register ≡ b.has_set_frame_register → a.is_interrupted ≡ b.is_interrupted → a ≡ b
 same_survey a b e h k = grind arith
 
-surveyed_before : (limit : Option ℕ) (a : Survey) (c : UnwindCode) (cs : List UnwindCode) → joined_surveys a (surveyed limit (c ∷ cs)) ≡ joined_surveys (noted limit a c) (surveyed limit cs)
-surveyed_before limit a c cs = same_survey (joined_surveys a (surveyed limit (c ∷ cs))) (joined_surveys (noted limit a c) (surveyed limit cs))
-    (ap (λ (x : Bool). a.sets_frame || x) (framed_before true c.operation (ran None cs)) ∙ or_three a.sets_frame (is_framed (c.operation ∷ [])) (is_framed (ran None cs)))
-    (ap (λ (x : Bool). a.has_set_frame || x) (framed_before (has_run limit c) c.operation (ran limit cs)) ∙ or_three a.has_set_frame (is_framed (ran limit (c ∷ []))) (is_framed (ran limit cs)))
+surveyed_before : (limit : Option ℕ) (a : Survey) (c : UnwindCode) (cs : List UnwindCode) → joined_surveys a (surveyed limit (c ∷ cs)) ≡ joined_surveys (survey_with limit a c) (surveyed limit cs)
+surveyed_before limit a c cs = same_survey (joined_surveys a (surveyed limit (c ∷ cs))) (joined_surveys (survey_with limit a c) (surveyed limit cs))
+    (ap (λ (x : Bool). a.sets_frame_register || x) (framed_before true c.operation (ran None cs)) ∙ or_three a.sets_frame_register (any_sets_frame_register (c.operation ∷ [])) (any_sets_frame_register (ran None cs)))
+    (ap (λ (x : Bool). a.has_set_frame_register || x) (framed_before (has_run limit c) c.operation (ran limit cs)) ∙ or_three a.has_set_frame_register (any_sets_frame_register (ran limit (c ∷ []))) (any_sets_frame_register (ran limit cs)))
     (ap (λ (x : Bool). a.is_interrupted || x) (interrupted_before (has_run limit c) c.operation (ran limit cs)) ∙ or_three a.is_interrupted (is_interrupted (ran limit (c ∷ []))) (is_interrupted (ran limit cs)))
 
 -- a survey of some codes and of those that are left
@@ -51,16 +51,16 @@ abbrev pub all_surveyed : Option ℕ → Survey → Result (List UnwindCode) Fra
 all_surveyed limit a codes = codes >>= λ cs. Ok (joined_surveys a (surveyed limit cs))
 
 with_code : (limit : Option ℕ) (a : Survey) (c : UnwindCode) (codes : Result (List UnwindCode) FrameError) →
-    all_surveyed limit a (codes >>= λ cs. Ok (c ∷ cs)) ≡ all_surveyed limit (noted limit a c) codes
+    all_surveyed limit a (codes >>= λ cs. Ok (c ∷ cs)) ≡ all_surveyed limit (survey_with limit a c) codes
 with_code limit a c (Ok cs) = ap Ok (surveyed_before limit a c cs)
 with_code limit a c (Err e) = refl
 
 pub surveyed_code : (limit : Option ℕ) (a : Survey) (c : UnwindCode) (rest : List (Result UnwindCode Error)) →
-    all_surveyed limit a (known_codes (Ok c ∷ rest)) ≡ all_surveyed limit (noted limit a c) (known_codes rest)
+    all_surveyed limit a (known_codes (Ok c ∷ rest)) ≡ all_surveyed limit (survey_with limit a c) (known_codes rest)
 surveyed_code limit a c rest = with_code limit a c (known_codes rest)
 
 pub surveyed_none : (limit : Option ℕ) (a : Survey) → all_surveyed limit a (known_codes []) ≡ Ok a
-surveyed_none limit a = ap Ok (same_survey (joined_surveys a (surveyed limit [])) a (or_false a.sets_frame) (or_false a.has_set_frame) (or_false a.is_interrupted))
+surveyed_none limit a = ap Ok (same_survey (joined_surveys a (surveyed limit [])) a (or_false a.sets_frame_register) (or_false a.has_set_frame_register) (or_false a.is_interrupted))
 
 -- the codes of a stream, of which none is refused
 abbrev pub AreCodes : CodeStream → List UnwindCode → Type 0
@@ -105,3 +105,40 @@ pub undone_on : (m : ℕ → Option ℕ) (base : ℕ) (limit : Option ℕ) (c : 
     codes ≡ c ∷ rest → undone_code m base limit c g ≡ r → undone_all m base (ran limit codes) g ≡ all → (r >>= undone_all m base (ran limit rest)) ≡ all
 undone_on m base limit c rest codes g r all is e h =
     sym (rw is (undone_before m base limit c rest g ∙ ap (λ (x : Result Registers FrameError). x >>= undone_all m base (ran limit rest)) e)) ∙ h
+
+-- a survey of some codes and of those that are left, and what undoing these gives
+abbrev pub all_undone : (ℕ → Option ℕ) → ℕ → Option ℕ → Survey → Result Registers FrameError → Result (List UnwindCode) FrameError → Result (Survey × Result Registers FrameError) FrameError
+all_undone m base limit a r codes = codes >>= λ cs. Ok (joined_surveys a (surveyed limit cs), r >>= undone_all m base (ran limit cs))
+
+undone_from : (m : ℕ → Option ℕ) (base : ℕ) (limit : Option ℕ) (c : UnwindCode) (cs : List UnwindCode) (r : Result Registers FrameError) →
+    (r >>= undone_all m base (ran limit (c ∷ cs))) ≡ ((r >>= undone_code m base limit c) >>= undone_all m base (ran limit cs))
+undone_from m base limit c cs (Ok g) = undone_before m base limit c cs g
+undone_from m base limit c cs (Err e) = refl
+
+abbrev surveyed_pair : Survey → Result Registers FrameError → Survey × Result Registers FrameError
+surveyed_pair a r = (a, r)
+
+same_pair : (a b : Survey) (r q : Result Registers FrameError) → a ≡ b → r ≡ q → surveyed_pair a r ≡ surveyed_pair b q
+same_pair a b r q h k = rw (h, k) refl
+
+undone_with_code : (m : ℕ → Option ℕ) (base : ℕ) (limit : Option ℕ) (a : Survey) (r : Result Registers FrameError) (c : UnwindCode) (codes : Result (List UnwindCode) FrameError) →
+    all_undone m base limit a r (codes >>= λ cs. Ok (c ∷ cs)) ≡ all_undone m base limit (survey_with limit a c) (r >>= undone_code m base limit c) codes
+undone_with_code m base limit a r c (Ok cs) =
+    ap Ok (same_pair (joined_surveys a (surveyed limit (c ∷ cs))) (joined_surveys (survey_with limit a c) (surveyed limit cs))
+    (r >>= undone_all m base (ran limit (c ∷ cs))) ((r >>= undone_code m base limit c) >>= undone_all m base (ran limit cs))
+    (surveyed_before limit a c cs) (undone_from m base limit c cs r))
+undone_with_code m base limit a r c (Err e) = refl
+
+-- one code more: the survey and the registers after it
+pub undone_more : (m : ℕ → Option ℕ) (base : ℕ) (limit : Option ℕ) (a b : Survey) (r q : Result Registers FrameError) (c : UnwindCode) (rest : List (Result UnwindCode Error)) →
+    b ≡ survey_with limit a c → q ≡ (r >>= undone_code m base limit c) → all_undone m base limit a r (known_codes (Ok c ∷ rest)) ≡ all_undone m base limit b q (known_codes rest)
+undone_more m base limit a b r q c rest h k = rw (h, k) (undone_with_code m base limit a r c (known_codes rest))
+
+undone_to_end : (m : ℕ → Option ℕ) (base : ℕ) (r : Result Registers FrameError) → (r >>= undone_all m base []) ≡ r
+undone_to_end m base (Ok g) = refl
+undone_to_end m base (Err e) = refl
+
+pub undone_none : (m : ℕ → Option ℕ) (base : ℕ) (limit : Option ℕ) (a : Survey) (r : Result Registers FrameError) → all_undone m base limit a r (known_codes []) ≡ Ok (surveyed_pair a r)
+undone_none m base limit a r =
+    ap Ok (same_pair (joined_surveys a (surveyed limit [])) a (r >>= undone_all m base []) r
+    (same_survey (joined_surveys a (surveyed limit [])) a (or_false a.sets_frame_register) (or_false a.has_set_frame_register) (or_false a.is_interrupted)) (undone_to_end m base r))

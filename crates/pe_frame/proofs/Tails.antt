@@ -6,34 +6,34 @@ use Rattle.pe_frame.specs.declared.epilog.Instruction.{Instruction}
 use Rattle.pe_frame.specs.declared.epilog.Instruction.TheVariants.{Pop}
 use Rattle.pe_frame.specs.declared.error.FrameError.{FrameError}
 use Rattle.pe_frame.specs.declared.registers.Registers.{Registers}
-use Rattle.pe_frame.specs.Epilogs.{pop_form, popped_first, after_pops, executed, executed_all}
+use Rattle.pe_frame.specs.Epilogs.{pop_at, popped_first, after_pops, executed, executed_all}
 use Rattle.pe_frame.specs.Jumps.{before_last, direct_target, target_of}
 use Rattle.pe_frame.specs.Tails.{alone}
 
-pub after_step : (k n : ℕ) (code : List ℕ) (p : ℕ × ℕ) → k ≡ suc n → pop_form code ≡ Some p → after_pops k code ≡ after_pops n (drop p.1 code)
+pub after_step : (k n : ℕ) (code : List ℕ) (p : ℕ × ℕ) → k ≡ suc n → pop_at code ≡ Some p → after_pops k code ≡ after_pops n (drop p.1 code)
 unfolding after_pops
 after_step k n code p e f = rw e (rw f refl)
 
-pub after_none : (k : ℕ) (code : List ℕ) → pop_form code ≡ None → after_pops k code ≡ code
+pub after_none : (k : ℕ) (code : List ℕ) → pop_at code ≡ None → after_pops k code ≡ code
 unfolding after_pops
 after_none zero code f = refl
 after_none (suc n) code f = rw f refl
 
-pub first_step : (k n : ℕ) (code : List ℕ) (p : ℕ × ℕ) → k ≡ suc n → pop_form code ≡ Some p → popped_first k code ≡ p.0 ∷ popped_first n (drop p.1 code)
+pub first_step : (k n : ℕ) (code : List ℕ) (p : ℕ × ℕ) → k ≡ suc n → pop_at code ≡ Some p → popped_first k code ≡ p.0 ∷ popped_first n (drop p.1 code)
 unfolding popped_first
 first_step k n code p e f = rw e (rw f refl)
 
-pub first_none : (k : ℕ) (code : List ℕ) → pop_form code ≡ None → popped_first k code ≡ []
+pub first_none : (k : ℕ) (code : List ℕ) → pop_at code ≡ None → popped_first k code ≡ []
 unfolding popped_first
 first_none zero code f = refl
 first_none (suc n) code f = rw f refl
 
 -- one pop run, and the others after it
-pub pops_step : (m : ℕ → Option ℕ) (k n : ℕ) (code : List ℕ) (p : ℕ × ℕ) (g : Registers) (r : Result Registers FrameError) → k ≡ suc n → pop_form code ≡ Some p → executed m (Pop p.0) g ≡ r →
+pub pops_step : (m : ℕ → Option ℕ) (k n : ℕ) (code : List ℕ) (p : ℕ × ℕ) (g : Registers) (r : Result Registers FrameError) → k ≡ suc n → pop_at code ≡ Some p → executed m (Pop p.0) g ≡ r →
     executed_all m (map Pop (popped_first k code)) g ≡ (r >>= executed_all m (map Pop (popped_first n (drop p.1 code))))
 pops_step m k n code p g r e f h = rw (first_step k n code p e f) (rw h refl)
 
-pub pops_none : (m : ℕ → Option ℕ) (k : ℕ) (code : List ℕ) (g : Registers) → pop_form code ≡ None → executed_all m (map Pop (popped_first k code)) g ≡ Ok g
+pub pops_none : (m : ℕ → Option ℕ) (k : ℕ) (code : List ℕ) (g : Registers) → pop_at code ≡ None → executed_all m (map Pop (popped_first k code)) g ≡ Ok g
 pops_none m k code g f = rw (first_none k code f) refl
 
 pub after_all : (k : ℕ) (code : List ℕ) → k ≡ 0 → after_pops k code ≡ code

@@ -5,8 +5,9 @@ use Rattle.pe_frame.specs.declared.arm64.operation.Arm64Register.{Arm64Register}
 use Rattle.pe_frame.specs.declared.arm64.operation.Arm64Register.TheVariants.{X, D}
 use Rattle.pe_frame.specs.declared.arm64.registers.Arm64Registers.{Arm64Registers}
 use Rattle.pe_frame.specs.Machine.{loaded, stored, Apart, chosen}
-use Rattle.pe_frame.specs.Arm64Operations.{Arm64Effect, Lower, Store, PointFrame, SignLink, is_register}
+use Rattle.pe_frame.specs.Arm64Operations.{Arm64Effect, Lower, Store, SetFramePointer, SignLink, is_register}
 use Rattle.pe_frame.specs.Arm64Undoing.{frame_pointer, link_register, stripped}
+use Rattle.pe_frame.specs.declared.arm64.registers.TheConstants.{FRAME_POINTER, LINK_REGISTER}
 
 -- A machine: x0 to x30, d8 to d15, its stack pointer, its memory byte by byte, and what signing makes of an address.
 pub record Arm64Machine : Type 0 where
@@ -25,8 +26,8 @@ held s (D r) = slice_index s.float r
 abbrev pub caused : Arm64Effect → Arm64Machine → Arm64Machine
 caused (Lower n) s = record { general = s.general; float = s.float; sp = s.sp - n; memory = s.memory; sign = s.sign }
 caused (Store r o) s = record { general = s.general; float = s.float; sp = s.sp; memory = stored s.memory (s.sp + o) (held s r); sign = s.sign }
-caused (PointFrame n) s = record { general = slice_set s.general 29 (s.sp + n); float = s.float; sp = s.sp; memory = s.memory; sign = s.sign }
-caused SignLink s = record { general = slice_set s.general 30 (s.sign (slice_index s.general 30)); float = s.float; sp = s.sp; memory = s.memory; sign = s.sign }
+caused (SetFramePointer n) s = record { general = slice_set s.general FRAME_POINTER (s.sp + n); float = s.float; sp = s.sp; memory = s.memory; sign = s.sign }
+caused SignLink s = record { general = slice_set s.general LINK_REGISTER (s.sign (slice_index s.general LINK_REGISTER)); float = s.float; sp = s.sp; memory = s.memory; sign = s.sign }
 
 -- the machine after these effects
 abbrev pub run_arm64 : List Arm64Effect → Arm64Machine → Arm64Machine
@@ -40,15 +41,15 @@ stored_at (Store r o ∷ before) s = ((run_arm64 before s).sp + o) ∷ stored_at
 stored_at (other ∷ before) s = stored_at before s
 
 -- x29 was set to the frame
-abbrev pub points_frame : List Arm64Effect → Bool
-points_frame [] = false
-points_frame (PointFrame n ∷ before) = true
-points_frame (other ∷ before) = points_frame before
+abbrev pub sets_frame_pointer : List Arm64Effect → Bool
+sets_frame_pointer [] = false
+sets_frame_pointer (SetFramePointer n ∷ before) = true
+sets_frame_pointer (other ∷ before) = sets_frame_pointer before
 
 -- x29 is not stored once it is set
-abbrev pub LeavesFrame : Bool → Arm64Register → Type 0
-LeavesFrame false r = Unit {0}
-LeavesFrame true r = r ≢ X 29
+abbrev pub KeepsFramePointer : Bool → Arm64Register → Type 0
+KeepsFramePointer false r = Unit {0}
+KeepsFramePointer true r = r ≢ X FRAME_POINTER
 
 -- An effect that a prolog may have after those before it, on the machine that these left.
 -- The stack pointer: not below address 0.
@@ -58,11 +59,11 @@ LeavesFrame true r = r ≢ X 29
 abbrev pub MayCome : List Arm64Effect → Arm64Machine → Arm64Machine → Arm64Effect → Type 0
 MayCome before s t (Lower n) = n ≤ t.sp
 MayCome before s t (Store r o) =
-    (is_register r ≡ true) × LeavesFrame (points_frame before) r × (t.sp + o < 2 ^ 64)
+    (is_register r ≡ true) × KeepsFramePointer (sets_frame_pointer before) r × (t.sp + o < 2 ^ 64)
     × AllByRecursion (Apart (t.sp + o)) (stored_at before s)
-MayCome before s t (PointFrame n) = (points_frame before ≡ false) × (t.sp + n < 2 ^ 64)
+MayCome before s t (SetFramePointer n) = (sets_frame_pointer before ≡ false) × (t.sp + n < 2 ^ 64)
 MayCome before s t SignLink =
-    (t.sign (slice_index t.general 30) < 2 ^ 64) × (stripped (t.sign (slice_index t.general 30)) ≡ slice_index t.general 30)
+    (t.sign (slice_index t.general LINK_REGISTER) < 2 ^ 64) × (stripped (t.sign (slice_index t.general LINK_REGISTER)) ≡ slice_index t.general LINK_REGISTER)
 
 -- the function is entered: its registers have 64 bits
 pub record IsArm64Entered (s : Arm64Machine) : Type 0 where
@@ -81,15 +82,15 @@ IsArm64Prolog (e ∷ before) s = MayCome before s (run_arm64 before s) e × IsAr
 abbrev pub StoresLate : List Arm64Effect → Type 0
 StoresLate [] = ⊥
 StoresLate (Store r o ∷ before) = Unit {0}
-StoresLate (PointFrame n ∷ before) = ⊥
+StoresLate (SetFramePointer n ∷ before) = ⊥
 StoresLate (other ∷ before) = StoresLate before
 
 -- The stack pointer is where the prolog left it. Once x29 is set, and is as it was set, it may be anywhere below unless a
 -- register was stored after that.
-abbrev pub KeepsPlace : Bool → List Arm64Effect → Arm64Machine → Arm64Registers → Type 0
-KeepsPlace false effects t g = g.sp ≡ t.sp
-KeepsPlace true effects t g =
-    (g.sp ≤ t.sp) × (StoresLate effects → g.sp ≡ t.sp) × (frame_pointer g ≡ slice_index t.general 29)
+abbrev pub KeepsStackPointerArm64 : Bool → List Arm64Effect → Arm64Machine → Arm64Registers → Type 0
+KeepsStackPointerArm64 false effects t g = g.sp ≡ t.sp
+KeepsStackPointerArm64 true effects t g =
+    (g.sp ≤ t.sp) × (StoresLate effects → g.sp ≡ t.sp) × (frame_pointer g ≡ slice_index t.general FRAME_POINTER)
 
 -- one of the effects stored the register, of x0 to x30 and of d8 to d15
 abbrev pub stores : List Arm64Effect → ℕ → Bool
@@ -107,14 +108,14 @@ stores_float (other ∷ before) r = stores_float before r
 pub record IsArm64Body (effects : List Arm64Effect) (s : Arm64Machine) (m : ℕ → Option ℕ) (g : Arm64Registers) : Type 0 where
   pub count : length g.general ≡ 31
   pub float_count : length g.float ≡ 8
-  pub stack : KeepsPlace (points_frame effects) effects (run_arm64 effects s) g
-  pub link : (stores effects 30 ≡ true) ⊎ (link_register g ≡ slice_index (run_arm64 effects s).general 30)
+  pub stack : KeepsStackPointerArm64 (sets_frame_pointer effects) effects (run_arm64 effects s) g
+  pub link : (stores effects LINK_REGISTER ≡ true) ⊎ (link_register g ≡ slice_index (run_arm64 effects s).general LINK_REGISTER)
   pub memory : AllByRecursion (λ a. m a ≡ Some (loaded (run_arm64 effects s).memory a)) (stored_at effects s)
 
 -- the registers of the caller: where the function was entered, those that the prolog stored, and else those that there are
 pub record IsArm64Caller (effects : List Arm64Effect) (s : Arm64Machine) (g u : Arm64Registers) : Type 0 where
   pub stack : u.sp ≡ s.sp
-  pub returns : u.pc ≡ slice_index s.general 30
-  pub link : link_register u ≡ slice_index s.general 30
-  pub registers : (r : ℕ) → r ≢ 30 → slice_index u.general r ≡ chosen (stores effects r) (slice_index s.general r) (slice_index g.general r)
+  pub returns : u.pc ≡ slice_index s.general LINK_REGISTER
+  pub link : link_register u ≡ slice_index s.general LINK_REGISTER
+  pub registers : (r : ℕ) → r ≢ LINK_REGISTER → slice_index u.general r ≡ chosen (stores effects r) (slice_index s.general r) (slice_index g.general r)
   pub floats : (r : ℕ) → slice_index u.float r ≡ chosen (stores_float effects r) (slice_index s.float r) (slice_index g.float r)

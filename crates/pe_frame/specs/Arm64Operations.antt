@@ -7,6 +7,7 @@ use Rattle.pe_frame.specs.declared.arm64.operation.Arm64Operation.{Arm64Operatio
 use Rattle.pe_frame.specs.declared.arm64.operation.Arm64Operation.TheVariants.{Allocate, Save, SavePair, SaveWithLink, SaveEach, SetFrame, Sign, Nothing}
 use Rattle.pe_frame.specs.declared.arm64.operation.Arm64Register.{Arm64Register}
 use Rattle.pe_frame.specs.declared.arm64.operation.Arm64Register.TheVariants.{X, D}
+use Rattle.pe_frame.specs.declared.arm64.registers.TheConstants.{FRAME_POINTER, LINK_REGISTER}
 
 -- the register so many after another
 abbrev pub register_after : ℕ → Arm64Register → Arm64Register
@@ -42,8 +43,8 @@ float_operation other = None
 -- codes of integer registers, and these
 abbrev pub save_operation : Arm64UnwindCode → Option Arm64Operation
 save_operation (SaveR19R20Preindexed n) = save_pair (X 19) 0 n
-save_operation (SaveFpLr o) = save_pair (X 29) o 0
-save_operation (SaveFpLrPreindexed n) = save_pair (X 29) 0 n
+save_operation (SaveFpLr o) = save_pair (X FRAME_POINTER) o 0
+save_operation (SaveFpLrPreindexed n) = save_pair (X FRAME_POINTER) 0 n
 save_operation (SaveRegPair r o) = save_pair (X r) o 0
 save_operation (SaveRegPairPreindexed r n) = save_pair (X r) 0 n
 save_operation (SaveReg r o) = save (X r) o 0
@@ -106,7 +107,7 @@ operation_in before c = if is_save_next c then next_operation 1 before else oper
 pub data Arm64Effect : Type 0 where
   Lower : ℕ → Arm64Effect
   Store : Arm64Register → ℕ → Arm64Effect
-  PointFrame : ℕ → Arm64Effect
+  SetFramePointer : ℕ → Arm64Effect
   SignLink : Arm64Effect
 
 -- a store, if the slot has a register that is restored
@@ -119,9 +120,9 @@ abbrev pub effects_of : Arm64Operation → List Arm64Effect
 effects_of (Allocate n) = Lower n ∷ []
 effects_of (Save r o n) = Store r o ∷ Lower n ∷ []
 effects_of (SavePair r q o n) = Store r o ∷ Store q (o + 8) ∷ Lower n ∷ []
-effects_of (SaveWithLink r o) = Store r o ∷ Store (X 30) (o + 8) ∷ Lower 0 ∷ []
+effects_of (SaveWithLink r o) = Store r o ∷ Store (X LINK_REGISTER) (o + 8) ∷ Lower 0 ∷ []
 effects_of (SaveEach a b o apart) = store_some a o ++ store_some b (o + apart)
-effects_of (SetFrame n) = PointFrame n ∷ []
+effects_of (SetFrame n) = SetFramePointer n ∷ []
 effects_of Sign = SignLink ∷ []
 effects_of Nothing = []
 

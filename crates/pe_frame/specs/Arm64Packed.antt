@@ -8,7 +8,7 @@ use Rattle.pe_frame.specs.declared.arm64.packed.PackedFrame.{PackedFrame}
 use Rattle.pe_frame.specs.declared.arm64.registers.Arm64Registers.{Arm64Registers}
 use Rattle.pe_frame.specs.declared.error.FrameError.{FrameError}
 use Rattle.pe_frame.specs.declared.error.FrameError.TheVariants.{Packed}
-use Rattle.pe_frame.specs.Arm64Undoing.{caller_by}
+use Rattle.pe_frame.specs.Arm64Undoing.{caller_by_list}
 use Rattle.pe_frame.specs.Arm64Steps.{prolog_length, ran_arm64, epilog_start, left_in_epilog}
 
 -- how many floating-point registers are saved, by RegF
@@ -155,6 +155,6 @@ packed_left d place =
     else left_after d place (packed_codes d)
 
 -- what a step returns, by packed unwind data and how many instructions before the instruction pointer the function has
-abbrev pub stepped_packed : (ℕ → Option ℕ) → ℕ → ℕ → Arm64Registers → Result Arm64Registers FrameError
-stepped_packed m d place g =
-    if is_canonical d then caller_by m (packed_left d place) g else Err (Packed d)
+abbrev pub stepped_arm64_packed : (ℕ → Option ℕ) → ℕ → ℕ → Arm64Registers → Result Arm64Registers FrameError
+stepped_arm64_packed m d place g =
+    if is_canonical d then caller_by_list m (packed_left d place) g else Err (Packed d)

@@ -8,7 +8,7 @@ use Rattle.pe_frame.specs.declared.arm64.operation.Arm64Register.{Arm64Register}
 use Rattle.pe_unwind.specs.Arm64Record.{Arm64InfoView}
 use Rattle.pe_frame.specs.declared.arm64.epilog.Arm64Epilog.{Arm64Epilog}
 use Rattle.pe_frame.specs.declared.arm64.registers.Arm64Registers.{Arm64Registers}
-use Rattle.pe_frame.specs.Arm64Undoing.{caller_out}
+use Rattle.pe_frame.specs.Arm64Undoing.{caller_by_codes}
 use Rattle.pe_frame.specs.declared.error.FrameError.{FrameError}
 use Rattle.pe_frame.specs.Arm64Operations.{is_register, register_after}
 use Rattle.pe_frame.specs.Arm64Steps.{is_end, LeavesIn, AreOver, AreTruncated, IsOfTruncated, HasArm64Codes}
@@ -43,4 +43,4 @@ with_nexts n codes = replicate n SaveNext ++ codes
 abbrev pub StepsIn : (ℕ → Option ℕ) → Arm64InfoView → ℕ → List Arm64UnwindCode → Option Arm64Epilog → Arm64Registers → Result (Arm64Registers × Bool) FrameError → Type 0
 StepsIn m i place cs epilog g answer =
     (left : Result (List Arm64UnwindCode) FrameError) × LeavesIn i place cs epilog left
-    × (answer ≡ left >>= λ ds. caller_out m ds g)
+    × (answer ≡ left >>= λ ds. caller_by_codes m ds g)

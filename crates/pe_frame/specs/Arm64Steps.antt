@@ -13,7 +13,7 @@ use Rattle.pe_frame.specs.declared.arm64.registers.Arm64Registers.{Arm64Register
 use Rattle.pe_frame.specs.declared.error.FrameError.{FrameError}
 use Rattle.pe_frame.specs.declared.error.FrameError.TheVariants.{Codes}
 use Rattle.pe_frame.specs.Steps.{Then, registers_alone}
-use Rattle.pe_frame.specs.Arm64Undoing.{caller_out}
+use Rattle.pe_frame.specs.Arm64Undoing.{caller_by_codes}
 
 abbrev pub is_end : Arm64UnwindCode → Bool
 is_end End = true
@@ -85,6 +85,10 @@ abbrev pub epilog_start : ℕ → Option ℕ → ℕ → ℕ
 epilog_start count None n = count - (n + 1)
 epilog_start count (Some start) n = start
 
+-- the same of an epilog with these codes, by the record
+abbrev pub epilog_start_in : Arm64InfoView → Arm64Epilog → List Arm64UnwindCode → ℕ
+epilog_start_in i e es = epilog_start (bits i.header 0 18) e.start (prolog_length es)
+
 -- The codes that are left to be undone, by those of an epilog and of the prolog: of the epilog those whose instructions have not
 -- run, if the place is in it or at its return.
 abbrev pub left_in_epilog : ℕ → ℕ → List Arm64UnwindCode → List Arm64UnwindCode → List Arm64UnwindCode
@@ -99,7 +103,7 @@ abbrev pub LeavesIn : Arm64InfoView → ℕ → List Arm64UnwindCode → Option 
 LeavesIn i place cs None left = left ≡ Ok (ran_arm64 place cs)
 LeavesIn i place cs (Some e) left =
     (codes : Result (List Arm64UnwindCode) FrameError) × HasArm64Codes (drop e.index i.codes) codes
-    × (left ≡ codes >>= λ es. Ok (left_in_epilog place (epilog_start (bits i.header 0 18) e.start (prolog_length es)) es cs))
+    × (left ≡ codes >>= λ es. Ok (left_in_epilog place (epilog_start_in i e es) es cs))
 
 abbrev pub Leaves : Arm64InfoView → ℕ → Result (List Arm64UnwindCode) FrameError → Type 0
 Leaves i place left =
@@ -110,9 +114,9 @@ Leaves i place left =
 -- no call left the caller
 abbrev pub StepsOutArm64 : (ℕ → Option ℕ) → Arm64InfoView → ℕ → Arm64Registers → Result (Arm64Registers × Bool) FrameError → Type 0
 StepsOutArm64 m i place g answer =
-    (left : Result (List Arm64UnwindCode) FrameError) × Leaves i place left × (answer ≡ left >>= λ cs. caller_out m cs g)
+    (left : Result (List Arm64UnwindCode) FrameError) × Leaves i place left × (answer ≡ left >>= λ cs. caller_by_codes m cs g)
 
 abbrev pub StepsArm64 : (ℕ → Option ℕ) → Arm64InfoView → ℕ → Arm64Registers → Result Arm64Registers FrameError → Type 0
 StepsArm64 m i place g answer =
     (left : Result (List Arm64UnwindCode) FrameError) × Leaves i place left
-    × (answer ≡ left >>= λ cs. registers_alone (caller_out m cs g))
+    × (answer ≡ left >>= λ cs. registers_alone (caller_by_codes m cs g))

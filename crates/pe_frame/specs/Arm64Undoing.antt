@@ -12,14 +12,15 @@ use Rattle.pe_frame.specs.declared.arm64.registers.Arm64Registers.{Arm64Register
 use Rattle.pe_frame.specs.declared.error.FrameError.{FrameError}
 use Rattle.pe_frame.specs.declared.error.FrameError.TheVariants.{Arm64Code, NotRising}
 use Rattle.pe_frame.specs.Undoing.{number, above, below_register}
-use Rattle.pe_frame.specs.Arm64Operations.{Arm64Effect, Lower, Store, PointFrame, SignLink, effects_of, operation_in}
+use Rattle.pe_frame.specs.Arm64Operations.{Arm64Effect, Lower, Store, SetFramePointer, SignLink, effects_of, operation_in}
+use Rattle.pe_frame.specs.declared.arm64.registers.TheConstants.{FRAME_POINTER, LINK_REGISTER}
 
 -- x29 and the link register x30
 abbrev pub frame_pointer : Arm64Registers → ℕ
-frame_pointer g = slice_index g.general 29
+frame_pointer g = slice_index g.general FRAME_POINTER
 
 abbrev pub link_register : Arm64Registers → ℕ
-link_register g = slice_index g.general 30
+link_register g = slice_index g.general LINK_REGISTER
 
 -- the same registers with another value in one of them, in the stack pointer, in the instruction pointer
 abbrev pub put_saved : Arm64Registers → Arm64Register → ℕ → Arm64Registers
@@ -41,8 +42,8 @@ stripped a = if a / 2 ^ 55 % 2 == 1 then a % 2 ^ 48 + (2 ^ 64 - 2 ^ 48) else a %
 abbrev pub reverted : (ℕ → Option ℕ) → Arm64Effect → Arm64Registers → Result Arm64Registers FrameError
 reverted m (Lower n) g = above g.sp n >>= λ a. Ok (put_sp g a)
 reverted m (Store r o) g = above g.sp o >>= λ a. number m a >>= λ v. Ok (put_saved g r v)
-reverted m (PointFrame n) g = below_register (frame_pointer g) n >>= λ a. Ok (put_sp g a)
-reverted m SignLink g = Ok (put_saved g (X 30) (stripped (link_register g)))
+reverted m (SetFramePointer n) g = below_register (frame_pointer g) n >>= λ a. Ok (put_sp g a)
+reverted m SignLink g = Ok (put_saved g (X LINK_REGISTER) (stripped (link_register g)))
 
 -- the same of effects, the last of them first
 abbrev pub reverted_all : (ℕ → Option ℕ) → List Arm64Effect → Arm64Registers → Result Arm64Registers FrameError
@@ -52,8 +53,8 @@ reverted_all m (e ∷ before) g = reverted m e g >>= reverted_all m before
 -- ---- frames of the operating system's own (winnt.h: CONTEXT, MSFT_OP_MACHINE_FRAME, MSFT_OP_CONTEXT)
 
 -- the stack pointer and, eight bytes above it, the instruction pointer, from so far above the stack pointer
-abbrev pub pointers_at : (ℕ → Option ℕ) → ℕ → Arm64Registers → Result Arm64Registers FrameError
-pointers_at m o g =
+abbrev pub loaded_pointers : (ℕ → Option ℕ) → ℕ → Arm64Registers → Result Arm64Registers FrameError
+loaded_pointers m o g =
     above g.sp o >>= λ a. number m a >>= λ sp. above a 8 >>= λ b. number m b >>= λ pc. Ok (put_pc (put_sp g sp) pc)
 
 -- The registers of a CONTEXT record by a count, and where it has them: X, which is x0 to x30, from 8 on; then d8 to d15, which
@@ -70,13 +71,13 @@ context_stores zero = []
 context_stores (suc n) = Store (context_register n) (context_offset n) ∷ context_stores n
 
 -- the registers in a CONTEXT record at the stack pointer, with Sp at 100h and Pc at 108h
-abbrev pub context_at : (ℕ → Option ℕ) → Arm64Registers → Result Arm64Registers FrameError
-context_at m g = reverted_all m (context_stores 39) g >>= pointers_at m 0x100
+abbrev pub loaded_context : (ℕ → Option ℕ) → Arm64Registers → Result Arm64Registers FrameError
+loaded_context m g = reverted_all m (context_stores 39) g >>= loaded_pointers m 0x100
 
 -- The registers before a code that stands for no instruction: a machine frame has the stack pointer and the instruction pointer.
 abbrev pub undone_custom : (ℕ → Option ℕ) → Arm64UnwindCode → Arm64Registers → Result Arm64Registers FrameError
-undone_custom m (CustomStack MachineFrame) g = pointers_at m 0 g
-undone_custom m (CustomStack Context) g = context_at m g
+undone_custom m (CustomStack MachineFrame) g = loaded_pointers m 0 g
+undone_custom m (CustomStack Context) g = loaded_context m g
 undone_custom m (CustomStack ClearUnwoundToCall) g = Ok g
 undone_custom m other g = Err (Arm64Code other)
 
@@ -114,9 +115,9 @@ abbrev pub left_arm64 : ℕ → Arm64Entry → Arm64Registers → Result (Arm64R
 left_arm64 p e u = if e.has_pc then Ok (u, true) else returned_arm64 p u >>= λ c. Ok (c, e.is_interrupt)
 
 -- the caller's registers, where the instructions of these codes are left to be undone
-abbrev pub caller_by : (ℕ → Option ℕ) → List Arm64UnwindCode → Arm64Registers → Result Arm64Registers FrameError
-caller_by m codes g = undone_codes m codes g >>= returned_arm64 g.sp
+abbrev pub caller_by_list : (ℕ → Option ℕ) → List Arm64UnwindCode → Arm64Registers → Result Arm64Registers FrameError
+caller_by_list m codes g = undone_codes m codes g >>= returned_arm64 g.sp
 
 -- the same by codes of which some may be of the operating system's own frames
-abbrev pub caller_out : (ℕ → Option ℕ) → List Arm64UnwindCode → Arm64Registers → Result (Arm64Registers × Bool) FrameError
-caller_out m codes g = undone_codes m codes g >>= left_arm64 g.sp (entry_of codes)
+abbrev pub caller_by_codes : (ℕ → Option ℕ) → List Arm64UnwindCode → Arm64Registers → Result (Arm64Registers × Bool) FrameError
+caller_by_codes m codes g = undone_codes m codes g >>= left_arm64 g.sp (entry_of codes)

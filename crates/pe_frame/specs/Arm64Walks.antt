@@ -1,8 +1,8 @@
 -- Walks of a stack on ARM64: from the frame of a function to that of its caller, through the modules of a process.
 use Rattle.std.specs.Prelude.{◌≡◌, ℕ, ◌+◌, ◌-◌, ◌/◌, ◌==◌, ◌&&◌, Bool, true, false, if◌then◌else◌, List, Option, Some, None, Result, Ok, Err}
-use Rattle.std.specs.Option.{option_map}
+use Rattle.std.specs.Option.{option_map, option_map_or, option_or}
 use Rattle.pe_core.specs.Refusals.{Refusal, ◌>>=◌}
-use Rattle.pe_core.specs.SectionMap.{map_view}
+use Rattle.pe_core.specs.SectionMap.{map_view, rounded_up}
 use Rattle.pe_unwind.specs.Arm64Functions.{arm64_functions}
 use Rattle.pe_unwind.specs.Arm64Lookup.{FindsArm64, length_of_arm64}
 use Rattle.pe_unwind.specs.Arm64Record.{Arm64InfoView}
@@ -11,11 +11,12 @@ use Rattle.pe_unwind.specs.ExceptionTable.{ExceptionView, table_of}
 use Rattle.pe_unwind.specs.Lookup.{IsSortedBy}
 use Rattle.pe_unwind.specs.declared.arm64.function.Arm64RuntimeFunction.{Arm64RuntimeFunction}
 use Rattle.std.specs.List.{AllByRecursion}
-use Rattle.pe_frame.specs.Arm64Packed.{stepped_packed}
+use Rattle.pe_frame.specs.Arm64Packed.{stepped_arm64_packed}
 use Rattle.pe_frame.specs.Arm64Steps.{StepsOutArm64}
-use Rattle.pe_frame.specs.Arm64Undoing.{link_register, put_pc}
-use Rattle.pe_frame.specs.FrameWalks.{FrameWalk}
-use Rattle.pe_frame.specs.Modules.{is_after_call_arm64, module_at}
+use Rattle.pe_frame.specs.Arm64Undoing.{link_register, put_pc, put_sp, stripped}
+use Rattle.pe_frame.specs.FrameWalks.{FrameWalk, Process, state_of}
+use Rattle.pe_frame.specs.Modules.{is_after_call_arm64, is_code_return_arm64, module_at}
+use Rattle.pe_frame.specs.Scans.{first_return, most_words}
 use Rattle.pe_frame.specs.Walks.{IsUnreadable}
 use Rattle.pe_frame.specs.declared.arm64.registers.Arm64Registers.{Arm64Registers}
 use Rattle.pe_frame.specs.declared.arm64.walk.Arm64StackFrame.{Arm64StackFrame}
@@ -27,11 +28,6 @@ use Rattle.pe_frame.specs.declared.walk.Way.{Way}
 use Rattle.pe_frame.specs.declared.walk.Way.TheVariants.{Top, Records, Leaf, Interrupt, Scanned}
 use Rattle.pe_frame.specs.declared.walk.WalkEnd.{WalkEnd}
 use Rattle.pe_frame.specs.declared.walk.WalkEnd.TheVariants as ends
-
--- what is known of a process: its memory and its modules
-pub record Process : Type 0 where
-  pub memory : ℕ → Option ℕ
-  pub modules : List Module
 
 -- ---- a frame
 
@@ -57,23 +53,50 @@ lookup_address s = (s.registers).pc - (if s.has_called then 4 else 0)
 abbrev pub place_of : Module → Arm64RuntimeFunction → Arm64StackFrame → ℕ
 place_of m f s = (lookup_address s - m.base - f.begin_address) / 4 + (if s.has_called then 1 else 0)
 
--- ---- its caller, or why there is none
+-- ---- what calls a frame that no records describe
+
+-- the return address into executable code that a number is, without its signature, if it is one
+abbrev pub code_return : List Module → ℕ → Option ℕ
+code_return modules w = if is_code_return_arm64 modules (stripped w) then Some (stripped w) else None
+
+-- the registers after the return to it: all but the instruction pointer and the stack pointer are as they were
+abbrev pub returned_to : Arm64Registers → (ℕ × ℕ) → Arm64Registers
+returned_to g found = put_pc (put_sp g (found.0 + 8)) found.1
+
+-- the frame that a scan of the stack finds: by the first word from the stack pointer on, rounded up to 8
+abbrev pub scanned : (ℕ → Option ℕ) → List Module → Arm64Registers → Option Arm64StackFrame
+scanned memory modules g =
+    option_map (λ found. frame_of modules Scanned (returned_to g found))
+    (first_return most_words memory (code_return modules) (rounded_up g.sp 8))
 
 -- the caller of a leaf function goes on at the link register
 abbrev pub after_leaf : Arm64Registers → Arm64Registers
 after_leaf g = put_pc g (link_register g)
 
--- In no function of a module. A leaf function calls nothing, so a frame that has called has no caller.
-abbrev pub leaf_caller : List Module → Arm64StackFrame → Result Arm64StackFrame WalkEnd
-leaf_caller modules s =
-    if s.has_called then Err ends.NoFunction
-    else (if link_register s.registers == 0 then Err ends.Bottom else Ok (frame_of modules Leaf (after_leaf s.registers)))
+-- its frame, if a call ends there
+abbrev pub leaf_frame : List Module → Arm64Registers → Option Arm64StackFrame
+leaf_frame modules g =
+    if is_after_call_arm64 modules (link_register g) then Some (frame_of modules Leaf (after_leaf g)) else None
 
--- The same in no module, to which a wild jump or call may lead: there a call has to end at the link register.
-abbrev pub outside_caller : List Module → Arm64StackFrame → Result Arm64StackFrame WalkEnd
-outside_caller modules s =
+-- the frame that is found from registers without records: that of the caller of a leaf function, else by a scan
+abbrev pub without_records : (ℕ → Option ℕ) → List Module → Arm64Registers → Option Arm64StackFrame
+without_records memory modules g = option_or (leaf_frame modules g) (scanned memory modules g)
+
+-- ---- its caller, or why there is none
+
+-- In no function of a module. A leaf function calls nothing, so a frame that has called has no caller. Where nothing is found, a
+-- leaf function may return to code that has no calls.
+abbrev pub caller_of_leaf : (ℕ → Option ℕ) → List Module → Arm64StackFrame → Result Arm64StackFrame WalkEnd
+caller_of_leaf memory modules s =
+    if s.has_called then Err ends.NoFunction
+    else option_map_or Ok (without_records memory modules s.registers)
+    (if link_register s.registers == 0 then Err ends.Bottom else Ok (frame_of modules Leaf (after_leaf s.registers)))
+
+-- The same in no module, to which a wild jump or call may lead.
+abbrev pub caller_outside : (ℕ → Option ℕ) → List Module → Arm64StackFrame → Result Arm64StackFrame WalkEnd
+caller_outside memory modules s =
     if s.has_called then Err ends.NoModule
-    else (if is_after_call_arm64 modules (link_register s.registers) then Ok (frame_of modules Leaf (after_leaf s.registers)) else Err ends.NoModule)
+    else option_map_or Ok (without_records memory modules s.registers) (Err ends.NoModule)
 
 -- The frame that records lead to. A function that calls has stored the link register, below the stack pointer of its caller: where
 -- it stands, the walk is lost.
@@ -90,7 +113,7 @@ frame_after modules s (Err e) = Err (ends.Step e)
 
 -- packed unwind data stand for no interrupt
 abbrev pub stepped_out_packed : (ℕ → Option ℕ) → ℕ → ℕ → Arm64Registers → Result (Arm64Registers × Bool) FrameError
-stepped_out_packed memory d place g = stepped_packed memory d place g >>= λ u. Ok (u, false)
+stepped_out_packed memory d place g = stepped_arm64_packed memory d place g >>= λ u. Ok (u, false)
 
 -- by the unwind record of its function, or by its packed unwind data
 abbrev pub CallsByInfo : Process → Module → Arm64RuntimeFunction → Arm64StackFrame → Option (Result Arm64InfoView Refusal) → Result Arm64StackFrame WalkEnd → Type 0
@@ -104,7 +127,7 @@ CallsByInfo p m f s (Some (Ok i)) answer =
 -- by the function that lookup found, if it found one; lookup reads the length of a function from its record
 abbrev pub CallsFound : Process → Module → ExceptionView → Arm64StackFrame → Result (Option Arm64RuntimeFunction) Refusal → Result Arm64StackFrame WalkEnd → Type 0
 CallsFound p m e s (Err r) answer = IsUnreadable r answer
-CallsFound p m e s (Ok None) answer = answer ≡ leaf_caller p.modules s
+CallsFound p m e s (Ok None) answer = answer ≡ caller_of_leaf p.memory p.modules s
 CallsFound p m e s (Ok (Some f)) answer = CallsByInfo p m f s (info_of_function e m.sections.now m.opts f) answer
 
 -- the length of each function of a module
@@ -113,7 +136,7 @@ length_in m e = length_of_arm64 e.content (map_view m.opts m.sections.now e.alig
 
 -- by the exception data of a module; without any all of its functions are leaf functions
 abbrev pub CallsBy : Process → Module → Arm64StackFrame → Option ExceptionView → Result Arm64StackFrame WalkEnd → Type 0
-CallsBy p m s None answer = answer ≡ leaf_caller p.modules s
+CallsBy p m s None answer = answer ≡ caller_of_leaf p.memory p.modules s
 CallsBy p m s (Some e) answer =
     (found : Result (Option Arm64RuntimeFunction) Refusal)
     × FindsArm64 (length_in m e) (arm64_functions (table_of e)) (lookup_address s - m.base) found
@@ -121,7 +144,7 @@ CallsBy p m s (Some e) answer =
 
 -- in the module that has the address, if one does
 abbrev pub CallsIn : Process → Arm64StackFrame → Option Module → Result Arm64StackFrame WalkEnd → Type 0
-CallsIn p s None answer = answer ≡ outside_caller p.modules s
+CallsIn p s None answer = answer ≡ caller_outside p.memory p.modules s
 CallsIn p s (Some m) answer = CallsBy p m s (option_map (λ e. e.now) m.exceptions) answer
 
 -- the frame of the caller of a frame, or why there is none
@@ -132,23 +155,11 @@ Calls p s answer = CallsIn p s (module_at p.modules (lookup_address s)) answer
 
 -- where it is, by what its type of memory knows
 abbrev pub walk_of : {M : Type 0} → (M → ℕ → Option ℕ) → Arm64StackFrames M → FrameWalk Process Arm64StackFrame
-walk_of word s = record {
-  process = record { memory = word s.memory.now; modules = s.modules.modules.now };
-  frame = s.frame;
-  has_returned = s.has_returned;
-  remaining = s.remaining;
-  end = s.end;
-}
+walk_of word s = state_of (record { memory = word s.memory.now; modules = s.modules.modules.now }) s.position
 
--- a walk of at most so many frames, from the registers of a thread
-abbrev pub starting_walk : (ℕ → Option ℕ) → List Module → Arm64Registers → ℕ → FrameWalk Process Arm64StackFrame
-starting_walk memory modules registers most = record {
-  process = record { memory = memory; modules = modules };
-  frame = frame_of modules Top registers;
-  has_returned = false;
-  remaining = most;
-  end = ends.Bound;
-}
+-- the top frame, with the registers of a thread
+abbrev pub top_frame : Arm64Registers → Arm64StackFrame
+top_frame g = record { registers = g; way = Top; has_called = false }
 
 -- ---- what decides a walk
 

@@ -18,8 +18,8 @@ abbrev pub has_sib : ℕ → Bool
 has_sib m = not (m / 64 == 3) && m % 8 == 4
 
 -- the base of an operand in memory, by its ModRM byte and its SIB byte
-abbrev pub base_of : ℕ → ℕ → ℕ
-base_of m sib = if has_sib m then sib % 8 else m % 8
+abbrev pub operand_base : ℕ → ℕ → ℕ
+operand_base m sib = if has_sib m then sib % 8 else m % 8
 
 -- how many bytes of displacement it has, by its mode and its base: in mode 0 the base 5 is none, and they stand for it
 abbrev pub displacement : ℕ → ℕ → ℕ
@@ -28,7 +28,7 @@ displacement mode base =
 
 -- the size of an instruction with an operand, from its opcode of one byte on
 abbrev pub operand_size : ℕ → ℕ → ℕ
-operand_size m sib = 2 + (if has_sib m then 1 else 0) + displacement (m / 64) (base_of m sib)
+operand_size m sib = 2 + (if has_sib m then 1 else 0) + displacement (m / 64) (operand_base m sib)
 
 -- the bytes are `call` of an operand, FF /2
 abbrev pub is_operand_call : List ℕ → Bool

@@ -12,8 +12,9 @@ use Rattle.pe_frame.specs.declared.epilog.Instruction.{Instruction}
 use Rattle.pe_frame.specs.declared.epilog.Instruction.TheVariants.{Add, Lea, Pop, Return, Jump, JumpByOperand}
 use Rattle.pe_frame.specs.declared.error.FrameError.{FrameError}
 use Rattle.pe_frame.specs.declared.registers.Registers.{Registers}
-use Rattle.pe_frame.specs.Undoing.{pointer, put_register, raised, undone, popped, dropped}
-use Rattle.pe_frame.specs.Steps.{Steps, StepsOut, limit_of, rising}
+use Rattle.pe_frame.specs.Undoing.{stack_pointer, put_register, raised, undone, popped, popped_and_dropped}
+use Rattle.pe_frame.specs.Steps.{Steps, UndoesFunction, limit_of, rising}
+use Rattle.pe_frame.specs.declared.registers.TheConstants.{RSP}
 
 -- a number of so many bits in two's complement, as one of 64 bits
 abbrev pub widened : ℕ → ℕ → ℕ
@@ -33,8 +34,8 @@ abbrev pub freed : ℕ → ℕ → ℕ → Option (Instruction × ℕ)
 freed bits size n = if nat_lt n (2 ^ (bits - 1)) then Some (Add n, size) else None
 
 -- it and its size, with a number of one byte or of four
-unfoldable pub add_form : List ℕ → Option (Instruction × ℕ)
-add_form code =
+unfoldable pub add_at : List ℕ → Option (Instruction × ℕ)
+add_at code =
     option_map_or (freed 8 4) (operand (0x48 ∷ 0x83 ∷ 0xC4 ∷ []) 1 code)
     (option_map_or (freed 32 7) (operand (0x48 ∷ 0x81 ∷ 0xC4 ∷ []) 4 code) None)
 
@@ -46,22 +47,22 @@ lea_opcode mode r =
 
 -- a register that `lea` may take for the frame register of a record: 0 is none, and 4 is rsp
 abbrev pub is_frame_register : ℕ → Bool
-is_frame_register r = not (r == 0) && not (r == 4) && nat_lt r 16
+is_frame_register r = not (r == 0) && not (r == RSP) && nat_lt r 16
 
 abbrev pub lea_of : ℕ → ℕ → ℕ → ℕ → Option (Instruction × ℕ)
 lea_of r bits size n = Some (Lea r (widened bits n), size)
 
 -- it and its size, with a number of one byte or of four
-unfoldable pub lea_form : ℕ → List ℕ → Option (Instruction × ℕ)
-lea_form r code =
+unfoldable pub lea_at : ℕ → List ℕ → Option (Instruction × ℕ)
+lea_at r code =
     if is_frame_register r
     then option_map_or (lea_of r 8 (length (lea_opcode 0x40 r) + 1)) (operand (lea_opcode 0x40 r) 1 code)
     (option_map_or (lea_of r 32 (length (lea_opcode 0x80 r) + 4)) (operand (lea_opcode 0x80 r) 4 code) None)
     else None
 
 -- the instruction that frees the stack, and its size
-abbrev pub trim_form : ℕ → List ℕ → Option (Instruction × ℕ)
-trim_form r code = option_map_or Some (add_form code) (lea_form r code)
+abbrev pub trim_at : ℕ → List ℕ → Option (Instruction × ℕ)
+trim_at r code = option_map_or Some (add_at code) (lea_at r code)
 
 -- `58 + r` pops a register of the first eight, after REX.B of the others; rsp is never popped
 abbrev pub pop_of : ℕ → ℕ → ℕ → Option (ℕ × ℕ)
@@ -69,17 +70,17 @@ pop_of high size b =
     if nat_le 0x58 b && nat_lt b 0x60 && not (high + b == 0x5C) then Some (high + (b - 0x58), size) else None
 
 -- the register of a pop, and the size of the instruction
-unfoldable pub pop_form : List ℕ → Option (ℕ × ℕ)
-pop_form code = option_map_or (pop_of 8 2) (operand (0x41 ∷ []) 1 code) (option_map_or (pop_of 0 1) (operand [] 1 code) None)
+unfoldable pub pop_at : List ℕ → Option (ℕ × ℕ)
+pop_at code = option_map_or (pop_of 8 2) (operand (0x41 ∷ []) 1 code) (option_map_or (pop_of 0 1) (operand [] 1 code) None)
 
 -- the registers that the code pops first, so many at most, and the code after these pops
 unfoldable pub popped_first : ℕ → List ℕ → List ℕ
 popped_first zero code = []
-popped_first (suc n) code = option_map_or (λ p. p.0 ∷ popped_first n (drop p.1 code)) (pop_form code) []
+popped_first (suc n) code = option_map_or (λ p. p.0 ∷ popped_first n (drop p.1 code)) (pop_at code) []
 
 unfoldable pub after_pops : ℕ → List ℕ → List ℕ
 after_pops zero code = code
-after_pops (suc n) code = option_map_or (λ p. after_pops n (drop p.1 code)) (pop_form code) code
+after_pops (suc n) code = option_map_or (λ p. after_pops n (drop p.1 code)) (pop_at code) code
 
 -- a jump of so many bytes, by a number that counts from its end. The code is the last of what ends at an RVA
 abbrev pub jump_of : ℕ → List ℕ → ℕ → ℕ → Option Instruction
@@ -118,18 +119,18 @@ abbrev pub is_return : List ℕ → Bool
 is_return code = starts_with nat_eq code (0xC3 ∷ []) || starts_with nat_eq code (0xF3 ∷ 0xC3 ∷ [])
 
 -- a jump: to an RVA by a number of one byte or of four, or by an operand
-unfoldable pub jump_form : Bool → ℕ → List ℕ → Option Instruction
-jump_form restored end code =
+unfoldable pub jump_at : Bool → ℕ → List ℕ → Option Instruction
+jump_at restored end code =
     option_map_or (λ n. jump_of end code 2 (widened 8 n)) (operand (0xEB ∷ []) 1 code)
     (option_map_or (λ n. jump_of end code 5 (widened 32 n)) (operand (0xE9 ∷ []) 4 code)
     (option_map_or Some (marked_jump code) (unmarked_jump restored code)))
 
 -- the instruction with which an epilog ends, by the RVA where the code ends, and whether one before it freed stack or popped
 -- a register
-unfoldable pub exit_form : Bool → ℕ → List ℕ → Option Instruction
-exit_form restored end code =
+unfoldable pub exit_at : Bool → ℕ → List ℕ → Option Instruction
+exit_at restored end code =
     if is_return code then Some (Return 0)
-    else option_map_or (λ n. Some (Return n)) (operand (0xC2 ∷ []) 2 code) (jump_form restored end code)
+    else option_map_or (λ n. Some (Return n)) (operand (0xC2 ∷ []) 2 code) (jump_at restored end code)
 
 -- an RVA lies in an entry that starts and ends there
 abbrev pub lies_in : ℕ → ℕ → ℕ → Bool
@@ -155,7 +156,7 @@ leaves plan start end other = true
 
 abbrev pub exit_of : List UnwindInfoView → ℕ → ℕ → Bool → List ℕ → Option Instruction
 exit_of plan start end restored code =
-    option_and_then (λ i. if leaves plan start end i then Some i else None) (exit_form restored end code)
+    option_and_then (λ i. if leaves plan start end i then Some i else None) (exit_at restored end code)
 
 -- there are 16 integer registers, and an epilog pops none of them twice
 abbrev pub most_pops : ℕ
@@ -163,7 +164,7 @@ most_pops = 16
 
 -- an instruction freed stack, or the code starts with a pop
 abbrev pub restores : List Instruction → List ℕ → Bool
-restores [] code = option_map_or (λ p. true) (pop_form code) false
+restores [] code = option_map_or (λ p. true) (pop_at code) false
 restores (i ∷ is) code = true
 
 -- pops and the instruction with which the epilog ends, after what came before them
@@ -179,23 +180,23 @@ frame_register_of (i ∷ is) = (i.frame_register).0
 
 -- What is left of an epilog where the code starts: it may have to free stack first, and then pops registers and leaves the
 -- function, which starts and ends at these RVAs. None where the code is anything else.
-abbrev pub tail : List UnwindInfoView → ℕ → ℕ → List ℕ → Option (List Instruction)
-tail plan start end code =
-    option_map_or (λ t. with_rest plan start end (t.0 ∷ []) (drop t.1 code)) (trim_form (frame_register_of plan) code)
+abbrev pub tail_at : List UnwindInfoView → ℕ → ℕ → List ℕ → Option (List Instruction)
+tail_at plan start end code =
+    option_map_or (λ t. with_rest plan start end (t.0 ∷ []) (drop t.1 code)) (trim_at (frame_register_of plan) code)
     (with_rest plan start end [] code)
 
 -- what is left at an RVA, from which on the function has this code; in the prolog there is no epilog
 abbrev pub epilog_at : List UnwindInfoView → ℕ → ℕ → List ℕ → Option (List Instruction)
 epilog_at plan start rva code =
-    option_map_or (λ _. None) (limit_of plan (rva - start)) (tail plan start (rva + length code) code)
+    option_map_or (λ _. None) (limit_of plan (rva - start)) (tail_at plan start (rva + length code) code)
 
 -- The registers after an instruction. A pop does what undoes a push. Where the function jumps to another, that one returns
 -- to the caller.
 abbrev pub executed : (ℕ → Option ℕ) → Instruction → Registers → Result Registers FrameError
 executed m (Add n) g = raised n g
-executed m (Lea r n) g = Ok (put_register g 4 (moved (slice_index g.general r) n))
+executed m (Lea r n) g = Ok (put_register g RSP (moved (slice_index g.general r) n))
 executed m (Pop r) g = undone m 0 (PushNonVolatile (integer r)) g
-executed m (Return n) g = dropped m n g
+executed m (Return n) g = popped_and_dropped m n g
 executed m (Jump a) g = popped m g
 executed m JumpByOperand g = popped m g
 
@@ -207,7 +208,7 @@ executed_all m (i ∷ is) g = executed m i g >>= executed_all m is
 -- what a step returns: the rest of an epilog is run; without one the records are undone
 abbrev pub StepsFrom : Option (List Instruction) → (ℕ → Option ℕ) → List UnwindInfoView → ℕ → Registers → Result Registers FrameError → Type 0
 StepsFrom None m plan offset g answer = Steps m plan offset g answer
-StepsFrom (Some rest) m plan offset g answer = answer ≡ executed_all m rest g >>= rising (pointer g)
+StepsFrom (Some rest) m plan offset g answer = answer ≡ executed_all m rest g >>= rising (stack_pointer g)
 
 -- what a step with the code returns, by the records of a function, its start, the RVA in it and its code from there on
 abbrev pub StepsWithCode : (ℕ → Option ℕ) → List UnwindInfoView → ℕ → ℕ → List ℕ → Registers → Result Registers FrameError → Type 0
@@ -215,11 +216,11 @@ StepsWithCode m plan start rva code g answer = StepsFrom (epilog_at plan start r
 
 -- the same, and whether an interrupt left the registers, as no epilog does
 abbrev pub run_out : (ℕ → Option ℕ) → List Instruction → Registers → Result (Registers × Bool) FrameError
-run_out m rest g = (executed_all m rest g >>= rising (pointer g)) >>= λ u. Ok (u, false)
+run_out m rest g = (executed_all m rest g >>= rising (stack_pointer g)) >>= λ u. Ok (u, false)
 
 abbrev pub StepsOutFrom : Option (List Instruction) → (ℕ → Option ℕ) → List UnwindInfoView → ℕ → Registers → Result (Registers × Bool) FrameError → Type 0
-StepsOutFrom None m plan offset g answer = StepsOut m plan offset g answer
+StepsOutFrom None m plan offset g answer = UndoesFunction m plan offset g answer
 StepsOutFrom (Some rest) m plan offset g answer = answer ≡ run_out m rest g
 
-abbrev pub StepsOutWithCode : (ℕ → Option ℕ) → List UnwindInfoView → ℕ → ℕ → List ℕ → Registers → Result (Registers × Bool) FrameError → Type 0
-StepsOutWithCode m plan start rva code g answer = StepsOutFrom (epilog_at plan start rva code) m plan (rva - start) g answer
+abbrev pub StepsOut : (ℕ → Option ℕ) → List UnwindInfoView → ℕ → ℕ → List ℕ → Registers → Result (Registers × Bool) FrameError → Type 0
+StepsOut m plan start rva code g answer = StepsOutFrom (epilog_at plan start rva code) m plan (rva - start) g answer

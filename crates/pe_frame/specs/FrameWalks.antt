@@ -1,7 +1,15 @@
 -- Walks over the frames of any machine: the first frame as it is, and then the caller of each, by a relation between a frame of a
 -- process and its caller, or the reason why it has none.
 use Rattle.std.specs.Prelude.{◌≡◌, ℕ, zero, suc, ◌-◌, ◌==◌, Bool, true, false, if◌then◌else◌, List, [], ◌∷◌, Option, Some, None, Result, Ok, Err}
+use Rattle.pe_frame.specs.declared.modules.Module.{Module}
+use Rattle.pe_frame.specs.declared.position.WalkPosition.{WalkPosition}
 use Rattle.pe_frame.specs.declared.walk.WalkEnd.{WalkEnd}
+use Rattle.pe_frame.specs.declared.walk.WalkEnd.TheVariants as ends
+
+-- what is known of a process: its memory and its modules
+pub record Process : Type 0 where
+  pub memory : ℕ → Option ℕ
+  pub modules : List Module
 
 -- where a walk is: what is known of the process; a frame, and whether it was returned; how many frames it returns at most,
 -- none once it is over; and why it is over then
@@ -11,6 +19,14 @@ pub record FrameWalk (P F : Type 0) : Type 0 where
   pub has_returned : Bool
   pub remaining : ℕ
   pub end : WalkEnd
+
+-- the same of a position in a process
+abbrev pub state_of : {P F : Type 0} → P → WalkPosition F → FrameWalk P F
+state_of p w = record { process = p; frame = w.frame; has_returned = w.has_returned; remaining = w.remaining; end = w.end }
+
+-- a walk of at most so many frames, from the top frame on
+abbrev pub starting_walk : {P F : Type 0} → P → F → ℕ → FrameWalk P F
+starting_walk p top most = record { process = p; frame = top; has_returned = false; remaining = most; end = ends.Bound }
 
 -- the frame that follows: the first as it is, and then the caller of each
 abbrev pub FollowsBy : {P F : Type 0} → (P → F → Result F WalkEnd → Type 0) → Bool → FrameWalk P F → Result F WalkEnd → Type 0

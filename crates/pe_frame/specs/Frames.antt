@@ -8,9 +8,10 @@ use Rattle.pe_unwind.specs.declared.unwind_code.UnwindOperation.TheVariants.{Epi
 use Rattle.pe_unwind.specs.CodeStream.{AreItems}
 use Rattle.pe_unwind.specs.UnwindRecord.{UnwindInfoView, code_stream}
 use Rattle.pe_frame.specs.declared.registers.Registers.{Registers}
-use Rattle.pe_frame.specs.Undoing.{pointer, error_size, is_framed, is_interrupted, ran}
-use Rattle.pe_frame.specs.Steps.{frame_of}
-use Rattle.pe_frame.specs.Machine.{Machine, top, loaded, run, IsProlog, IsBody, saves, saves_xmm, chosen}
+use Rattle.pe_frame.specs.Undoing.{stack_pointer, error_size, any_sets_frame_register, is_interrupted, ran}
+use Rattle.pe_frame.specs.Steps.{frame_register_in}
+use Rattle.pe_frame.specs.Machine.{Machine, machine_stack_pointer, loaded, run, IsProlog, IsBody, saves, saves_xmm, chosen}
+use Rattle.pe_frame.specs.declared.registers.TheConstants.{RSP}
 
 -- a record, the codes that it has, and the machine where the code that it describes was entered
 pub record Part : Type 0 where
@@ -23,13 +24,13 @@ infos parts = map (λ p. p.info) parts
 
 -- the machine once so much of the prolog has run
 abbrev pub left : Option ℕ → Part → Machine
-left limit p = run (frame_of p.info) (ran limit p.codes) p.entry
+left limit p = run (frame_register_in p.info) (ran limit p.codes) p.entry
 
 -- The record has these codes, and they are a prolog of the machine. A record that names a frame register sets it.
 pub record IsRecord (called : Bool) (p : Part) : Type 0 where
   pub items : AreItems (code_stream p.info) (map Ok p.codes)
-  pub prolog : IsProlog called (frame_of p.info) (ran None p.codes) p.entry
-  pub frame : ((p.info.frame_register).0 ≡ 0) ⊎ (is_framed (ran None p.codes) ≡ true)
+  pub prolog : IsProlog called (frame_register_in p.info) (ran None p.codes) p.entry
+  pub frame : ((p.info.frame_register).0 ≡ 0) ⊎ (any_sets_frame_register (ran None p.codes) ≡ true)
 
 -- the codes of the prolog: in version 2 others before them say where epilogs are, and their offsets are none of the prolog
 abbrev pub is_of_epilog : UnwindOperation → Bool
@@ -53,7 +54,7 @@ IsInOrder (Some offset) codes = (last : ℕ) × FallsFrom last (prolog_codes cod
 -- the machine stopped in the body, or in the prolog once so much of it has run
 pub record StopsIn (called : Bool) (limit : Option ℕ) (p : Part) (m : ℕ → Option ℕ) (g : Registers) : Type 0 where
   pub order : IsInOrder limit p.codes
-  pub body : IsBody called (frame_of p.info) (ran limit p.codes) p.entry m g
+  pub body : IsBody called (frame_register_in p.info) (ran limit p.codes) p.entry m g
 
 -- a register is saved by the part, or is as it was where the part was entered
 abbrev pub SavesOrKeeps : Option ℕ → Part → Registers → ℕ → Type 0
@@ -69,10 +70,10 @@ registers_of s = record { general = s.general; xmm = s.xmm; rip = 0 }
 -- known memory m has what each of them stored. The function was called, or an interrupt entered it.
 abbrev pub AreFrames : (ℕ → Option ℕ) → List Part → Option ℕ → Registers → Type 0
 AreFrames m [] limit g = ⊥
-AreFrames m (p ∷ []) limit g = IsRecord true p × (top p.entry + 8 < 2 ^ 64) × StopsIn true limit p m g
+AreFrames m (p ∷ []) limit g = IsRecord true p × (machine_stack_pointer p.entry + 8 < 2 ^ 64) × StopsIn true limit p m g
 AreFrames m (p ∷ q ∷ parts) limit g =
     IsRecord false p × (is_interrupted (ran limit p.codes) ≡ false) × StopsIn false limit p m g
-    × AllByRecursion (λ o. IsSome (left None o).frame → SavesOrKeeps limit p g (o.info.frame_register).0) (q ∷ parts)
+    × AllByRecursion (λ o. IsSome (left None o).frame_base → SavesOrKeeps limit p g (o.info.frame_register).0) (q ∷ parts)
     × AreFrames m (q ∷ parts) None (registers_of p.entry)
 
 -- what a register has once all parts are undone: the value at the entry of the outermost part that saved it; else what it has
@@ -88,9 +89,9 @@ restored_xmm (p ∷ parts) limit r value =
 
 -- the stack pointer is above the return address, and the instruction pointer at it; or both are as a machine frame has them
 abbrev pub IsAfter : List UnwindOperation → Machine → Registers → Type 0
-IsAfter [] s u = (pointer u ≡ top s + 8) × (u.rip ≡ loaded s.memory (top s))
+IsAfter [] s u = (stack_pointer u ≡ machine_stack_pointer s + 8) × (u.rip ≡ loaded s.memory (machine_stack_pointer s))
 IsAfter (PushMachineFrame e ∷ before) s u =
-    (pointer u ≡ loaded s.memory (top s + error_size e + 24)) × (u.rip ≡ loaded s.memory (top s + error_size e))
+    (stack_pointer u ≡ loaded s.memory (machine_stack_pointer s + error_size e + 24)) × (u.rip ≡ loaded s.memory (machine_stack_pointer s + error_size e))
 IsAfter (other ∷ before) s u = IsAfter before s u
 
 -- the function itself was left for its caller, or for what the interrupt stopped
@@ -102,5 +103,5 @@ Leaves (p ∷ q ∷ parts) limit u = Leaves (q ∷ parts) None u
 -- the registers of the caller
 pub record IsCaller (parts : List Part) (limit : Option ℕ) (g u : Registers) : Type 0 where
   pub leaves : Leaves parts limit u
-  pub registers : (r : ℕ) → r ≢ 4 → slice_index u.general r ≡ restored parts limit r (slice_index g.general r)
+  pub registers : (r : ℕ) → r ≢ RSP → slice_index u.general r ≡ restored parts limit r (slice_index g.general r)
   pub xmm_registers : (r : ℕ) → slice_index u.xmm r ≡ restored_xmm parts limit r (slice_index g.xmm r)

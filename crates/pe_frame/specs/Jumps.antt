@@ -10,14 +10,13 @@ use Rattle.pe_unwind.specs.Links.{links_of}
 use Rattle.pe_unwind.specs.UnwindRecord.{UnwindInfoView}
 use Rattle.pe_unwind.specs.declared.function_table.RuntimeFunction.{RuntimeFunction}
 use Rattle.pe_unwind.specs.declared.unwind_code.UnwindCode.{UnwindCode}
-use Rattle.pe_plan.specs.ShortPlans.{PlansShort, records_of}
-use Rattle.pe_plan.specs.declared.short_plan.ShortPlan.{ShortPlan}
+use Rattle.pe_plan.specs.ShortPlans.{PlansShort}
 use Rattle.pe_frame.specs.declared.epilog.Instruction.{Instruction}
 use Rattle.pe_frame.specs.declared.epilog.Instruction.TheVariants.{Jump}
 use Rattle.pe_frame.specs.declared.error.FrameError.{FrameError}
 use Rattle.pe_frame.specs.declared.registers.Registers.{Registers}
-use Rattle.pe_frame.specs.Undoing.{is_framed, pointer, ran}
-use Rattle.pe_frame.specs.Steps.{HasCodes, StepsOut, Then, limit_of, rising}
+use Rattle.pe_frame.specs.Undoing.{any_sets_frame_register, stack_pointer, ran}
+use Rattle.pe_frame.specs.Steps.{HasCodes, UndoesFunction, Then, limit_of, rising}
 use Rattle.pe_frame.specs.Epilogs.{epilog_at, executed_all, run_out}
 
 -- ---- the jump
@@ -46,13 +45,12 @@ pub record Place : Type 0 where
   pub offset : ℕ
   pub plan : List UnwindInfoView
 
--- as the code of this crate keeps it
-abbrev pub place_view : (ℕ × ShortPlan) → Place
-place_view p = record { offset = p.0; plan = records_of p.1 }
+abbrev pub place_with : ℕ → List UnwindInfoView → Place
+place_with offset plan = record { offset = offset; plan = plan }
 
 -- the place of an RVA in a function; none where a record cannot be read, or where more than 32 are chained
 abbrev pub place_in : ℕ → RuntimeFunction → Result (Option (List UnwindInfoView)) Refusal → Option Place
-place_in a f (Ok (Some plan)) = Some (record { offset = a - f.begin_address; plan = plan })
+place_in a f (Ok (Some plan)) = Some (place_with (a - f.begin_address) plan)
 place_in a f other = None
 
 abbrev pub IsPlaceIn : ExceptionView → List SectionTable → ParseOptions → ℕ → Option RuntimeFunction → Option Place → Type 0
@@ -74,7 +72,7 @@ pub record IsEntry (place : Place) : Type 0 where
   pub alone : place.plan ≡ info ∷ []
   pub known : HasCodes info (Ok codes)
   pub none : ran (limit_of place.plan place.offset) codes ≡ []
-  pub frame : ((info.frame_register).0 ≡ 0) ⊎ (is_framed (ran None codes) ≡ true)
+  pub frame : ((info.frame_register).0 ≡ 0) ⊎ (any_sets_frame_register (ran None codes) ≡ true)
 
 -- ---- the step
 
@@ -91,17 +89,25 @@ abbrev pub LeavesFor : Option Place → (ℕ → Option ℕ) → List Instructio
 LeavesFor None m rest g answer = answer ≡ run_out m rest g
 LeavesFor (Some place) m rest g answer =
     (left : Result (Registers × Bool) FrameError)
-    × Then (executed_all m (before_last rest) g) (StepsOut m place.plan place.offset) left
-    × (answer ≡ risen_out (pointer g) left)
+    × Then (executed_all m (before_last rest) g) (UndoesFunction m place.plan place.offset) left
+    × (answer ≡ risen_out (stack_pointer g) left)
+
+-- the same, where lookup found a function for an RVA; and where it looks one up for the target, if there is one
+abbrev pub LeavesForFound : ExceptionView → List SectionTable → ParseOptions → ℕ → Option RuntimeFunction → (ℕ → Option ℕ) → List Instruction → Registers → Result (Registers × Bool) FrameError → Type 0
+LeavesForFound e sections opts a found m rest g answer =
+    (place : Option Place) × IsPlaceIn e sections opts a found place × LeavesFor place m rest g answer
+
+abbrev pub LeavesForTarget : ExceptionView → List SectionTable → ParseOptions → Option ℕ → (ℕ → Option ℕ) → List Instruction → Registers → Result (Registers × Bool) FrameError → Type 0
+LeavesForTarget e sections opts target m rest g answer =
+    (place : Option Place) × IsPlace e sections opts target place × LeavesFor place m rest g answer
 
 -- the same in an image, where the place to which it jumps is looked up
 abbrev pub LeavesInImage : ExceptionView → List SectionTable → ParseOptions → (ℕ → Option ℕ) → List Instruction → Registers → Result (Registers × Bool) FrameError → Type 0
-LeavesInImage e sections opts m rest g answer =
-    (place : Option Place) × IsPlace e sections opts (target_of rest) place × LeavesFor place m rest g answer
+LeavesInImage e sections opts m rest g answer = LeavesForTarget e sections opts (target_of rest) m rest g answer
 
 -- what a step returns: the rest of an epilog is run, without one the records are undone
 abbrev pub StepsInImageFrom : ExceptionView → List SectionTable → ParseOptions → Option (List Instruction) → (ℕ → Option ℕ) → List UnwindInfoView → ℕ → Registers → Result (Registers × Bool) FrameError → Type 0
-StepsInImageFrom e sections opts None m plan offset g answer = StepsOut m plan offset g answer
+StepsInImageFrom e sections opts None m plan offset g answer = UndoesFunction m plan offset g answer
 StepsInImageFrom e sections opts (Some rest) m plan offset g answer = LeavesInImage e sections opts m rest g answer
 
 -- what a step in an image returns, by the records of a function, its start, the RVA in it and its code from there on

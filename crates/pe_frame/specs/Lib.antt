@@ -12,12 +12,14 @@ pub mod FunctionSteps
 pub mod CallForms
 pub mod Arm64CallForms
 pub mod Modules
+pub mod Scans
 pub mod Walks
 pub mod FrameWalks
 pub mod Tails
 pub mod Machine
 pub mod Frames
 pub mod EpilogFrames
+pub mod JumpFrames
 pub mod Samples
 pub mod Arm64Operations
 pub mod Arm64Undoing

@@ -4,7 +4,8 @@ use Rattle.std.specs.List.{AllByRecursion}
 use Rattle.pe_unwind.specs.declared.unwind_code.UnwindOperation.{UnwindOperation}
 use Rattle.pe_unwind.specs.declared.unwind_code.UnwindOperation.TheVariants.{PushNonVolatile, Alloc, SetFPRegister, SaveNonVolatile, SaveXMM, Epilog, SaveXMM128, PushMachineFrame, Noop}
 use Rattle.pe_frame.specs.declared.registers.Registers.{Registers}
-use Rattle.pe_frame.specs.Undoing.{Frame, offset_number, pointer, error_size}
+use Rattle.pe_frame.specs.Undoing.{FrameRegister, bytes_above, stack_pointer, error_size}
+use Rattle.pe_frame.specs.declared.registers.TheConstants.{RSP}
 
 -- the number of the n bytes at an address, byte i times 256 ^ i
 abbrev pub number_at : (ℕ → ℕ) → ℕ → ℕ → ℕ
@@ -29,35 +30,35 @@ pub record Machine : Type 0 where
   pub general : List ℕ
   pub xmm : List ℕ
   pub memory : ℕ → ℕ
-  pub frame : Option ℕ
+  pub frame_base : Option ℕ
 
 -- its stack pointer
-abbrev pub top : Machine → ℕ
-top s = slice_index s.general 4
+abbrev pub machine_stack_pointer : Machine → ℕ
+machine_stack_pointer s = slice_index s.general RSP
 
 -- from where saves count
 abbrev pub base_by : Option ℕ → ℕ → ℕ
-base_by None top = top
-base_by (Some b) top = b
+base_by None machine_stack_pointer = machine_stack_pointer
+base_by (Some b) machine_stack_pointer = b
 
 abbrev pub base : Machine → ℕ
-base s = base_by s.frame (top s)
+base s = base_by s.frame_base (machine_stack_pointer s)
 
 -- what an operation does: a push stores below the stack pointer, a save stores above the base of the frame
-abbrev pub done : Frame → UnwindOperation → Machine → Machine
+abbrev pub done : FrameRegister → UnwindOperation → Machine → Machine
 done f (PushNonVolatile r) s =
-    record { general = slice_set s.general 4 (top s - 8); xmm = s.xmm; memory = stored s.memory (top s - 8) (slice_index s.general r.0); frame = s.frame }
-done f (Alloc n) s = record { general = slice_set s.general 4 (top s - n); xmm = s.xmm; memory = s.memory; frame = s.frame }
+    record { general = slice_set s.general RSP (machine_stack_pointer s - 8); xmm = s.xmm; memory = stored s.memory (machine_stack_pointer s - 8) (slice_index s.general r.0); frame_base = s.frame_base }
+done f (Alloc n) s = record { general = slice_set s.general RSP (machine_stack_pointer s - n); xmm = s.xmm; memory = s.memory; frame_base = s.frame_base }
 done f SetFPRegister s =
-    record { general = slice_set s.general f.register (top s + f.offset); xmm = s.xmm; memory = s.memory; frame = Some (top s) }
+    record { general = slice_set s.general f.register (machine_stack_pointer s + f.offset); xmm = s.xmm; memory = s.memory; frame_base = Some (machine_stack_pointer s) }
 done f (SaveNonVolatile r o) s =
-    record { general = s.general; xmm = s.xmm; memory = stored s.memory (base s + offset_number o) (slice_index s.general r.0); frame = s.frame }
+    record { general = s.general; xmm = s.xmm; memory = stored s.memory (base s + bytes_above o) (slice_index s.general r.0); frame_base = s.frame_base }
 done f (SaveXMM128 r o) s =
-    record { general = s.general; xmm = s.xmm; memory = stored_xmm s.memory (base s + offset_number o) (slice_index s.xmm (r.0 - 17)); frame = s.frame }
+    record { general = s.general; xmm = s.xmm; memory = stored_xmm s.memory (base s + bytes_above o) (slice_index s.xmm (r.0 - 17)); frame_base = s.frame_base }
 done f other s = s
 
 -- the machine after these operations
-abbrev pub run : Frame → List UnwindOperation → Machine → Machine
+abbrev pub run : FrameRegister → List UnwindOperation → Machine → Machine
 run f [] s = s
 run f (o ∷ before) s = done f o (run f before s)
 
@@ -70,17 +71,17 @@ SavesNone (other ∷ before) = SavesNone before
 
 -- where a call left the return address
 abbrev pub return_slots : Bool → Machine → List ℕ
-return_slots called s = if called then top s ∷ [] else []
+return_slots called s = if called then machine_stack_pointer s ∷ [] else []
 
 -- the addresses of eight bytes that the operations stored, or an interrupt did, and that of the return address, if a call
 -- entered the code
-abbrev pub slots : Bool → Frame → List UnwindOperation → Machine → List ℕ
+abbrev pub slots : Bool → FrameRegister → List UnwindOperation → Machine → List ℕ
 slots called f [] s = return_slots called s
-slots called f (PushNonVolatile r ∷ before) s = (top (run f before s) - 8) ∷ slots called f before s
-slots called f (SaveNonVolatile r o ∷ before) s = (base (run f before s) + offset_number o) ∷ slots called f before s
+slots called f (PushNonVolatile r ∷ before) s = (machine_stack_pointer (run f before s) - 8) ∷ slots called f before s
+slots called f (SaveNonVolatile r o ∷ before) s = (base (run f before s) + bytes_above o) ∷ slots called f before s
 slots called f (SaveXMM128 r o ∷ before) s =
-    (base (run f before s) + offset_number o) ∷ (base (run f before s) + offset_number o + 8) ∷ slots called f before s
-slots called f (PushMachineFrame e ∷ before) s = (top s + error_size e) ∷ (top s + error_size e + 24) ∷ slots called f before s
+    (base (run f before s) + bytes_above o) ∷ (base (run f before s) + bytes_above o + 8) ∷ slots called f before s
+slots called f (PushMachineFrame e ∷ before) s = (machine_stack_pointer s + error_size e) ∷ (machine_stack_pointer s + error_size e + 24) ∷ slots called f before s
 slots called f (other ∷ before) s = slots called f before s
 
 -- eight bytes here and eight bytes there share none
@@ -90,7 +91,7 @@ Apart a b = (a + 8 ≤ b) ⊎ (b + 8 ≤ a)
 -- an integer register that can be saved: none of a greater number, and not the stack pointer
 pub record IsSavable (r : ℕ) : Type 0 where
   pub number : r < 16
-  pub other : r ≢ 4
+  pub other : r ≢ RSP
 
 -- a register that can be the frame register: 0 says that there is none
 pub record IsFrameRegister (r : ℕ) : Type 0 where
@@ -108,7 +109,7 @@ pub record IsEntered (s : Machine) : Type 0 where
   pub values : (r : ℕ) → slice_index s.general r < 2 ^ 64
   pub xmm_count : length s.xmm ≡ 16
   pub xmm_values : (r : ℕ) → slice_index s.xmm r < 2 ^ 128
-  pub frame : s.frame ≡ None
+  pub frame : s.frame_base ≡ None
 
 -- without a frame register the stack pointer stays once a register was saved by a store
 abbrev pub MayMove : Option ℕ → List UnwindOperation → Type 0
@@ -130,24 +131,24 @@ IsFirst (o ∷ before) = ⊥
 -- A frame register: once.
 -- A machine frame: first, where an interrupt enters and no call.
 -- A save: on none of the slots, the return address among them.
-abbrev pub MayFollow : Bool → Frame → List UnwindOperation → Machine → Machine → UnwindOperation → Type 0
-MayFollow called f before s t (PushNonVolatile r) = IsSavable r.0 × MaySave t.frame f.register r.0 × MayMove t.frame before × (8 ≤ top t)
-MayFollow called f before s t (Alloc n) = MayMove t.frame before × (n ≤ top t)
-MayFollow called f before s t SetFPRegister = IsFrameRegister f.register × (t.frame ≡ None) × (top t + f.offset < 2 ^ 64)
+abbrev pub MayFollow : Bool → FrameRegister → List UnwindOperation → Machine → Machine → UnwindOperation → Type 0
+MayFollow called f before s t (PushNonVolatile r) = IsSavable r.0 × MaySave t.frame_base f.register r.0 × MayMove t.frame_base before × (8 ≤ machine_stack_pointer t)
+MayFollow called f before s t (Alloc n) = MayMove t.frame_base before × (n ≤ machine_stack_pointer t)
+MayFollow called f before s t SetFPRegister = IsFrameRegister f.register × (t.frame_base ≡ None) × (machine_stack_pointer t + f.offset < 2 ^ 64)
 MayFollow called f before s t (SaveNonVolatile r o) =
-    IsSavable r.0 × MaySave t.frame f.register r.0 × (base t + offset_number o < 2 ^ 64)
-    × AllByRecursion (Apart (base t + offset_number o)) (slots called f before s)
+    IsSavable r.0 × MaySave t.frame_base f.register r.0 × (base t + bytes_above o < 2 ^ 64)
+    × AllByRecursion (Apart (base t + bytes_above o)) (slots called f before s)
 MayFollow called f before s t (SaveXMM128 r o) =
-    IsXmm r.0 × (base t + offset_number o + 8 < 2 ^ 64)
-    × AllByRecursion (Apart (base t + offset_number o)) (slots called f before s)
-    × AllByRecursion (Apart (base t + offset_number o + 8)) (slots called f before s)
+    IsXmm r.0 × (base t + bytes_above o + 8 < 2 ^ 64)
+    × AllByRecursion (Apart (base t + bytes_above o)) (slots called f before s)
+    × AllByRecursion (Apart (base t + bytes_above o + 8)) (slots called f before s)
 MayFollow called f before s t (Epilog a b) = Unit {0}
 MayFollow called f before s t Noop = Unit {0}
-MayFollow called f before s t (PushMachineFrame e) = IsFirst before × (top s + error_size e + 24 < 2 ^ 64)
+MayFollow called f before s t (PushMachineFrame e) = IsFirst before × (machine_stack_pointer s + error_size e + 24 < 2 ^ 64)
 MayFollow called f before s t (SaveXMM r o) = ⊥
 
 -- a prolog that a machine may run, or the first part of one
-abbrev pub IsProlog : Bool → Frame → List UnwindOperation → Machine → Type 0
+abbrev pub IsProlog : Bool → FrameRegister → List UnwindOperation → Machine → Type 0
 IsProlog called f [] s = IsEntered s
 IsProlog called f (o ∷ before) s = MayFollow called f before s (run f before s) o × IsProlog called f before s
 
@@ -160,17 +161,17 @@ PushesLate (other ∷ before) = PushesLate before
 
 -- The stack pointer is where the prolog left it. With a frame register, which is as it was set, it may be anywhere below
 -- unless a register was pushed late.
-abbrev pub KeepsFrame : Frame → List UnwindOperation → Option ℕ → List ℕ → Registers → Type 0
-KeepsFrame f codes None left g = pointer g ≡ slice_index left 4
-KeepsFrame f codes (Some b) left g =
-    (pointer g ≤ slice_index left 4) × (PushesLate codes → pointer g ≡ slice_index left 4) × (slice_index g.general f.register ≡ slice_index left f.register)
+abbrev pub KeepsStackPointer : FrameRegister → List UnwindOperation → Option ℕ → List ℕ → Registers → Type 0
+KeepsStackPointer f codes None left g = stack_pointer g ≡ slice_index left RSP
+KeepsStackPointer f codes (Some b) left g =
+    (stack_pointer g ≤ slice_index left RSP) × (PushesLate codes → stack_pointer g ≡ slice_index left RSP) × (slice_index g.general f.register ≡ slice_index left f.register)
 
 -- What a body may make of the machine that a prolog leaves: all other registers, and all memory but the slots. m is what
 -- is known of the memory.
-pub record IsBody (called : Bool) (f : Frame) (codes : List UnwindOperation) (s : Machine) (m : ℕ → Option ℕ) (g : Registers) : Type 0 where
+pub record IsBody (called : Bool) (f : FrameRegister) (codes : List UnwindOperation) (s : Machine) (m : ℕ → Option ℕ) (g : Registers) : Type 0 where
   pub count : length g.general ≡ 16
   pub xmm_count : length g.xmm ≡ 16
-  pub frame : KeepsFrame f codes (run f codes s).frame (run f codes s).general g
+  pub frame : KeepsStackPointer f codes (run f codes s).frame_base (run f codes s).general g
   pub memory : AllByRecursion (λ a. m a ≡ Some (loaded (run f codes s).memory a)) (slots called f codes s)
 
 -- one of the operations saved the register, of the integer registers and of the XMM registers, by their numbers from 0 on

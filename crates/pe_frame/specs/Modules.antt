@@ -84,3 +84,11 @@ is_after_call_arm64_of (Some m) a = is_after_call_arm64_in m a
 -- an address is one after a call, in the module that has the last byte of the call
 abbrev pub is_after_call_arm64 : List Module → ℕ → Bool
 is_after_call_arm64 modules a = is_after_call_arm64_of (module_at modules (a - 1)) a
+
+-- the same in an executable section
+abbrev pub is_code_return_arm64_of : Option Module → ℕ → Bool
+is_code_return_arm64_of None a = false
+is_code_return_arm64_of (Some m) a = list_any (executes (a - m.base - 1)) m.sections.now && is_after_call_arm64_in m a
+
+abbrev pub is_code_return_arm64 : List Module → ℕ → Bool
+is_code_return_arm64 modules a = is_code_return_arm64_of (module_at modules (a - 1)) a

@@ -8,7 +8,7 @@ use Rattle.pe_unwind.specs.UnwindRecord.{UnwindInfoView, code_stream}
 use Rattle.pe_frame.specs.declared.error.FrameError.{FrameError}
 use Rattle.pe_frame.specs.declared.error.FrameError.TheVariants.{Codes, NotRising}
 use Rattle.pe_frame.specs.declared.registers.Registers.{Registers}
-use Rattle.pe_frame.specs.Undoing.{Frame, entered, popped, pointer}
+use Rattle.pe_frame.specs.Undoing.{FrameRegister, entered, popped, stack_pointer}
 
 -- the codes that items are, or the first that is none
 abbrev pub known_codes : List (Result UnwindCode Error) → Result (List UnwindCode) FrameError
@@ -20,8 +20,8 @@ known_codes (Err e ∷ items) = Err (Codes e)
 abbrev pub HasCodes : UnwindInfoView → Result (List UnwindCode) FrameError → Type 0
 HasCodes i codes = (items : List (Result UnwindCode Error)) × AreItems (code_stream i) items × (codes ≡ known_codes items)
 
-abbrev pub frame_of : UnwindInfoView → Frame
-frame_of i = record { register = (i.frame_register).0; offset = i.frame_register_offset }
+abbrev pub frame_register_in : UnwindInfoView → FrameRegister
+frame_register_in i = record { register = (i.frame_register).0; offset = i.frame_register_offset }
 
 -- inside the prolog of the first record only what ends at or before an offset has run; all has after the prolog, and in
 -- the records to which the first is chained
@@ -33,7 +33,7 @@ limit_of (i ∷ is) offset = if nat_le i.size_of_prolog offset then None else So
 abbrev pub Enters : (ℕ → Option ℕ) → Option ℕ → UnwindInfoView → Registers → Result (Registers × Bool) FrameError → Type 0
 Enters m limit i g entry =
     (codes : Result (List UnwindCode) FrameError) × HasCodes i codes
-    × (entry ≡ codes >>= λ cs. entered m (frame_of i) limit cs g)
+    × (entry ≡ codes >>= λ cs. entered m (frame_register_in i) limit cs g)
 
 -- a second step on what a first one gave
 abbrev pub Then : {A B : Type 0} → Result A FrameError → (A → Result B FrameError → Type 0) → Result B FrameError → Type 0
@@ -42,15 +42,15 @@ Then (Err e) Next answer = answer ≡ Err e
 
 -- The records undone, one after the other: the registers where the function was entered, and whether an interrupt entered
 -- it. No memory is read for a record whose codes are refused, nor for those after it.
-abbrev pub Undoes : (ℕ → Option ℕ) → List UnwindInfoView → Option ℕ → Bool → Registers → Result (Registers × Bool) FrameError → Type 0
-Undoes m [] limit interrupted g answer = answer ≡ Ok (g, interrupted)
-Undoes m (i ∷ is) limit interrupted g answer =
+abbrev pub UndoesRecords : (ℕ → Option ℕ) → List UnwindInfoView → Option ℕ → Bool → Registers → Result (Registers × Bool) FrameError → Type 0
+UndoesRecords m [] limit interrupted g answer = answer ≡ Ok (g, interrupted)
+UndoesRecords m (i ∷ is) limit interrupted g answer =
     (entry : Result (Registers × Bool) FrameError) × Enters m limit i g entry
-    × Then entry (λ u. Undoes m is None (interrupted || u.1) u.0) answer
+    × Then entry (λ u. UndoesRecords m is None (interrupted || u.1) u.0) answer
 
 -- the caller's stack pointer is above this one
 abbrev pub rising : ℕ → Registers → Result Registers FrameError
-rising p u = if nat_lt p (pointer u) then Ok u else Err (NotRising (pointer u))
+rising p u = if nat_lt p (stack_pointer u) then Ok u else Err (NotRising (stack_pointer u))
 
 -- the caller's registers: an interrupt left them; a call left its return address, and a stack pointer below the caller's
 abbrev pub returned : (ℕ → Option ℕ) → ℕ → (Registers × Bool) → Result Registers FrameError
@@ -59,17 +59,17 @@ returned m p u = if u.1 then Ok u.0 else popped m u.0 >>= rising p
 -- what a step returns, by the records of a function and the offset in it
 abbrev pub Steps : (ℕ → Option ℕ) → List UnwindInfoView → ℕ → Registers → Result Registers FrameError → Type 0
 Steps m plan offset g answer =
-    (entry : Result (Registers × Bool) FrameError) × Undoes m plan (limit_of plan offset) false g entry
-    × (answer ≡ entry >>= returned m (pointer g))
+    (entry : Result (Registers × Bool) FrameError) × UndoesRecords m plan (limit_of plan offset) false g entry
+    × (answer ≡ entry >>= returned m (stack_pointer g))
 
 -- the same, and whether an interrupt left them
 abbrev pub returned_out : (ℕ → Option ℕ) → ℕ → (Registers × Bool) → Result (Registers × Bool) FrameError
 returned_out m p u = returned m p u >>= λ c. Ok (c, u.1)
 
-abbrev pub StepsOut : (ℕ → Option ℕ) → List UnwindInfoView → ℕ → Registers → Result (Registers × Bool) FrameError → Type 0
-StepsOut m plan offset g answer =
-    (entry : Result (Registers × Bool) FrameError) × Undoes m plan (limit_of plan offset) false g entry
-    × (answer ≡ entry >>= returned_out m (pointer g))
+abbrev pub UndoesFunction : (ℕ → Option ℕ) → List UnwindInfoView → ℕ → Registers → Result (Registers × Bool) FrameError → Type 0
+UndoesFunction m plan offset g answer =
+    (entry : Result (Registers × Bool) FrameError) × UndoesRecords m plan (limit_of plan offset) false g entry
+    × (answer ≡ entry >>= returned_out m (stack_pointer g))
 
 abbrev pub registers_alone : {R : Type 0} → Result (R × Bool) FrameError → Result R FrameError
 registers_alone left = left >>= λ u. Ok u.0

@@ -10,20 +10,22 @@ use Rattle.pe_unwind.specs.Links.{links_of}
 use Rattle.pe_unwind.specs.UnwindRecord.{UnwindInfoView}
 use Rattle.pe_unwind.specs.declared.function_table.RuntimeFunction.{RuntimeFunction}
 use Rattle.pe_plan.specs.ShortPlans.{PlansShort}
+use Rattle.pe_frame.specs.FrameWalks.{FrameWalk, Process, state_of}
 use Rattle.pe_frame.specs.Jumps.{StepsInImage}
 use Rattle.pe_frame.specs.Modules.{module_at, code_in, is_after_call, is_code_return}
+use Rattle.pe_frame.specs.Scans.{first_return, most_words}
 use Rattle.pe_frame.specs.Steps.{ErrorKind, error_kind}
-use Rattle.pe_frame.specs.Undoing.{pointer, popped, put_register, put_rip}
+use Rattle.pe_frame.specs.Undoing.{stack_pointer, popped, put_register, put_rip}
 use Rattle.pe_frame.specs.declared.error.FrameError.{FrameError}
 use Rattle.pe_frame.specs.declared.modules.Module.{Module}
 use Rattle.pe_frame.specs.declared.registers.Registers.{Registers}
 use Rattle.pe_frame.specs.declared.walk.StackFrame.{StackFrame}
 use Rattle.pe_frame.specs.declared.walk.StackFrames.{StackFrames}
-use Rattle.pe_frame.specs.declared.walk.WalkPosition.{WalkPosition}
 use Rattle.pe_frame.specs.declared.walk.Way.{Way}
 use Rattle.pe_frame.specs.declared.walk.Way.TheVariants.{Top, Records, Leaf, Interrupt, Scanned}
 use Rattle.pe_frame.specs.declared.walk.WalkEnd.{WalkEnd}
 use Rattle.pe_frame.specs.declared.walk.WalkEnd.TheVariants as ends
+use Rattle.pe_frame.specs.declared.registers.TheConstants.{RSP}
 
 -- ---- a frame
 
@@ -51,38 +53,19 @@ code_of_frame m e end s = if s.has_called then [] else code_in m e ((s.registers
 
 -- ---- what calls a frame that no records describe
 
--- the return address into executable code that the word at an address of the stack is, if it is one
-abbrev pub return_at : (ℕ → Option ℕ) → List Module → ℕ → Option ℕ
-return_at memory modules a =
-    if nat_lt (a + 8) (2 ^ 64) then option_and_then (λ w. if is_code_return modules w then Some w else None) (memory a) else None
-
--- the first of n words from an address on that is one, and its address
-unfoldable pub first_return : ℕ → (ℕ → Option ℕ) → List Module → ℕ → Option (ℕ × ℕ)
-first_return zero memory modules a = None
-first_return (suc n) memory modules a =
-    option_map_or (λ w. Some (a, w)) (return_at memory modules a) (first_return n memory modules (a + 8))
-
--- the word at an address is the first of those n
-pub record IsFirstReturn (n : ℕ) (memory : ℕ → Option ℕ) (modules : List Module) (start a w : ℕ) : Type 0 where
-  pub index : ℕ
-  pub within : index < n
-  pub at : a ≡ start + 8 * index
-  pub is : return_at memory modules a ≡ Some w
-  pub first : (j : ℕ) → j < index → return_at memory modules (start + 8 * j) ≡ None
-
--- how many words a scan reads at most
-abbrev pub most_words : ℕ
-most_words = 128
+-- the return address into executable code that a number is, if it is one
+abbrev pub code_return : List Module → ℕ → Option ℕ
+code_return modules w = if is_code_return modules w then Some w else None
 
 -- the registers after the return to it: all but the instruction pointer and the stack pointer are as they were
 abbrev pub returned_to : Registers → (ℕ × ℕ) → Registers
-returned_to g found = put_rip (put_register g 4 (found.0 + 8)) found.1
+returned_to g found = put_rip (put_register g RSP (found.0 + 8)) found.1
 
 -- the frame that a scan of the stack finds: by the first word from the stack pointer on, rounded up to 8
 abbrev pub scanned : (ℕ → Option ℕ) → List Module → Registers → Option StackFrame
 scanned memory modules g =
     option_map (λ found. frame_of modules Scanned (returned_to g found))
-    (first_return most_words memory modules (rounded_up (pointer g) 8))
+    (first_return most_words memory (code_return modules) (rounded_up (stack_pointer g) 8))
 
 -- the caller of a leaf function, which has the return address at the stack pointer, if a call ends at that
 abbrev pub leaf_frame : List Module → Result Registers FrameError → Option StackFrame
@@ -112,13 +95,17 @@ frame_after memory modules (Ok (u, false)) =
     if is_bottom memory modules u then Err ends.Bottom else Ok (frame_of modules Records u)
 frame_after memory modules (Err e) = Err (ends.Step e)
 
+-- what a step from a frame returns, by the records of its function
+abbrev pub StepsFromFrame : (ℕ → Option ℕ) → Module → ExceptionView → RuntimeFunction → List UnwindInfoView → StackFrame → Result (Registers × Bool) FrameError → Type 0
+StepsFromFrame memory m e f plan s left =
+    StepsInImage e m.sections.now m.opts memory plan f.begin_address ((s.registers).rip - m.base) (code_of_frame m e f.end_address s) s.registers left
+
 -- by the records of its function
 abbrev pub CallsByPlan : (ℕ → Option ℕ) → List Module → Module → ExceptionView → RuntimeFunction → StackFrame → Result (Option (List UnwindInfoView)) Refusal → Result StackFrame WalkEnd → Type 0
 CallsByPlan memory modules m e f s (Err r) answer = IsUnreadable r answer
 CallsByPlan memory modules m e f s (Ok None) answer = answer ≡ Err ends.LongChain
 CallsByPlan memory modules m e f s (Ok (Some plan)) answer =
-    (left : Result (Registers × Bool) FrameError)
-    × StepsInImage e m.sections.now m.opts memory plan f.begin_address ((s.registers).rip - m.base) (code_of_frame m e f.end_address s) s.registers left
+    (left : Result (Registers × Bool) FrameError) × StepsFromFrame memory m e f plan s left
     × (answer ≡ frame_after memory modules left)
 
 -- Without a function there is no caller of a frame that has called: a leaf function calls nothing. That of any other frame is
@@ -127,119 +114,49 @@ abbrev pub after_leaf : List Module → Result Registers FrameError → Result S
 after_leaf modules (Ok u) = if u.rip == 0 then Err ends.Bottom else Ok (frame_of modules Leaf u)
 after_leaf modules (Err e) = Err (ends.Step e)
 
-abbrev pub leaf_caller : (ℕ → Option ℕ) → List Module → StackFrame → Result StackFrame WalkEnd
-leaf_caller memory modules s =
+abbrev pub caller_of_leaf : (ℕ → Option ℕ) → List Module → StackFrame → Result StackFrame WalkEnd
+caller_of_leaf memory modules s =
     if s.has_called then Err ends.NoFunction
     else option_map_or Ok (without_records memory modules s.registers) (after_leaf modules (popped memory s.registers))
 
 -- The same in no module, to which a wild jump or call may lead, but there nothing speaks for a leaf function.
-abbrev pub outside_caller : (ℕ → Option ℕ) → List Module → StackFrame → Result StackFrame WalkEnd
-outside_caller memory modules s =
+abbrev pub caller_outside : (ℕ → Option ℕ) → List Module → StackFrame → Result StackFrame WalkEnd
+caller_outside memory modules s =
     if s.has_called then Err ends.NoModule
     else option_map_or Ok (without_records memory modules s.registers) (Err ends.NoModule)
 
 -- by the function that lookup found, if it found one
 abbrev pub CallsFound : (ℕ → Option ℕ) → List Module → Module → ExceptionView → StackFrame → Option RuntimeFunction → Result StackFrame WalkEnd → Type 0
-CallsFound memory modules m e s None answer = answer ≡ leaf_caller memory modules s
+CallsFound memory modules m e s None answer = answer ≡ caller_of_leaf memory modules s
 CallsFound memory modules m e s (Some f) answer =
     (plan : Result (Option (List UnwindInfoView)) Refusal)
     × PlansShort (links_of e m.sections.now m.opts) e.content f plan × CallsByPlan memory modules m e f s plan answer
 
 -- by the exception data of a module; without any all of its functions are leaf functions
 abbrev pub CallsBy : (ℕ → Option ℕ) → List Module → Module → StackFrame → Option ExceptionView → Result StackFrame WalkEnd → Type 0
-CallsBy memory modules m s None answer = answer ≡ leaf_caller memory modules s
+CallsBy memory modules m s None answer = answer ≡ caller_of_leaf memory modules s
 CallsBy memory modules m s (Some e) answer =
     (found : Option RuntimeFunction) × Finds (functions (table_of e)) (lookup_address s - m.base) found
     × CallsFound memory modules m e s found answer
 
 -- in the module that has the address, if one does
 abbrev pub CallsIn : (ℕ → Option ℕ) → List Module → StackFrame → Option Module → Result StackFrame WalkEnd → Type 0
-CallsIn memory modules s None answer = answer ≡ outside_caller memory modules s
+CallsIn memory modules s None answer = answer ≡ caller_outside memory modules s
 CallsIn memory modules s (Some m) answer = CallsBy memory modules m s (option_map (λ e. e.now) m.exceptions) answer
 
 -- the frame of the caller of a frame, or why there is none
-abbrev pub Calls : (ℕ → Option ℕ) → List Module → StackFrame → Result StackFrame WalkEnd → Type 0
-Calls memory modules s answer = CallsIn memory modules s (module_at modules (lookup_address s)) answer
-
--- ---- a walk
-
--- where a walk is: what is known of the process; a frame, and whether it was returned; how many frames it returns at most,
--- none once it is over; and why it is over then
-pub record WalkState : Type 0 where
-  pub memory : ℕ → Option ℕ
-  pub modules : List Module
-  pub frame : StackFrame
-  pub has_returned : Bool
-  pub remaining : ℕ
-  pub end : WalkEnd
-
--- the frame that follows: the first as it is, and then the caller of each
-abbrev pub FollowsBy : Bool → WalkState → Result StackFrame WalkEnd → Type 0
-FollowsBy true w answer = Calls w.memory w.modules w.frame answer
-FollowsBy false w answer = answer ≡ Ok w.frame
-
-abbrev pub Follows : WalkState → Result StackFrame WalkEnd → Type 0
-Follows w answer = FollowsBy w.has_returned w answer
-
--- the walk after it
-abbrev pub walk_after : WalkState → Result StackFrame WalkEnd → WalkState
-walk_after w (Ok s) = record w { frame = s; has_returned = true; remaining = w.remaining - 1 }
-walk_after w (Err e) = record w { remaining = 0; end = e }
-
--- what it returns
-abbrev pub returned_frame : Result StackFrame WalkEnd → Option StackFrame
-returned_frame (Ok s) = Some s
-returned_frame (Err e) = None
-
--- a call of `next`, by how many frames it may return: nothing changes once the walk is over
-abbrev pub AdvancesBy : ℕ → WalkState → Option StackFrame → WalkState → Type 0
-AdvancesBy zero w answer new = (answer ≡ None) × (new ≡ w)
-AdvancesBy (suc n) w answer new =
-    (found : Result StackFrame WalkEnd) × Follows w found × (answer ≡ returned_frame found) × (new ≡ walk_after w found)
-
-abbrev pub Advances : WalkState → Option StackFrame → WalkState → Type 0
-Advances w answer new = AdvancesBy w.remaining w answer new
-
--- these are the frames that a walk returns, at most so many, and then it is over for this reason
-abbrev pub IsWalkBy : ℕ → WalkState → List StackFrame → WalkEnd → Type 0
-IsWalkBy zero w frames end = (frames ≡ []) × (end ≡ w.end)
-IsWalkBy (suc n) w [] end = Follows w (Err end)
-IsWalkBy (suc n) w (s ∷ frames) end = Follows w (Ok s) × IsWalkBy n (walk_after w (Ok s)) frames end
-
-abbrev pub IsWalk : WalkState → List StackFrame → WalkEnd → Type 0
-IsWalk w frames end = IsWalkBy w.remaining w frames end
+abbrev pub Calls : Process → StackFrame → Result StackFrame WalkEnd → Type 0
+Calls p s answer = CallsIn p.memory p.modules s (module_at p.modules (lookup_address s)) answer
 
 -- ---- the iterator
 
--- where it is over this memory and these modules
-abbrev pub state_of : (ℕ → Option ℕ) → List Module → WalkPosition → WalkState
-state_of memory modules p = record {
-  memory = memory;
-  modules = modules;
-  frame = p.frame;
-  has_returned = p.has_returned;
-  remaining = p.remaining;
-  end = p.end;
-}
+-- where it is, by what its type of memory knows
+abbrev pub walk_of : {M : Type 0} → (M → ℕ → Option ℕ) → StackFrames M → FrameWalk Process StackFrame
+walk_of word s = state_of (record { memory = word s.memory.now; modules = s.modules.modules.now }) s.position
 
--- the same by what its type of memory knows
-abbrev pub walk_of : {M : Type 0} → (M → ℕ → Option ℕ) → StackFrames M → WalkState
-walk_of word s = state_of (word s.memory.now) s.modules.modules.now s.position
-
--- a walk of at most so many frames, from the registers of a thread
-abbrev pub starting_walk : (ℕ → Option ℕ) → List Module → Registers → ℕ → WalkState
-starting_walk memory modules registers most = record {
-  memory = memory;
-  modules = modules;
-  frame = frame_of modules Top registers;
-  has_returned = false;
-  remaining = most;
-  end = ends.Bound;
-}
-
--- why it is over, once it is
-abbrev pub end_of : WalkState → Option WalkEnd
-end_of w = if w.remaining == 0 then Some w.end else None
+-- the top frame, with the registers of a thread
+abbrev pub top_frame : Registers → StackFrame
+top_frame g = record { registers = g; way = Top; has_called = false }
 
 -- ---- what decides a walk
 

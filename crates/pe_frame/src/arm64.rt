@@ -20,4 +20,4 @@ mod walk;
 pub(crate) use call::is_call_arm64;
 pub use registers::Arm64Registers;
 pub use step::{leaf_arm64, step_arm64, step_arm64_packed, step_out_arm64};
-pub use walk::{Arm64StackFrame, Arm64StackFrames};
+pub use walk::{Arm64StackFrame, Arm64StackFrames, caller_in_module_arm64, caller_outside_arm64};

@@ -12,7 +12,7 @@ ghost use Rattle.std.specs.Prelude.{◌≡◌, ◌+◌, ◌≤◌, length, map, 
 ghost use Rattle.std.specs.Option.{option_map};
 ghost use Rattle.pe_unwind.specs.UnwindRecord.{unwind_view};
 ghost use Rattle.pe_frame.specs.declared.epilog.Instruction.TheVariants.{Pop};
-ghost use Rattle.pe_frame.specs.Epilogs.{widened, moved, operand, add_form, lea_form, trim_form, pop_of, pop_form, popped_first, most_pops, after_pops, jump_of, is_plain_mode, jump_by_operand, marked_by, marked_jump, unmarked_jump, jump_form, exit_form, restores, lies_in_parents, function_start, leaves, frame_register_of, with_rest, tail, executed, executed_all};
+ghost use Rattle.pe_frame.specs.Epilogs.{widened, moved, operand, add_at, lea_at, trim_at, pop_of, pop_at, popped_first, most_pops, after_pops, jump_of, is_plain_mode, jump_by_operand, marked_by, marked_jump, unmarked_jump, jump_at, exit_at, restores, lies_in_parents, function_start, leaves, frame_register_of, with_rest, tail_at, executed, executed_all};
 ghost use Rattle.pe_frame.specs.Jumps.{before_last, target_of};
 ghost use Rattle.pe_frame.specs.Undoing.{put_register};
 ghost use Rattle.pe_frame.specs.Tails.{alone, instructions_of};
@@ -183,9 +183,9 @@ fn u32_after(opcode: &[u8], code: &[u8]) -> Option<u32>
 }
 
 /// `add rsp, n` with a number that is not negative, and its size.
-#[tactic(auto, unfolding(crate::specs::Epilogs::add_form))]
+#[tactic(auto, unfolding(crate::specs::Epilogs::add_at))]
 fn add_at(code: &[u8]) -> Option<(Instruction, usize)>
-    ensures value { result ≡ add_form code.now }
+    ensures value { result ≡ add_at code.now }
     ensures fits { IfSome result (λ found. found.1 ≤ length code.now) }
 {
     if let Some(number) = byte_after(&ADD_IMM8, code) {
@@ -202,9 +202,9 @@ fn add_at(code: &[u8]) -> Option<(Instruction, usize)>
 }
 
 /// `lea rsp, [register + n]` by the frame register, and its size.
-#[tactic(auto, unfolding(crate::specs::Epilogs::lea_form))]
+#[tactic(auto, unfolding(crate::specs::Epilogs::lea_at))]
 fn lea_at(register: u8, code: &[u8]) -> Option<(Instruction, usize)>
-    ensures value { result ≡ lea_form register code.now }
+    ensures value { result ≡ lea_at register code.now }
     ensures fits { IfSome result (λ found. found.1 ≤ length code.now) }
 {
     if register == 0 || usize::from(register) == RSP || register >= INTEGER_REGISTERS {
@@ -225,7 +225,7 @@ fn lea_at(register: u8, code: &[u8]) -> Option<(Instruction, usize)>
 
 /// The instruction that frees the stack, and its size.
 fn trim_at(register: u8, code: &[u8]) -> Option<(Instruction, usize)>
-    ensures value { result ≡ trim_form register code.now }
+    ensures value { result ≡ trim_at register code.now }
     ensures fits { IfSome result (λ found. found.1 ≤ length code.now) }
 {
     match add_at(code) {
@@ -247,9 +247,9 @@ fn pop_of(high: u8, size: usize, byte: u8) -> Option<(u8, usize)>
 }
 
 /// The register of a pop, and the size of the pop.
-#[tactic(auto, unfolding(crate::specs::Epilogs::pop_form))]
+#[tactic(auto, unfolding(crate::specs::Epilogs::pop_at))]
 fn pop_at(code: &[u8]) -> Option<(u8, usize)>
-    ensures value { result ≡ pop_form code.now }
+    ensures value { result ≡ pop_at code.now }
     ensures fits { IfSome result (λ found. found.1 ≤ length code.now) }
 {
     if let Some(byte) = byte_after(&[REX_B], code) {
@@ -337,9 +337,9 @@ fn unmarked_jump(restored: bool, code: &[u8]) -> Option<Instruction>
 }
 
 /// A jump, by the RVA where the code ends.
-#[tactic(auto, unfolding(crate::specs::Epilogs::jump_form))]
+#[tactic(auto, unfolding(crate::specs::Epilogs::jump_at))]
 fn jump_at(restored: bool, end: u64, code: &[u8]) -> Option<Instruction>
-    ensures { result ≡ jump_form restored end code.now }
+    ensures { result ≡ jump_at restored end code.now }
 {
     if let Some(number) = byte_after(&JMP_REL8, code) {
         return Some(jump_of(end, code, 2, widened8(number)));
@@ -355,9 +355,9 @@ fn jump_at(restored: bool, end: u64, code: &[u8]) -> Option<Instruction>
 
 /// The instruction with which an epilog ends, by the RVA where the code ends, and whether one before it freed stack or popped
 /// a register.
-#[tactic(auto, unfolding(crate::specs::Epilogs::exit_form))]
+#[tactic(auto, unfolding(crate::specs::Epilogs::exit_at))]
 fn exit_at(restored: bool, end: u64, code: &[u8]) -> Option<Instruction>
-    ensures { result ≡ exit_form restored end code.now }
+    ensures { result ≡ exit_at restored end code.now }
 {
     if code.starts_with(&RET) || code.starts_with(&REP_RET) {
         return Some(Instruction::Return(0));
@@ -409,7 +409,7 @@ fn leaves(plan: &[UnwindInfo<'_>], start: u32, end: u64, instruction: Instructio
 }
 
 /// The number of the frame register of the first record, 0 for none.
-fn frame_register(plan: &[UnwindInfo<'_>]) -> u8
+fn frame_register_of(plan: &[UnwindInfo<'_>]) -> u8
     ensures { result ≡ frame_register_of (map unwind_view plan.now) }
 {
     if plan.is_empty() {
@@ -458,10 +458,10 @@ pub(crate) fn tail_at<'a>(
     end: u64,
     code: &'a [u8],
 ) -> Option<Tail<'a>>
-    ensures { option_map instructions_of result ≡ tail
+    ensures { option_map instructions_of result ≡ tail_at
         (map unwind_view plan.now) start end code.now }
 {
-    match trim_at(frame_register(plan), code) {
+    match trim_at(frame_register_of(plan), code) {
         Some((trim, size)) => with_rest(plan, start, end, Some(trim), &code[size..]),
         None => with_rest(plan, start, end, None, code),
     }
@@ -503,27 +503,26 @@ fn execute<M: Memory>(
     }
 }
 
-/// The registers after the pops with which the code starts.
+/// Runs the pops with which the code starts.
 fn execute_pops<M: Memory>(
     code: &[u8],
-    registers: Registers,
+    registers: &mut Registers,
     memory: &M,
-) -> Result<Registers, FrameError>
-    ensures { result ≡ executed_all (M.word memory.now)
-        (map Pop (popped_first most_pops code.now)) registers }
+) -> Result<(), FrameError>
+    ensures { changed result registers.new ≡ executed_all (M.word memory.now)
+        (map Pop (popped_first most_pops code.now)) registers.old }
 {
     let mut rest = code;
-    let mut current = registers;
     for _ in 0..MOST_POPS {
         match pop_at(rest) {
             Some((register, size)) => {
-                execute(Instruction::Pop(register), &mut current, memory)?;
+                execute(Instruction::Pop(register), registers, memory)?;
                 rest = &rest[size..];
             }
-            None => return Ok(current),
+            None => return Ok(()),
         }
     }
-    Ok(current)
+    Ok(())
 }
 
 /// Frees the stack, if it is still to be.
@@ -541,19 +540,18 @@ fn execute_trim<M: Memory>(
     }
 }
 
-/// The registers before the instruction with which the rest of an epilog leaves the function.
+/// Makes the registers those before the instruction with which the rest of an epilog leaves the function.
 #[tactic(auto, using(crate::proofs::Tails::trim_run, crate::proofs::Tails::before_exit))]
 pub(crate) fn execute_before_exit<M: Memory>(
-    tail: Tail<'_>,
-    registers: Registers,
+    tail: &Tail<'_>,
+    registers: &mut Registers,
     memory: &M,
-) -> Result<Registers, FrameError>
-    ensures { result ≡ executed_all (M.word memory.now)
-        (before_last (instructions_of tail.entry)) registers }
+) -> Result<(), FrameError>
+    ensures { changed result registers.new ≡ executed_all (M.word memory.now)
+        (before_last (instructions_of tail.now)) registers.old }
 {
-    let mut freed = registers;
-    execute_trim(tail.trim, &mut freed, memory)?;
-    execute_pops(tail.pops, freed, memory)
+    execute_trim(tail.trim, registers, memory)?;
+    execute_pops(tail.pops, registers, memory)
 }
 
 /// The RVA to which the rest of an epilog jumps, if it ends with a jump to one.
@@ -567,16 +565,16 @@ pub(crate) fn target_of(tail: &Tail<'_>) -> Option<u32>
     }
 }
 
-/// The registers after the rest of an epilog.
+/// Makes the registers those after the rest of an epilog.
 #[tactic(auto, using(crate::proofs::Tails::tail_run))]
 pub(crate) fn execute_tail<M: Memory>(
-    tail: Tail<'_>,
-    registers: Registers,
+    tail: &Tail<'_>,
+    registers: &mut Registers,
     memory: &M,
-) -> Result<Registers, FrameError>
-    ensures { result ≡ executed_all (M.word memory.now) (instructions_of tail.entry) registers }
+) -> Result<(), FrameError>
+    ensures { changed result registers.new
+        ≡ executed_all (M.word memory.now) (instructions_of tail.now) registers.old }
 {
-    let mut caller = execute_before_exit(tail, registers, memory)?;
-    execute(tail.exit, &mut caller, memory)?;
-    Ok(caller)
+    execute_before_exit(tail, registers, memory)?;
+    execute(tail.exit, registers, memory)
 }

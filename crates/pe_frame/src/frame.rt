@@ -1,4 +1,15 @@
-//! One step of a stack walk.
+//! One step of a stack walk on x64: from the registers inside a function to those of its caller.
+//!
+//! A call pushes the return address. The prolog of the function then pushes nonvolatile registers (`UWOP_PUSH_NONVOL`),
+//! allocates stack (`UWOP_ALLOC_SMALL`, `UWOP_ALLOC_LARGE`), may set a frame register (`UWOP_SET_FPREG`) and saves further
+//! registers (`UWOP_SAVE_NONVOL`, `UWOP_SAVE_XMM128`). Its unwind codes stand in the reverse order, each with the offset
+//! where its instruction ends, so that a caller that stopped inside of a prolog knows which have run
+//! ([Microsoft's page](https://learn.microsoft.com/cpp/build/exception-handling-x64#unwind-procedure)).
+//!
+//! A step undoes the codes that have run, of the function's record and of those to which it is chained, and pops the return
+//! address. An interrupt pushes no return address, but a machine frame (`UWOP_PUSH_MACHFRAME`), which has the stack pointer
+//! and the instruction pointer. In an epilog the codes hold no longer: there a step runs what is left of it. A function
+//! without a record is a leaf function, which has only the return address on the stack.
 
 ghost use Rattle.std.specs.Prelude.{◌≡◌, ◌-◌, List, ◌∷◌, map, false, Ok};
 ghost use Rattle.std.specs.Option.{option_map};
@@ -6,8 +17,8 @@ ghost use Rattle.pe_unwind.specs.UnwindRecord.{unwind_view};
 ghost use Rattle.pe_frame.specs.Undoing.{popped};
 ghost use Rattle.pe_frame.specs.declared.registers.Registers.{Registers};
 ghost use Rattle.pe_frame.specs.Frames.{Part, infos, AreFrames, IsCaller};
-ghost use Rattle.pe_frame.specs.Steps.{Steps, StepsOut, Undoes, limit_of, registers_alone, rising};
-ghost use Rattle.pe_frame.specs.Epilogs.{epilog_at, run_out, StepsWithCode, StepsOutWithCode};
+ghost use Rattle.pe_frame.specs.Steps.{Steps, UndoesFunction, UndoesRecords, limit_of, registers_alone, rising};
+ghost use Rattle.pe_frame.specs.Epilogs.{epilog_at, run_out, StepsWithCode, StepsOut};
 ghost use Rattle.pe_frame.specs.InPlace.{changed, changed_with};
 ghost use Rattle.pe_frame.specs.Tails.{instructions_of};
 
@@ -38,7 +49,7 @@ fn undo_records<M: Memory>(
     registers: &mut Registers,
     memory: &M,
 ) -> Result<bool, FrameError>
-    ensures { Undoes (M.word memory.now) (map unwind_view plan.now) limit false registers.old
+    ensures { UndoesRecords (M.word memory.now) (map unwind_view plan.now) limit false registers.old
         (changed_with result registers.new) }
 {
     let mut is_interrupted = false;
@@ -51,58 +62,73 @@ fn undo_records<M: Memory>(
 }
 
 /// The registers of the caller, if its stack pointer is above this one.
-pub(crate) fn rising(pointer: u64, caller: Registers) -> Result<Registers, FrameError>
-    ensures { result ≡ rising pointer caller }
+pub(crate) fn rising(stack_pointer: u64, caller: Registers) -> Result<Registers, FrameError>
+    ensures { result ≡ rising stack_pointer caller }
 {
     let above = caller.general[RSP];
-    if above <= pointer {
+    if above <= stack_pointer {
         return Err(FrameError::NotRising(above));
     }
     Ok(caller)
 }
 
 /// Tests that the stack pointer of the caller is above this one.
-fn require_rising(pointer: u64, caller: &Registers) -> Result<(), FrameError>
-    ensures { changed result caller.now ≡ rising pointer caller.now }
+pub(crate) fn require_rising(stack_pointer: u64, caller: &Registers) -> Result<(), FrameError>
+    ensures { changed result caller.now ≡ rising stack_pointer caller.now }
 {
     let above = caller.general[RSP];
-    if above <= pointer {
+    if above <= stack_pointer {
         return Err(FrameError::NotRising(above));
     }
     Ok(())
 }
 
 /// Makes the registers those of the caller, from those at an offset in a function. Returns whether an interrupt left them.
-pub(crate) fn undo_in_place<M: Memory>(
+pub(crate) fn undo_function_in_place<M: Memory>(
     plan: &[UnwindInfo<'_>],
     offset: u32,
     registers: &mut Registers,
     memory: &M,
 ) -> Result<bool, FrameError>
-    ensures { StepsOut (M.word memory.now) (map unwind_view plan.now) offset registers.old
+    ensures { UndoesFunction (M.word memory.now) (map unwind_view plan.now) offset registers.old
         (changed_with result registers.new) }
 {
     let limit = limit_of(plan, offset);
-    let pointer = registers.general[RSP];
+    let stack_pointer = registers.general[RSP];
     if undo_records(plan, limit, registers, memory)? {
         return Ok(true);
     }
     pop(registers, memory)?;
-    require_rising(pointer, registers)?;
+    require_rising(stack_pointer, registers)?;
     Ok(false)
 }
 
+/// The registers of the caller after the rest of an epilog. No interrupt left them.
+fn leave_function<M: Memory>(
+    tail: &Tail<'_>,
+    registers: Registers,
+    memory: &M,
+) -> Result<(Registers, bool), FrameError>
+    ensures { result ≡ run_out (M.word memory.now) (instructions_of tail.now) registers }
+{
+    let mut current = registers;
+    match run_out(tail, &mut current, memory) {
+        Ok(is_interrupted) => Ok((current, is_interrupted)),
+        Err(error) => Err(error),
+    }
+}
+
 /// The registers of the caller, from those at an offset in a function, and whether an interrupt left them.
-pub(crate) fn undo_function<M: Memory>(
+fn undo_function<M: Memory>(
     plan: &[UnwindInfo<'_>],
     offset: u32,
     registers: Registers,
     memory: &M,
 ) -> Result<(Registers, bool), FrameError>
-    ensures { StepsOut (M.word memory.now) (map unwind_view plan.now) offset registers result }
+    ensures { UndoesFunction (M.word memory.now) (map unwind_view plan.now) offset registers result }
 {
     let mut current = registers;
-    match undo_in_place(plan, offset, &mut current, memory) {
+    match undo_function_in_place(plan, offset, &mut current, memory) {
         Ok(is_interrupted) => Ok((current, is_interrupted)),
         Err(error) => Err(error),
     }
@@ -131,7 +157,8 @@ fn caller<M: Memory>(
     registers_alone(undo_function(plan, offset, registers, memory))
 }
 
-/// What is left of an epilog at an RVA, from which on the function has this code. In the prolog there is none.
+/// What is left of an epilog at an RVA, from which on the function has this code. In the prolog there is none. Callers have no
+/// code, which is tested first.
 pub(crate) fn epilog_at<'a>(
     plan: &[UnwindInfo<'_>],
     start: u32,
@@ -141,22 +168,28 @@ pub(crate) fn epilog_at<'a>(
     ensures { option_map instructions_of result ≡ epilog_at
         (map unwind_view plan.now) start rva code.now }
 {
+    if code.is_empty() {
+        return None;
+    }
     match limit_of(plan, rva.saturating_sub(start)) {
         Some(_) => None,
         None => tail_at(plan, start, u64::from(rva) + code.len() as u64, code),
     }
 }
 
-/// The registers of the caller after the rest of an epilog. No interrupt left them.
-pub(crate) fn leave_epilog<M: Memory>(
-    tail: Tail<'_>,
-    registers: Registers,
+/// Makes the registers those of the caller after the rest of an epilog. No interrupt left them.
+pub(crate) fn run_out<M: Memory>(
+    tail: &Tail<'_>,
+    registers: &mut Registers,
     memory: &M,
-) -> Result<(Registers, bool), FrameError>
-    ensures { result ≡ run_out (M.word memory.now) (instructions_of tail.entry) registers }
+) -> Result<bool, FrameError>
+    ensures { changed_with result registers.new
+        ≡ run_out (M.word memory.now) (instructions_of tail.now) registers.old }
 {
-    let caller = execute_tail(tail, registers, memory)?;
-    Ok((rising(registers.general[RSP], caller)?, false))
+    let stack_pointer = registers.general[RSP];
+    execute_tail(tail, registers, memory)?;
+    require_rising(stack_pointer, registers)?;
+    Ok(false)
 }
 
 /// The registers of a function's caller, from those inside the function.
@@ -206,11 +239,11 @@ pub fn step_out<M: Memory>(
     registers: Registers,
     memory: &M,
 ) -> Result<(Registers, bool), FrameError>
-    ensures { StepsOutWithCode (M.word memory.now)
+    ensures { StepsOut (M.word memory.now)
         (map unwind_view plan.now) start rva code.now registers result }
 {
     match epilog_at(plan, start, rva, code) {
-        Some(tail) => leave_epilog(tail, registers, memory),
+        Some(tail) => leave_function(&tail, registers, memory),
         None => undo_function(plan, rva.saturating_sub(start), registers, memory),
     }
 }

@@ -7,14 +7,11 @@
 ghost use Rattle.std.specs.Prelude.{◌≡◌, ℕ, length};
 ghost use Rattle.std.specs.Option.{option_map};
 ghost use Rattle.pe_core.specs.Refusals.{answer_by, answer_of};
-ghost use Rattle.pe_unwind.specs.Links.{links_of};
-ghost use Rattle.pe_unwind.specs.UnwindRecord.{unwind_view};
-ghost use Rattle.pe_unwind.specs.Unwinding.{Unwinds};
 ghost use Rattle.pe_frame.specs.FunctionSteps.{StepsInFunction, StepsUpTo};
 ghost use Rattle.pe_frame.specs.InPlace.{changed_with};
 
 use crate::error::FrameError;
-use crate::jump::{ImageFunctions, step_in_image, step_in_place};
+use crate::jump::{ImageFunctions, record_of, step_in_image, step_in_place};
 use crate::memory::Memory;
 use crate::registers::Registers;
 use pe_core::Result;
@@ -23,23 +20,6 @@ use pe_unwind::laws::derives::clones_are_their_originals;
 use pe_unwind::{RuntimeFunction, UnwindInfo};
 use std::array::repeat;
 use std::slice;
-
-/// The record of a function.
-fn record_of<'a>(
-    functions: &ImageFunctions<'a>,
-    function: RuntimeFunction,
-) -> Result<UnwindInfo<'a>>
-    ensures { Unwinds (links_of functions.now.exceptions.now functions.now.sections.now
-        functions.now.opts) functions.now.exceptions.now.content function.unwind_info_address
-        (answer_by unwind_view result) }
-{
-    let ImageFunctions {
-        exceptions,
-        sections,
-        opts,
-    } = *functions;
-    exceptions.get_unwind_info_with_opts(function, sections, &opts)
-}
 
 /// A step by the records of a function, if an array has room for them.
 fn step_in_room<'a, M: Memory>(

@@ -6,22 +6,25 @@
 //! ([Microsoft's page](https://learn.microsoft.com/cpp/build/exception-handling-x64)), whichever of the two it is.
 
 ghost use Rattle.std.specs.Prelude.{◌≡◌, map, Some};
-ghost use Rattle.std.specs.Option.{option_map};
+ghost use Rattle.pe_core.specs.Refusals.{answer_by};
+ghost use Rattle.pe_unwind.specs.Links.{links_of};
 ghost use Rattle.pe_unwind.specs.UnwindRecord.{unwind_view};
-ghost use Rattle.pe_frame.specs.Jumps.{IsPlace, LeavesFor, LeavesInImage, StepsInImage, before_last, place_view, rising_out, risen_out, target_of};
+ghost use Rattle.pe_unwind.specs.Unwinding.{Unwinds};
+ghost use Rattle.pe_frame.specs.Jumps.{LeavesFor, LeavesForFound, LeavesForTarget, LeavesInImage, StepsInImage, before_last, place_with, risen_out};
 ghost use Rattle.pe_frame.specs.Epilogs.{executed_all};
-ghost use Rattle.pe_frame.specs.Steps.{StepsOut, Then};
+ghost use Rattle.pe_frame.specs.Steps.{UndoesFunction, Then};
 ghost use Rattle.pe_frame.specs.InPlace.{changed_with};
 ghost use Rattle.pe_frame.specs.Tails.{instructions_of};
 
 use crate::epilog::{Tail, execute_before_exit, target_of};
 use crate::error::FrameError;
-use crate::frame::{epilog_at, leave_epilog, rising, undo_function, undo_in_place};
+use crate::frame::{epilog_at, require_rising, run_out, undo_function_in_place};
 use crate::memory::Memory;
 use crate::registers::{RSP, Registers};
 use pe_core::{ParseOptions, SectionTable};
 use pe_plan::ShortPlan;
-use pe_unwind::{ExceptionData, UnwindInfo, search};
+use pe_unwind::{ExceptionData, RuntimeFunction, UnwindInfo, search};
+use std::slice;
 
 /// The functions of an image, in which the target of a jump is looked up.
 #[derive(Clone, Copy)]
@@ -34,130 +37,169 @@ pub struct ImageFunctions<'a> {
     pub opts: ParseOptions,
 }
 
-impl<'a> ImageFunctions<'a> {
-    /// The offset of an RVA in the function that lookup finds, and its records. `None` where it finds none, where a record
-    /// cannot be read, and where more than 32 are chained.
-    fn place_at(&self, rva: u32) -> Option<(u32, ShortPlan<'a>)>
-        ensures { IsPlace self.now.exceptions.now self.now.sections.now self.now.opts
-            (Some rva) (option_map place_view result) }
-    {
-        let mut table = self.exceptions.table();
-        let function = match search(&mut table, rva) {
-            Some(function) => function,
-            None => return None,
-        };
-        match ShortPlan::of_function(self.exceptions, function, self.sections, &self.opts) {
-            Ok(Some(plan)) => Some((rva.saturating_sub(function.begin_address), plan)),
-            Ok(None) => None,
-            Err(_) => None,
-        }
-    }
-
-    /// The same of the RVA to which the rest of an epilog jumps.
-    fn place_after(&self, tail: &Tail<'_>) -> Option<(u32, ShortPlan<'a>)>
-        ensures { IsPlace self.now.exceptions.now self.now.sections.now self.now.opts
-            (target_of (instructions_of tail.now)) (option_map place_view result) }
-    {
-        match target_of(tail) {
-            Some(rva) => self.place_at(rva),
-            None => None,
-        }
-    }
-}
-
-/// The registers that a step from the target of a jump returned, if the stack pointer is above this one or an interrupt left
-/// them.
-fn rising_out(pointer: u64, left: (Registers, bool)) -> Result<(Registers, bool), FrameError>
-    ensures { result ≡ rising_out pointer left }
+/// The record of a function.
+pub(crate) fn record_of<'a>(
+    functions: &ImageFunctions<'a>,
+    function: RuntimeFunction,
+) -> pe_core::Result<UnwindInfo<'a>>
+    ensures { Unwinds (links_of functions.now.exceptions.now functions.now.sections.now
+        functions.now.opts) functions.now.exceptions.now.content function.unwind_info_address
+        (answer_by unwind_view result) }
 {
-    if left.1 {
-        return Ok(left);
-    }
-    Ok((rising(pointer, left.0)?, false))
+    let ImageFunctions {
+        exceptions,
+        sections,
+        opts,
+    } = *functions;
+    exceptions.get_unwind_info_with_opts(function, sections, &opts)
 }
 
-/// The same of registers or an error.
+/// Tests that the stack pointer of registers that a step from the target of a jump left is above this one, unless an interrupt
+/// left them.
 fn risen_out(
-    pointer: u64,
-    left: Result<(Registers, bool), FrameError>,
-) -> Result<(Registers, bool), FrameError>
-    ensures { result ≡ risen_out pointer left }
+    stack_pointer: u64,
+    left: Result<bool, FrameError>,
+    registers: &Registers,
+) -> Result<bool, FrameError>
+    ensures { changed_with result registers.now
+        ≡ risen_out stack_pointer (changed_with left registers.now) }
 {
     match left {
-        Ok(left) => rising_out(pointer, left),
+        Ok(true) => Ok(true),
+        Ok(false) => {
+            require_rising(stack_pointer, registers)?;
+            Ok(false)
+        }
         Err(error) => Err(error),
     }
 }
 
-/// What undoing the records at the target of a jump returns, after the rest of an epilog up to the jump.
+/// Makes the registers those that undoing the records at the target of a jump returns, after the rest of an epilog up to the
+/// jump.
 fn undo_after_jump<M: Memory>(
     plan: &[UnwindInfo<'_>],
     offset: u32,
-    tail: Tail<'_>,
-    registers: Registers,
+    tail: &Tail<'_>,
+    registers: &mut Registers,
     memory: &M,
-) -> Result<(Registers, bool), FrameError>
+) -> Result<bool, FrameError>
     ensures { Then (executed_all (M.word memory.now)
-        (before_last (instructions_of tail.entry)) registers)
-        (StepsOut (M.word memory.now) (map unwind_view plan.now) offset) result }
+        (before_last (instructions_of tail.now)) registers.old)
+        (UndoesFunction (M.word memory.now) (map unwind_view plan.now) offset)
+        (changed_with result registers.new) }
 {
     match execute_before_exit(tail, registers, memory) {
-        Ok(jumped) => undo_function(plan, offset, jumped, memory),
+        Ok(()) => undo_function_in_place(plan, offset, registers, memory),
         Err(error) => Err(error),
     }
 }
 
-/// The registers of the caller after the rest of an epilog, which jumps to a place in a function or leaves otherwise.
-fn leave_for<M: Memory>(
-    place: Option<(u32, ShortPlan<'_>)>,
-    tail: Tail<'_>,
-    registers: Registers,
+/// Makes the registers those of the caller after the rest of an epilog, which jumps so far into a function with these records.
+fn leave_to<M: Memory>(
+    plan: &[UnwindInfo<'_>],
+    offset: u32,
+    tail: &Tail<'_>,
+    registers: &mut Registers,
     memory: &M,
-) -> Result<(Registers, bool), FrameError>
-    ensures { LeavesFor (option_map place_view place.entry) (M.word memory.now)
-        (instructions_of tail.entry) registers result }
+) -> Result<bool, FrameError>
+    ensures { LeavesFor (Some (place_with offset (map unwind_view plan.now)))
+        (M.word memory.now) (instructions_of tail.now) registers.old
+        (changed_with result registers.new) }
 {
-    match place {
-        Some((offset, plan)) => {
-            let left = undo_after_jump(plan.records(), offset, tail, registers, memory);
-            risen_out(registers.general[RSP], left)
+    let stack_pointer = registers.general[RSP];
+    let left = undo_after_jump(plan, offset, tail, registers, memory);
+    risen_out(stack_pointer, left, registers)
+}
+
+/// The same of a jump into a function of which records are chained. Out of line, as the room for them is large.
+#[inline(never)]
+fn leave_for_chained<M: Memory>(
+    functions: &ImageFunctions<'_>,
+    rva: u32,
+    function: RuntimeFunction,
+    tail: &Tail<'_>,
+    registers: &mut Registers,
+    memory: &M,
+) -> Result<bool, FrameError>
+    ensures { LeavesForFound functions.now.exceptions.now functions.now.sections.now
+        functions.now.opts rva (Some function) (M.word memory.now) (instructions_of tail.now)
+        registers.old (changed_with result registers.new) }
+{
+    let ImageFunctions {
+        exceptions,
+        sections,
+        opts,
+    } = *functions;
+    match ShortPlan::of_function(exceptions, function, sections, &opts) {
+        Ok(Some(plan)) => {
+            let offset = rva.saturating_sub(function.begin_address);
+            leave_to(plan.records(), offset, tail, registers, memory)
         }
-        None => leave_epilog(tail, registers, memory),
+        Ok(None) => run_out(tail, registers, memory),
+        Err(_) => run_out(tail, registers, memory),
     }
 }
 
-/// What the rest of an epilog returns in an image, where the place to which it jumps is looked up.
-fn leave_in_image<M: Memory>(
+/// Makes the registers those of the caller after the rest of an epilog, which jumps to an RVA in a function, or leaves otherwise
+/// if the records of the function cannot be read or are too many.
+fn leave_for_function<M: Memory>(
     functions: &ImageFunctions<'_>,
-    tail: Tail<'_>,
-    registers: Registers,
+    rva: u32,
+    function: RuntimeFunction,
+    tail: &Tail<'_>,
+    registers: &mut Registers,
     memory: &M,
-) -> Result<(Registers, bool), FrameError>
-    ensures { LeavesInImage functions.now.exceptions.now functions.now.sections.now
-        functions.now.opts (M.word memory.now) (instructions_of tail.entry) registers result }
+) -> Result<bool, FrameError>
+    ensures { LeavesForFound functions.now.exceptions.now functions.now.sections.now
+        functions.now.opts rva (Some function) (M.word memory.now) (instructions_of tail.now)
+        registers.old (changed_with result registers.new) }
 {
-    leave_for(functions.place_after(&tail), tail, registers, memory)
+    let info = match record_of(functions, function) {
+        Ok(info) => info,
+        Err(_) => return run_out(tail, registers, memory),
+    };
+    if info.chained_info.is_some() {
+        return leave_for_chained(functions, rva, function, tail, registers, memory);
+    }
+    let offset = rva.saturating_sub(function.begin_address);
+    leave_to(slice::from_ref(&info), offset, tail, registers, memory)
+}
+
+/// The same of a jump to an RVA, which may be in no function.
+fn leave_for_rva<M: Memory>(
+    functions: &ImageFunctions<'_>,
+    rva: u32,
+    tail: &Tail<'_>,
+    registers: &mut Registers,
+    memory: &M,
+) -> Result<bool, FrameError>
+    ensures { LeavesForTarget functions.now.exceptions.now functions.now.sections.now
+        functions.now.opts (Some rva) (M.word memory.now) (instructions_of tail.now)
+        registers.old (changed_with result registers.new) }
+{
+    let mut table = functions.exceptions.table();
+    match search(&mut table, rva) {
+        Some(function) => { leave_for_function(functions, rva, function, tail, registers, memory) }
+        None => run_out(tail, registers, memory),
+    }
 }
 
 /// Makes the registers those after the rest of an epilog in an image. Returns whether an interrupt left them. Out of line, as few
-/// frames are in an epilog, and the records at the target of a jump need room.
+/// frames are in an epilog.
 #[inline(never)]
 fn leave_in_place<M: Memory>(
     functions: &ImageFunctions<'_>,
-    tail: Tail<'_>,
+    tail: &Tail<'_>,
     registers: &mut Registers,
     memory: &M,
 ) -> Result<bool, FrameError>
     ensures { LeavesInImage functions.now.exceptions.now functions.now.sections.now
-        functions.now.opts (M.word memory.now) (instructions_of tail.entry) registers.old
+        functions.now.opts (M.word memory.now) (instructions_of tail.now) registers.old
         (changed_with result registers.new) }
 {
-    match leave_in_image(functions, tail, *registers, memory) {
-        Ok((caller, is_interrupted)) => {
-            *registers = caller;
-            Ok(is_interrupted)
-        }
-        Err(error) => Err(error),
+    match target_of(tail) {
+        Some(rva) => leave_for_rva(functions, rva, tail, registers, memory),
+        None => run_out(tail, registers, memory),
     }
 }
 
@@ -176,8 +218,8 @@ pub(crate) fn step_in_place<M: Memory>(
         registers.old (changed_with result registers.new) }
 {
     match epilog_at(plan, start, rva, code) {
-        Some(tail) => leave_in_place(functions, tail, registers, memory),
-        None => undo_in_place(plan, rva.saturating_sub(start), registers, memory),
+        Some(tail) => leave_in_place(functions, &tail, registers, memory),
+        None => undo_function_in_place(plan, rva.saturating_sub(start), registers, memory),
     }
 }
 

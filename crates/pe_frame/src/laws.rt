@@ -2,10 +2,11 @@
 
 pub mod arm64;
 pub mod arm64_walks;
+pub mod constants;
 pub mod jumps;
 pub mod walks;
 
-ghost use Rattle.std.specs.Prelude.{◌≡◌, ℕ, ◌+◌, ◌-◌, ◌^◌, ◌<◌, ◌≤◌, length, slice_index, true, List, Option, None, Some, Result, Ok, [], ◌∷◌, ◌++◌};
+ghost use Rattle.std.specs.Prelude.{◌≡◌, ℕ, ◌+◌, ◌-◌, ◌^◌, ◌<◌, ◌≤◌, length, slice_index, true, List, Option, None, Some, Result, Ok, [], ◌∷◌};
 ghost use Rattle.pe_core.specs.Traits.{IsEquality};
 ghost use Rattle.pe_unwind.specs.UnwindRecord.{UnwindInfoView};
 ghost use Rattle.pe_frame.specs.declared.error.FrameError.{FrameError};
@@ -18,12 +19,12 @@ ghost use Rattle.pe_frame.specs.declared.memory_list.MemoryPiece.{MemoryPiece};
 ghost use Rattle.pe_frame.specs.Machine.{loaded};
 ghost use Rattle.pe_frame.specs.Frames.{Part, infos, left, registers_of, AreFrames, IsCaller};
 ghost use Rattle.pe_frame.specs.Samples.{all_known, home_part, inner_part, framed_part, interrupt_part, late_part, pushed_part, told_part};
-ghost use Rattle.pe_frame.specs.Steps.{Steps, frame_of, by_kind};
+ghost use Rattle.pe_frame.specs.Steps.{Steps, frame_register_in, by_kind};
 ghost use Rattle.pe_frame.specs.declared.epilog.Instruction.TheVariants.{Add, Lea, Pop, Return, Jump, JumpByOperand};
 ghost use Rattle.pe_frame.specs.declared.epilog.Instruction.{Instruction};
 ghost use Rattle.pe_frame.specs.Undoing.{ran};
-ghost use Rattle.pe_frame.specs.Epilogs.{executed_all, epilog_at, StepsWithCode};
-ghost use Rattle.pe_frame.specs.EpilogFrames.{IsEpilogOf, IsEpilogOfParts, IsReady, AreReady};
+ghost use Rattle.pe_frame.specs.Epilogs.{epilog_at, StepsWithCode};
+ghost use Rattle.pe_frame.specs.EpilogFrames.{IsEpilogOf, IsEpilogOfParts, IsInEpilog, IsReady, AreReady};
 
 use crate::registers::Registers;
 
@@ -56,15 +57,15 @@ pub fn one_result_of_steps_with_code()
 pub fn epilogs_are_there()
     ensures added { epilog_at (infos (pushed_part ∷ [])) 0x1000 0x1040
         (0x48 ∷ 0x83 ∷ 0xC4 ∷ 0x20 ∷ 0x5B ∷ 0xC3 ∷ []) ≡ Some (Add 32 ∷ Pop 3 ∷ Return 0 ∷ []) }
-    ensures of_added { IsEpilogOf (frame_of pushed_part.info)
+    ensures of_added { IsEpilogOf (frame_register_in pushed_part.info)
         (ran None pushed_part.codes) (Add 32 ∷ Pop 3 ∷ Return 0 ∷ []) }
     ensures pushed { AreFrames (all_known (left None pushed_part))
         (pushed_part ∷ []) None (registers_of (left None pushed_part)) }
     ensures loaded { epilog_at (infos (framed_part ∷ [])) 0x1000 0x1040 (0x48 ∷ 0x8D
         ∷ 0x65 ∷ 0x20 ∷ 0x5B ∷ 0x5D ∷ 0xC3 ∷ []) ≡ Some (Lea 5 32 ∷ Pop 3 ∷ Pop 5 ∷ Return 0 ∷ []) }
-    ensures of_loaded { IsEpilogOf (frame_of framed_part.info)
+    ensures of_loaded { IsEpilogOf (frame_register_in framed_part.info)
         (ran None framed_part.codes) (Lea 5 32 ∷ Pop 3 ∷ Pop 5 ∷ Return 0 ∷ []) }
-    ensures ready { IsReady (frame_of framed_part.info)
+    ensures ready { IsReady (frame_register_in framed_part.info)
         (ran None framed_part.codes) framed_part.entry (Lea 5 32 ∷ Pop 3 ∷ Pop 5 ∷ Return 0 ∷ [])
         (registers_of (left None framed_part)) }
     ensures framed { AreFrames (all_known (left None framed_part))
@@ -80,9 +81,9 @@ pub fn epilogs_are_there()
     ensures after_the_frame { epilog_at (infos (late_part ∷ [])) 0x1000 0x1040
         (0x48 ∷ 0x83 ∷ 0xC4 ∷ 0x20 ∷ 0x5B ∷ 0x5D ∷ 0xC3 ∷ [])
         ≡ Some (Add 32 ∷ Pop 3 ∷ Pop 5 ∷ Return 0 ∷ []) }
-    ensures of_late { IsEpilogOf (frame_of late_part.info)
+    ensures of_late { IsEpilogOf (frame_register_in late_part.info)
         (ran None late_part.codes) (Add 32 ∷ Pop 3 ∷ Pop 5 ∷ Return 0 ∷ []) }
-    ensures late_ready { IsReady (frame_of late_part.info)
+    ensures late_ready { IsReady (frame_register_in late_part.info)
         (ran None late_part.codes) late_part.entry (Add 32 ∷ Pop 3 ∷ Pop 5 ∷ Return 0 ∷ [])
         (registers_of (left None late_part)) }
     ensures late { AreFrames (all_known (left None late_part))
@@ -90,9 +91,9 @@ pub fn epilogs_are_there()
     ensures led_back { epilog_at (infos (late_part ∷ [])) 0x1000 0x1040 (0x48 ∷ 0x8D
         ∷ 0x65 ∷ 0xF8 ∷ 0x5B ∷ 0x5D ∷ 0xC3 ∷ [])
         ≡ Some (Lea 5 0xFFFFFFFFFFFFFFF8 ∷ Pop 3 ∷ Pop 5 ∷ Return 0 ∷ []) }
-    ensures of_led_back { IsEpilogOf (frame_of late_part.info) (ran None late_part.codes)
+    ensures of_led_back { IsEpilogOf (frame_register_in late_part.info) (ran None late_part.codes)
         (Lea 5 0xFFFFFFFFFFFFFFF8 ∷ Pop 3 ∷ Pop 5 ∷ Return 0 ∷ []) }
-    ensures led_back_ready { IsReady (frame_of late_part.info)
+    ensures led_back_ready { IsReady (frame_register_in late_part.info)
         (ran None late_part.codes) late_part.entry
         (Lea 5 0xFFFFFFFFFFFFFFF8 ∷ Pop 3 ∷ Pop 5 ∷ Return 0 ∷ []) (registers_of (left None late_part)) }
     ensures in_the_prolog { epilog_at
@@ -121,11 +122,7 @@ pub fn epilogs_return_to_the_caller()
     ensures { (m : ℕ → Option ℕ) (p : Part) (parts : List Part)
         (before rest : List Instruction) (i : Instruction)
         (start rva : ℕ) (code : List ℕ) (g h : Registers) (x : Result Registers FrameError) →
-        AreFrames m (p ∷ parts) None g →
-        IsEpilogOfParts (p ∷ parts) (before ++ (i ∷ rest)) →
-        AreReady (p ∷ parts) (before ++ (i ∷ rest)) g →
-        executed_all m before g ≡ Ok h →
-        epilog_at (infos (p ∷ parts)) start rva code ≡ Some (i ∷ rest) →
+        IsInEpilog m (p ∷ parts) before (i ∷ rest) start rva code g h →
         StepsWithCode m (infos (p ∷ parts)) start rva code h x →
         (u : Registers) × (x ≡ Ok u) × IsCaller (p ∷ parts) None g u }
 {}

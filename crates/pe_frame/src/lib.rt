@@ -27,16 +27,18 @@ mod memory;
 mod memory_list;
 mod memory_pieces;
 mod modules;
+mod position;
 mod process;
 mod record;
 mod registers;
+mod scan;
 mod undo;
 mod walk;
 
 pub use address_ranges::{AddressRange, first_overlap, first_with};
 pub use arm64::{
-    Arm64Registers, Arm64StackFrame, Arm64StackFrames, leaf_arm64, step_arm64, step_arm64_packed,
-    step_out_arm64,
+    Arm64Registers, Arm64StackFrame, Arm64StackFrames, caller_in_module_arm64,
+    caller_outside_arm64, leaf_arm64, step_arm64, step_arm64_packed, step_out_arm64,
 };
 pub use error::FrameError;
 pub use frame::{leaf, step, step_out, step_with_code};
@@ -46,8 +48,7 @@ pub use memory::{Memory, Stack};
 pub use memory_list::{MemoryList, MemoryPiece};
 pub use memory_pieces::StackPieces;
 pub use modules::{Module, ModuleOrder, Modules};
+pub use position::{WalkFrame, WalkPosition};
 pub use process::{CallSites, LoadedModules};
 pub use registers::Registers;
-pub use walk::{
-    StackFrame, StackFrames, WalkEnd, WalkPosition, Way, caller_in_module, caller_outside,
-};
+pub use walk::{StackFrame, StackFrames, WalkEnd, Way, caller_in_module, caller_outside};

@@ -4,7 +4,7 @@ ghost use Rattle.std.specs.Prelude.{◌≡◌, ◌+◌, ◌-◌, ◌≤◌, Matc
 ghost use Rattle.std.specs.List.{list_any};
 ghost use Rattle.std.specs.Option.{option_map};
 ghost use Rattle.pe_frame.specs.AddressRanges.{AreAscending, IsOverlap};
-ghost use Rattle.pe_frame.specs.Modules.{module_base, module_size, module_at, code_in, follows_call, is_after_call_in, is_after_call, is_after_call_arm64_in, is_after_call_arm64, executes, is_code_return, is_code_return_of};
+ghost use Rattle.pe_frame.specs.Modules.{module_base, module_size, module_at, code_in, follows_call, is_after_call_in, is_after_call, is_after_call_arm64_in, is_after_call_arm64, executes, is_code_return, is_code_return_of, is_code_return_arm64, is_code_return_arm64_of};
 
 use crate::address_ranges::{AddressRange, first_overlap, range_with};
 use crate::arm64::is_call_arm64;
@@ -114,7 +114,7 @@ impl<'a> Module<'a> {
     }
 
     /// Whether an address, which may be the end of the module, is one after a call on ARM64.
-    fn is_after_call_arm64(&self, address: u64) -> bool
+    pub fn is_after_call_arm64(&self, address: u64) -> bool
         requires { address ≤ self.now.base + self.now.size }
         ensures { result ≡ is_after_call_arm64_in self.now address }
     {
@@ -139,6 +139,15 @@ impl<'a> Module<'a> {
     {
         let last = address.saturating_sub(1);
         self.is_executable(self.rva_of(last)) && self.is_after_call(address)
+    }
+
+    /// The same on ARM64.
+    pub fn is_code_return_arm64(&self, address: u64) -> bool
+        requires { address ≤ self.now.base + self.now.size }
+        ensures { result ≡ is_code_return_arm64_of (Some self.now) address }
+    {
+        let last = address.saturating_sub(1);
+        self.is_executable(self.rva_of(last)) && self.is_after_call_arm64(address)
     }
 }
 
@@ -215,6 +224,16 @@ impl<'a> Modules<'a> {
         let last = address.saturating_sub(1);
         match self.find(last) {
             Some(module) => module.is_code_return(address),
+            None => false,
+        }
+    }
+    /// The same on ARM64.
+    pub(crate) fn is_code_return_arm64(&self, address: u64) -> bool
+        ensures { result ≡ is_code_return_arm64 self.now.modules.now address }
+    {
+        let last = address.saturating_sub(1);
+        match self.find(last) {
+            Some(module) => module.is_code_return_arm64(address),
             None => false,
         }
     }

@@ -1,10 +1,12 @@
 //! What a walk asks of the modules of a process, however a caller keeps them.
 
 ghost use Rattle.std.specs.Prelude.{◌≡◌, List};
-ghost use Rattle.pe_frame.specs.Modules.{is_after_call, is_code_return};
+ghost use Rattle.pe_frame.specs.Arm64Walks as arm64;
+ghost use Rattle.pe_frame.specs.Modules.{is_after_call, is_after_call_arm64, is_code_return, is_code_return_arm64};
 ghost use Rattle.pe_frame.specs.Walks.{Calls};
 ghost use Rattle.pe_frame.specs.declared.modules.Module.{Module};
 
+use crate::arm64::{Arm64StackFrame, caller_in_module_arm64, caller_outside_arm64};
 use crate::memory::Memory;
 use crate::modules::Modules;
 use crate::walk::{StackFrame, WalkEnd, caller_in_module, caller_outside};
@@ -21,6 +23,14 @@ pub trait CallSites {
     /// Whether an address is one after a call in an executable section.
     fn ends_code_call(&self, address: u64) -> bool
         ensures { result ≡ is_code_return (list self.now) address };
+
+    /// Whether an address is one after a call on ARM64.
+    fn ends_call_arm64(&self, address: u64) -> bool
+        ensures { result ≡ is_after_call_arm64 (list self.now) address };
+
+    /// The same in an executable section.
+    fn ends_code_call_arm64(&self, address: u64) -> bool
+        ensures { result ≡ is_code_return_arm64 (list self.now) address };
 }
 
 /// The modules of a process, however they are kept, as a walk asks for the caller of a frame.
@@ -31,7 +41,19 @@ pub trait LoadedModules {
     /// The frame of the caller of a frame, or why there is none: [`caller_in_module`] by the module that has the lookup address
     /// of the frame, or [`caller_outside`] if none does.
     fn caller_of<M: Memory>(&self, frame: &StackFrame, memory: &M) -> Result<StackFrame, WalkEnd>
-        ensures { Calls (M.word memory.now) (modules self.now) frame.now result };
+        ensures { Calls
+            (record { memory = M.word memory.now; modules = modules self.now })
+            frame.now result };
+
+    /// The same on ARM64: [`caller_in_module_arm64`] or [`caller_outside_arm64`].
+    fn caller_of_arm64<M: Memory>(
+        &self,
+        frame: &Arm64StackFrame,
+        memory: &M,
+    ) -> Result<Arm64StackFrame, WalkEnd>
+        ensures { arm64.Calls
+            (record { memory = M.word memory.now; modules = modules self.now })
+            frame.now result };
 }
 
 impl<'a> CallSites for Modules<'a> {
@@ -44,6 +66,14 @@ impl<'a> CallSites for Modules<'a> {
     fn ends_code_call(&self, address: u64) -> bool {
         self.is_code_return(address)
     }
+
+    fn ends_call_arm64(&self, address: u64) -> bool {
+        self.is_after_call_arm64(address)
+    }
+
+    fn ends_code_call_arm64(&self, address: u64) -> bool {
+        self.is_code_return_arm64(address)
+    }
 }
 
 impl<'a> LoadedModules for Modules<'a> {
@@ -53,6 +83,17 @@ impl<'a> LoadedModules for Modules<'a> {
         match self.find(frame.lookup_address()) {
             Some(module) => caller_in_module(self, module, frame, memory),
             None => caller_outside(self, frame, memory),
+        }
+    }
+
+    fn caller_of_arm64<M: Memory>(
+        &self,
+        frame: &Arm64StackFrame,
+        memory: &M,
+    ) -> Result<Arm64StackFrame, WalkEnd> {
+        match self.find(frame.lookup_address()) {
+            Some(module) => caller_in_module_arm64(self, module, frame, memory),
+            None => caller_outside_arm64(self, frame, memory),
         }
     }
 }

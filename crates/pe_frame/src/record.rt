@@ -1,13 +1,13 @@
 //! Undoing the codes of an unwind record.
 
-ghost use Rattle.std.specs.Prelude.{◌≡◌, List, Ok, map};
+ghost use Rattle.std.specs.Prelude.{◌≡◌, List, Ok, IfSome, map};
 ghost use Rattle.pe_unwind.specs.declared.unwind_code.UnwindCode.{UnwindCode};
 ghost use Rattle.pe_unwind.specs.CodeStream.{AreItems};
 ghost use Rattle.pe_unwind.specs.UnwindRecord.{code_stream, unwind_view};
-ghost use Rattle.pe_frame.specs.Undoing.{has_run, sets_frame, interrupts, ran, undone_all, base_of};
-ghost use Rattle.pe_frame.specs.Steps.{Enters, frame_of};
+ghost use Rattle.pe_frame.specs.Undoing.{has_run, sets_frame_register, interrupts, ran, undone_all, frame_base_of};
+ghost use Rattle.pe_frame.specs.Steps.{Enters, frame_register_in};
 ghost use Rattle.pe_frame.specs.InPlace.{changed, changed_with};
-ghost use Rattle.pe_frame.specs.Survey.{Surveys, noted, undone_code};
+ghost use Rattle.pe_frame.specs.Survey.{IsExpectedBase, SurveysCodes, SurveysUndone, survey_with, surveyed_changes, undone_code, undone_next};
 
 use crate::error::FrameError;
 use crate::memory::Memory;
@@ -26,8 +26,8 @@ fn has_run(limit: Option<u32>, code: UnwindCode) -> bool
 }
 
 /// Whether an operation sets the frame register.
-fn sets_frame(operation: UnwindOperation) -> bool
-    ensures { result ≡ sets_frame operation }
+fn sets_frame_register(operation: UnwindOperation) -> bool
+    ensures { result ≡ sets_frame_register operation }
 {
     match operation {
         UnwindOperation::SetFPRegister => true,
@@ -49,23 +49,23 @@ fn interrupts(operation: UnwindOperation) -> bool
 #[derive(Clone, Copy)]
 struct Survey {
     /// One of them sets the frame register.
-    sets_frame: bool,
+    sets_frame_register: bool,
     /// That one has run.
-    has_set_frame: bool,
+    has_set_frame_register: bool,
     /// One that has run pushes a machine frame.
     is_interrupted: bool,
 }
 
 impl Survey {
     /// The same of one code more.
-    fn with(self, code: UnwindCode, limit: Option<u32>) -> Survey
-        ensures { result ≡ noted limit self code }
+    fn survey_with(self, code: UnwindCode, limit: Option<u32>) -> Survey
+        ensures { result ≡ survey_with limit self code }
     {
         let ran = has_run(limit, code);
-        let sets = sets_frame(code.operation);
+        let sets = sets_frame_register(code.operation);
         Survey {
-            sets_frame: self.sets_frame || sets,
-            has_set_frame: self.has_set_frame || ran && sets,
+            sets_frame_register: self.sets_frame_register || sets,
+            has_set_frame_register: self.has_set_frame_register || ran && sets,
             is_interrupted: self.is_interrupted || ran && interrupts(code.operation),
         }
     }
@@ -73,16 +73,16 @@ impl Survey {
 
 /// All codes of a record, surveyed. `Codes` if one is truncated or invalid.
 fn survey_codes(info: &UnwindInfo<'_>, limit: Option<u32>) -> Result<Survey, FrameError>
-    ensures { Surveys limit (unwind_view info.now) result }
+    ensures { SurveysCodes limit (unwind_view info.now) result }
 {
     let mut survey = Survey {
-        sets_frame: false,
-        has_set_frame: false,
+        sets_frame_register: false,
+        has_set_frame_register: false,
         is_interrupted: false,
     };
     for item in info.unwind_codes() {
         match item {
-            Ok(code) => survey = survey.with(code, limit),
+            Ok(code) => survey = survey.survey_with(code, limit),
             Err(error) => return Err(FrameError::Codes(error)),
         }
     }
@@ -90,16 +90,16 @@ fn survey_codes(info: &UnwindInfo<'_>, limit: Option<u32>) -> Result<Survey, Fra
 }
 
 /// From where the saves of a record count. It is one address for all of them, taken before any is undone.
-fn frame_base(
+fn frame_base_of(
     info: &UnwindInfo<'_>,
     survey: Survey,
     registers: &Registers,
 ) -> Result<u64, FrameError>
-    ensures { result ≡ base_of (frame_of (unwind_view info.now))
-        survey.sets_frame survey.has_set_frame registers.now }
+    ensures { result ≡ frame_base_of (frame_register_in (unwind_view info.now))
+        survey.sets_frame_register survey.has_set_frame_register registers.now }
 {
     let register = info.frame_register.0;
-    if !survey.has_set_frame && (survey.sets_frame || register == 0) {
+    if !survey.has_set_frame_register && (survey.sets_frame_register || register == 0) {
         return Ok(registers.general[RSP]);
     }
     if register == 0 || register >= INTEGER_REGISTERS {
@@ -152,6 +152,113 @@ fn undo_codes<M: Memory>(
     Ok(())
 }
 
+/// Makes the registers those where the code of a record was entered, by two passes over its codes: the base may depend on those
+/// that have not run. Out of line, as only prologs under a frame register need it.
+#[inline(never)]
+fn enter_in_prolog<M: Memory>(
+    info: &UnwindInfo<'_>,
+    limit: Option<u32>,
+    registers: &mut Registers,
+    memory: &M,
+) -> Result<bool, FrameError>
+    ensures { Enters (M.word memory.now) limit (unwind_view info.now) registers.old
+        (changed_with result registers.new) }
+{
+    let survey = survey_codes(info, limit)?;
+    let base = frame_base_of(info, survey, registers)?;
+    undo_codes(info, limit, base, registers, memory)?;
+    Ok(survey.is_interrupted)
+}
+
+/// The base of the frame where it does not depend on the codes, but that one which has run may set a frame register that the
+/// record does not have. `None` where it may depend on them, or there is none.
+fn expected_base(info: &UnwindInfo<'_>, limit: Option<u32>, registers: &Registers) -> Option<u64>
+    ensures { IfSome result (IsExpectedBase limit (frame_register_in (unwind_view info.now)) registers.now) }
+{
+    let register = info.frame_register.0;
+    if register == 0 {
+        return Some(registers.general[RSP]);
+    }
+    if limit.is_some() || register >= INTEGER_REGISTERS {
+        return None;
+    }
+    registers.general[usize::from(register)].checked_sub(u64::from(info.frame_register_offset))
+}
+
+/// Undoes a code if none before it was refused.
+fn undo_next<M: Memory>(
+    left: Result<(), FrameError>,
+    code: UnwindCode,
+    limit: Option<u32>,
+    base: u64,
+    registers: &mut Registers,
+    memory: &M,
+) -> Result<(), FrameError>
+    ensures { changed result registers.new ≡ undone_next
+        (M.word memory.now) base limit code (changed left registers.old) }
+{
+    match left {
+        Ok(()) => undo_code(code, limit, base, registers, memory),
+        Err(error) => Err(error),
+    }
+}
+
+/// Makes the registers those before the codes of a record that have run, in the pass that surveys them. After one that is refused
+/// the others are surveyed alone, as an invalid code is reported first.
+fn undo_surveyed<M: Memory>(
+    info: &UnwindInfo<'_>,
+    limit: Option<u32>,
+    base: u64,
+    registers: &mut Registers,
+    memory: &M,
+) -> Result<(Survey, Result<(), FrameError>), FrameError>
+    ensures { SurveysUndone (M.word memory.now) base limit (unwind_view info.now) registers.old
+        (surveyed_changes result registers.new) }
+{
+    let mut survey = Survey {
+        sets_frame_register: false,
+        has_set_frame_register: false,
+        is_interrupted: false,
+    };
+    let mut left = Ok(());
+    for item in info.unwind_codes() {
+        match item {
+            Ok(code) => {
+                survey = survey.survey_with(code, limit);
+                left = undo_next(left, code, limit, base, registers, memory);
+            }
+            Err(error) => return Err(FrameError::Codes(error)),
+        }
+    }
+    Ok((survey, left))
+}
+
+/// Makes the registers those where the code of a record was entered, by one pass over its codes.
+#[tactic(auto, using(crate::proofs::Records::enters_at_once))]
+fn enter_at_once<M: Memory>(
+    info: &UnwindInfo<'_>,
+    limit: Option<u32>,
+    base: u64,
+    registers: &mut Registers,
+    memory: &M,
+) -> Result<bool, FrameError>
+    requires { IsExpectedBase limit (frame_register_in (unwind_view info.now)) registers.old base }
+    ensures { Enters (M.word memory.now) limit (unwind_view info.now) registers.old
+        (changed_with result registers.new) }
+{
+    let (survey, left) = match undo_surveyed(info, limit, base, registers, memory) {
+        Ok(surveyed) => surveyed,
+        Err(error) => return Err(error),
+    };
+    if survey.has_set_frame_register && info.frame_register.0 == 0 {
+        return Err(FrameError::Operation(UnwindOperation::SetFPRegister));
+    }
+    match left {
+        Ok(()) => Ok(survey.is_interrupted),
+        Err(error) => Err(error),
+    }
+}
+
 /// Makes the registers those where the code of a record was entered. Returns whether an interrupt entered it.
 pub(crate) fn enter<M: Memory>(
     info: &UnwindInfo<'_>,
@@ -162,8 +269,8 @@ pub(crate) fn enter<M: Memory>(
     ensures { Enters (M.word memory.now) limit (unwind_view info.now) registers.old
         (changed_with result registers.new) }
 {
-    let survey = survey_codes(info, limit)?;
-    let base = frame_base(info, survey, registers)?;
-    undo_codes(info, limit, base, registers, memory)?;
-    Ok(survey.is_interrupted)
+    match expected_base(info, limit, registers) {
+        Some(base) => enter_at_once(info, limit, base, registers, memory),
+        None => enter_in_prolog(info, limit, registers, memory),
+    }
 }

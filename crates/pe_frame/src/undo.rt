@@ -1,7 +1,7 @@
 //! Undoing one operation of a prolog.
 
 ghost use Rattle.std.specs.Prelude.{◌≡◌};
-ghost use Rattle.pe_frame.specs.Undoing.{offset_number, number, above, raised, require_integer, require_xmm, xmm_number, interrupted_at, undone, popped, dropped};
+ghost use Rattle.pe_frame.specs.Undoing.{bytes_above, number, above, raised, require_integer, require_xmm, xmm_number, loaded_machine_frame, undone, popped, popped_and_dropped};
 ghost use Rattle.pe_frame.specs.InPlace.{changed};
 
 use crate::error::FrameError;
@@ -52,7 +52,7 @@ pub(crate) fn raise(by: u64, registers: &mut Registers) -> Result<(), FrameError
 }
 
 /// The index of an integer register of an operation.
-fn integer(operation: UnwindOperation, register: Register) -> Result<usize, FrameError>
+fn require_integer(operation: UnwindOperation, register: Register) -> Result<usize, FrameError>
     ensures { result ≡ require_integer operation register.0 }
 {
     if register.0 < INTEGER_REGISTERS {
@@ -63,7 +63,7 @@ fn integer(operation: UnwindOperation, register: Register) -> Result<usize, Fram
 }
 
 /// The index of an XMM register of an operation.
-fn xmm(operation: UnwindOperation, register: Register) -> Result<usize, FrameError>
+fn require_xmm(operation: UnwindOperation, register: Register) -> Result<usize, FrameError>
     ensures { result ≡ require_xmm operation register.0 }
 {
     if XMM0 <= register.0 && register.0 <= XMM15 {
@@ -75,7 +75,7 @@ fn xmm(operation: UnwindOperation, register: Register) -> Result<usize, FrameErr
 
 /// How far above the base of the frame a register is saved.
 fn bytes_above(offset: StackFrameOffset) -> u64
-    ensures { result ≡ offset_number offset }
+    ensures { result ≡ bytes_above offset }
 {
     match offset {
         StackFrameOffset::RSP(bytes) | StackFrameOffset::FP(bytes) => u64::from(bytes),
@@ -92,13 +92,13 @@ fn xmm_number<M: Memory>(memory: &M, address: u64) -> Result<u128, FrameError>
 }
 
 /// Makes the registers those before an interrupt, whose machine frame has the instruction pointer at this address.
-fn leave_interrupt<M: Memory>(
+fn load_machine_frame<M: Memory>(
     address: u64,
     registers: &mut Registers,
     memory: &M,
 ) -> Result<(), FrameError>
     ensures { changed result registers.new
-        ≡ interrupted_at (M.word memory.now) address registers.old }
+        ≡ loaded_machine_frame (M.word memory.now) address registers.old }
 {
     registers.rip = number(memory, address)?;
     registers.general[RSP] = number(memory, above(address, RSP_OF_MACHINE_FRAME)?)?;
@@ -117,7 +117,7 @@ pub(crate) fn undo<M: Memory>(
 {
     match operation {
         UnwindOperation::PushNonVolatile(register) => {
-            let index = integer(operation, register)?;
+            let index = require_integer(operation, register)?;
             registers.general[index] = number(memory, registers.general[RSP])?;
             raise(SIZE_OF_WORD, registers)
         }
@@ -127,18 +127,18 @@ pub(crate) fn undo<M: Memory>(
             Ok(())
         }
         UnwindOperation::SaveNonVolatile(register, offset) => {
-            let index = integer(operation, register)?;
+            let index = require_integer(operation, register)?;
             registers.general[index] = number(memory, above(base, bytes_above(offset))?)?;
             Ok(())
         }
         UnwindOperation::SaveXMM128(register, offset) => {
-            let index = xmm(operation, register)?;
+            let index = require_xmm(operation, register)?;
             registers.xmm[index] = xmm_number(memory, above(base, bytes_above(offset))?)?;
             Ok(())
         }
         UnwindOperation::PushMachineFrame(has_error_code) => {
             let skipped = if has_error_code { SIZE_OF_WORD } else { 0 };
-            leave_interrupt(above(registers.general[RSP], skipped)?, registers, memory)
+            load_machine_frame(above(registers.general[RSP], skipped)?, registers, memory)
         }
         UnwindOperation::Epilog { .. } | UnwindOperation::Noop => Ok(()),
         UnwindOperation::SaveXMM(_, _) => Err(FrameError::Operation(operation)),
@@ -152,7 +152,7 @@ pub(crate) fn pop_and_drop<M: Memory>(
     registers: &mut Registers,
     memory: &M,
 ) -> Result<(), FrameError>
-    ensures { changed result registers.new ≡ dropped (M.word memory.now) bytes registers.old }
+    ensures { changed result registers.new ≡ popped_and_dropped (M.word memory.now) bytes registers.old }
 {
     let address = number(memory, registers.general[RSP])?;
     raise(SIZE_OF_WORD + u64::from(bytes), registers)?;

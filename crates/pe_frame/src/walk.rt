@@ -9,29 +9,26 @@
 //! dispatcher of exceptions saved the registers without a machine frame. After a call of a null pointer the frame is in no module:
 //! its return address is at the stack pointer, if a call ends at that. Where neither leads on, the stack is scanned.
 
-ghost use Rattle.std.specs.Prelude.{◌≡◌, ◌≤◌, ◌<◌, ◌+◌, ◌-◌, ◌^◌, ℕ, List, Option, Ok, Err, IfSome, IsTrue, true};
+ghost use Rattle.std.specs.Prelude.{◌≡◌, ◌≤◌, ◌<◌, ◌+◌, ◌-◌, Ok, Err, IsTrue, true};
 ghost use Rattle.std.specs.Option.{option_map};
 ghost use Rattle.std.specs.Iterator.{at_most};
 ghost use Rattle.pe_frame.specs.AddressRanges.{has_address};
+ghost use Rattle.pe_frame.specs.InPlace.{changed_with};
 ghost use Rattle.pe_frame.specs.Modules.{module_base, module_size};
-ghost use Rattle.pe_frame.specs.Walks.{frame_of, lookup_address, code_of_frame, return_at, first_return, most_words, scanned, leaf_frame, without_records, is_bottom, after_leaf, leaf_caller, outside_caller, frame_after, CallsFound, CallsIn};
+ghost use Rattle.pe_frame.specs.Walks.{frame_of, lookup_address, code_of_frame, code_return, scanned, leaf_frame, without_records, is_bottom, after_leaf, caller_of_leaf, caller_outside, frame_after, CallsFound, CallsIn};
 ghost use Rattle.pe_frame.specs.declared.modules.Module.{Module};
 
 use crate::error::FrameError;
 use crate::frame::leaf;
-use crate::function_step::step_in_function;
+use crate::function_step::step_in_function_in_place;
 use crate::jump::ImageFunctions;
 use crate::memory::{Memory, SIZE_OF_WORD};
 use crate::modules::{Module, Modules};
+use crate::position::{WalkFrame, WalkPosition};
 use crate::process::{CallSites, LoadedModules};
 use crate::registers::{RSP, Registers};
+use crate::scan::{ReturnWords, first_return_above};
 use pe_unwind::{ExceptionData, RuntimeFunction, search};
-
-/// How many words a scan reads at most.
-const MOST_WORDS: usize = 128;
-
-/// The first address that is too high for a word of the stack: the stack pointer could not be above it.
-const LAST_WORD: u64 = u64::MAX - 7;
 
 /// How a frame was found.
 #[derive(Clone, Copy, Debug, PartialEq, Eq)]
@@ -115,39 +112,25 @@ impl StackFrame {
     }
 }
 
-/// The return address into executable code that a word of the stack is, if it is one.
-fn return_at<L: CallSites, M: Memory>(modules: &L, memory: &M, address: u64) -> Option<u64>
-    requires { address + 8 < 2 ^ 64 }
-    ensures { result ≡ return_at (M.word memory.now) (L.list modules.now) address }
-{
-    match memory.u64_at(address) {
-        Some(word) if modules.ends_code_call(word) => Some(word),
-        _ => None,
-    }
+/// The return addresses into the executable code of these modules.
+#[derive(Drop)]
+struct CodeReturns<'a, L> {
+    modules: &'a L,
 }
 
-/// The first return address into executable code from an address of the stack on, and where it stands.
-#[tactic(auto, using(crate::proofs::Scans::next_word, crate::proofs::Scans::this_word, crate::proofs::Scans::past_the_end, crate::proofs::Scans::no_word))]
-fn first_return<L: CallSites, M: Memory>(modules: &L, memory: &M, start: u64) -> Option<(u64, u64)>
-    ensures value { result ≡ first_return most_words
-        (M.word memory.now) (L.list modules.now) start }
-    ensures room { IfSome result (λ found. found.0 + 8 < 2 ^ 64) }
-{
-    let mut address = start;
-    for _ in 0..MOST_WORDS {
-        if address >= LAST_WORD {
-            return None;
+impl<'a, L: CallSites> ReturnWords for CodeReturns<'a, L> {
+    ghost returns = { λ r. code_return (L.list r.modules.now) };
+
+    fn return_of(&self, word: u64) -> Option<u64> {
+        if self.modules.ends_code_call(word) {
+            Some(word)
+        } else {
+            None
         }
-        if let Some(word) = return_at(modules, memory, address) {
-            return Some((address, word));
-        }
-        address += SIZE_OF_WORD;
     }
-    None
 }
 
 /// The frame that a scan of the stack finds.
-#[tactic(auto, using(crate::proofs::Scans::past_the_end))]
 fn scanned<L: CallSites, M: Memory>(
     modules: &L,
     memory: &M,
@@ -155,12 +138,8 @@ fn scanned<L: CallSites, M: Memory>(
 ) -> Option<StackFrame>
     ensures { result ≡ scanned (M.word memory.now) (L.list modules.now) registers.now }
 {
-    let pointer = registers.general[RSP];
-    if pointer >= LAST_WORD {
-        return None;
-    }
-    let start = (pointer + (SIZE_OF_WORD - 1)) / SIZE_OF_WORD * SIZE_OF_WORD;
-    let (address, word) = first_return(modules, memory, start)?;
+    let returns = CodeReturns { modules };
+    let (address, word) = first_return_above(&returns, memory, registers.general[RSP])?;
     let mut caller = *registers;
     caller.general[RSP] = address + SIZE_OF_WORD;
     caller.rip = word;
@@ -223,7 +202,7 @@ fn caller_of_leaf<L: CallSites, M: Memory>(
     frame: &StackFrame,
     memory: &M,
 ) -> Result<StackFrame, WalkEnd>
-    ensures { result ≡ leaf_caller (M.word memory.now) (L.list modules.now) frame.now }
+    ensures { result ≡ caller_of_leaf (M.word memory.now) (L.list modules.now) frame.now }
 {
     if frame.has_called {
         return Err(WalkEnd::NoFunction);
@@ -240,7 +219,7 @@ pub fn caller_outside<L: CallSites, M: Memory>(
     frame: &StackFrame,
     memory: &M,
 ) -> Result<StackFrame, WalkEnd>
-    ensures { result ≡ outside_caller (M.word memory.now) (L.list modules.now) frame.now }
+    ensures { result ≡ caller_outside (M.word memory.now) (L.list modules.now) frame.now }
 {
     if frame.has_called {
         return Err(WalkEnd::NoModule);
@@ -273,21 +252,23 @@ fn code_of_frame<'a>(found: &FrameFunction<'a>, frame: &StackFrame, rva: u32) ->
         .code(found.exceptions, rva, found.function.end_address)
 }
 
-/// What a step returned, as a frame.
+/// What a step left, as a frame.
 fn frame_after<L: CallSites, M: Memory>(
     modules: &L,
     memory: &M,
-    left: Result<(Registers, bool), FrameError>,
+    left: Result<bool, FrameError>,
+    registers: &Registers,
 ) -> Result<StackFrame, WalkEnd>
-    ensures { result ≡ frame_after (M.word memory.now) (L.list modules.now) left }
+    ensures { result ≡ frame_after (M.word memory.now) (L.list modules.now)
+        (changed_with left registers.now) }
 {
     match left {
-        Ok((registers, true)) => Ok(frame_of(modules, Way::Interrupt, registers)),
-        Ok((registers, false)) => {
-            if is_bottom(modules, memory, &registers) {
+        Ok(true) => Ok(frame_of(modules, Way::Interrupt, *registers)),
+        Ok(false) => {
+            if is_bottom(modules, memory, registers) {
                 return Err(WalkEnd::Bottom);
             }
-            Ok(frame_of(modules, Way::Records, registers))
+            Ok(frame_of(modules, Way::Records, *registers))
         }
         Err(error) => Err(WalkEnd::Step(error)),
     }
@@ -317,12 +298,14 @@ fn caller_by_records<L: CallSites, M: Memory>(
         sections: module.sections,
         opts: module.opts,
     };
-    let left = match step_in_function(&functions, function, rva, code, frame.registers, memory) {
+    let mut registers = frame.registers;
+    let caller = &mut registers;
+    let left = match step_in_function_in_place(&functions, function, rva, code, caller, memory) {
         Ok(Some(left)) => left,
         Ok(None) => return Err(WalkEnd::LongChain),
         Err(error) => return Err(WalkEnd::Records(error)),
     };
-    frame_after(modules, memory, left)
+    frame_after(modules, memory, left, &registers)
 }
 
 /// The frame of the caller of a frame, by the module that has its lookup address, or why there is none.
@@ -354,80 +337,17 @@ pub fn caller_in_module<L: CallSites, M: Memory>(
     }
 }
 
-/// Where a walk is, without the modules and the memory that it is over. A caller may keep it between two frames.
-#[derive(Drop)]
-pub struct WalkPosition {
-    /// The frame that was returned last; before that of the top frame, the top frame.
-    pub frame: StackFrame,
-    /// Whether it was returned.
-    pub has_returned: bool,
-    /// How many frames follow at most; 0 once the walk is over.
-    pub remaining: usize,
-    /// Why the walk is over, once it is.
-    pub end: WalkEnd,
-}
+impl WalkFrame for StackFrame {
+    ghost use Rattle.pe_frame.specs.Walks.{Calls};
 
-impl WalkPosition {
-    ghost use Rattle.pe_frame.specs.Walks.{Advances, Follows, state_of, starting_walk};
+    ghost Calls = { Calls };
 
-    /// Before the first of at most `most` frames, from the registers of a thread.
-    pub fn starting(registers: Registers, most: usize) -> WalkPosition
-        ensures { (memory : ℕ → Option ℕ) (modules : List Module) →
-            state_of memory modules result ≡ starting_walk memory modules registers most }
-    {
-        WalkPosition {
-            frame: StackFrame {
-                registers,
-                way: Way::Top,
-                has_called: false,
-            },
-            has_returned: false,
-            remaining: most,
-            end: WalkEnd::Bound,
-        }
-    }
-
-    /// The frame that follows: the first as it is, and then the caller of each.
-    fn following<L: LoadedModules, M: Memory>(
+    fn caller<L: LoadedModules, M: Memory>(
         &self,
         modules: &L,
         memory: &M,
-    ) -> Result<StackFrame, WalkEnd>
-        ensures { Follows (state_of (M.word memory.now) (L.modules modules.now) self.now) result }
-    {
-        if self.has_returned {
-            modules.caller_of(&self.frame, memory)
-        } else {
-            Ok(self.frame)
-        }
-    }
-
-    /// The next frame of the walk over these modules and this memory, as [`StackFrames`] returns it. `None` once the walk is over.
-    #[tactic(auto, using(crate::proofs::WholeWalks::advanced))]
-    pub fn next<L: LoadedModules, M: Memory>(
-        &mut self,
-        modules: &L,
-        memory: &M,
-    ) -> Option<StackFrame>
-        ensures { Advances (state_of (M.word memory.now) (L.modules modules.now) self.old) result
-            (state_of (M.word memory.now) (L.modules modules.now) self.new) }
-    {
-        if self.remaining == 0 {
-            return None;
-        }
-        match self.following(modules, memory) {
-            Ok(frame) => {
-                self.frame = frame;
-                self.has_returned = true;
-                self.remaining -= 1;
-                Some(frame)
-            }
-            Err(end) => {
-                self.remaining = 0;
-                self.end = end;
-                None
-            }
-        }
+    ) -> Result<StackFrame, WalkEnd> {
+        modules.caller_of(self, memory)
     }
 }
 
@@ -443,11 +363,12 @@ impl WalkPosition {
 pub struct StackFrames<'a, M> {
     modules: Modules<'a>,
     memory: &'a M,
-    position: WalkPosition,
+    position: WalkPosition<StackFrame>,
 }
 
 impl<'a, M: Memory> StackFrames<'a, M> {
-    ghost use Rattle.pe_frame.specs.Walks.{walk_of, starting_walk, end_of};
+    ghost use Rattle.pe_frame.specs.FrameWalks.{end_of, starting_walk};
+    ghost use Rattle.pe_frame.specs.Walks.{top_frame, walk_of};
 
     /// A walk of at most `most` frames, from the registers of a thread.
     pub fn new(
@@ -457,12 +378,18 @@ impl<'a, M: Memory> StackFrames<'a, M> {
         most: usize,
     ) -> StackFrames<'a, M>
         ensures { walk_of (M.word) result ≡ starting_walk
-            (M.word memory.entry.now) modules.entry.modules.now registers most }
+            (record { memory = M.word memory.entry.now; modules = modules.entry.modules.now })
+            (top_frame registers) most }
     {
+        let top = StackFrame {
+            registers,
+            way: Way::Top,
+            has_called: false,
+        };
         StackFrames {
             modules,
             memory,
-            position: WalkPosition::starting(registers, most),
+            position: WalkPosition::starting(top, most),
         }
     }
 
@@ -487,11 +414,12 @@ impl<'a, M: Memory> StackFrames<'a, M> {
 }
 
 impl<'a, M: Memory> Iterator for StackFrames<'a, M> {
-    ghost use Rattle.pe_frame.specs.Walks.{walk_of, Advances};
+    ghost use Rattle.pe_frame.specs.FrameWalks.{Advances};
+    ghost use Rattle.pe_frame.specs.Walks.{Calls, walk_of};
 
     type Item = StackFrame;
 
-    ghost next_gives = { λ s r t. Advances (walk_of (M.word) s) r (walk_of (M.word) t) };
+    ghost next_gives = { λ s r t. Advances Calls (walk_of (M.word) s) r (walk_of (M.word) t) };
 
     ghost remaining = { λ s. at_most s.position.remaining };
 

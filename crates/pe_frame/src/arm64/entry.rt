@@ -7,7 +7,7 @@
 
 ghost use Rattle.std.specs.Prelude.{◌≡◌, ◌<◌, List};
 ghost use Rattle.pe_unwind.specs.declared.arm64.codes.Arm64UnwindCode.{Arm64UnwindCode};
-ghost use Rattle.pe_frame.specs.Arm64Undoing.{context_at, context_offset, context_register, context_stores, entry_by, entry_of, joined, pointers_at, reverted_all, undone_custom};
+ghost use Rattle.pe_frame.specs.Arm64Undoing.{loaded_context, context_offset, context_register, context_stores, entry_by, entry_of, joined, loaded_pointers, reverted_all, undone_custom};
 ghost use Rattle.pe_frame.specs.Arm64Steps.{CodesThen, AreOver};
 ghost use Rattle.pe_frame.specs.InPlace.{changed};
 
@@ -100,7 +100,7 @@ fn load_pointers<M: Memory>(
     memory: &M,
 ) -> Result<(), FrameError>
     ensures { changed result registers.new
-        ≡ pointers_at (M.word memory.now) offset registers.old }
+        ≡ loaded_pointers (M.word memory.now) offset registers.old }
 {
     let address = above(registers.sp, offset)?;
     let sp = number(memory, address)?;
@@ -153,7 +153,7 @@ fn load_registers<M: Memory>(registers: &mut Arm64Registers, memory: &M) -> Resu
 
 /// Makes the registers those of the `CONTEXT` record at the stack pointer.
 fn load_context<M: Memory>(registers: &mut Arm64Registers, memory: &M) -> Result<(), FrameError>
-    ensures { changed result registers.new ≡ context_at (M.word memory.now) registers.old }
+    ensures { changed result registers.new ≡ loaded_context (M.word memory.now) registers.old }
 {
     load_registers(registers, memory)?;
     load_pointers(SP_OF_CONTEXT, registers, memory)

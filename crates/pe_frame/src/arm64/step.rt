@@ -5,10 +5,10 @@ ghost use Rattle.pe_unwind.specs.Arm64Record.{info_view};
 ghost use Rattle.pe_frame.specs.declared.arm64.registers.Arm64Registers.{Arm64Registers};
 ghost use Rattle.pe_unwind.specs.declared.arm64.codes.Arm64UnwindCode.{Arm64UnwindCode};
 ghost use Rattle.pe_frame.specs.Arm64Operations.{is_save_next};
-ghost use Rattle.pe_frame.specs.Arm64Undoing.{caller_by, caller_out, left_arm64, returned_arm64, link_register, put_pc};
+ghost use Rattle.pe_frame.specs.Arm64Undoing.{caller_by_list, caller_by_codes, left_arm64, returned_arm64, link_register, put_pc};
 ghost use Rattle.pe_frame.specs.Arm64Steps.{CodesThen, AreOver, ran_arm64, Leaves, StepsArm64, StepsOutArm64};
 ghost use Rattle.pe_frame.specs.Arm64Reading.{StepsIn};
-ghost use Rattle.pe_frame.specs.Arm64Packed.{packed_left, left_after, is_canonical, stepped_packed};
+ghost use Rattle.pe_frame.specs.Arm64Packed.{packed_left, left_after, is_canonical, stepped_arm64_packed};
 ghost use Rattle.pe_frame.specs.Arm64Frames.{Arm64Part, IsArm64Frame, effects_at};
 ghost use Rattle.pe_frame.specs.Arm64Machine.{IsArm64Caller};
 
@@ -25,41 +25,44 @@ use crate::memory::Memory;
 use pe_unwind::{Arm64RuntimeFunction, Arm64UnwindCode, Arm64UnwindInfo};
 
 /// The registers of the caller, from those at the function's entry, if its stack pointer is not below this one.
-fn returned(pointer: u64, entry: Arm64Registers) -> Result<Arm64Registers, FrameError>
-    ensures { result ≡ returned_arm64 pointer entry }
+fn returned_arm64(stack_pointer: u64, entry: Arm64Registers) -> Result<Arm64Registers, FrameError>
+    ensures { result ≡ returned_arm64 stack_pointer entry }
 {
-    if entry.sp < pointer {
+    if entry.sp < stack_pointer {
         return Err(FrameError::NotRising(entry.sp));
     }
     Ok(leaf_arm64(entry))
 }
 
 /// The same by how the function was entered, and whether no call left the caller.
-fn leave(
-    pointer: u64,
+fn leave_arm64(
+    stack_pointer: u64,
     entry: Arm64Entry,
     registers: Arm64Registers,
 ) -> Result<(Arm64Registers, bool), FrameError>
-    ensures { result ≡ left_arm64 pointer entry registers }
+    ensures { result ≡ left_arm64 stack_pointer entry registers }
 {
     if entry.has_pc {
         return Ok((registers, true));
     }
-    Ok((returned(pointer, registers)?, entry.is_interrupt))
+    Ok((
+        returned_arm64(stack_pointer, registers)?,
+        entry.is_interrupt,
+    ))
 }
 
 /// The registers of the caller, where these codes are left to be undone, and whether no call left them. None of the codes is
 /// truncated.
-fn caller_by<M: Memory>(
+fn caller_by_codes<M: Memory>(
     codes: &[u8],
     registers: Arm64Registers,
     memory: &M,
 ) -> Result<(Arm64Registers, bool), FrameError>
     ensures { (cs : List Arm64UnwindCode) → CodesThen AreOver codes.now cs →
-        result ≡ caller_out (M.word memory.now) cs registers }
+        result ≡ caller_by_codes (M.word memory.now) cs registers }
 {
     let undone = undo_codes(codes, registers, memory)?;
-    leave(registers.sp, entry_of(codes), undone)
+    leave_arm64(registers.sp, entry_of(codes), undone)
 }
 
 /// The registers of the caller after the prolog, if the instruction pointer may be in this epilog.
@@ -81,9 +84,9 @@ fn caller_after<M: Memory>(
     let start = epilog_start(count, epilog.start, length);
     if is_in_epilog(place as usize, start, length) {
         let left = after_codes(rest, (place as usize).saturating_sub(start));
-        return caller_by(left, registers, memory);
+        return caller_by_codes(left, registers, memory);
     }
-    caller_by(codes, registers, memory)
+    caller_by_codes(codes, registers, memory)
 }
 
 /// The registers of the caller, where so many instructions of the function are before the instruction pointer.
@@ -102,7 +105,7 @@ pub(crate) fn caller<M: Memory>(
         Some(epilog) => caller_after(info, epilog, place, registers, memory),
         None => {
             let left = after_codes(codes, length.saturating_sub(place as usize));
-            caller_by(left, registers, memory)
+            caller_by_codes(left, registers, memory)
         }
     }
 }
@@ -174,9 +177,9 @@ fn caller_by_list<M: Memory>(
     memory: &M,
 ) -> Result<Arm64Registers, FrameError>
     requires { All (λ c. is_save_next c ≡ false) codes.now }
-    ensures { result ≡ caller_by (M.word memory.now) codes.now registers }
+    ensures { result ≡ caller_by_list (M.word memory.now) codes.now registers }
 {
-    returned(registers.sp, undo_each(codes, registers, memory)?)
+    returned_arm64(registers.sp, undo_each(codes, registers, memory)?)
 }
 
 /// The registers of the caller after the prolog of a function with packed unwind data, whose codes these are.
@@ -189,7 +192,7 @@ fn packed_caller_after<M: Memory>(
 ) -> Result<Arm64Registers, FrameError>
     requires canonical { is_canonical function.now.unwind_data ≡ true }
     requires alone { All (λ c. is_save_next c ≡ false) codes.now }
-    ensures { result ≡ caller_by (M.word memory.now)
+    ensures { result ≡ caller_by_list (M.word memory.now)
         (left_after function.now.unwind_data place codes.now) registers }
 {
     let list = epilog_codes(function);
@@ -211,7 +214,7 @@ pub(crate) fn packed_caller<M: Memory>(
     registers: Arm64Registers,
     memory: &M,
 ) -> Result<Arm64Registers, FrameError>
-    ensures { result ≡ stepped_packed
+    ensures { result ≡ stepped_arm64_packed
         (M.word memory.now) function.now.unwind_data place registers }
 {
     if !is_canonical(function) {
@@ -243,7 +246,7 @@ pub fn step_arm64_packed<M: Memory>(
     registers: Arm64Registers,
     memory: &M,
 ) -> Result<Arm64Registers, FrameError>
-    ensures exact { result ≡ stepped_packed (M.word memory.now) function.now.unwind_data
+    ensures exact { result ≡ stepped_arm64_packed (M.word memory.now) function.now.unwind_data
         ((rva - function.now.begin_address) / 4) registers }
     ensures undoes { (p : Arm64Part) (stand : ℕ) →
         packed_left function.now.unwind_data ((rva - function.now.begin_address) / 4)

@@ -3,7 +3,7 @@
 ghost use Rattle.std.specs.Prelude.{◌≡◌, ℕ, Option, ◌+◌, ◌^◌, ◌<◌, ◌≤◌, [], ◌∷◌, ◌++◌, IfSome, Some};
 ghost use Rattle.std.specs.Option.{option_and_then};
 ghost use Rattle.pe_unwind.specs.declared.arm64.codes.Arm64UnwindCode.TheVariants.{SaveNext};
-ghost use Rattle.pe_frame.specs.Arm64Operations.{Lower, Store, PointFrame, pair_after, operation_of, effects_of, store_some};
+ghost use Rattle.pe_frame.specs.Arm64Operations.{Lower, Store, SetFramePointer, pair_after, operation_of, effects_of, store_some};
 ghost use Rattle.pe_frame.specs.Arm64Undoing.{stripped, put_saved, reverted, reverted_all, undone_as};
 ghost use Rattle.pe_frame.specs.Arm64Reading.{pair_registers};
 ghost use Rattle.pe_frame.specs.InPlace.{changed};
@@ -34,7 +34,7 @@ const SIZE_OF_PAIR: u64 = 16;
 const PAIRS: usize = 16;
 
 /// An address without its signature.
-fn stripped(address: u64) -> u64
+pub(crate) fn stripped(address: u64) -> u64
     ensures { result ≡ stripped address }
 {
     let low = address % ADDRESSES;
@@ -57,7 +57,7 @@ fn raise(by: u32, registers: &mut Arm64Registers) -> Result<(), FrameError>
 /// Moves the stack pointer so far below x29.
 fn lower_to_frame(offset: u32, registers: &mut Arm64Registers) -> Result<(), FrameError>
     ensures { (m : ℕ → Option ℕ) →
-        changed result registers.new ≡ reverted_all m (PointFrame offset ∷ []) registers.old }
+        changed result registers.new ≡ reverted_all m (SetFramePointer offset ∷ []) registers.old }
 {
     let frame = registers.general[FRAME_POINTER];
     match frame.checked_sub(u64::from(offset)) {

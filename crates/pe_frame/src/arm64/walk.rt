@@ -16,14 +16,18 @@ ghost use Rattle.pe_core.specs.Refusals.{answer_by};
 ghost use Rattle.pe_unwind.specs.Arm64Record.{info_view};
 ghost use Rattle.pe_unwind.specs.Arm64Unwinding.{info_of_function};
 ghost use Rattle.pe_frame.specs.AddressRanges.{has_address};
-ghost use Rattle.pe_frame.specs.Arm64Walks.{Process, frame_of, lookup_address, place_of, leaf_caller, outside_caller, called_frame, frame_after, stepped_out_packed, CallsByInfo, CallsFound, CallsIn, Calls};
+ghost use Rattle.pe_frame.specs.Arm64Walks.{frame_of, code_return, scanned, leaf_frame, without_records, lookup_address, place_of, caller_of_leaf, caller_outside, called_frame, frame_after, stepped_out_packed, CallsByInfo, CallsFound, CallsIn};
 ghost use Rattle.pe_frame.specs.Modules.{module_base, module_size};
 
 use super::registers::{Arm64Registers, LINK_REGISTER};
 use super::step::{caller, leaf_arm64, packed_caller};
+use super::undo::stripped;
 use crate::error::FrameError;
-use crate::memory::Memory;
+use crate::memory::{Memory, SIZE_OF_WORD};
 use crate::modules::{Module, Modules};
+use crate::position::{WalkFrame, WalkPosition};
+use crate::process::{CallSites, LoadedModules};
+use crate::scan::{ReturnWords, first_return_above};
 use crate::walk::{WalkEnd, Way};
 use pe_unwind::{Arm64RuntimeFunction, ExceptionData};
 
@@ -35,7 +39,7 @@ const SIZE_OF_INSTRUCTION: u32 = 4;
 pub struct Arm64StackFrame {
     /// The registers in its function. Where it has called, `pc` is the return address.
     pub registers: Arm64Registers,
-    /// How they were found. Never `Scanned`.
+    /// How they were found.
     pub way: Way,
     /// Whether its function has called. If not, `pc` is that of the instruction that is about to run: in the top frame, in one
     /// that no call left, as the records of the frame before it say, and in one that records lead to where no call ends at `pc`,
@@ -44,12 +48,12 @@ pub struct Arm64StackFrame {
 }
 
 /// A frame with these registers, found in this way.
-fn frame_of(modules: &Modules<'_>, way: Way, registers: Arm64Registers) -> Arm64StackFrame
-    ensures { result ≡ frame_of modules.now.modules.now way registers }
+fn frame_of<L: CallSites>(modules: &L, way: Way, registers: Arm64Registers) -> Arm64StackFrame
+    ensures { result ≡ frame_of (L.list modules.now) way registers }
 {
     let has_called = match way {
         Way::Top => false,
-        Way::Records => modules.is_after_call_arm64(registers.pc),
+        Way::Records => modules.ends_call_arm64(registers.pc),
         Way::Leaf => true,
         Way::Interrupt => false,
         Way::Scanned => true,
@@ -61,27 +65,93 @@ fn frame_of(modules: &Modules<'_>, way: Way, registers: Arm64Registers) -> Arm64
     }
 }
 
-/// The address by which the function of a frame is looked up.
-fn lookup_address(frame: &Arm64StackFrame) -> u64
-    ensures { result ≡ lookup_address frame.now }
+impl Arm64StackFrame {
+    /// The address by which the function of a frame is looked up: where it has called, that of the call.
+    pub fn lookup_address(&self) -> u64
+        ensures { result ≡ lookup_address self.now }
+    {
+        let size_of_call = if self.has_called {
+            u64::from(SIZE_OF_INSTRUCTION)
+        } else {
+            0
+        };
+        self.registers.pc.saturating_sub(size_of_call)
+    }
+}
+
+/// The return addresses into the executable code of these modules. On the stack they may have a signature.
+#[derive(Drop)]
+struct CodeReturns<'a, L> {
+    modules: &'a L,
+}
+
+impl<'a, L: CallSites> ReturnWords for CodeReturns<'a, L> {
+    ghost returns = { λ r. code_return (L.list r.modules.now) };
+
+    fn return_of(&self, word: u64) -> Option<u64> {
+        let address = stripped(word);
+        if self.modules.ends_code_call_arm64(address) {
+            Some(address)
+        } else {
+            None
+        }
+    }
+}
+
+/// The frame that a scan of the stack finds.
+fn scanned<L: CallSites, M: Memory>(
+    modules: &L,
+    memory: &M,
+    registers: &Arm64Registers,
+) -> Option<Arm64StackFrame>
+    ensures { result ≡ scanned (M.word memory.now) (L.list modules.now) registers.now }
 {
-    let size_of_call = if frame.has_called {
-        u64::from(SIZE_OF_INSTRUCTION)
+    let returns = CodeReturns { modules };
+    let (address, word) = first_return_above(&returns, memory, registers.sp)?;
+    let mut caller = *registers;
+    caller.sp = address + SIZE_OF_WORD;
+    caller.pc = word;
+    Some(frame_of(modules, Way::Scanned, caller))
+}
+
+/// The frame of the caller of a leaf function, if a call ends at the link register.
+fn leaf_frame<L: CallSites>(modules: &L, registers: &Arm64Registers) -> Option<Arm64StackFrame>
+    ensures { result ≡ leaf_frame (L.list modules.now) registers.now }
+{
+    if modules.ends_call_arm64(registers.general[LINK_REGISTER]) {
+        Some(frame_of(modules, Way::Leaf, leaf_arm64(*registers)))
     } else {
-        0
-    };
-    frame.registers.pc.saturating_sub(size_of_call)
+        None
+    }
+}
+
+/// The frame that is found from registers without records.
+fn without_records<L: CallSites, M: Memory>(
+    modules: &L,
+    memory: &M,
+    registers: &Arm64Registers,
+) -> Option<Arm64StackFrame>
+    ensures { result ≡ without_records (M.word memory.now) (L.list modules.now) registers.now }
+{
+    match leaf_frame(modules, registers) {
+        Some(frame) => Some(frame),
+        None => scanned(modules, memory, registers),
+    }
 }
 
 /// The frame of the caller of a frame in no function.
-fn caller_of_leaf(
-    modules: &Modules<'_>,
+fn caller_of_leaf<L: CallSites, M: Memory>(
+    modules: &L,
     frame: &Arm64StackFrame,
+    memory: &M,
 ) -> Result<Arm64StackFrame, WalkEnd>
-    ensures { result ≡ leaf_caller modules.now.modules.now frame.now }
+    ensures { result ≡ caller_of_leaf (M.word memory.now) (L.list modules.now) frame.now }
 {
     if frame.has_called {
         return Err(WalkEnd::NoFunction);
+    }
+    if let Some(caller) = without_records(modules, memory, &frame.registers) {
+        return Ok(caller);
     }
     if frame.registers.general[LINK_REGISTER] == 0 {
         return Err(WalkEnd::Bottom);
@@ -90,25 +160,29 @@ fn caller_of_leaf(
 }
 
 /// The frame of the caller of a frame in no module.
-fn caller_outside(
-    modules: &Modules<'_>,
+pub fn caller_outside_arm64<L: CallSites, M: Memory>(
+    modules: &L,
     frame: &Arm64StackFrame,
+    memory: &M,
 ) -> Result<Arm64StackFrame, WalkEnd>
-    ensures { result ≡ outside_caller modules.now.modules.now frame.now }
+    ensures { result ≡ caller_outside (M.word memory.now) (L.list modules.now) frame.now }
 {
-    if frame.has_called || !modules.is_after_call_arm64(frame.registers.general[LINK_REGISTER]) {
+    if frame.has_called {
         return Err(WalkEnd::NoModule);
     }
-    Ok(frame_of(modules, Way::Leaf, leaf_arm64(frame.registers)))
+    match without_records(modules, memory, &frame.registers) {
+        Some(caller) => Ok(caller),
+        None => Err(WalkEnd::NoModule),
+    }
 }
 
 /// The frame that records lead to, without an interrupt.
-fn called_frame(
-    modules: &Modules<'_>,
+fn called_frame<L: CallSites>(
+    modules: &L,
     frame: &Arm64StackFrame,
     registers: Arm64Registers,
 ) -> Result<Arm64StackFrame, WalkEnd>
-    ensures { result ≡ called_frame modules.now.modules.now frame.now registers }
+    ensures { result ≡ called_frame (L.list modules.now) frame.now registers }
 {
     if frame.has_called && registers.sp == frame.registers.sp {
         return Err(WalkEnd::Step(FrameError::NotRising(registers.sp)));
@@ -120,12 +194,12 @@ fn called_frame(
 }
 
 /// What a step returned, as a frame.
-fn frame_after(
-    modules: &Modules<'_>,
+fn frame_after<L: CallSites>(
+    modules: &L,
     frame: &Arm64StackFrame,
     left: Result<(Arm64Registers, bool), FrameError>,
 ) -> Result<Arm64StackFrame, WalkEnd>
-    ensures { result ≡ frame_after modules.now.modules.now frame.now left }
+    ensures { result ≡ frame_after (L.list modules.now) frame.now left }
 {
     match left {
         Ok((registers, true)) => Ok(frame_of(modules, Way::Interrupt, registers)),
@@ -156,14 +230,14 @@ fn place_of(module: &Module<'_>, function: &Arm64RuntimeFunction, frame: &Arm64S
     ensures { result ≡ place_of module.now function.now frame.now }
 {
     let offset = module
-        .rva_of(lookup_address(frame))
+        .rva_of(frame.lookup_address())
         .saturating_sub(function.begin_address);
     offset / SIZE_OF_INSTRUCTION + if frame.has_called { 1 } else { 0 }
 }
 
 /// The frame of the caller, by the unwind data of the function that lookup found.
-fn caller_by_records<M: Memory>(
-    modules: &Modules<'_>,
+fn caller_by_records<L: CallSites, M: Memory>(
+    modules: &L,
     module: &Module<'_>,
     exceptions: &ExceptionData<'_>,
     function: &Arm64RuntimeFunction,
@@ -172,7 +246,7 @@ fn caller_by_records<M: Memory>(
 ) -> Result<Arm64StackFrame, WalkEnd>
     requires { lookup_address frame.now ≤ module.now.base + module.now.size }
     ensures { CallsByInfo
-        (record { memory = M.word memory.now; modules = modules.now.modules.now })
+        (record { memory = M.word memory.now; modules = L.list modules.now })
         module.now function.now frame.now
         (info_of_function exceptions.now module.now.sections.now module.now.opts function.now)
         result }
@@ -190,41 +264,40 @@ fn caller_by_records<M: Memory>(
 }
 
 /// The frame of the caller, by the module that has the lookup address of the frame.
-fn caller_in_module<M: Memory>(
-    modules: &Modules<'_>,
+pub fn caller_in_module_arm64<L: CallSites, M: Memory>(
+    modules: &L,
     module: &Module<'_>,
     frame: &Arm64StackFrame,
     memory: &M,
 ) -> Result<Arm64StackFrame, WalkEnd>
     requires { IsTrue (has_address module_base module_size (lookup_address frame.now) module.now) }
-    ensures { CallsIn (record { memory = M.word memory.now; modules = modules.now.modules.now })
+    ensures { CallsIn (record { memory = M.word memory.now; modules = L.list modules.now })
         frame.now (Some module.now) result }
 {
     let Some(exceptions) = module.exceptions else {
-        return caller_of_leaf(modules, frame);
+        return caller_of_leaf(modules, frame, memory);
     };
-    let rva = module.rva_of(lookup_address(frame));
+    let rva = module.rva_of(frame.lookup_address());
     match exceptions.find_function_arm64(rva, module.sections, &module.opts) {
         Ok(Some(function)) => {
             caller_by_records(modules, module, exceptions, &function, frame, memory)
         }
-        Ok(None) => caller_of_leaf(modules, frame),
+        Ok(None) => caller_of_leaf(modules, frame, memory),
         Err(error) => Err(WalkEnd::Records(error)),
     }
 }
 
-/// The frame of the caller of a frame, or why there is none.
-fn caller_of<M: Memory>(
-    modules: &Modules<'_>,
-    frame: &Arm64StackFrame,
-    memory: &M,
-) -> Result<Arm64StackFrame, WalkEnd>
-    ensures { Calls (record { memory = M.word memory.now; modules = modules.now.modules.now })
-        frame.now result }
-{
-    match modules.find(lookup_address(frame)) {
-        Some(module) => caller_in_module(modules, module, frame, memory),
-        None => caller_outside(modules, frame),
+impl WalkFrame for Arm64StackFrame {
+    ghost use Rattle.pe_frame.specs.Arm64Walks.{Calls};
+
+    ghost Calls = { Calls };
+
+    fn caller<L: LoadedModules, M: Memory>(
+        &self,
+        modules: &L,
+        memory: &M,
+    ) -> Result<Arm64StackFrame, WalkEnd> {
+        modules.caller_of_arm64(self, memory)
     }
 }
 
@@ -238,22 +311,19 @@ fn caller_of<M: Memory>(
 /// where it stays, the end is `NotRising`. It may stay in the top frame and in one that was interrupted, and past a frame of the
 /// operating system's own it may be anywhere.
 ///
-/// In the top frame, and in one that was interrupted, the return address of code that no unwind data describe is the link register:
-/// outside of all modules only if a call ends at it, as after a call of a null pointer.
+/// In the top frame, and in one that was interrupted, the return address of code that no unwind data describe is the link register,
+/// if a call ends at it, else the first of 128 words from the stack pointer on that is, without its signature, after a call in an
+/// executable section. In a module, where neither is, it is the link register, whatever that is.
 #[derive(Drop)]
 pub struct Arm64StackFrames<'a, M> {
     modules: Modules<'a>,
     memory: &'a M,
-    /// The frame that was returned last; before that of the top frame, the top frame.
-    frame: Arm64StackFrame,
-    has_returned: bool,
-    remaining: usize,
-    end: WalkEnd,
+    position: WalkPosition<Arm64StackFrame>,
 }
 
 impl<'a, M: Memory> Arm64StackFrames<'a, M> {
-    ghost use Rattle.pe_frame.specs.Arm64Walks.{walk_of, starting_walk};
-    ghost use Rattle.pe_frame.specs.FrameWalks.{Follows, end_of};
+    ghost use Rattle.pe_frame.specs.Arm64Walks.{top_frame, walk_of};
+    ghost use Rattle.pe_frame.specs.FrameWalks.{end_of, starting_walk};
 
     /// A walk of at most `most` frames, from the registers of a thread.
     pub fn new(
@@ -263,34 +333,26 @@ impl<'a, M: Memory> Arm64StackFrames<'a, M> {
         most: usize,
     ) -> Arm64StackFrames<'a, M>
         ensures { walk_of (M.word) result ≡ starting_walk
-            (M.word memory.entry.now) modules.entry.modules.now registers most }
+            (record { memory = M.word memory.entry.now; modules = modules.entry.modules.now })
+            (top_frame registers) most }
     {
+        let top = Arm64StackFrame {
+            registers,
+            way: Way::Top,
+            has_called: false,
+        };
         Arm64StackFrames {
             modules,
             memory,
-            frame: frame_of(&modules, Way::Top, registers),
-            has_returned: false,
-            remaining: most,
-            end: WalkEnd::Bound,
-        }
-    }
-
-    /// The frame that follows: the first as it is, and then the caller of each.
-    fn following(&self) -> Result<Arm64StackFrame, WalkEnd>
-        ensures { Follows Calls (walk_of (M.word) self.now) result }
-    {
-        if self.has_returned {
-            caller_of(&self.modules, &self.frame, self.memory)
-        } else {
-            Ok(self.frame)
+            position: WalkPosition::starting(top, most),
         }
     }
 
     /// How many frames it returns at most from here on. 0 once it is over.
     pub fn remaining(&self) -> usize
-        ensures { result ≡ self.now.remaining }
+        ensures { result ≡ self.now.position.remaining }
     {
-        self.remaining
+        self.position.remaining
     }
 
     /// Why the walk is over. `None` while a frame may follow. After as many frames as were asked for it is `Bound`, whether or
@@ -298,8 +360,8 @@ impl<'a, M: Memory> Arm64StackFrames<'a, M> {
     pub fn end(&self) -> Option<&WalkEnd>
         ensures { option_map (λ e. e.now) result ≡ end_of (walk_of (M.word) self.now) }
     {
-        if self.remaining == 0 {
-            Some(&self.end)
+        if self.position.remaining == 0 {
+            Some(&self.position.end)
         } else {
             None
         }
@@ -307,32 +369,16 @@ impl<'a, M: Memory> Arm64StackFrames<'a, M> {
 }
 
 impl<'a, M: Memory> Iterator for Arm64StackFrames<'a, M> {
-    ghost use Rattle.pe_frame.specs.Arm64Walks.{walk_of};
+    ghost use Rattle.pe_frame.specs.Arm64Walks.{Calls, walk_of};
     ghost use Rattle.pe_frame.specs.FrameWalks.{Advances};
 
     type Item = Arm64StackFrame;
 
     ghost next_gives = { λ s r t. Advances Calls (walk_of (M.word) s) r (walk_of (M.word) t) };
 
-    ghost remaining = { λ s. at_most s.remaining };
+    ghost remaining = { λ s. at_most s.position.remaining };
 
-    #[tactic(auto, using(crate::proofs::FrameWalks::advanced))]
     fn next(&mut self) -> Option<Arm64StackFrame> {
-        if self.remaining == 0 {
-            return None;
-        }
-        match self.following() {
-            Ok(frame) => {
-                self.frame = frame;
-                self.has_returned = true;
-                self.remaining -= 1;
-                Some(frame)
-            }
-            Err(end) => {
-                self.remaining = 0;
-                self.end = end;
-                None
-            }
-        }
+        self.position.next(&self.modules, self.memory)
     }
 }

@@ -9,8 +9,8 @@ ghost use Rattle.pe_frame.specs.declared.arm64.epilog.Arm64Epilog.{Arm64Epilog};
 ghost use Rattle.pe_frame.specs.declared.arm64.registers.Arm64Registers.{Arm64Registers};
 ghost use Rattle.pe_frame.specs.declared.error.FrameError.{FrameError};
 ghost use Rattle.pe_frame.specs.Steps.{by_kind};
-ghost use Rattle.pe_frame.specs.Arm64Steps.{CodesThen, AreOver, prolog_length, ran_arm64, epilog_at, epilog_start, Leaves, StepsArm64};
-ghost use Rattle.pe_frame.specs.Arm64Packed.{packed_frame, packed_codes, epilog_codes, packed_left, is_canonical, stepped_packed};
+ghost use Rattle.pe_frame.specs.Arm64Steps.{CodesThen, AreOver, prolog_length, ran_arm64, epilog_at, epilog_start, epilog_start_in, Leaves, StepsArm64};
+ghost use Rattle.pe_frame.specs.Arm64Packed.{packed_frame, packed_codes, epilog_codes, packed_left, is_canonical, stepped_arm64_packed};
 ghost use Rattle.pe_frame.specs.Arm64Operations.{all_effects};
 ghost use Rattle.pe_frame.specs.Arm64Undoing.{reverted_all};
 ghost use Rattle.pe_frame.specs.Arm64Machine.{IsArm64Caller};
@@ -69,14 +69,14 @@ pub fn arm64_places_leave_their_codes()
         (cs es : List Arm64UnwindCode) (e : Arm64Epilog) →
         CodesThen AreOver i.codes cs → prolog_length cs ≤ place →
         epilog_at i place ≡ Some e → CodesThen AreOver (drop e.index i.codes) es →
-        place ≡ epilog_start (bits i.header 0 18) e.start (prolog_length es) + run →
+        place ≡ epilog_start_in i e es + run →
         run ≤ prolog_length es → Leaves i place (Ok (ran_arm64 (prolog_length es - run) es)) }
     ensures outside { (i : Arm64InfoView) (place : ℕ)
         (cs es : List Arm64UnwindCode) (e : Arm64Epilog) →
         CodesThen AreOver i.codes cs → prolog_length cs ≤ place →
         epilog_at i place ≡ Some e → CodesThen AreOver (drop e.index i.codes) es →
-        (place < epilog_start (bits i.header 0 18) e.start (prolog_length es))
-        ⊎ (epilog_start (bits i.header 0 18) e.start (prolog_length es) + prolog_length es
+        (place < epilog_start_in i e es)
+        ⊎ (epilog_start_in i e es + prolog_length es
         < place) →
         Leaves i place (Ok (ran_arm64 place cs)) }
 {}
@@ -101,7 +101,7 @@ pub fn packed_entries_are_their_codes()
     ensures { (m : ℕ → Option ℕ) (d : ℕ) (i : Arm64InfoView) (place : ℕ)
         (g : Arm64Registers) (x : Result Arm64Registers FrameError) →
         is_canonical d ≡ true → Leaves i place (Ok (packed_left d place)) →
-        StepsArm64 m i place g x → stepped_packed m d place g ≡ x }
+        StepsArm64 m i place g x → stepped_arm64_packed m d place g ≡ x }
 {}
 
 /// There are such frames: of a function with a frame chain, after its prolog and inside of it; of one that signs its

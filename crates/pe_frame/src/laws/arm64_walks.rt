@@ -1,14 +1,14 @@
 //! Laws of whole walks on ARM64.
 
-ghost use Rattle.std.specs.Prelude.{Bool, ◌≡◌, ◌≢◌, ◌≤◌, ◌<◌, ◌⊎◌, true, false, List, length, None, Some, Ok, Err};
+ghost use Rattle.std.specs.Prelude.{Bool, ◌≡◌, ◌≢◌, ◌≤◌, ◌<◌, ◌⊎◌, ℕ, true, false, List, length, Option, None, Some, Ok, Err};
 ghost use Rattle.std.specs.Iterator.{YieldsThen};
 ghost use Rattle.pe_unwind.specs.Arm64Record.{Arm64InfoView};
 ghost use Rattle.pe_unwind.specs.declared.arm64.function.Arm64RuntimeFunction.{Arm64RuntimeFunction};
-ghost use Rattle.pe_frame.specs.Arm64Packed.{stepped_packed};
+ghost use Rattle.pe_frame.specs.Arm64Packed.{stepped_arm64_packed};
 ghost use Rattle.pe_frame.specs.Arm64Steps.{StepsOutArm64};
 ghost use Rattle.pe_frame.specs.Arm64Undoing.{link_register};
-ghost use Rattle.pe_frame.specs.Arm64Walks.{AreSortedModules, Calls, CallsByInfo, Process, has_called, leaf_caller, outside_caller, place_of, walk_of};
-ghost use Rattle.pe_frame.specs.FrameWalks.{FrameWalk, IsWalk};
+ghost use Rattle.pe_frame.specs.Arm64Walks.{AreSortedModules, Calls, CallsByInfo, has_called, caller_of_leaf, caller_outside, place_of, walk_of, without_records};
+ghost use Rattle.pe_frame.specs.FrameWalks.{FrameWalk, IsWalk, Process};
 ghost use Rattle.pe_frame.specs.Walks.{end_kind};
 ghost use Rattle.pe_frame.specs.declared.arm64.registers.Arm64Registers.{Arm64Registers};
 ghost use Rattle.pe_frame.specs.declared.arm64.walk.Arm64StackFrame.{Arm64StackFrame};
@@ -26,8 +26,8 @@ use crate::memory::Memory;
 pub fn arm64_walks_return_the_frames<M: Memory + 'static>()
     ensures { (s u : Arm64StackFrames M) (frames : List Arm64StackFrame) →
         YieldsThen ⟦<Arm64StackFrames<'static, M> as Iterator>⟧.next_gives s frames None u →
-        IsWalk Calls (walk_of M.word s) frames u.end × (length frames ≤ s.remaining)
-        × (u.remaining ≡ 0) }
+        IsWalk Calls (walk_of M.word s) frames u.position.end
+        × (length frames ≤ s.position.remaining) × (u.position.remaining ≡ 0) }
 {}
 
 /// From each state there is at most one walk, up to the numbers in a refusal, where the function tables of the modules are sorted.
@@ -49,7 +49,7 @@ pub fn arm64_frames_are_steps()
         × StepsOutArm64 p.memory i (place_of m f s) s.registers (Ok (t.registers, interrupted)) }
     ensures packed { (p : Process) (m : Module) (f : Arm64RuntimeFunction) (s t : Arm64StackFrame) →
         CallsByInfo p m f s None (Ok t) →
-        stepped_packed p.memory f.unwind_data (place_of m f s) s.registers ≡ Ok t.registers }
+        stepped_arm64_packed p.memory f.unwind_data (place_of m f s) s.registers ≡ Ok t.registers }
 {}
 
 /// Each frame says whether it has called, by its way and the bytes before its instruction pointer (`called`). What was found
@@ -69,7 +69,7 @@ pub fn arm64_frames_that_called_rise()
 {}
 
 /// At the bottom a caller's instruction pointer is 0: one to which records led (`records`) or packed unwind data (`packed`), or
-/// the link register of a frame that has not called (`leaf`). A frame in no module is never the bottom (`outside`).
+/// the link register of a frame that has not called, from whose registers no frame is found (`leaf`). A frame in no module is never the bottom (`outside`).
 pub fn arm64_bottoms_are_returns_to_0()
     ensures records { (p : Process) (m : Module) (f : Arm64RuntimeFunction)
         (s : Arm64StackFrame) (i : Arm64InfoView) →
@@ -79,11 +79,12 @@ pub fn arm64_bottoms_are_returns_to_0()
     ensures packed { (p : Process) (m : Module) (f : Arm64RuntimeFunction) (s : Arm64StackFrame) →
         CallsByInfo p m f s None (Err Bottom) →
         (u : Arm64Registers)
-        × (stepped_packed p.memory f.unwind_data (place_of m f s) s.registers ≡ Ok u)
+        × (stepped_arm64_packed p.memory f.unwind_data (place_of m f s) s.registers ≡ Ok u)
         × (u.pc ≡ 0) }
-    ensures leaf { (modules : List Module) (s : Arm64StackFrame) →
-        leaf_caller modules s ≡ Err Bottom →
-        (s.has_called ≡ false) × (link_register s.registers ≡ 0) }
-    ensures outside { (modules : List Module) (s : Arm64StackFrame) →
-        outside_caller modules s ≢ Err Bottom }
+    ensures leaf { (memory : ℕ → Option ℕ) (modules : List Module) (s : Arm64StackFrame) →
+        caller_of_leaf memory modules s ≡ Err Bottom →
+        (s.has_called ≡ false) × (without_records memory modules s.registers ≡ None)
+        × (link_register s.registers ≡ 0) }
+    ensures outside { (memory : ℕ → Option ℕ) (modules : List Module) (s : Arm64StackFrame) →
+        caller_outside memory modules s ≢ Err Bottom }
 {}

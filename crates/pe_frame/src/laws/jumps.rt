@@ -1,6 +1,6 @@
 //! Laws of steps that follow a jump out of a function.
 
-ghost use Rattle.std.specs.Prelude.{◌≡◌, ◌-◌, ◌≤◌, ◌++◌, ℕ, Bool, false, List, length, ◌∷◌, Option, Some, None, Result, Ok};
+ghost use Rattle.std.specs.Prelude.{◌≡◌, ◌-◌, ◌≤◌, ℕ, Bool, false, List, length, ◌∷◌, Option, Some, None, Result, Ok};
 ghost use Rattle.pe_core.specs.declared.options.ParseOptions.{ParseOptions};
 ghost use Rattle.pe_core.specs.declared.section_table.SectionTable.{SectionTable};
 ghost use Rattle.pe_unwind.specs.ExceptionTable.{ExceptionView, table_of};
@@ -9,12 +9,13 @@ ghost use Rattle.pe_unwind.specs.UnwindRecord.{UnwindInfoView};
 ghost use Rattle.pe_frame.specs.declared.epilog.Instruction.{Instruction};
 ghost use Rattle.pe_frame.specs.declared.error.FrameError.{FrameError};
 ghost use Rattle.pe_frame.specs.declared.registers.Registers.{Registers};
-ghost use Rattle.pe_frame.specs.EpilogFrames.{IsEpilogOfParts, AreReady};
+ghost use Rattle.pe_frame.specs.EpilogFrames.{IsInEpilog};
 ghost use Rattle.pe_frame.specs.Epilogs.{epilog_at, executed_all};
-ghost use Rattle.pe_frame.specs.Frames.{Part, infos, AreFrames, IsCaller};
+ghost use Rattle.pe_frame.specs.Frames.{Part, infos, IsCaller};
+ghost use Rattle.pe_frame.specs.JumpFrames.{JumpsToFrame};
 ghost use Rattle.pe_frame.specs.Jumps.{IsEntry, IsPlace, Place, StepsInImage, before_last, target_of};
 ghost use Rattle.pe_frame.specs.Steps.{by_kind, limit_of};
-ghost use Rattle.pe_frame.specs.Undoing.{pointer};
+ghost use Rattle.pe_frame.specs.Undoing.{stack_pointer};
 
 /// A jump is followed. What is left of an epilog ends with a jump to a place in a function that the image has, and a machine
 /// that ran it up to the jump is there in a frame of that function and its parts: a step in the image then returns the caller of
@@ -26,10 +27,8 @@ pub fn jumps_are_followed()
         (rest : List Instruction) (p : Part) (parts : List Part) (g h : Registers)
         (x : Result (Registers × Bool) FrameError) →
         epilog_at plan start rva code ≡ Some rest → NeverFalls (functions (table_of e)) →
-        IsPlace e sections opts (target_of rest)
-        (Some (record { offset = offset; plan = infos (p ∷ parts) })) →
-        executed_all m (before_last rest) g ≡ Ok h → pointer g ≤ pointer h →
-        AreFrames m (p ∷ parts) (limit_of (infos (p ∷ parts)) offset) h →
+        JumpsToFrame e sections opts m rest (p ∷ parts) offset g h →
+        stack_pointer g ≤ stack_pointer h →
         StepsInImage e sections opts m plan start rva code g x →
         (u : Registers × Bool) × (x ≡ Ok u)
         × IsCaller (p ∷ parts) (limit_of (infos (p ∷ parts)) offset) h u.0 }
@@ -45,11 +44,7 @@ pub fn epilogs_return_to_the_caller_in_images()
         (m : ℕ → Option ℕ) (p : Part) (parts : List Part) (before rest : List Instruction)
         (i : Instruction) (start rva : ℕ) (code : List ℕ) (g h : Registers)
         (x : Result (Registers × Bool) FrameError) →
-        AreFrames m (p ∷ parts) None g →
-        IsEpilogOfParts (p ∷ parts) (before ++ (i ∷ rest)) →
-        AreReady (p ∷ parts) (before ++ (i ∷ rest)) g →
-        executed_all m before g ≡ Ok h →
-        epilog_at (infos (p ∷ parts)) start rva code ≡ Some (i ∷ rest) →
+        IsInEpilog m (p ∷ parts) before (i ∷ rest) start rva code g h →
         NeverFalls (functions (table_of e)) →
         IsPlace e sections opts (target_of (i ∷ rest)) None →
         StepsInImage e sections opts m (infos (p ∷ parts)) start rva code h x →
@@ -58,11 +53,7 @@ pub fn epilogs_return_to_the_caller_in_images()
         (place : Place) (m : ℕ → Option ℕ) (p : Part) (parts : List Part)
         (before rest : List Instruction) (i : Instruction) (start rva : ℕ) (code : List ℕ)
         (g h t : Registers) (x : Result (Registers × Bool) FrameError) →
-        AreFrames m (p ∷ parts) None g →
-        IsEpilogOfParts (p ∷ parts) (before ++ (i ∷ rest)) →
-        AreReady (p ∷ parts) (before ++ (i ∷ rest)) g →
-        executed_all m before g ≡ Ok h →
-        epilog_at (infos (p ∷ parts)) start rva code ≡ Some (i ∷ rest) →
+        IsInEpilog m (p ∷ parts) before (i ∷ rest) start rva code g h →
         NeverFalls (functions (table_of e)) →
         IsPlace e sections opts (target_of (i ∷ rest)) (Some place) → IsEntry place →
         executed_all m (before_last (i ∷ rest)) h ≡ Ok t → length t.general ≡ 16 →

@@ -6,10 +6,11 @@ ghost use Rattle.pe_unwind.specs.ExceptionTable.{ExceptionView};
 ghost use Rattle.pe_unwind.specs.UnwindRecord.{UnwindInfoView};
 ghost use Rattle.pe_unwind.specs.declared.function_table.RuntimeFunction.{RuntimeFunction};
 ghost use Rattle.pe_frame.specs.Epilogs.{epilog_at};
-ghost use Rattle.pe_frame.specs.Jumps.{StepsInImage};
+ghost use Rattle.pe_frame.specs.Scans.{IsFirstReturn, first_return, most_words, return_at};
 ghost use Rattle.pe_frame.specs.Steps.{Steps};
 ghost use Rattle.pe_frame.specs.Undoing.{popped};
-ghost use Rattle.pe_frame.specs.Walks.{AreSortedModules, Calls, CallsByPlan, IsFirstReturn, IsWalk, WalkState, code_of_frame, end_kind, first_return, has_called, leaf_caller, most_words, outside_caller, return_at, walk_of, without_records};
+ghost use Rattle.pe_frame.specs.FrameWalks.{FrameWalk, IsWalk, Process};
+ghost use Rattle.pe_frame.specs.Walks.{AreSortedModules, Calls, CallsByPlan, end_kind, has_called, caller_of_leaf, caller_outside, walk_of, without_records, StepsFromFrame};
 ghost use Rattle.pe_frame.specs.declared.modules.Module.{Module};
 ghost use Rattle.pe_frame.specs.declared.registers.Registers.{Registers};
 ghost use Rattle.pe_frame.specs.declared.walk.StackFrame.{StackFrame};
@@ -26,17 +27,19 @@ use crate::walk::StackFrames;
 pub fn walks_return_the_frames<M: Memory + 'static>()
     ensures { (s u : StackFrames M) (frames : List StackFrame) →
         YieldsThen ⟦<StackFrames<'static, M> as Iterator>⟧.next_gives s frames None u →
-        IsWalk (walk_of M.word s) frames u.position.end
+        IsWalk Calls (walk_of M.word s) frames u.position.end
         × (length frames ≤ s.position.remaining) × (u.position.remaining ≡ 0) }
 {}
 
 /// There is a walk from each state (`exists`), whatever the function tables of the modules are: the frames from the state on, and
 /// why it is over after them. Where the tables are sorted there is one alone, up to the numbers in a refusal (`one`).
 pub fn one_result_of_walks()
-    ensures exists { (w : WalkState) →
-        (frames : List StackFrame) × (end : WalkEnd) × IsWalk w frames end }
-    ensures one { (w : WalkState) (frames others : List StackFrame) (end other : WalkEnd) →
-        AreSortedModules w.modules → IsWalk w frames end → IsWalk w others other →
+    ensures exists { (w : FrameWalk Process StackFrame) →
+        (frames : List StackFrame) × (end : WalkEnd) × IsWalk Calls w frames end }
+    ensures one { (w : FrameWalk Process StackFrame)
+        (frames others : List StackFrame) (end other : WalkEnd) →
+        AreSortedModules (w.process).modules →
+        IsWalk Calls w frames end → IsWalk Calls w others other →
         (frames ≡ others) × (end_kind end ≡ end_kind other) }
 {
     pe_unwind::laws::x64::one_record_of_addresses();
@@ -48,10 +51,7 @@ pub fn frames_are_steps()
     ensures stopped { (memory : ℕ → Option ℕ) (modules : List Module) (m : Module) (e : ExceptionView)
         (f : RuntimeFunction) (s t : StackFrame) (plan : List UnwindInfoView) →
         CallsByPlan memory modules m e f s (Ok (Some plan)) (Ok t) →
-        (interrupted : Bool)
-        × StepsInImage e m.sections.now m.opts memory plan f.begin_address
-        ((s.registers).rip - m.base) (code_of_frame m e f.end_address s) s.registers
-        (Ok (t.registers, interrupted)) }
+        (interrupted : Bool) × StepsFromFrame memory m e f plan s (Ok (t.registers, interrupted)) }
     ensures called { (memory : ℕ → Option ℕ) (modules : List Module) (m : Module) (e : ExceptionView)
         (f : RuntimeFunction) (s t : StackFrame) (plan : List UnwindInfoView) →
         s.has_called ≡ true → CallsByPlan memory modules m e f s (Ok (Some plan)) (Ok t) →
@@ -65,23 +65,23 @@ pub fn no_code_is_no_epilog()
 {}
 
 /// A scan finds the first word that is a return address into executable code (`first`), of the 128 words from an address on. Where
-/// it finds none, none of them is (`none`).
+/// it finds none, none of them is (`none`). Which words are says `code_return` of each machine.
 pub fn scans_find_the_first()
-    ensures first { (memory : ℕ → Option ℕ) (modules : List Module) (start a w : ℕ) →
-        first_return most_words memory modules start ≡ Some (a, w) →
-        IsFirstReturn most_words memory modules start a w }
-    ensures none { (memory : ℕ → Option ℕ) (modules : List Module) (start k : ℕ) →
-        first_return most_words memory modules start ≡ None → k < most_words →
-        return_at memory modules (start + 8 * k) ≡ None }
+    ensures first { (memory returns : ℕ → Option ℕ) (start a w : ℕ) →
+        first_return most_words memory returns start ≡ Some (a, w) →
+        IsFirstReturn most_words memory returns start a w }
+    ensures none { (memory returns : ℕ → Option ℕ) (start k : ℕ) →
+        first_return most_words memory returns start ≡ None → k < most_words →
+        return_at memory returns (start + 8 * k) ≡ None }
 {}
 
 /// Each frame says whether it has called, by its way and the bytes before its instruction pointer (`called`). What was found
 /// without records was found from the top frame or from one that was interrupted: from one that has not called (`guessed`).
 pub fn frames_say_whether_they_called()
-    ensures called { (memory : ℕ → Option ℕ) (modules : List Module) (s t : StackFrame) →
-        Calls memory modules s (Ok t) → t.has_called ≡ has_called modules t.way (t.registers).rip }
-    ensures guessed { (memory : ℕ → Option ℕ) (modules : List Module) (s t : StackFrame) →
-        Calls memory modules s (Ok t) → s.has_called ≡ true →
+    ensures called { (p : Process) (s t : StackFrame) →
+        Calls p s (Ok t) → t.has_called ≡ has_called p.modules t.way (t.registers).rip }
+    ensures guessed { (p : Process) (s t : StackFrame) →
+        Calls p s (Ok t) → s.has_called ≡ true →
         (t.way ≡ Records) ⊎ (t.way ≡ Interrupt) }
 {}
 
@@ -92,14 +92,12 @@ pub fn bottoms_are_returns_to_0()
     ensures records { (memory : ℕ → Option ℕ) (modules : List Module) (m : Module) (e : ExceptionView)
         (f : RuntimeFunction) (s : StackFrame) (plan : List UnwindInfoView) →
         CallsByPlan memory modules m e f s (Ok (Some plan)) (Err Bottom) →
-        (u : Registers)
-        × StepsInImage e m.sections.now m.opts memory plan f.begin_address
-        ((s.registers).rip - m.base) (code_of_frame m e f.end_address s) s.registers
-        (Ok (u, false)) × (u.rip ≡ 0) × (without_records memory modules u ≡ None) }
+        (u : Registers) × StepsFromFrame memory m e f plan s (Ok (u, false))
+        × (u.rip ≡ 0) × (without_records memory modules u ≡ None) }
     ensures leaf { (memory : ℕ → Option ℕ) (modules : List Module) (s : StackFrame) →
-        leaf_caller memory modules s ≡ Err Bottom →
+        caller_of_leaf memory modules s ≡ Err Bottom →
         (s.has_called ≡ false) × (without_records memory modules s.registers ≡ None)
         × (u : Registers) × (popped memory s.registers ≡ Ok u) × (u.rip ≡ 0) }
     ensures outside { (memory : ℕ → Option ℕ) (modules : List Module) (s : StackFrame) →
-        outside_caller memory modules s ≢ Err Bottom }
+        caller_outside memory modules s ≢ Err Bottom }
 {}

@@ -10,7 +10,7 @@ pub loop-item-preserved : goal.loop-item-preserved
 loop-item-preserved c rest are =
     let steps = subst (λ (r : Result UnwindCode Error). ReturnsCode (stream_of c.loop-item.item-iterator) (Some r) (stream_of c.next.new.self)) c.in-Ok.is c.in-Some.ensures.steps in
     let inv = c.loop-item.invariant (Ok c.in-Ok.code ∷ rest) (code_before _ _ c.in-Ok.code rest steps are) in
-    let all = ap (λ a. all_surveyed c.args.limit a (known_codes rest)) c.with-survey.ensures in
+    let all = ap (λ a. all_surveyed c.args.limit a (known_codes rest)) c.survey_with-survey.ensures in
     (inv.0, inv.1, inv.2 ∙ (surveyed_code c.args.limit c.loop-item.survey c.in-Ok.code rest ∙ sym all))
 
 pub returns-in-Err : goal.returns-in-Err

@@ -18,7 +18,7 @@ returns-in-None g c =
     let i = info_view c.args.info.now in
     let read = read_codes c.code_bytes-codes.result.now c.require_codes.result c.in_ok-require_codes.field-0 c.require_codes.ensures c.in_ok-require_codes.was in
     let are : CodesThen AreOver i.codes read.0 = subst (λ (b : List ℕ). CodesThen AreOver b read.0) c.code_bytes-codes.ensures read.1 in
-    step_by m i c.args.place c.prolog_length-length.result read.0 None c.epilog_after.result c.args.registers c.caller_by.result are
+    step_by m i c.args.place c.prolog_length-length.result read.0 None c.epilog_after.result c.args.registers c.caller_by_codes.result are
     (c.prolog_length-length.ensures read.0 read.1) c.epilog_after.ensures c.in-None.is
-    (step_ran m i c.args.place c.prolog_length-length.result c.saturating_sub.result read.0 c.args.registers c.caller_by.result (c.prolog_length-length.ensures read.0 read.1) c.saturating_sub.ensures
-    (c.caller_by.ensures (drop c.saturating_sub.result read.0) (c.after_codes-left.ensures read.0 read.1)))
+    (step_ran m i c.args.place c.prolog_length-length.result c.saturating_sub.result read.0 c.args.registers c.caller_by_codes.result (c.prolog_length-length.ensures read.0 read.1) c.saturating_sub.ensures
+    (c.caller_by_codes.ensures (drop c.saturating_sub.result read.0) (c.after_codes-left.ensures read.0 read.1)))

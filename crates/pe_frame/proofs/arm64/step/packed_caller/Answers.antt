@@ -1,7 +1,7 @@
 use Rattle.std.proofs.Common.{◌≡◌, ◌≤◌, ◌||◌, ◌==◌, nat_lt, ℕ, [], List, length, true, sym, ap, ◌∙◌, subst}
 use Rattle.pe_unwind.specs.declared.arm64.codes.Arm64UnwindCode.{Arm64UnwindCode}
 use Rattle.pe_unwind.specs.Arm64Words.{bits}
-use Rattle.pe_frame.specs.Arm64Undoing.{caller_by}
+use Rattle.pe_frame.specs.Arm64Undoing.{caller_by_list}
 use Rattle.pe_frame.specs.Arm64CodeLists.{Adds}
 use Rattle.pe_frame.specs.Arm64Packed.{packed_codes, is_canonical}
 use Rattle.pe_frame.proofs.Arm64Packed.{packed_whole, packed_alone, whole_alone, rest_alone, left_before, left_later, canonical_step, not_true, not_false}
@@ -27,7 +27,7 @@ returns-then-has_ended g c =
     let canonical : is_canonical d ≡ true = sym c.if-not-is_canonical.ensures in
     let m = g.M.Memory.word c.args.memory.now in
     c.packed_caller_after.ensures
-    ∙ (ap (λ (cs : List Arm64UnwindCode). caller_by m cs c.args.registers)
+    ∙ (ap (λ (cs : List Arm64UnwindCode). caller_by_list m cs c.args.registers)
     (left_later d c.args.place c.packed_length-length.result c.as_slice-codes.result.now canonical
     (whole d c.as_slice-codes.result.now c.packed_codes-list.result canonical c.as_slice-codes.ensures.few c.as_slice-codes.ensures.value c.packed_codes-list.ensures)
     c.packed_length-length.ensures.value (not_true (bits d 0 2 == 2 || nat_lt c.args.place c.packed_length-length.result) c.if-has_ended.ensures))
@@ -47,7 +47,7 @@ returns g c =
     let canonical : is_canonical d ≡ true = sym c.if-not-is_canonical.ensures in
     let m = g.M.Memory.word c.args.memory.now in
     c.caller_by_list.ensures
-    ∙ (ap (λ (cs : List Arm64UnwindCode). caller_by m cs c.args.registers)
+    ∙ (ap (λ (cs : List Arm64UnwindCode). caller_by_list m cs c.args.registers)
     (left_before d c.args.place c.packed_length-length.result c.saturating_sub-left.result c.as_slice-codes.result.now canonical
     (whole d c.as_slice-codes.result.now c.packed_codes-list.result canonical c.as_slice-codes.ensures.few c.as_slice-codes.ensures.value c.packed_codes-list.ensures)
     c.packed_length-length.ensures.value c.saturating_sub-left.ensures (not_false (bits d 0 2 == 2 || nat_lt c.args.place c.packed_length-length.result) c.if-has_ended.ensures))

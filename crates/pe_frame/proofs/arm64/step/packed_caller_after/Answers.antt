@@ -1,6 +1,6 @@
 use Rattle.std.proofs.Common.{◌≡◌, ◌≤◌, ◌∙◌, ℕ, [], List, length, true, ap, sym, subst, arith}
 use Rattle.pe_unwind.specs.declared.arm64.codes.Arm64UnwindCode.{Arm64UnwindCode}
-use Rattle.pe_frame.specs.Arm64Undoing.{caller_by}
+use Rattle.pe_frame.specs.Arm64Undoing.{caller_by_list}
 use Rattle.pe_frame.specs.Arm64CodeLists.{Adds}
 use Rattle.pe_frame.specs.Arm64Packed.{packed_frame, epilog_codes, is_canonical}
 use Rattle.pe_frame.proofs.Arm64Packed.{epilog_whole, epilog_alone, rest_alone, after_yes, after_no}
@@ -22,7 +22,7 @@ returns-then-is_in_epilog g c =
     let d = (c.args.function.now).unwind_data in
     let xs = c.as_slice-of_epilog.result.now in
     c.caller_by_list.ensures
-    ∙ ap (λ (cs : List Arm64UnwindCode). caller_by (g.M.Memory.word c.args.memory.now) cs c.args.registers)
+    ∙ ap (λ (cs : List Arm64UnwindCode). caller_by_list (g.M.Memory.word c.args.memory.now) cs c.args.registers)
     (after_yes d c.args.place _ c.epilog_start-start.result c.saturating_sub.result xs c.args.codes.now c.requires.canonical
     (whole d xs c.epilog_codes-list.result c.requires.canonical c.as_slice-of_epilog.ensures.few c.as_slice-of_epilog.ensures.value c.epilog_codes-list.ensures)
     (omega (arith, c.function_length-count.ensures)) c.epilog_start-start.ensures c.saturating_sub.ensures (sym c.if-is_in_epilog.ensures))
@@ -32,7 +32,7 @@ returns g c =
     let d = (c.args.function.now).unwind_data in
     let xs = c.as_slice-of_epilog.result.now in
     c.caller_by_list-2.ensures
-    ∙ ap (λ (cs : List Arm64UnwindCode). caller_by (g.M.Memory.word c.args.memory.now) cs c.args.registers)
+    ∙ ap (λ (cs : List Arm64UnwindCode). caller_by_list (g.M.Memory.word c.args.memory.now) cs c.args.registers)
     (after_no d c.args.place _ c.epilog_start-start.result xs c.args.codes.now c.requires.canonical
     (whole d xs c.epilog_codes-list.result c.requires.canonical c.as_slice-of_epilog.ensures.few c.as_slice-of_epilog.ensures.value c.epilog_codes-list.ensures)
     (omega (arith, c.function_length-count.ensures)) c.epilog_start-start.ensures (sym c.if-is_in_epilog.ensures))

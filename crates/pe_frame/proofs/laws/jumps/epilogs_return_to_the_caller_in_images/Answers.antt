@@ -10,4 +10,9 @@ returns c =
       cycle = c.one_record_of_addresses.ensures.cycle;
       no_memory = c.one_record_of_addresses.ensures.no_memory;
     } in
-    record { left = returned_in_image law; entered = returned_by_entry law }
+    record {
+      left = λ e sections opts m p parts before rest i start rva code g h x at.
+          returned_in_image law e sections opts m p parts before rest i start rva code g h x at.frames at.epilog at.ready at.ran at.left;
+      entered = λ e sections opts place m p parts before rest i start rva code g h t x at.
+          returned_by_entry law e sections opts place m p parts before rest i start rva code g h t x at.frames at.epilog at.ready at.ran at.left;
+    }

@@ -1,6 +1,8 @@
 use Rattle.pe_plan.proofs.RecordLaw.{RecordLaw}
-use Rattle.pe_frame.proofs.OneWalk.{one_walk}
-use Rattle.pe_frame.proofs.SomeWalk.{some_walk}
+use Rattle.pe_frame.specs.Walks.{Calls}
+use Rattle.pe_frame.proofs.FrameWalks.{one_walk, some_walk}
+use Rattle.pe_frame.proofs.OneWalk.{one_caller}
+use Rattle.pe_frame.proofs.SomeWalk.{some_caller}
 use Rattle.pe_frame.proofs.laws.walks.one_result_of_walks.Goals as goal
 
 pub returns : goal.returns
@@ -11,4 +13,7 @@ returns c =
       cycle = c.one_record_of_addresses.ensures.cycle;
       no_memory = c.one_record_of_addresses.ensures.no_memory;
     } in
-    record { exists = some_walk law; one = one_walk law }
+    record {
+      exists = some_walk Calls (some_caller law);
+      one = λ w frames others end other sorted h k. one_walk Calls w frames others end other (one_caller law w.process sorted) h k;
+    }

@@ -2,7 +2,7 @@ use Rattle.std.proofs.Common.{Ok, Err, sym}
 use Rattle.std.proofs.lemmas.Result.{err_from_is_err_and}
 use Rattle.pe_unwind.specs.UnwindRecord.{unwind_view}
 use Rattle.pe_frame.proofs.Records.{enters}
-use Rattle.pe_frame.proofs.record.enter.Goals as goal
+use Rattle.pe_frame.proofs.record.enter_in_prolog.Goals as goal
 
 pub returns-in_err-undo_codes : goal.returns-in_err-undo_codes
 returns-in_err-undo_codes g c =

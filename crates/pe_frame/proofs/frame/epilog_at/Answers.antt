@@ -1,0 +1,7 @@
+use Rattle.std.proofs.Common.{map, sym}
+use Rattle.pe_unwind.specs.UnwindRecord.{unwind_view}
+use Rattle.pe_frame.proofs.NoCode.{no_epilog_of}
+use Rattle.pe_frame.proofs.frame.epilog_at.Goals as goal
+
+pub returns-then-is_empty : goal.returns-then-is_empty
+returns-then-is_empty c = no_epilog_of (map unwind_view c.args.plan.now) c.args.start c.args.rva c.args.code.now (sym c.if-is_empty.ensures)
