@@ -1,17 +1,23 @@
 -- What the calls return.
-use Rattle.std.proofs.Common.{◌≡◌, ℕ, List, length, Ok, Err}
+use Rattle.std.proofs.Common.{◌≡◌, ℕ, ◌+◌, ◌^◌, ◌<◌, Bool, true, false, List, [], ◌∷◌, length, Result, Ok, Err, refl, ap, sym, ◌∙◌, subst}
+use Rattle.std.specs.Prelude.{nat_le, if◌then◌else◌}
 use Rattle.pe_core.specs.Bytes.{fit_at, splice}
 use Rattle.pe_core.specs.Header.{HeaderView}
-use Rattle.pe_core.specs.Refusals.{Refusal}
+use Rattle.pe_core.specs.Refusals.{Refusal, WriteFit, outcome, ◌>>=◌}
 use Rattle.pe_edit.specs.Written.{Leaf, section}
 use Rattle.pe_edit.specs.EditRefusals.{section_of}
-use Rattle.pe_rewrite.specs.Edited.{Lies, edited_file, edited_length, edited_of, written}
+use Rattle.pe_rewrite.specs.Edited.{Inside, Lies, RoomLies, at_end, edited_file, edited_length, in_place, moved_file, or_at_end, roomy_file, wants_room, written}
 use Rattle.pe_rewrite.specs.Places.{place_of}
-use Rattle.pe_rewrite.specs.RewriteRefusals.{Image}
+use Rattle.pe_rewrite.specs.RewriteRefusals.{RewriteRefusal, Image, RewriteReturns, RewriteReturnsWritten}
+use Rattle.pe_rewrite.specs.declared.error.RewriteError.{RewriteError}
+use Rattle.pe_rewrite.specs.Rooms.{room_of}
 use Rattle.pe_rewrite.specs.declared.place.Place.{Place}
-use Rattle.pe_rewrite.proofs.Placed.{edited_value, place_lies, place_made, placed}
+use Rattle.pe_rewrite.specs.declared.room.Room.{Room}
+use Rattle.pe_rewrite.proofs.Placed.{placed_value, place_lies, place_made, placed}
 use Rattle.pe_rewrite.proofs.Results.{length_value, written_done, written_short}
-use Rattle.pe_rewrite.proofs.Writes.{length-edited}
+use Rattle.pe_rewrite.proofs.RoomWrites.{room_inside, roomy_length}
+use Rattle.pe_rewrite.proofs.Roomy.{has_room, room_lies, room_made, room_small}
+use Rattle.pe_rewrite.proofs.Writes.{length-edited, length_edited_inside}
 
 pub lies : (b : List ℕ) (h : HeaderView) (xs : List Leaf) (p : Place) → place_of b h xs ≡ Ok p → Lies h p (length b)
 lies b h xs p e = place_lies b h xs p (placed b h xs p e)
@@ -25,11 +31,107 @@ size b h xs p e = (place_made b h xs p (placed b h xs p e)).size
 file_length : (b : List ℕ) (h : HeaderView) (xs : List Leaf) (p : Place) → place_of b h xs ≡ Ok p → length (edited_file h p xs b) ≡ length b
 file_length b h xs p e = length-edited h p xs b (lies b h xs p e) (size b h xs p e)
 
-pub length_returned : (b : List ℕ) (h : HeaderView) (xs : List Leaf) (p : Place) → place_of b h xs ≡ Ok p → edited_length (edited_of b h xs) ≡ Ok (length b)
-length_returned b h xs p e = length_value (edited_of b h xs) (edited_file h p xs b) (length b) (edited_value b h xs p e) (file_length b h xs p e)
+pub length_returned : (b : List ℕ) (h : HeaderView) (xs : List Leaf) (p : Place) → place_of b h xs ≡ Ok p → edited_length (in_place b h xs) ≡ Ok (length b)
+length_returned b h xs p e = length_value (in_place b h xs) (edited_file h p xs b) (length b) (placed_value b h xs p e) (file_length b h xs p e)
 
-pub room_short : (b : List ℕ) (h : HeaderView) (xs : List Leaf) (p : Place) (old : List ℕ) (r : Refusal) → place_of b h xs ≡ Ok p → fit_at old 0 (length b) ≡ Err r → written (edited_of b h xs) old ≡ Err (Image r)
-room_short b h xs p old r e i = written_short (edited_of b h xs) (edited_file h p xs b) old (length b) r (edited_value b h xs p e) (file_length b h xs p e) i
+pub room_short : (b : List ℕ) (h : HeaderView) (xs : List Leaf) (p : Place) (old : List ℕ) (r : Refusal) → place_of b h xs ≡ Ok p → fit_at old 0 (length b) ≡ Err r → written (in_place b h xs) old ≡ Err (Image r)
+room_short b h xs p old r e i = written_short (in_place b h xs) (edited_file h p xs b) old (length b) r (placed_value b h xs p e) (file_length b h xs p e) i
 
-pub file_returned : (b : List ℕ) (h : HeaderView) (xs : List Leaf) (p : Place) (old new : List ℕ) (u : Unit {0}) → place_of b h xs ≡ Ok p → fit_at old 0 (length b) ≡ Ok u → new ≡ splice old 0 (edited_file h p xs b) → written (edited_of b h xs) old ≡ Ok (length b, new)
-file_returned b h xs p old new u e i is = written_done (edited_of b h xs) (edited_file h p xs b) old new (length b) u (edited_value b h xs p e) (file_length b h xs p e) i is
+pub file_returned : (b : List ℕ) (h : HeaderView) (xs : List Leaf) (p : Place) (old new : List ℕ) (u : Unit {0}) → place_of b h xs ≡ Ok p → fit_at old 0 (length b) ≡ Ok u → new ≡ splice old 0 (edited_file h p xs b) → written (in_place b h xs) old ≡ Ok (length b, new)
+file_returned b h xs p old new u e i is = written_done (in_place b h xs) (edited_file h p xs b) old new (length b) u (placed_value b h xs p e) (file_length b h xs p e) i is
+
+-- ---- at the end of the image
+
+moved_value : (b : List ℕ) (h : HeaderView) (xs : List Leaf) (m : Room) → room_of b h xs ≡ Ok m → at_end b h xs ≡ Ok (moved_file h m xs b)
+moved_value b h xs m e = ap (λ (r : Result Room RewriteRefusal). r >>= λ n. Ok (moved_file h n xs b)) e
+
+pub lies_moved : (b : List ℕ) (h : HeaderView) (xs : List Leaf) (m : Room) → room_of b h xs ≡ Ok m → RoomLies h m (length b)
+lies_moved b h xs m e = room_lies b h xs m (has_room b h xs m e)
+
+pub made_moved : (b : List ℕ) (h : HeaderView) (xs : List Leaf) (m : Room) → room_of b h xs ≡ Ok m → section_of m.place.section.virtual_address xs ≡ Ok (section m.place.section.virtual_address xs)
+made_moved b h xs m e = (room_made b h xs m (has_room b h xs m e)).made
+
+pub size_moved : (b : List ℕ) (h : HeaderView) (xs : List Leaf) (m : Room) → room_of b h xs ≡ Ok m → length (section m.place.section.virtual_address xs) ≡ m.place.length
+size_moved b h xs m e = (room_made b h xs m (has_room b h xs m e)).size
+
+pub more_small : (b : List ℕ) (h : HeaderView) (xs : List Leaf) (m : Room) → room_of b h xs ≡ Ok m → m.more < 2 ^ 32
+more_small b h xs m e = room_small b h xs m (has_room b h xs m e)
+
+moved_length : (b : List ℕ) (h : HeaderView) (xs : List Leaf) (m : Room) → room_of b h xs ≡ Ok m → length (moved_file h m xs b) ≡ length b + m.more
+moved_length b h xs m e =
+    let l : RoomLies h m (length b) = lies_moved b h xs m e in
+    let size : length (roomy_file h m b) ≡ length b + m.more = roomy_length h m b l in
+    length_edited_inside h m.place xs (roomy_file h m b) (subst (λ (n : ℕ). Inside h m.place n) (sym size) (room_inside h m (length b) l)) (size_moved b h xs m e) ∙ size
+
+pub moved_length_returned : (b : List ℕ) (h : HeaderView) (xs : List Leaf) (m : Room) (n : ℕ) → room_of b h xs ≡ Ok m → n ≡ length b + m.more → edited_length (at_end b h xs) ≡ Ok n
+moved_length_returned b h xs m n e is = length_value (at_end b h xs) (moved_file h m xs b) n (moved_value b h xs m e) (moved_length b h xs m e ∙ sym is)
+
+pub moved_room_short : (b : List ℕ) (h : HeaderView) (xs : List Leaf) (m : Room) (n : ℕ) (old : List ℕ) (r : Refusal) → room_of b h xs ≡ Ok m → n ≡ length b + m.more → fit_at old 0 n ≡ Err r → written (at_end b h xs) old ≡ Err (Image r)
+moved_room_short b h xs m n old r e is i = written_short (at_end b h xs) (moved_file h m xs b) old n r (moved_value b h xs m e) (moved_length b h xs m e ∙ sym is) i
+
+pub moved_file_returned : (b : List ℕ) (h : HeaderView) (xs : List Leaf) (m : Room) (n : ℕ) (old new : List ℕ) (u : Unit {0}) → room_of b h xs ≡ Ok m → n ≡ length b + m.more → fit_at old 0 n ≡ Ok u → new ≡ splice old 0 (moved_file h m xs b) → written (at_end b h xs) old ≡ Ok (n, new)
+moved_file_returned b h xs m n old new u e is i at = written_done (at_end b h xs) (moved_file h m xs b) old new n u (moved_value b h xs m e) (moved_length b h xs m e ∙ sym is) i at
+
+-- ---- one of the two
+
+refused_length : (r : Result (List ℕ) RewriteRefusal) (k : RewriteRefusal) → edited_length r ≡ Err k → r ≡ Err k
+refused_length (Ok f) k e = absurd cc
+refused_length (Err l) k e = cc
+
+pub length_first : (r s : Result (List ℕ) RewriteRefusal) (n : ℕ) → edited_length r ≡ Ok n → edited_length (or_at_end r s) ≡ Ok n
+length_first (Ok f) s n e = e
+length_first (Err l) s n e = absurd cc
+
+second_is : (r s : Result (List ℕ) RewriteRefusal) (k : RewriteRefusal) → r ≡ Err k → wants_room k ≡ true → or_at_end r s ≡ s
+second_is r s k e wants = ap (λ (x : Result (List ℕ) RewriteRefusal). or_at_end x s) e ∙ ap (λ (t : Bool). if t then s else Err k) wants
+
+first_is : (r s : Result (List ℕ) RewriteRefusal) (k : RewriteRefusal) → r ≡ Err k → wants_room k ≡ false → or_at_end r s ≡ Err k
+first_is r s k e wants = ap (λ (x : Result (List ℕ) RewriteRefusal). or_at_end x s) e ∙ ap (λ (t : Bool). if t then s else Err k) wants
+
+length_second : (r s : Result (List ℕ) RewriteRefusal) (k : RewriteRefusal) → edited_length r ≡ Err k → wants_room k ≡ true → edited_length (or_at_end r s) ≡ edited_length s
+length_second r s k e wants = ap edited_length (second_is r s k (refused_length r k e) wants)
+
+length_refused : (r s : Result (List ℕ) RewriteRefusal) (k : RewriteRefusal) → edited_length r ≡ Err k → wants_room k ≡ false → edited_length (or_at_end r s) ≡ Err k
+length_refused r s k e wants = ap edited_length (first_is r s k (refused_length r k e) wants)
+
+pub written_first : (r s : Result (List ℕ) RewriteRefusal) (old : List ℕ) (v : ℕ × List ℕ) → written r old ≡ Ok v → written (or_at_end r s) old ≡ Ok v
+written_first (Ok f) s old v e = e
+written_first (Err l) s old v e = absurd cc
+
+-- a file that does not fit wants no room
+fit_refused : (t : Bool) (x : ℕ × List ℕ) (k : RewriteRefusal) → outcome ((t, Image WriteFit) ∷ []) x ≡ Err k → wants_room k ≡ true → ⊥
+fit_refused true x k e wants = absurd cc
+fit_refused false x k e wants =
+    let is : Image WriteFit ≡ k = cc in
+    let no : wants_room k ≡ false = ap wants_room (sym is) in
+    absurd cc
+
+refused_written : (r : Result (List ℕ) RewriteRefusal) (old : List ℕ) (k : RewriteRefusal) → written r old ≡ Err k → wants_room k ≡ true → r ≡ Err k
+refused_written (Ok f) old k e wants = absurd (fit_refused (nat_le (length f) (length old)) (length f, splice old 0 f) k e wants)
+refused_written (Err l) old k e wants = cc
+
+written_second : (r s : Result (List ℕ) RewriteRefusal) (old : List ℕ) (k : RewriteRefusal) → written r old ≡ Err k → wants_room k ≡ true → written (or_at_end r s) old ≡ written s old
+written_second r s old k e wants = ap (λ (x : Result (List ℕ) RewriteRefusal). written x old) (second_is r s k (refused_written r old k e wants) wants)
+
+written_neither : (r s : Result (List ℕ) RewriteRefusal) (old : List ℕ) (k : RewriteRefusal) → written r old ≡ Err k → wants_room k ≡ false → written (or_at_end r s) old ≡ Err k
+written_neither (Ok f) s old k e wants = e
+written_neither (Err l) s old k e wants =
+    let is : l ≡ k = cc in
+    let no : wants_room l ≡ false = ap wants_room is ∙ wants in
+    ap (λ (t : Bool). written (if t then s else Err l) old) no ∙ e
+
+-- ---- what the calls return of both
+
+pub len_second : (res : Result ℕ RewriteError) (r s : Result (List ℕ) RewriteRefusal) (k : RewriteRefusal) (t : Bool) → edited_length r ≡ Err k → t ≡ wants_room k → t ≡ true → RewriteReturns res (edited_length s) → RewriteReturns res (edited_length (or_at_end r s))
+len_second res r s k t e is wants h = subst (λ (d : Result ℕ RewriteRefusal). RewriteReturns res d) (sym (length_second r s k e (sym is ∙ wants))) h
+
+pub len_neither : (r s : Result (List ℕ) RewriteRefusal) (k : RewriteRefusal) (t : Bool) → edited_length r ≡ Err k → t ≡ wants_room k → t ≡ false → edited_length (or_at_end r s) ≡ Err k
+len_neither r s k t e is wants = length_refused r s k e (sym is ∙ wants)
+
+pub write_second : (res : Result ℕ RewriteError) (r s : Result (List ℕ) RewriteRefusal) (old mid new : List ℕ) (k : RewriteRefusal) (t : Bool) → (written r old ≡ Err k) × (mid ≡ old) → t ≡ wants_room k → t ≡ true → RewriteReturnsWritten res (written s mid) mid new → RewriteReturnsWritten res (written (or_at_end r s) old) old new
+write_second res r s old mid new k t e is wants h =
+    subst (λ (d : Result (ℕ × List ℕ) RewriteRefusal). RewriteReturnsWritten res d old new) (sym (written_second r s old k e.0 (sym is ∙ wants)))
+    (subst (λ (o : List ℕ). RewriteReturnsWritten res (written s o) o new) e.1 h)
+
+pub write_neither : (r s : Result (List ℕ) RewriteRefusal) (old mid : List ℕ) (k : RewriteRefusal) (t : Bool) → (written r old ≡ Err k) × (mid ≡ old) → t ≡ wants_room k → t ≡ false → (written (or_at_end r s) old ≡ Err k) × (mid ≡ old)
+write_neither r s old mid k t e is wants = (written_neither r s old k e.0 (sym is ∙ wants), e.1)

@@ -12,17 +12,23 @@ use Rattle.pe_core.specs.Header.{OptionalHeaderView}
 use Rattle.pe_core.specs.declared.data_directories.DataDirectory.{DataDirectory}
 use Rattle.pe_sign.proofs.SectionRows.{one_fails}
 use Rattle.pe_rewrite.specs.Places.{index_of, is_alone, is_apart, is_outside, leads_out, section_header, sections_apart}
+use Rattle.pe_rewrite.specs.Rooms.{is_before_or_same, is_last}
 use Rattle.pe_rewrite.specs.RewriteRefusals.{NoSection}
+use Rattle.pe_rewrite.specs.declared.place.Target.{Target}
+use Rattle.pe_rewrite.specs.declared.room.LastSection.{LastSection}
 
 -- ---- the first section at an RVA
 
-first_at : (f : ℕ → SectionTable) (n rva i : ℕ) → i ≤ n → ((k : ℕ) → k < i → ((f k).virtual_address == rva) ≡ false) → (i < n → ((f i).virtual_address == rva) ≡ true) → position_or_len (λ s. s.virtual_address == rva) (each f n) ≡ i
-first_at f n rva i le none here =
-    let p : SectionTable → Bool = λ s. s.virtual_address == rva in
+-- the first section that passes a test, or the number of sections
+pub first_by : (p : SectionTable → Bool) (f : ℕ → SectionTable) (n i : ℕ) → i ≤ n → ((k : ℕ) → k < i → p (f k) ≡ false) → (i < n → p (f i) ≡ true) → position_or_len p (each f n) ≡ i
+first_by p f n i le none here =
     let size : length (each f n) ≡ n = length-each f n in
     position_or_len_is p (each f n) i (f 0) (omega (arith, size, le))
     (λ k lt. ap p (get_or-each f n k (f 0) (omega (arith, lt, le))) ∙ none k lt)
     (λ lt. let below : i < n = omega (arith, size, lt) in ap p (get_or-each f n i (f 0) below) ∙ here below)
+
+first_at : (f : ℕ → SectionTable) (n rva i : ℕ) → i ≤ n → ((k : ℕ) → k < i → ((f k).virtual_address == rva) ≡ false) → (i < n → ((f i).virtual_address == rva) ≡ true) → position_or_len (λ s. s.virtual_address == rva) (each f n) ≡ i
+first_at f n rva i le none here = first_by (λ s. s.virtual_address == rva) f n i le none here
 
 pub index_found : (b : List ℕ) (h : HeaderView) (rva i : ℕ) → i < h.coff_header.number_of_sections → ((k : ℕ) → k < i → ((section_header b h k).virtual_address == rva) ≡ false) → ((section_header b h i).virtual_address == rva) ≡ true → index_of b h rva ≡ Ok i
 index_found b h rva i lt none here =
@@ -44,10 +50,13 @@ index_found_at b h rva i s lt none is at =
 pub other_start : (b : List ℕ) (h : HeaderView) (rva i : ℕ) (s : SectionTable) → s ≡ section_header b h i → s.virtual_address ≢ rva → ((section_header b h i).virtual_address == rva) ≡ false
 other_start b h rva i s is other = ap (λ (x : SectionTable). x.virtual_address == rva) (sym is) ∙ grind (arith, nat_tests, other)
 
--- ---- what is not apart, or not alone
+-- ---- what is not apart, not last, or not alone
 
 pub apart_fails : (b : List ℕ) (h : HeaderView) (alignment i k : ℕ) → k < h.coff_header.number_of_sections → is_apart b h alignment i k ≡ false → sections_apart b h alignment i ≡ false
 apart_fails b h alignment i k lt e = one_fails (is_apart b h alignment i) (λ j. j) h.coff_header.number_of_sections k lt e
+
+pub last_fails : (b : List ℕ) (h : HeaderView) (t : Target) (l : LastSection) (k : ℕ) → k < h.coff_header.number_of_sections → is_before_or_same b h t l k ≡ false → is_last b h t l ≡ false
+last_fails b h t l k lt e = one_fails (is_before_or_same b h t l) (λ j. j) h.coff_header.number_of_sections k lt e
 
 and_false : (a : Bool) → (a && false) ≡ false
 and_false true = refl

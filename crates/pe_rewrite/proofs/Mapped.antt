@@ -1,5 +1,5 @@
 -- The section map of an image in whose resource section alone a size in memory changes.
-use Rattle.std.proofs.Common.{◌≡◌, ℕ, zero, suc, ◌+◌, ◌-◌, ◌*◌, ◌/◌, ◌<◌, ◌≤◌, ◌≢◌, Bool, true, false, cond, List, [], ◌∷◌, ◌++◌, map, Option, Some, None, refl, ap, sym, ◌∙◌, ⊎_elim, arith}
+use Rattle.std.proofs.Common.{◌≡◌, ℕ, zero, suc, ◌+◌, ◌-◌, ◌*◌, ◌/◌, ◌<◌, ◌≤◌, ◌≢◌, Bool, true, false, cond, List, [], ◌∷◌, ◌++◌, map, max, Option, Some, None, refl, ap, sym, ◌∙◌, ⊎_elim, arith}
 use Rattle.std.specs.Prelude.{filter, nat_le, not, if◌then◌else◌}
 use Rattle.std.specs.Int.{is_power_of_two}
 use Rattle.std.specs.Option.{option_map}
@@ -102,6 +102,41 @@ maps_alike resolve alignment f g n a same =
     by_each resolve alignment f n a
     ∙ ap (λ (l : List (Option ℕ)). if not resolve then Some a else (if is_power_of_two alignment then first_some l else None)) (each_same (λ k. offset_by alignment a (f k)) (λ k. offset_by alignment a (g k)) n same)
     ∙ sym (by_each resolve alignment g n a)
+
+-- one section more that does not cover an RVA
+maps_push : (resolve : Bool) (alignment : ℕ) (f : ℕ → SectionTable) (n a : ℕ) → offset_by alignment a (f n) ≡ None → offset_of resolve alignment (each f (suc n)) a ≡ offset_of resolve alignment (each f n) a
+maps_push resolve alignment f n a none =
+    let g : ℕ → Option ℕ = λ k. offset_by alignment a (f k) in
+    by_each resolve alignment f (suc n) a
+    ∙ ap (λ (o : Option ℕ). if not resolve then Some a else (if is_power_of_two alignment then o else None))
+    (first_each g n ∙ ap (λ (o : Option ℕ). or_else (first_some (each g n)) o) none ∙ or_none (first_some (each g n)))
+    ∙ sym (by_each resolve alignment f n a)
+
+-- sections that lead to the same offsets, but for the one with index i, which may be one more and does not cover the RVA
+pub maps_but_one : (resolve : Bool) (alignment : ℕ) (f g : ℕ → SectionTable) (m n i a : ℕ) → m ≡ max n (i + 1) → i ≤ n → ((k : ℕ) → k < n → k ≢ i → offset_by alignment a (f k) ≡ offset_by alignment a (g k)) →
+    offset_by alignment a (f i) ≡ None → (i < n → offset_by alignment a (g i) ≡ None) → offset_of resolve alignment (each f m) a ≡ offset_of resolve alignment (each g n) a
+maps_but_one resolve alignment f g m n i a count le same own old =
+    ⊎_elim
+    (λ (lt : i < n).
+    let all : m ≡ n = omega (arith, count, lt) in
+    ap (λ (j : ℕ). offset_of resolve alignment (each f j) a) all
+    ∙ maps_alike resolve alignment f g n a
+    (λ k small. ⊎_elim
+    (λ (below : k < i). same k small (omega (arith, below)))
+    (λ (from : i ≤ k). ⊎_elim
+    (λ (above : i < k). same k small (omega (arith, above)))
+    (λ (to : k ≤ i).
+    let is : k ≡ i = omega (arith, from, to) in
+    ap (λ (j : ℕ). offset_by alignment a (f j)) is ∙ own ∙ sym (ap (λ (j : ℕ). offset_by alignment a (g j)) is ∙ old lt))
+    (cases_lt i k))
+    (cases_lt k i)))
+    (λ (ge : n ≤ i).
+    let last : i ≡ n = omega (arith, ge, le) in
+    let all : m ≡ suc n = omega (arith, count, last) in
+    ap (λ (j : ℕ). offset_of resolve alignment (each f j) a) all
+    ∙ maps_push resolve alignment f n a (ap (λ (j : ℕ). offset_by alignment a (f j)) (sym last) ∙ own)
+    ∙ maps_alike resolve alignment f g n a (λ k small. same k small (omega (arith, small, last))))
+    (cases_lt i n)
 
 -- one section alone covers an RVA
 pub maps_by : (alignment : ℕ) (f : ℕ → SectionTable) (n a i : ℕ) → is_power_of_two alignment ≡ true → i < n → covers alignment a (f i) ≡ true → ((k : ℕ) → k < n → k ≢ i → covers alignment a (f k) ≡ false) →

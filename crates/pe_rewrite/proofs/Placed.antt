@@ -1,5 +1,5 @@
 -- What is known of an image whose resources have a place.
-use Rattle.std.proofs.Common.{◌≡◌, ℕ, ◌+◌, ◌*◌, ◌%◌, ◌<◌, ◌≤◌, ◌==◌, ◌&&◌, Bool, true, false, List, length, Option, Some, None, Result, Ok, Err, refl, ap, sym, ◌∙◌, subst, arith}
+use Rattle.std.proofs.Common.{◌≡◌, ℕ, ◌+◌, ◌*◌, ◌^◌, ◌%◌, ◌<◌, ◌≤◌, ◌==◌, ◌&&◌, Bool, true, false, List, length, Option, Some, None, Result, Ok, Err, refl, ap, sym, ◌∙◌, subst, arith}
 use Rattle.std.specs.Prelude.{nat_le, nat_lt}
 use Rattle.std.specs.Int.{is_power_of_two}
 use Rattle.std.specs.List.{position_or_len}
@@ -12,9 +12,10 @@ use Rattle.pe_core.specs.declared.section_table.SectionTable.{SectionTable}
 use Rattle.pe_core.proofs.EntryItems.{get_or-each, length-each}
 use Rattle.pe_edit.specs.EditRefusals.{EditRefusal, length_of, section_of}
 use Rattle.pe_edit.specs.Written.{Accepted, Leaf, section}
+use Rattle.pe_edit.proofs.SectionRead.{length_of_section}
 use Rattle.pe_edit.proofs.Tests.{passes, section_fits, section_is, section_is_sorted}
 use Rattle.pe_sign.specs.WrittenHeaders.{directories_end, directories_end_after}
-use Rattle.pe_rewrite.specs.Edited.{Lies, edited_file, edited_of}
+use Rattle.pe_rewrite.specs.Edited.{Lies, at_end, edited_file, edited_of, in_place, or_at_end}
 use Rattle.pe_rewrite.specs.Places.{directory_at, has_data, header_tests, headers_end, index_of, is_absent, is_alone, length_at, place_at, place_of, section_header, section_headers, section_tests, sections_apart, symbols_apart, target_before, target_by, target_of, target_tests}
 use Rattle.pe_rewrite.specs.RewriteRefusals.{RewriteRefusal, of_leaves}
 use Rattle.pe_rewrite.specs.declared.place.Place.{Place}
@@ -65,6 +66,12 @@ made_at rva n xs e =
       accepted = section_fits rva xs m.0 m.1.0;
       size = ap length (sym is) ∙ m.1.1;
     }
+
+-- so they have fewer than 2^32 bytes
+pub small_length : (rva n : ℕ) (xs : List Leaf) → length_at rva xs ≡ Ok n → n < 2 ^ 32
+small_length rva n xs e =
+    let m : Made rva n xs = made_at rva n xs e in
+    omega (arith, m.accepted.end, m.size, length_of_section rva xs)
 
 pub record HeadersLie (b : List ℕ) (h : HeaderView) (t : Target) : Type 0 where
   pub directories : directories_end h ≤ sections_offset h
@@ -193,8 +200,8 @@ place_made b h xs p x =
     subst (λ (q : Place). Made q.section.virtual_address q.length xs) x.value
     (subst (λ (a : ℕ). Made a x.length_of xs) (sym x.section.address) x.leaves)
 
-pub edited_value : (b : List ℕ) (h : HeaderView) (xs : List Leaf) (p : Place) → place_of b h xs ≡ Ok p → edited_of b h xs ≡ Ok (edited_file h p xs b)
-edited_value b h xs p e = ap (λ (r : Result Place RewriteRefusal). r >>= λ q. Ok (edited_file h q xs b)) e
+pub placed_value : (b : List ℕ) (h : HeaderView) (xs : List Leaf) (p : Place) → place_of b h xs ≡ Ok p → in_place b h xs ≡ Ok (edited_file h p xs b)
+placed_value b h xs p e = ap (λ (r : Result Place RewriteRefusal). r >>= λ q. Ok (edited_file h q xs b)) e
 
-pub edited_refused : (b : List ℕ) (h : HeaderView) (xs : List Leaf) (r : RewriteRefusal) → place_of b h xs ≡ Err r → edited_of b h xs ≡ Err r
-edited_refused b h xs r e = ap (λ (x : Result Place RewriteRefusal). x >>= λ q. Ok (edited_file h q xs b)) e
+pub edited_value : (b : List ℕ) (h : HeaderView) (xs : List Leaf) (p : Place) → place_of b h xs ≡ Ok p → edited_of b h xs ≡ Ok (edited_file h p xs b)
+edited_value b h xs p e = ap (λ (r : Result (List ℕ) RewriteRefusal). or_at_end r (at_end b h xs)) (placed_value b h xs p e)

@@ -1,7 +1,7 @@
 -- The parts of a file, written one after the other into a buffer that has the file at its start.
 use Rattle.std.proofs.Common.{◌≡◌, ℕ, ◌+◌, ◌-◌, ◌≤◌, Bool, true, false, Result, Ok, Err, List, [], ◌∷◌, ◌++◌, length, take, drop, refl, ap, sym, ◌∙◌, subst, arith, length-append}
 use Rattle.std.specs.Prelude.{nat_le, replicate}
-use Rattle.std.proofs.lemmas.List.{append-nil, drop_all, take_at, length-replicate}
+use Rattle.std.proofs.lemmas.List.{append-nil, drop_all, drop_at, take_at, take-append-drop, length-replicate, length-take-le}
 use Rattle.pe_core.specs.Refusals.{WriteFit, outcome}
 use Rattle.pe_core.proofs.Comparisons.{le_is}
 use Rattle.pe_edit.specs.EditRefusals.{EditRefusal, Image, written}
@@ -11,7 +11,7 @@ use Rattle.pe_core.specs.declared.section_table.SectionTable.{SectionTable}
 use Rattle.pe_core.proofs.Splices.{length-bytes_of, length-splice, splice-splice}
 use Rattle.pe_sign.proofs.Splices.{splice_first, splice_front}
 use Rattle.pe_edit.specs.Written.{Leaf, section}
-use Rattle.pe_rewrite.specs.Edited.{Lies, changed, edited_file, filled, grown_size, resource_changes, sum_of, with_resources, with_sum}
+use Rattle.pe_rewrite.specs.Edited.{Inside, Lies, changed, edited_file, filled, grown_size, resource_changes, sum_of, with_resources, with_sum}
 use Rattle.pe_rewrite.specs.declared.place.Place.{Place}
 
 -- ---- lengths
@@ -31,21 +31,36 @@ length-changed (c ∷ cs) b f =
     let one : length (splice b c.0 c.1) ≡ length b = length-splice b c.0 c.1 f.0 in
     length-changed cs (splice b c.0 c.1) (subst (λ (n : ℕ). Fit n cs) (sym one) f.1) ∙ one
 
-pub changes_fit : (h : HeaderView) (p : Place) (r : List ℕ) (n : ℕ) → Lies h p n → length r ≡ p.length → Fit n (resource_changes p r)
-changes_fit h p r n l e = (
+pub inside_of : (h : HeaderView) (p : Place) (n : ℕ) → Lies h p n → Inside h p n
+inside_of h p n l = record {
+  sum = omega (arith, l.sum, l.entry, l.table, l.row, l.raw, l.end);
+  entry = omega (arith, l.entry, l.table, l.row, l.raw, l.end);
+  row = omega (arith, l.row, l.raw, l.end);
+  end = l.end;
+  room = l.room;
+}
+
+fit_inside : (h : HeaderView) (p : Place) (r : List ℕ) (n : ℕ) → Inside h p n → length r ≡ p.length → Fit n (resource_changes p r)
+fit_inside h p r n l e = (
   omega (arith, l.end, length-filled p.section r (omega (arith, e, l.room))),
   (
-    omega (arith, length-bytes_of 4 (grown_size p), l.row, l.raw, l.end),
+    omega (arith, length-bytes_of 4 (grown_size p), l.row),
     (
-      omega (arith, length-bytes_of 4 p.section.virtual_address, l.entry, l.table, l.row, l.raw, l.end),
-      (omega (arith, length-bytes_of 4 p.length, l.entry, l.table, l.row, l.raw, l.end), tt),
+      omega (arith, length-bytes_of 4 p.section.virtual_address, l.entry),
+      (omega (arith, length-bytes_of 4 p.length, l.entry), tt),
     ),
   ),
 )
 
-pub resources_length : (h : HeaderView) (p : Place) (r b : List ℕ) → Lies h p (length b) → length r ≡ p.length → length (with_resources p r b) ≡ length b
+pub changes_fit : (h : HeaderView) (p : Place) (r : List ℕ) (n : ℕ) → Lies h p n → length r ≡ p.length → Fit n (resource_changes p r)
+changes_fit h p r n l e = fit_inside h p r n (inside_of h p n l) e
+
+length_inside : (h : HeaderView) (p : Place) (r b : List ℕ) → Inside h p (length b) → length r ≡ p.length → length (with_resources p r b) ≡ length b
 unfolding with_resources
-resources_length h p r b l e = length-changed (resource_changes p r) b (changes_fit h p r (length b) l e)
+length_inside h p r b l e = length-changed (resource_changes p r) b (fit_inside h p r (length b) l e)
+
+pub resources_length : (h : HeaderView) (p : Place) (r b : List ℕ) → Lies h p (length b) → length r ≡ p.length → length (with_resources p r b) ≡ length b
+resources_length h p r b l e = length_inside h p r b (inside_of h p (length b) l) e
 
 pub sum_length : (h : HeaderView) (f : List ℕ) → h.dos_header.pe_pointer + 92 ≤ length f → length (with_sum h f) ≡ length f
 unfolding with_sum
@@ -55,10 +70,13 @@ sum_length h f i = length-splice f (h.dos_header.pe_pointer + 88) (bytes_of 4 (s
 pub sum_inside : (h : HeaderView) (p : Place) (n : ℕ) → Lies h p n → h.dos_header.pe_pointer + 92 ≤ n
 sum_inside h p n l = omega (arith, l.sum, l.entry, l.table, l.row, l.raw, l.end)
 
+pub length_edited_inside : (h : HeaderView) (p : Place) (xs : List Leaf) (b : List ℕ) → Inside h p (length b) → length (section p.section.virtual_address xs) ≡ p.length → length (edited_file h p xs b) ≡ length b
+length_edited_inside h p xs b l e =
+    let same = length_inside h p (section p.section.virtual_address xs) b l e in
+    sum_length h (with_resources p (section p.section.virtual_address xs) b) (omega (arith, same, l.sum)) ∙ same
+
 pub length-edited : (h : HeaderView) (p : Place) (xs : List Leaf) (b : List ℕ) → Lies h p (length b) → length (section p.section.virtual_address xs) ≡ p.length → length (edited_file h p xs b) ≡ length b
-length-edited h p xs b l e =
-    let same = resources_length h p (section p.section.virtual_address xs) b l e in
-    sum_length h (with_resources p (section p.section.virtual_address xs) b) (omega (arith, same, sum_inside h p (length b) l)) ∙ same
+length-edited h p xs b l e = length_edited_inside h p xs b (inside_of h p (length b) l) e
 
 -- ---- writes into the file
 
@@ -96,24 +114,39 @@ four_set old b one two three four five c d e f fit i j k l m =
     let at_z : length z ≡ length b = length-splice y e.0 e.1 (omega (arith, at_y, fit.1.1.0)) ∙ at_y in
     inner old z four five f.1 f.0 at_four m (omega (arith, at_z, fit.1.1.1.0))
 
-pub resources_set : (h : HeaderView) (p : Place) (old b one two three four five r : List ℕ) → Lies h p (length b) → length r ≡ p.length →
+pub resources_set : (h : HeaderView) (p : Place) (old b one two three four five r : List ℕ) → Inside h p (length b) → length r ≡ p.length →
     one ≡ splice old 0 b → two ≡ splice one p.section.pointer_to_raw_data (filled p.section r) → three ≡ splice two (p.row + 8) (bytes_of 4 (grown_size p)) →
     four ≡ splice three p.entry (bytes_of 4 p.section.virtual_address) → five ≡ splice four (p.entry + 4) (bytes_of 4 p.length) → five ≡ splice old 0 (with_resources p r b)
 unfolding with_resources
 resources_set h p old b one two three four five r l e i j k m n =
     four_set old b one two three four five (p.section.pointer_to_raw_data, filled p.section r) (p.row + 8, bytes_of 4 (grown_size p)) (p.entry, bytes_of 4 p.section.virtual_address) (p.entry + 4, bytes_of 4 p.length)
-    (changes_fit h p r (length b) l e) i j k m n
+    (fit_inside h p r (length b) l e) i j k m n
 
-pub edited_set : (h : HeaderView) (p : Place) (xs : List Leaf) (old b four five : List ℕ) (sum : ℕ) → Lies h p (length b) → length (section p.section.virtual_address xs) ≡ p.length →
+pub edited_set : (h : HeaderView) (p : Place) (xs : List Leaf) (old b four five : List ℕ) (sum : ℕ) → Inside h p (length b) → length (section p.section.virtual_address xs) ≡ p.length →
     four ≡ splice old 0 (with_resources p (section p.section.virtual_address xs) b) → sum ≡ sum_of h (take (length b) four) → five ≡ splice four (h.dos_header.pe_pointer + 88) (bytes_of 4 sum) →
     five ≡ splice old 0 (edited_file h p xs b)
 unfolding with_sum
 edited_set h p xs old b four five sum l e i s j =
     let f : List ℕ = with_resources p (section p.section.virtual_address xs) b in
-    let same = resources_length h p (section p.section.virtual_address xs) b l e in
+    let same = length_inside h p (section p.section.virtual_address xs) b l e in
     let value : sum ≡ sum_of h f = s ∙ ap (sum_of h) (start_of old f four (length b) i same) in
     inner old f four five (bytes_of 4 (sum_of h f)) (h.dos_header.pe_pointer + 88) i (j ∙ ap (λ (n : ℕ). splice four (h.dos_header.pe_pointer + 88) (bytes_of 4 n)) value)
-    (omega (arith, same, sum_inside h p (length b) l, length-bytes_of 4 (sum_of h f)))
+    (omega (arith, same, l.sum, length-bytes_of 4 (sum_of h f)))
+
+-- the file at the start of a buffer written over
+pub whole_front : (old : List ℕ) (n : ℕ) → n ≤ length old → old ≡ splice old 0 (take n old)
+whole_front old n h = sym (splice_front old (take n old) ∙ ap (λ (k : ℕ). take n old ++ drop k old) (length-take-le n old h) ∙ take-append-drop n old)
+
+splice_over : (old b f : List ℕ) → length f ≡ length b → splice (splice old 0 b) 0 f ≡ splice old 0 f
+splice_over old b f e =
+    splice_front (splice old 0 b) f ∙ ap (λ (x : List ℕ). f ++ drop (length f) x) (splice_front old b)
+    ∙ ap (λ (l : List ℕ). f ++ l) (drop_at b (drop (length b) old) (length f) (sym e)) ∙ ap (λ (n : ℕ). f ++ drop n old) (sym e) ∙ sym (splice_front old f)
+
+pub over_set : (h : HeaderView) (p : Place) (xs : List Leaf) (old b now new : List ℕ) (n : ℕ) → Inside h p (length b) → length (section p.section.virtual_address xs) ≡ p.length → now ≡ splice old 0 b → length b ≡ n → new ≡ splice now 0 (edited_file h p xs (take n now)) → new ≡ splice old 0 (edited_file h p xs b)
+over_set h p xs old b now new n l e i size is =
+    let there : take n now ≡ b = start_of old b now n i size in
+    is ∙ ap (λ (g : List ℕ). splice now 0 (edited_file h p xs g)) there ∙ ap (λ (x : List ℕ). splice x 0 (edited_file h p xs b)) i
+    ∙ splice_over old b (edited_file h p xs b) (length_edited_inside h p xs b l e)
 
 -- ---- the section alone
 

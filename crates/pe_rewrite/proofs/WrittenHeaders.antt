@@ -1,13 +1,13 @@
 -- The headers and the section headers of an image whose resources changed.
 use Rattle.std.proofs.Common.{◌≡◌, ℕ, ◌+◌, ◌*◌, ◌^◌, ◌<◌, ◌≤◌, ◌==◌, ◌&&◌, Bool, true, false, List, length, get_or, Option, Some, None, Ok, refl, ap, sym, ◌∙◌, subst, arith}
 use Rattle.std.specs.Prelude.{nat_le, nat_lt, slice_range, if◌then◌else◌}
-use Rattle.pe_core.specs.Bytes.{AreBytes, bytes_of, le, range, splice}
+use Rattle.pe_core.specs.Bytes.{bytes_of, le, range, splice}
 use Rattle.pe_core.specs.Header.{HeaderView, OptionalHeaderView, directories_offset, header_at}
 use Rattle.pe_core.specs.Records.{data_directory, section_table}
 use Rattle.pe_core.specs.Sections.{sections_offset}
 use Rattle.pe_core.specs.declared.options.ParseMode.{ParseMode}
 use Rattle.pe_core.specs.declared.section_table.SectionTable.{SectionTable}
-use Rattle.pe_core.proofs.NumberBytes.{le-same, le_small}
+use Rattle.pe_core.proofs.NumberBytes.{le-same}
 use Rattle.pe_core.proofs.Splices.{length-bytes_of, length-splice}
 use Rattle.pe_edit.specs.Written.{Leaf, section, section_length}
 use Rattle.pe_edit.proofs.SectionRead.{length_of_section}
@@ -205,16 +205,14 @@ row_resized f b p room i same =
     ) refl
 
 -- the size in memory that is read
-pub grown_read : (h : HeaderView) (p : Place) (xs : List Leaf) (b : List ℕ) → AreBytes b → (i : ℕ) → Lies h p (length b) → Made p.section.virtual_address p.length xs → i < h.coff_header.number_of_sections → sections_offset h + 40 * i ≡ p.row → section_header b h i ≡ p.section →
+pub grown_read : (h : HeaderView) (p : Place) (xs : List Leaf) (b : List ℕ) → p.section.virtual_size < 2 ^ 32 → (i : ℕ) → Lies h p (length b) → Made p.section.virtual_address p.length xs → i < h.coff_header.number_of_sections → sections_offset h + 40 * i ≡ p.row → section_header b h i ≡ p.section →
     le (edited_file h p xs b) (p.row + 8) 4 ≡ grown_size p
-unfolding section_table
 grown_read h p xs b small i l m below row same =
     let r : List ℕ = section p.section.virtual_address xs in
     let g : List ℕ = with_resources p r b in
     let size : length g ≡ length b = resources_length h p r b l m.size in
-    let old : p.section.virtual_size < 2 ^ 32 = subst (λ (n : ℕ). n < 2 ^ 32) (ap (λ (s : SectionTable). s.virtual_size) same) (le_small b (sections_offset h + 40 * i + 8) small) in
     let short : p.length < 256 ^ 4 = (small_place p xs m).length_of in
-    let grown : grown_size p < 256 ^ 4 = omega (arith, old, short) in
+    let grown : grown_size p < 256 ^ 4 = omega (arith, small, short) in
     number_stays (edited_file h p xs b) g (p.row + 8) (λ k from lt. sum_byte h g k (omega (arith, size, sum_inside h p (length b) l)) (range_past (h.dos_header.pe_pointer + 88) 4 k (omega (arith, from, l.sum, l.entry, l.table))))
     ∙ grown_in h p r b l m.size grown
 

@@ -1,11 +1,11 @@
 -- The leaves that are read of an image whose resources changed.
-use Rattle.std.proofs.Common.{◌≡◌, ℕ, ◌+◌, ◌-◌, ◌*◌, ◌/◌, ◌%◌, ◌<◌, ◌≤◌, ◌==◌, ◌||◌, Bool, true, false, List, [], ◌∷◌, ◌++◌, length, take, drop, map, replicate, Option, Some, Result, Ok, Err, refl, ap, sym, ◌∙◌, arith}
+use Rattle.std.proofs.Common.{◌≡◌, ℕ, ◌+◌, ◌-◌, ◌*◌, ◌^◌, ◌/◌, ◌%◌, ◌<◌, ◌≤◌, ◌==◌, ◌||◌, Bool, true, false, List, [], ◌∷◌, ◌++◌, length, take, drop, map, replicate, Option, Some, Result, Ok, Err, refl, ap, sym, ◌∙◌, arith}
 use Rattle.std.specs.Prelude.{nat_le, if◌then◌else◌}
 use Rattle.std.specs.Int.{is_power_of_two}
 use Rattle.std.proofs.lemmas.Bool.Decides.{nat_tests}
 use Rattle.std.proofs.lemmas.List.{length-take-le}
 use Rattle.std.proofs.Math.Nat.{div-mul-le_self}
-use Rattle.pe_core.specs.Bytes.{AreBytes, holds, range, splice}
+use Rattle.pe_core.specs.Bytes.{holds, range, splice}
 use Rattle.pe_core.specs.Header.{HeaderView}
 use Rattle.pe_core.specs.Refusals.{Refusal, ◌>>=◌}
 use Rattle.pe_core.specs.SectionMap.{covers, offset_of, raw_start}
@@ -87,7 +87,7 @@ sector_start s e =
     omega (arith, none)
 
 -- an RVA of the resources is mapped to its place in the section's data
-pub maps_resources : (b : List ℕ) (h : HeaderView) (xs : List Leaf) (p : Place) (alignment i a : ℕ) → AreBytes b → IsEdited b h xs p i → is_power_of_two alignment ≡ true → (p.section.pointer_to_raw_data % 512 == 0) ≡ true → sections_apart b h alignment i ≡ true →
+pub maps_resources : (b : List ℕ) (h : HeaderView) (xs : List Leaf) (p : Place) (alignment i a : ℕ) → p.section.virtual_size < 2 ^ 32 → IsEdited b h xs p i → is_power_of_two alignment ≡ true → (p.section.pointer_to_raw_data % 512 == 0) ≡ true → sections_apart b h alignment i ≡ true →
     p.section.virtual_address ≤ a → a < p.section.virtual_address + p.length → offset_of true alignment (section_headers (edited_file h p xs b) h) a ≡ Some (p.section.pointer_to_raw_data + (a - p.section.virtual_address))
 maps_resources b h xs p alignment i a small d power sector apart from to =
     let f : ℕ → SectionTable = section_header (edited_file h p xs b) h in
@@ -111,7 +111,7 @@ bytes_at : (f : List ℕ) (n p : ℕ) (o : Option ℕ) → o ≡ Some p → p + 
 bytes_at f n p o e h = rw (e, le_is (p + n) (length f) h) refl
 
 -- some of the resources, by the section map
-pub content_mapped : (b : List ℕ) (h : HeaderView) (xs : List Leaf) (p : Place) (alignment i a n : ℕ) → AreBytes b → IsEdited b h xs p i → is_power_of_two alignment ≡ true → (p.section.pointer_to_raw_data % 512 == 0) ≡ true → sections_apart b h alignment i ≡ true →
+pub content_mapped : (b : List ℕ) (h : HeaderView) (xs : List Leaf) (p : Place) (alignment i a n : ℕ) → p.section.virtual_size < 2 ^ 32 → IsEdited b h xs p i → is_power_of_two alignment ≡ true → (p.section.pointer_to_raw_data % 512 == 0) ≡ true → sections_apart b h alignment i ≡ true →
     p.section.virtual_address ≤ a → 0 < n → a + n ≤ p.section.virtual_address + p.length →
     file_bytes (edited_file h p xs b) n (offset_of true alignment (section_headers (edited_file h p xs b) h) a) ≡ Ok (range (section p.section.virtual_address xs) (a - p.section.virtual_address) n)
 content_mapped b h xs p alignment i a n small d power sector apart from some to =

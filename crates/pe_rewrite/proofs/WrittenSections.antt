@@ -5,7 +5,7 @@ use Rattle.std.specs.Int.{is_power_of_two}
 use Rattle.std.specs.List.{list_all}
 use Rattle.std.proofs.lemmas.Bool.{cases_lt}
 use Rattle.std.proofs.lemmas.Bool.Decides.{nat_tests}
-use Rattle.pe_core.specs.Bytes.{AreBytes, le}
+use Rattle.pe_core.specs.Bytes.{le}
 use Rattle.pe_core.specs.Header.{HeaderView}
 use Rattle.pe_core.specs.Records.{section_table}
 use Rattle.pe_core.specs.Rows.{each}
@@ -48,13 +48,13 @@ is_edited b h xs p x = record {
 }
 
 -- a byte of the section table stays, unless it is of the size in memory
-row_byte : (b : List ℕ) (h : HeaderView) (xs : List Leaf) (p : Place) (i k : ℕ) → IsEdited b h xs p i → sections_offset h ≤ k → k < headers_end h → (nat_le (p.row + 8) k && nat_lt k (p.row + 8 + 4)) ≡ false →
+pub row_byte : (b : List ℕ) (h : HeaderView) (xs : List Leaf) (p : Place) (i k : ℕ) → IsEdited b h xs p i → sections_offset h ≤ k → k < headers_end h → (nat_le (p.row + 8) k && nat_lt k (p.row + 8 + 4)) ≡ false →
     get_or (edited_file h p xs b) k 0 ≡ get_or b k 0
 row_byte b h xs p i k d from lt row =
     byte_stays h p (section p.section.virtual_address xs) b k d.lies d.made.size (range_below p.section.pointer_to_raw_data p.section.size_of_raw_data k (omega (arith, lt, d.lies.raw))) row
     (range_past p.entry 8 k (omega (arith, from, d.lies.entry))) (range_past (h.dos_header.pe_pointer + 88) 4 k (omega (arith, from, d.lies.sum, d.lies.entry)))
 
-resized_same : (n : ℕ) (s : SectionTable) → n ≡ s.virtual_size → resized n s ≡ s
+pub resized_same : (n : ℕ) (s : SectionTable) → n ≡ s.virtual_size → resized n s ≡ s
 resized_same n s e = ap (λ (k : ℕ). resized k s) e
 
 -- another section header stays
@@ -76,7 +76,7 @@ small_grown : (m n : ℕ) → m < 256 ^ 4 → n < 256 ^ 4 → max m n < 256 ^ 4
 small_grown m n h i = omega arith
 
 -- that of the resource section has its size in memory
-pub own_row : (b : List ℕ) (h : HeaderView) (xs : List Leaf) (p : Place) (i : ℕ) → AreBytes b → IsEdited b h xs p i → section_header (edited_file h p xs b) h i ≡ resized (grown_size p) p.section
+pub own_row : (b : List ℕ) (h : HeaderView) (xs : List Leaf) (p : Place) (i : ℕ) → p.section.virtual_size < 2 ^ 32 → IsEdited b h xs p i → section_header (edited_file h p xs b) h i ≡ resized (grown_size p) p.section
 own_row b h xs p i small d =
     let f : List ℕ = edited_file h p xs b in
     let q : ℕ = sections_offset h + 40 * i in
@@ -87,7 +87,7 @@ own_row b h xs p i small d =
     ∙ ap (λ (n : ℕ). resized n (section_table b q)) (ap (λ (n : ℕ). le f (n + 8) 4) row ∙ grown_read h p xs b small i d.lies d.made d.below row d.section)
     ∙ ap (λ (s : SectionTable). resized (grown_size p) s) d.section
 
-pub rows_edited : (b : List ℕ) (h : HeaderView) (xs : List Leaf) (p : Place) (i : ℕ) → AreBytes b → IsEdited b h xs p i → section_headers (edited_file h p xs b) h ≡ set (section_headers b h) i (resized (grown_size p) p.section)
+pub rows_edited : (b : List ℕ) (h : HeaderView) (xs : List Leaf) (p : Place) (i : ℕ) → p.section.virtual_size < 2 ^ 32 → IsEdited b h xs p i → section_headers (edited_file h p xs b) h ≡ set (section_headers b h) i (resized (grown_size p) p.section)
 rows_edited b h xs p i small d =
     one_set (section_header (edited_file h p xs b) h) (section_header b h) h.coff_header.number_of_sections i (resized (grown_size p) p.section) p.section d.below (own_row b h xs p i small d)
     (λ k lt. other_row b h xs p i k d (omega (arith, lt, d.below)) (omega (arith, lt)))
@@ -95,11 +95,11 @@ rows_edited b h xs p i small d =
 
 -- ---- the section map
 
-out_of : (s : SectionTable) (a : ℕ) → is_outside s a ≡ true → s.virtual_address ≤ a → pages_end s ≤ a
+pub out_of : (s : SectionTable) (a : ℕ) → is_outside s a ≡ true → s.virtual_address ≤ a → pages_end s ≤ a
 out_of s a out from = grind (arith, nat_tests, out, from)
 
 -- outside of the resource section it is the same
-pub map_stays : (b : List ℕ) (h : HeaderView) (xs : List Leaf) (p : Place) (i : ℕ) (resolve : Bool) (alignment a : ℕ) → AreBytes b → IsEdited b h xs p i → is_outside p.section a ≡ true →
+pub map_stays : (b : List ℕ) (h : HeaderView) (xs : List Leaf) (p : Place) (i : ℕ) (resolve : Bool) (alignment a : ℕ) → p.section.virtual_size < 2 ^ 32 → IsEdited b h xs p i → is_outside p.section a ≡ true →
     offset_of resolve alignment (section_headers (edited_file h p xs b) h) a ≡ offset_of resolve alignment (section_headers b h) a
 map_stays b h xs p i resolve alignment a small d out =
     let f : ℕ → SectionTable = section_header (edited_file h p xs b) h in
@@ -122,11 +122,11 @@ map_stays b h xs p i resolve alignment a small d out =
 
 -- ---- the bytes of other sections
 
-all_by : (t : Bool) (p : ℕ → Bool) (n k : ℕ) → k < n → p k ≡ t → list_all p (each (λ j. j) n) ≡ true → p k ≡ true
+pub all_by : (t : Bool) (p : ℕ → Bool) (n k : ℕ) → k < n → p k ≡ t → list_all p (each (λ j. j) n) ≡ true → p k ≡ true
 all_by true p n k lt e all = e
 all_by false p n k lt e all = absurd (let no : list_all p (each (λ j. j) n) ≡ false = one_fails p (λ j. j) n k lt e in cc)
 
-other_index : (k i : ℕ) (t : Bool) → k ≢ i → (k == i || t) ≡ true → t ≡ true
+pub other_index : (k i : ℕ) (t : Bool) → k ≢ i → (k == i || t) ≡ true → t ≡ true
 other_index k i t other e = grind (arith, nat_tests, other, e)
 
 pub each_apart : (b : List ℕ) (h : HeaderView) (alignment i k : ℕ) → sections_apart b h alignment i ≡ true → k < h.coff_header.number_of_sections → k ≢ i → data_apart alignment h (section_header b h i) (section_header b h k) ≡ true

@@ -1,5 +1,5 @@
 -- The tree that is read of an image whose resources changed.
-use Rattle.std.proofs.Common.{◌≡◌, ℕ, ◌+◌, ◌*◌, ◌<◌, ◌≤◌, true, List, length, get_or, map, Some, Result, Ok, refl, ap, ◌∙◌, arith}
+use Rattle.std.proofs.Common.{◌≡◌, ℕ, ◌+◌, ◌*◌, ◌^◌, ◌<◌, ◌≤◌, true, List, length, get_or, map, Some, Result, Ok, refl, ap, ◌∙◌, arith}
 use Rattle.pe_core.specs.Bytes.{AreBytes, le, range}
 use Rattle.pe_core.specs.Header.{HeaderView, OptionalHeaderView}
 use Rattle.pe_core.specs.Refusals.{Refusal, ◌>>=◌}
@@ -24,7 +24,8 @@ use Rattle.pe_rewrite.specs.Edited.{edited_of}
 use Rattle.pe_rewrite.specs.Places.{place_of, section_headers}
 use Rattle.pe_rewrite.specs.WrittenImages.{entry_of, leaves_of_image, mapped_item}
 use Rattle.pe_rewrite.specs.declared.place.Place.{Place}
-use Rattle.pe_rewrite.proofs.WrittenImages.{DirectoryThere, directory_there, leaves_read}
+use Rattle.pe_rewrite.proofs.Placed.{placed}
+use Rattle.pe_rewrite.proofs.WrittenImages.{DirectoryThere, IsFile, directory_there_placed, is_file, leaves_read_placed, size_small}
 
 -- ---- the first directory of a section
 
@@ -76,15 +77,20 @@ tree_by o f s d ss alignment p at is inside size bytes fits =
       le_is (16 + 8 * count (directory_of s 0)) (length s) fits,
     ) refl
 
-tree_read : (o : ParseOptions) (b : List ℕ) (h : HeaderView) (xs : List Leaf) (p : Place) (f : List ℕ) (w : OptionalHeaderView) → AreBytes b → place_of b h xs ≡ Ok p → edited_of b h xs ≡ Ok f → h.optional_header ≡ Some w → o.resolve_rva ≡ true →
+tree_read : (o : ParseOptions) (b : List ℕ) (h : HeaderView) (xs : List Leaf) (p : Place) (f : List ℕ) (w : OptionalHeaderView) → p.section.virtual_size < 2 ^ 32 → IsFile b h xs p f → h.optional_header ≡ Some w → o.resolve_rva ≡ true →
     resource_tree o f (entry_of p) (section_headers f h) w.windows_fields.file_alignment ≡ Ok (section p.section.virtual_address xs, tree_leaves (section p.section.virtual_address xs) (first_entries (section p.section.virtual_address xs)))
-tree_read o b h xs p f w small e j some resolves =
-    let t : DirectoryThere o f (section_headers f h) w.windows_fields.file_alignment p (section p.section.virtual_address xs) (length xs) = directory_there o b h xs p f w small e j some resolves in
+tree_read o b h xs p f w small y some resolves =
+    let t : DirectoryThere o f (section_headers f h) w.windows_fields.file_alignment p (section p.section.virtual_address xs) (length xs) = directory_there_placed o b h xs p f w small y some resolves in
     tree_by o f (section p.section.virtual_address xs) (entry_of p) (section_headers f h) w.windows_fields.file_alignment p.section.pointer_to_raw_data t.mapped t.here t.inside t.size t.bytes (head_inside p.section.virtual_address xs t.few)
+
+pub leaves_found_placed : (o : ParseOptions) (b : List ℕ) (h : HeaderView) (xs : List Leaf) (p : Place) (f : List ℕ) (w : OptionalHeaderView) → p.section.virtual_size < 2 ^ 32 → Each Numbers xs → IsFile b h xs p f → h.optional_header ≡ Some w → o.resolve_rva ≡ true →
+    leaves_of_image o f (entry_of p) (section_headers f h) w.windows_fields.file_alignment ≡ Ok (map (λ x. Ok x) xs)
+leaves_found_placed o b h xs p f w small numbers y some resolves =
+    let s : List ℕ = section p.section.virtual_address xs in
+    ap (λ (r : Result (List ℕ × List (Result ResourceLeaf TreeRefusal)) Refusal). r >>= λ tree. Ok (map (mapped_item (section_map o (section_headers f h) w.windows_fields.file_alignment) f tree.0) tree.1)) (tree_read o b h xs p f w small y some resolves)
+    ∙ ap (λ (l : List (Result Leaf LeafRefusal)). Ok l) (leaves_read_placed o b h xs p f s w small numbers y some resolves refl)
 
 pub leaves_found : (o : ParseOptions) (b : List ℕ) (h : HeaderView) (xs : List Leaf) (p : Place) (f : List ℕ) (w : OptionalHeaderView) → AreBytes b → Each Numbers xs → place_of b h xs ≡ Ok p → edited_of b h xs ≡ Ok f → h.optional_header ≡ Some w → o.resolve_rva ≡ true →
     leaves_of_image o f (entry_of p) (section_headers f h) w.windows_fields.file_alignment ≡ Ok (map (λ x. Ok x) xs)
 leaves_found o b h xs p f w small numbers e j some resolves =
-    let s : List ℕ = section p.section.virtual_address xs in
-    ap (λ (r : Result (List ℕ × List (Result ResourceLeaf TreeRefusal)) Refusal). r >>= λ tree. Ok (map (mapped_item (section_map o (section_headers f h) w.windows_fields.file_alignment) f tree.0) tree.1)) (tree_read o b h xs p f w small e j some resolves)
-    ∙ ap (λ (l : List (Result Leaf LeafRefusal)). Ok l) (leaves_read o b h xs p f s w small numbers e j some resolves refl)
+    leaves_found_placed o b h xs p f w (size_small b h xs p small (placed b h xs p e)) numbers (is_file b h xs p f e j) some resolves

@@ -1,16 +1,19 @@
--- The file of an image with other resources, in the section that it had them in.
-use Rattle.std.specs.Prelude.{ℕ, ◌+◌, ◌-◌, ◌≤◌, ◌==◌, ◌||◌, ◌++◌, max, Bool, List, [], ◌∷◌, Option, Some, None, Result, Ok, length, nat_le, replicate, if◌then◌else◌}
+-- The file of an image with other resources, in the section that it had them in, or in one at the end of the image.
+use Rattle.std.specs.Prelude.{◌≡◌, ℕ, ◌+◌, ◌-◌, ◌≤◌, ◌==◌, ◌||◌, ◌++◌, max, Bool, true, false, List, [], ◌∷◌, Option, Some, None, Result, Ok, Err, drop, length, nat_le, replicate, take, if◌then◌else◌}
 use Rattle.pe_core.specs.Bytes.{bytes_of, splice}
 use Rattle.pe_core.specs.Header.{HeaderView, OptionalHeaderView}
 use Rattle.pe_core.specs.Refusals.{WriteFit, outcome, ◌>>=◌}
 use Rattle.pe_core.specs.Sections.{raw_end, sections_offset}
+use Rattle.pe_core.specs.Spelling.{spell_section}
 use Rattle.pe_core.specs.declared.section_table.SectionTable.{SectionTable}
 use Rattle.pe_edit.specs.Written.{Leaf, section}
 use Rattle.pe_sign.specs.Checksum.{checksum_of}
 use Rattle.pe_sign.specs.Digest.{is_in}
 use Rattle.pe_rewrite.specs.Places.{headers_end, place_of}
-use Rattle.pe_rewrite.specs.RewriteRefusals.{RewriteRefusal, Image}
+use Rattle.pe_rewrite.specs.RewriteRefusals.{RewriteRefusal, Image, NoDirectory, Signed, Leaves, Headers, Alignment, NoSection, Section, SharedSection, Symbols, Overlap, NoRoom, NoHeaderRoom, ImageTooLarge, DebugData}
+use Rattle.pe_rewrite.specs.Rooms.{room_of}
 use Rattle.pe_rewrite.specs.declared.place.Place.{Place}
+use Rattle.pe_rewrite.specs.declared.room.Room.{Room}
 
 -- ---- changes: bytes that are written at a file offset
 
@@ -64,11 +67,77 @@ is_written h p k =
     || (is_in (record { offset = p.entry; length = 8 }) k
     || is_in (record { offset = h.dos_header.pe_pointer + 88; length = 4 }) k))
 
+-- ---- room at the end of the image
+
+-- n zeros put in at a file offset
+unfoldable pub with_zeros : ℕ → ℕ → List ℕ → List ℕ
+with_zeros p n b = take p b ++ (replicate n 0 ++ drop p b)
+
+-- what changes in the headers, by the PE pointer: four fields, the entry of the resource directory, and the header of its section
+abbrev pub room_changes : ℕ → Room → List (ℕ × List ℕ)
+room_changes pointer m =
+    (pointer + 6, bytes_of 2 m.number_of_sections)
+    ∷ (pointer + 12, bytes_of 4 m.pointer_to_symbol_table)
+    ∷ (pointer + 32, bytes_of 4 m.size_of_initialized_data)
+    ∷ (pointer + 80, bytes_of 4 m.size_of_image)
+    ∷ (m.place.entry, bytes_of 4 m.place.section.virtual_address)
+    ∷ (m.place.entry + 4, bytes_of 4 m.place.length)
+    ∷ (m.place.row, spell_section m.place.section) ∷ []
+
+-- the file with room for resources: zeros at the end of its sections' data
+unfoldable pub roomy_file : HeaderView → Room → List ℕ → List ℕ
+roomy_file h m b = changed (room_changes h.dos_header.pe_pointer m) (with_zeros m.end m.more b)
+
+-- the file with the leaves there
+abbrev pub moved_file : HeaderView → Room → List Leaf → List ℕ → List ℕ
+moved_file h m xs b = edited_file h m.place xs (roomy_file h m b)
+
+-- the file offset is in a field of the headers that changes, in the section header, or written with the resources
+abbrev pub is_moved_over : HeaderView → Room → ℕ → Bool
+is_moved_over h m k =
+    is_in (record { offset = h.dos_header.pe_pointer + 6; length = 2 }) k
+    || (is_in (record { offset = h.dos_header.pe_pointer + 12; length = 4 }) k
+    || (is_in (record { offset = h.dos_header.pe_pointer + 32; length = 4 }) k
+    || (is_in (record { offset = h.dos_header.pe_pointer + 80; length = 4 }) k
+    || (is_in (record { offset = m.place.row; length = 40 }) k
+    || is_written h m.place k))))
+
 -- ---- the calls
 
--- the file of the image with these leaves in place of its resources
+-- the file of the image with these leaves in the place of its resources
+abbrev pub in_place : List ℕ → HeaderView → List Leaf → Result (List ℕ) RewriteRefusal
+in_place b h xs = place_of b h xs >>= λ p. Ok (edited_file h p xs b)
+
+-- the file with the leaves at the end of the image
+abbrev pub at_end : List ℕ → HeaderView → List Leaf → Result (List ℕ) RewriteRefusal
+at_end b h xs = room_of b h xs >>= λ m. Ok (moved_file h m xs b)
+
+-- the resources do not go into the section that they are in
+abbrev pub wants_room : RewriteRefusal → Bool
+wants_room (Image r) = false
+wants_room NoDirectory = false
+wants_room Signed = false
+wants_room (Leaves r) = false
+wants_room Headers = false
+wants_room Alignment = false
+wants_room NoSection = true
+wants_room Section = true
+wants_room SharedSection = true
+wants_room Symbols = true
+wants_room Overlap = true
+wants_room NoRoom = true
+wants_room NoHeaderRoom = false
+wants_room ImageTooLarge = false
+wants_room DebugData = false
+
+-- the first file, or the second if the resources want room
+abbrev pub or_at_end : Result (List ℕ) RewriteRefusal → Result (List ℕ) RewriteRefusal → Result (List ℕ) RewriteRefusal
+or_at_end (Ok f) other = Ok f
+or_at_end (Err r) other = if wants_room r then other else Err r
+
+-- the file of the image with these leaves: in place of its resources if they fit there, or else at the end of the image
 abbrev pub edited_of : List ℕ → HeaderView → List Leaf → Result (List ℕ) RewriteRefusal
-edited_of b h xs = place_of b h xs >>= λ p. Ok (edited_file h p xs b)
+edited_of b h xs = or_at_end (in_place b h xs) (at_end b h xs)
 
 -- its length
 abbrev pub edited_length : Result (List ℕ) RewriteRefusal → Result ℕ RewriteRefusal
@@ -90,3 +159,21 @@ pub record Lies (h : HeaderView) (p : Place) (n : ℕ) : Type 0 where
   pub raw : headers_end h ≤ p.section.pointer_to_raw_data
   pub end : raw_end p.section ≤ n
   pub room : p.length ≤ p.section.size_of_raw_data
+
+-- the same in any order, as a write of them asks
+pub record Inside (h : HeaderView) (p : Place) (n : ℕ) : Type 0 where
+  pub sum : h.dos_header.pe_pointer + 92 ≤ n
+  pub entry : p.entry + 8 ≤ n
+  pub row : p.row + 40 ≤ n
+  pub end : raw_end p.section ≤ n
+  pub room : p.length ≤ p.section.size_of_raw_data
+
+-- the fields of the headers and the section header lie one after the other, before the end of the data in a file of n bytes
+pub record RoomLies (h : HeaderView) (m : Room) (n : ℕ) : Type 0 where
+  pub sum : h.dos_header.pe_pointer + 92 ≤ m.place.entry
+  pub entry : m.place.entry + 8 ≤ m.place.row
+  pub row : m.place.row + 40 ≤ m.end
+  pub end : m.end ≤ n
+  pub section : raw_end m.place.section ≡ m.end + m.more
+  pub room : m.place.length ≤ m.place.section.size_of_raw_data
+  pub name : length m.place.section.name ≡ 8

@@ -1,4 +1,5 @@
 pub mod RewriteRefusals
 pub mod Places
+pub mod Rooms
 pub mod Edited
 pub mod WrittenImages

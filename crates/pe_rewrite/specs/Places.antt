@@ -28,7 +28,8 @@ abbrev pub is_absent : DataDirectory → Bool
 is_absent d = d.virtual_address == 0 && d.size == 0
 
 -- what is known of the resources by the optional header of an image with this PE pointer: the file offset of the entry of
--- their directory, which is the third, their RVA, both alignments, and the size of the image in memory
+-- their directory, which is the third, their RVA, both alignments, and the sizes of the image in memory, of its headers and of
+-- its initialized data
 abbrev pub target_by : ℕ → OptionalHeaderView → Target
 target_by pointer o = record {
   entry = pointer + 24 + directories_offset (o.standard_fields.magic == 0x20B) + 16;
@@ -36,6 +37,8 @@ target_by pointer o = record {
   section_alignment = o.windows_fields.section_alignment;
   file_alignment = o.windows_fields.file_alignment;
   size_of_image = o.windows_fields.size_of_image;
+  size_of_headers = o.windows_fields.size_of_headers;
+  size_of_initialized_data = o.standard_fields.size_of_initialized_data;
 }
 
 -- there is a resource directory, and no certificates, whose directory is the fifth

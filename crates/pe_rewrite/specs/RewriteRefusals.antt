@@ -19,6 +19,9 @@ pub data RewriteRefusal : Type 0 where
   Symbols : RewriteRefusal
   Overlap : RewriteRefusal
   NoRoom : RewriteRefusal
+  NoHeaderRoom : RewriteRefusal
+  ImageTooLarge : RewriteRefusal
+  DebugData : RewriteRefusal
 
 -- the kind of an error
 abbrev pub rewrite_kind_of : RewriteError → RewriteRefusal
@@ -34,6 +37,9 @@ rewrite_kind_of (errors.SharedSection rva) = SharedSection
 rewrite_kind_of (errors.Symbols offset) = Symbols
 rewrite_kind_of (errors.Overlap index) = Overlap
 rewrite_kind_of (errors.NoRoom needed room) = NoRoom
+rewrite_kind_of (errors.NoHeaderRoom offset) = NoHeaderRoom
+rewrite_kind_of errors.ImageTooLarge = ImageTooLarge
+rewrite_kind_of (errors.DebugData offset) = DebugData
 
 -- the call returned the defined value, or an error of the defined kind
 abbrev pub RewriteReturns : {X : Type 0} → Result X RewriteError → Result X RewriteRefusal → Type 0

@@ -1,11 +1,13 @@
 -- What is parsed of an image whose resources changed. (PE format: optional header, section table, the .rsrc section.)
-use Rattle.std.specs.Prelude.{◌≡◌, ℕ, ◌+◌, ◌*◌, ◌==◌, List, [], Option, Result, Ok, Err, if◌then◌else◌, map}
-use Rattle.pe_core.specs.Header.{HeaderView}
+use Rattle.std.specs.Prelude.{◌≡◌, ℕ, ◌+◌, ◌*◌, ◌==◌, List, [], ◌∷◌, ◌++◌, Option, Result, Ok, Err, drop, if◌then◌else◌, map, slice_set, take}
+use Rattle.std.specs.Option.{option_map}
+use Rattle.pe_core.specs.Header.{HeaderView, OptionalHeaderView}
 use Rattle.pe_core.specs.Refusals.{Refusal}
 use Rattle.pe_core.specs.Sections.{sections_offset}
 use Rattle.pe_core.specs.declared.data_directories.DataDirectory.{DataDirectory}
 use Rattle.pe_core.specs.SectionMap.{section_map}
 use Rattle.pe_core.specs.declared.options.ParseOptions.{ParseOptions}
+use Rattle.pe_core.specs.declared.header.CoffHeader.{CoffHeader}
 use Rattle.pe_core.specs.declared.section_table.SectionTable.{SectionTable}
 use Rattle.pe_resource.specs.Contents.{file_bytes}
 use Rattle.pe_resource.specs.Leaves.{TreeRefusal, resource_tree}
@@ -15,6 +17,7 @@ use Rattle.pe_edit.specs.Written.{Leaf}
 use Rattle.pe_sign.specs.WrittenHeaders.{headers_changed}
 use Rattle.pe_core.specs.Refusals.{◌>>=◌}
 use Rattle.pe_rewrite.specs.declared.place.Place.{Place}
+use Rattle.pe_rewrite.specs.declared.room.Room.{Room}
 
 -- the entry of the resource directory
 abbrev pub entry_of : Place → DataDirectory
@@ -24,9 +27,31 @@ entry_of p = record { virtual_address = p.section.virtual_address; size = p.leng
 abbrev pub edited_headers : Place → ℕ → HeaderView → HeaderView
 edited_headers p sum h = headers_changed 2 (entry_of p) sum h
 
+-- the headers of an image with room for resources: four fields, and the entry of the resource directory, are others
+abbrev pub optional_roomy : Room → OptionalHeaderView → OptionalHeaderView
+optional_roomy m o = record {
+  standard_fields = record o.standard_fields { size_of_initialized_data = m.size_of_initialized_data };
+  windows_fields = record o.windows_fields { size_of_image = m.size_of_image };
+  data_directories = slice_set o.data_directories 2 (entry_of m.place);
+}
+
+abbrev pub coff_roomy : Room → CoffHeader → CoffHeader
+coff_roomy m c = record c { number_of_sections = m.number_of_sections; pointer_to_symbol_table = m.pointer_to_symbol_table }
+
+abbrev pub headers_roomy : Room → HeaderView → HeaderView
+headers_roomy m h = record h { coff_header = coff_roomy m h.coff_header; optional_header = option_map (optional_roomy m) h.optional_header }
+
 -- a section header with another size in memory
 abbrev pub resized : ℕ → SectionTable → SectionTable
 resized size s = record s { virtual_size = size }
+
+-- section headers of which the one with index i is another one, or of which there is one more
+abbrev pub sections_with : ℕ → SectionTable → List SectionTable → List SectionTable
+sections_with i s ss = take i ss ++ (s ∷ drop (i + 1) ss)
+
+-- i is the index of the section that has room
+abbrev pub IsRoomRow : HeaderView → Room → ℕ → Type 0
+IsRoomRow h m i = m.place.row ≡ sections_offset h + 40 * i
 
 -- ---- leaves, by the section map
 

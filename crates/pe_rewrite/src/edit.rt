@@ -1,19 +1,74 @@
 //! The calls: the file of an image with other resources, and its length.
 
-ghost use Rattle.std.specs.Prelude.{◌≡◌, ◌≤◌, IfOk, Ok, length};
+ghost use Rattle.std.specs.Prelude.{◌≡◌, ◌+◌, ◌^◌, ◌<◌, length};
 ghost use Rattle.pe_core.specs.Header.{header_view};
 ghost use Rattle.pe_edit.specs.Views.{leaf_views};
-ghost use Rattle.pe_rewrite.specs.Edited.{edited_length, edited_of, written};
-ghost use Rattle.pe_rewrite.specs.RewriteRefusals.{RewriteReturns, RewriteReturnsWritten};
+ghost use Rattle.pe_rewrite.specs.Edited.{at_end, edited_length, edited_of, in_place, wants_room, written};
+ghost use Rattle.pe_rewrite.specs.RewriteRefusals.{RewriteReturns, RewriteReturnsWritten, rewrite_kind_of};
 
 use crate::error::RewriteError;
 use crate::place::find_place;
-use crate::put::set_edited;
+use crate::put::{set_edited, set_moved};
+use crate::room::{Room, find_room};
 use pe_core::{Header, require_room};
 use pe_edit::Leaves;
 
-/// The length of the file that `write_edited` writes with these arguments, which is that of the image. Errors: those of
-/// `write_edited`, but for the buffer's.
+/// Whether the resources do not go into the section that they are in.
+fn wants_room(error: &RewriteError) -> bool
+    ensures { result ≡ wants_room (rewrite_kind_of error.now) }
+{
+    match error {
+        RewriteError::Image(_) => false,
+        RewriteError::NoDirectory(_) => false,
+        RewriteError::Signed => false,
+        RewriteError::Leaves(_) => false,
+        RewriteError::Headers(_) => false,
+        RewriteError::Alignment(_) => false,
+        RewriteError::NoSection(_) => true,
+        RewriteError::Section(_) => true,
+        RewriteError::SharedSection(_) => true,
+        RewriteError::Symbols(_) => true,
+        RewriteError::Overlap(_) => true,
+        RewriteError::NoRoom { .. } => true,
+        RewriteError::NoHeaderRoom(_) => false,
+        RewriteError::ImageTooLarge => false,
+        RewriteError::DebugData(_) => false,
+    }
+}
+
+/// The length of the file with these leaves in place.
+fn len_in_place(
+    bytes: &[u8],
+    header: &Header<'_>,
+    leaves: &Leaves<'_>,
+) -> Result<usize, RewriteError>
+    ensures { RewriteReturns result (edited_length
+        (in_place bytes.now (header_view header.now) (leaf_views leaves.now))) }
+{
+    find_place(bytes, header, leaves)?;
+    Ok(bytes.len())
+}
+
+/// The length of the file with this room.
+fn length_with(bytes: &[u8], room: &Room) -> usize
+    requires { room.now.more < 2 ^ 32 }
+    ensures { result ≡ length bytes.now + room.now.more }
+{
+    bytes.len() + room.more
+}
+
+/// The length of the file with these leaves at the end of the image.
+fn len_at_end(bytes: &[u8], header: &Header<'_>, leaves: &Leaves<'_>) -> Result<usize, RewriteError>
+    ensures { RewriteReturns result (edited_length
+        (at_end bytes.now (header_view header.now) (leaf_views leaves.now))) }
+{
+    let room = find_room(bytes, header, leaves)?;
+    Ok(length_with(bytes, &room))
+}
+
+/// The length of the file that `write_edited` writes with these arguments. Errors: those of `write_edited`, but for the
+/// buffer's.
+#[tactic(auto, using(crate::proofs::Calls::length_first, crate::proofs::Calls::len_second, crate::proofs::Calls::len_neither))]
 pub fn edited_len(
     bytes: &[u8],
     header: &Header<'_>,
@@ -22,15 +77,63 @@ pub fn edited_len(
     ensures { RewriteReturns result (edited_length
         (edited_of bytes.now (header_view header.now) (leaf_views leaves.now))) }
 {
-    find_place(bytes, header, leaves)?;
+    match len_in_place(bytes, header, leaves) {
+        Ok(length) => Ok(length),
+        Err(error) => {
+            if wants_room(&error) {
+                len_at_end(bytes, header, leaves)
+            } else {
+                Err(error)
+            }
+        }
+    }
+}
+
+/// Writes the image with these leaves in place to the start of `out`.
+fn write_in_place(
+    bytes: &[u8],
+    header: &Header<'_>,
+    leaves: &Leaves<'_>,
+    out: &mut [u8],
+) -> Result<usize, RewriteError>
+    ensures { RewriteReturnsWritten result (written
+        (in_place bytes.now (header_view header.now) (leaf_views leaves.now)) out.old) out.old out.new }
+{
+    let place = find_place(bytes, header, leaves)?;
+    require_room(out, 0, bytes.len())?;
+    set_edited(out, bytes, header, place, leaves);
     Ok(bytes.len())
 }
 
-/// Writes the image with these resources in place of those that it has at the start of `out`: over the data of their section,
-/// with zeros up to its end. The section's size in memory grows where it has to, the entry of the resource directory gets the
-/// new size, and the checksum is made good, or stays 0 where it was 0. All other bytes of the file stay. Returns its length;
-/// the bytes of `out` after it stay as they were. `bytes` is the whole file, `header` is the image's; the leaves are sorted,
-/// as `pe_edit::write_section` asks.
+/// Writes the image with these leaves at its end to the start of `out`.
+fn write_at_end(
+    bytes: &[u8],
+    header: &Header<'_>,
+    leaves: &Leaves<'_>,
+    out: &mut [u8],
+) -> Result<usize, RewriteError>
+    ensures { RewriteReturnsWritten result (written
+        (at_end bytes.now (header_view header.now) (leaf_views leaves.now)) out.old) out.old out.new }
+{
+    let room = find_room(bytes, header, leaves)?;
+    let length = length_with(bytes, &room);
+    require_room(out, 0, length)?;
+    set_moved(out, bytes, header, &room, leaves);
+    Ok(length)
+}
+
+/// Writes the image with these resources to the start of `out`, and returns its length; the bytes of `out` after it stay as they
+/// were. `bytes` is the whole file, `header` is the image's; the leaves are sorted, as `pe_edit::write_section` asks.
+///
+/// The resources go over the data of the section that they are in, with zeros up to its end, if they fit there: it has nothing
+/// else, and its data and the image have room. Its size in memory grows where it has to. Otherwise they go to the end of the
+/// image: if their section is the last, its data grow, else a new section `.rsrc` follows the last one, and the old section
+/// stays as it was. What follows the data of the sections in the file, such as an installer's data or COFF symbols, moves by the
+/// bytes that are added, a multiple of the file alignment, and the pointer to the symbols with it. `NumberOfSections`,
+/// `SizeOfInitializedData` and `SizeOfImage` change as they have to.
+///
+/// The entry of the resource directory gets RVA and size of the resources, and the checksum is made good, or stays 0 where it
+/// was 0. All other bytes of the file stay.
 ///
 /// Errors, in this order, each of which leaves `out` as it was:
 /// - `Image` with `NoOptionalHeader`; `NoDirectory` if there are fewer than three data directories;
@@ -39,13 +142,14 @@ pub fn edited_len(
 /// - `Headers` if the data directories end after the start of the section table; `Image` with `Short` if the section table is
 ///   truncated;
 /// - `Alignment` if that of sections is below 4096, or that of their data below 512 or no power of two;
-/// - `NoSection` if no section starts at the RVA of the resource directory; `Section` if its data start in the headers, end
-///   after the end of the file, or are not aligned to 512 bytes;
-/// - `SharedSection` if the entry point or another directory lies in the section;
-/// - `Symbols` if COFF symbols lie in its data; `Overlap` if another section shares bytes or pages with it, or bytes with the
-///   headers;
-/// - `NoRoom` if the resources have more bytes than the section's data, or end after the image in memory, by its `SizeOfImage`;
-///   `Image` with `WriteFit` if the image does not fit into `out`.
+/// - of a new section, where the resources do not fit in place and their section does not grow: `ImageTooLarge` if the image ends
+///   after 4 GB; `NoHeaderRoom` if no 40 zeros follow the section table in the headers, or there are 65,535 sections; `Section`
+///   if the data of all sections and the headers do not end in the file, at a multiple of the file alignment; `SharedSection` if
+///   the entry point or a directory leads after the image in memory; `Symbols` if COFF symbols start before the end of the data
+///   and end after it; `Overlap` if a section ends after the image in memory, by `SizeOfImage`, or shares bytes with the headers;
+///   `DebugData` if the data of a debug entry start after the data of the sections;
+/// - `Image` with `WriteFit` if the file does not fit into `out`.
+#[tactic(auto, using(crate::proofs::Calls::written_first, crate::proofs::Calls::write_second, crate::proofs::Calls::write_neither))]
 pub fn write_edited(
     bytes: &[u8],
     header: &Header<'_>,
@@ -55,8 +159,14 @@ pub fn write_edited(
     ensures { RewriteReturnsWritten result (written
         (edited_of bytes.now (header_view header.now) (leaf_views leaves.now)) out.old) out.old out.new }
 {
-    let place = find_place(bytes, header, leaves)?;
-    require_room(out, 0, bytes.len())?;
-    set_edited(out, bytes, header, place, leaves);
-    Ok(bytes.len())
+    match write_in_place(bytes, header, leaves, out) {
+        Ok(length) => Ok(length),
+        Err(error) => {
+            if wants_room(&error) {
+                write_at_end(bytes, header, leaves, out)
+            } else {
+                Err(error)
+            }
+        }
+    }
 }

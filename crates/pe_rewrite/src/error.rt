@@ -51,6 +51,16 @@ pub enum RewriteError {
         /// The size of the data of the resource section in bytes.
         room: u32,
     },
+    /// The offset at which the section table ends: there is no room of 40 zeros for another section header, or there are 65,535
+    /// sections.
+    #[error("no room for another section header at file offset {0:#x}")]
+    NoHeaderRoom(usize),
+    /// The image with the resources, in memory or in the file, ends after 4 GB.
+    #[error("image with the resources ends after 4 GB")]
+    ImageTooLarge,
+    /// The offset of a debug entry whose data start after the data of the sections, where they would move.
+    #[error("data of the debug entry at file offset {0:#x} start after the data of the sections")]
+    DebugData(usize),
 }
 
 // So that `?` returns an error of pe_core as `Image`.

@@ -1,6 +1,6 @@
 //! Laws over the definitions. Each is the contract of a function that does nothing.
 
-ghost use Rattle.std.specs.Prelude.{◌≡◌, ℕ, List, Ok, Some, false, true, length, map, slice_index, slice_set};
+ghost use Rattle.std.specs.Prelude.{◌≡◌, ◌⊎◌, ◌+◌, ◌%◌, ◌<◌, ◌≤◌, ℕ, List, Ok, Some, false, true, length, map, slice_index, slice_set};
 ghost use Rattle.pe_core.specs.Bytes.{AreBytes};
 ghost use Rattle.pe_core.specs.Header.{HeaderView, OptionalHeaderView, header_at};
 ghost use Rattle.pe_core.specs.SectionMap.{section_map};
@@ -8,10 +8,12 @@ ghost use Rattle.pe_core.specs.declared.options.ParseMode.{ParseMode};
 ghost use Rattle.pe_core.specs.declared.options.ParseOptions.{ParseOptions};
 ghost use Rattle.pe_resource.specs.Contents.{file_bytes};
 ghost use Rattle.pe_edit.specs.Written.{Each, Leaf, Numbers, section};
-ghost use Rattle.pe_rewrite.specs.Edited.{edited_of, grown_size, is_written, sum_of};
+ghost use Rattle.pe_rewrite.specs.Edited.{at_end, edited_of, grown_size, in_place, is_moved_over, is_written, sum_of};
+ghost use Rattle.pe_rewrite.specs.Rooms.{room_of};
 ghost use Rattle.pe_rewrite.specs.Places.{is_outside, place_of, section_headers};
-ghost use Rattle.pe_rewrite.specs.WrittenImages.{IsRow, edited_headers, entry_of, leaves_of_image, resized};
+ghost use Rattle.pe_rewrite.specs.WrittenImages.{IsRoomRow, IsRow, edited_headers, entry_of, headers_roomy, leaves_of_image, resized, sections_with};
 ghost use Rattle.pe_rewrite.specs.declared.place.Place.{Place};
+ghost use Rattle.pe_rewrite.specs.declared.room.Room.{Room};
 
 /// An edit changes the data of the resource section, its size in memory, the entry of the resource directory and the checksum.
 /// All other bytes of the file stay, those after its sections included, and no byte is added or lost.
@@ -72,4 +74,78 @@ pub fn edited_leaves_are_read()
         o.resolve_rva ≡ true →
         leaves_of_image o f (entry_of p) (section_headers f h) w.windows_fields.file_alignment
         ≡ Ok (map (λ x. Ok x) xs) }
+{}
+
+/// A file that an edit writes has the resources in place, or at the end of the image.
+#[tactic(auto, using(crate::proofs::RoomImages::one_of_two))]
+pub fn edits_are_in_place_or_at_the_end()
+    ensures { (b : List ℕ) (h : HeaderView) (xs : List Leaf) (f : List ℕ) →
+        edited_of b h xs ≡ Ok f → (in_place b h xs ≡ Ok f) ⊎ (at_end b h xs ≡ Ok f) }
+{}
+
+/// An edit at the end of the image puts bytes in where the data of the sections end: the bytes from there on, an installer's data
+/// or COFF symbols, move by a multiple of the file alignment and are the same. Of the bytes before, those of some fields of the
+/// headers change, of the section header and of what an edit in place writes.
+pub fn edits_at_the_end_change_no_more()
+    ensures length { (b : List ℕ) (h : HeaderView) (xs : List Leaf) (m : Room) (f : List ℕ) →
+        AreBytes b → room_of b h xs ≡ Ok m → at_end b h xs ≡ Ok f → length f ≡ length b + m.more }
+    ensures multiple { (b : List ℕ) (h : HeaderView) (xs : List Leaf) (m : Room) (w : OptionalHeaderView) →
+        room_of b h xs ≡ Ok m → h.optional_header ≡ Some w →
+        m.more % w.windows_fields.file_alignment ≡ 0 }
+    ensures before { (b : List ℕ) (h : HeaderView) (xs : List Leaf) (m : Room) (f : List ℕ) (k : ℕ) →
+        AreBytes b → room_of b h xs ≡ Ok m → at_end b h xs ≡ Ok f → k < m.end →
+        is_moved_over h m k ≡ false → slice_index f k ≡ slice_index b k }
+    ensures after { (b : List ℕ) (h : HeaderView) (xs : List Leaf) (m : Room) (f : List ℕ) (k : ℕ) →
+        AreBytes b → room_of b h xs ≡ Ok m → at_end b h xs ≡ Ok f → m.end ≤ k →
+        slice_index f (k + m.more) ≡ slice_index b k }
+{}
+
+/// The headers of such an image are parsed: they are those of the image, but for the number of sections, the pointer to the
+/// COFF symbols, the sizes of initialized data and of the image, the entry of the resource directory, and the checksum, which
+/// is that of the file, or 0 where it was 0.
+pub fn headers_of_edits_at_the_end_are_parsed()
+    ensures { (mode : ParseMode) (b : List ℕ) (h : HeaderView) (xs : List Leaf) (m : Room) (f : List ℕ) →
+        AreBytes b → header_at b mode ≡ Ok h → room_of b h xs ≡ Ok m → at_end b h xs ≡ Ok f →
+        header_at f mode ≡ Ok (edited_headers m.place (sum_of h f) (headers_roomy m h)) }
+{}
+
+/// The section headers of such an image are those of the image, but for that of the section, which may be one more.
+pub fn sections_of_edits_at_the_end_are_parsed()
+    ensures { (b : List ℕ) (h : HeaderView) (xs : List Leaf) (m : Room) (f : List ℕ) (i : ℕ) →
+        AreBytes b → room_of b h xs ≡ Ok m → at_end b h xs ≡ Ok f → IsRoomRow h m i →
+        section_headers f (headers_roomy m h)
+        ≡ sections_with i (resized (grown_size m.place) m.place.section) (section_headers b h) }
+{}
+
+/// By the section map of such an image every RVA outside of the section leads to the file offset that it led to in the image,
+/// and with the image's file alignment to the same byte.
+pub fn other_addresses_stay_at_the_end()
+    ensures map { (o : ParseOptions) (b : List ℕ) (h : HeaderView) (xs : List Leaf) (m : Room) (f : List ℕ)
+        (alignment a : ℕ) → AreBytes b → room_of b h xs ≡ Ok m → at_end b h xs ≡ Ok f →
+        is_outside m.place.section a ≡ true →
+        section_map o (section_headers f (headers_roomy m h)) alignment a
+        ≡ section_map o (section_headers b h) alignment a }
+    ensures byte { (o : ParseOptions) (b : List ℕ) (h : HeaderView) (xs : List Leaf) (m : Room) (f : List ℕ)
+        (w : OptionalHeaderView) (a q : ℕ) → AreBytes b → room_of b h xs ≡ Ok m →
+        at_end b h xs ≡ Ok f → h.optional_header ≡ Some w → o.resolve_rva ≡ true →
+        is_outside m.place.section a ≡ true →
+        section_map o (section_headers b h) w.windows_fields.file_alignment a ≡ Some q →
+        slice_index f q ≡ slice_index b q }
+{}
+
+/// The data of the resource directory of such an image, as mapped, are the section with the leaves that were given, and the
+/// leaves that pe_resource's walk finds in the image, with their contents by the section map, are these leaves.
+pub fn leaves_at_the_end_are_read()
+    ensures directory { (o : ParseOptions) (b : List ℕ) (h : HeaderView) (xs : List Leaf) (m : Room)
+        (f : List ℕ) (w : OptionalHeaderView) → AreBytes b → room_of b h xs ≡ Ok m →
+        at_end b h xs ≡ Ok f → h.optional_header ≡ Some w → o.resolve_rva ≡ true →
+        file_bytes f m.place.length (section_map o (section_headers f (headers_roomy m h))
+        w.windows_fields.file_alignment m.place.section.virtual_address)
+        ≡ Ok (section m.place.section.virtual_address xs) }
+    ensures leaves { (o : ParseOptions) (b : List ℕ) (h : HeaderView) (xs : List Leaf) (m : Room)
+        (f : List ℕ) (w : OptionalHeaderView) → AreBytes b → Each Numbers xs →
+        room_of b h xs ≡ Ok m → at_end b h xs ≡ Ok f → h.optional_header ≡ Some w →
+        o.resolve_rva ≡ true →
+        leaves_of_image o f (entry_of m.place) (section_headers f (headers_roomy m h))
+        w.windows_fields.file_alignment ≡ Ok (map (λ x. Ok x) xs) }
 {}

@@ -9,6 +9,7 @@ mod error;
 pub mod laws;
 mod place;
 mod put;
+mod room;
 
 pub use edit::{edited_len, write_edited};
 pub use error::RewriteError;

@@ -20,13 +20,13 @@ use pe_core::{
 use pe_edit::{Leaves, section_len};
 
 /// The size of a section header in bytes.
-const SIZE_OF_SECTION_HEADER: usize = 40;
+pub const SIZE_OF_SECTION_HEADER: usize = 40;
 
 /// The size of an entry of the data directories in bytes.
 const SIZE_OF_ENTRY: usize = 8;
 
 /// The size of a COFF symbol in bytes.
-const SIZE_OF_SYMBOL: usize = 18;
+pub const SIZE_OF_SYMBOL: usize = 18;
 
 /// The index of the resource directory, and of that of the certificates.
 const RESOURCE_TABLE: usize = 2;
@@ -36,16 +36,19 @@ const CERTIFICATE_TABLE: usize = 4;
 /// The parts of sections that are mapped: pages in memory, sectors in the file.
 const PAGE: u32 = 4096;
 
-const SECTOR: u32 = 512;
+pub const SECTOR: u32 = 512;
 
 /// What is known of the resources by the optional header.
 #[derive(Clone, Copy)]
 pub struct Target {
-    entry: usize,
-    rva: u32,
-    section_alignment: u32,
-    file_alignment: u32,
-    size_of_image: u32,
+    /// The file offset of the entry of their directory, and their RVA.
+    pub entry: usize,
+    pub rva: u32,
+    pub section_alignment: u32,
+    pub file_alignment: u32,
+    pub size_of_image: u32,
+    pub size_of_headers: u32,
+    pub size_of_initialized_data: u32,
 }
 
 /// The place of the resources.
@@ -108,11 +111,13 @@ fn target_before(pointer: u32, optional_header: &OptionalHeader) -> Result<Targe
         section_alignment: optional_header.windows_fields.section_alignment,
         file_alignment: optional_header.windows_fields.file_alignment,
         size_of_image: optional_header.windows_fields.size_of_image,
+        size_of_headers: optional_header.windows_fields.size_of_headers,
+        size_of_initialized_data: optional_header.standard_fields.size_of_initialized_data,
     })
 }
 
 /// What is known of the resources. Errors, in order: `Image` with `NoOptionalHeader`; `NoDirectory`; `Signed`.
-fn find_target(header: &Header<'_>) -> Result<Target, RewriteError>
+pub fn find_target(header: &Header<'_>) -> Result<Target, RewriteError>
     ensures { RewriteReturns result (target_of (header_view header.now)) }
 {
     match &header.optional_header {
@@ -122,7 +127,7 @@ fn find_target(header: &Header<'_>) -> Result<Target, RewriteError>
 }
 
 /// The file offset at which the section table ends.
-fn headers_end(header: &Header<'_>) -> usize
+pub fn headers_end(header: &Header<'_>) -> usize
     ensures value { result ≡ headers_end (header_view header.now) }
     ensures small { result < 2 ^ 33 }
 {
@@ -131,7 +136,11 @@ fn headers_end(header: &Header<'_>) -> usize
 }
 
 /// Errors, in order: `Headers`; `Image` with `Short`; `Alignment`.
-fn require_headers(bytes: &[u8], header: &Header<'_>, target: &Target) -> Result<(), RewriteError>
+pub fn require_headers(
+    bytes: &[u8],
+    header: &Header<'_>,
+    target: &Target,
+) -> Result<(), RewriteError>
     ensures { RewriteReturns result
         (outcome (header_tests bytes.now (header_view header.now) target.now) tt) }
 {
@@ -151,7 +160,7 @@ fn require_headers(bytes: &[u8], header: &Header<'_>, target: &Target) -> Result
 }
 
 /// The section header with this index.
-fn section_header(bytes: &[u8], header: &Header<'_>, index: usize) -> SectionTable
+pub fn section_header(bytes: &[u8], header: &Header<'_>, index: usize) -> SectionTable
     requires inside { headers_end (header_view header.now) ≤ length bytes.now }
     requires below { index < header.now.coff_header.number_of_sections }
     ensures { result ≡ section_header bytes.now (header_view header.now) index }
@@ -163,7 +172,7 @@ fn section_header(bytes: &[u8], header: &Header<'_>, index: usize) -> SectionTab
 }
 
 /// The index of the first section that starts at this RVA. Error: `NoSection`.
-fn section_index(bytes: &[u8], header: &Header<'_>, rva: u32) -> Result<usize, RewriteError>
+pub fn section_index(bytes: &[u8], header: &Header<'_>, rva: u32) -> Result<usize, RewriteError>
     requires { headers_end (header_view header.now) ≤ length bytes.now }
     ensures { RewriteReturns result (index_of bytes.now (header_view header.now) rva) }
 {
@@ -176,7 +185,7 @@ fn section_index(bytes: &[u8], header: &Header<'_>, rva: u32) -> Result<usize, R
 }
 
 /// The file offset at which the section's data end.
-fn raw_end(section: &SectionTable) -> usize
+pub fn raw_end(section: &SectionTable) -> usize
     ensures value { result ≡ raw_end section.now }
     ensures small { result < 2 ^ 33 }
 {
@@ -184,7 +193,7 @@ fn raw_end(section: &SectionTable) -> usize
 }
 
 /// The end of the RVAs that the section's data can have.
-fn pages_end(section: &SectionTable) -> usize
+pub fn pages_end(section: &SectionTable) -> usize
     ensures { result ≡ pages_end section.now }
 {
     section.virtual_address as usize + rounded_up(section.size_of_raw_data as usize, PAGE as usize)
@@ -219,7 +228,7 @@ fn leads_out(section: &SectionTable, directories: &[DataDirectory], index: usize
 
 /// `SharedSection` if the entry point or a directory leads into the section.
 #[tactic(auto, using(pe_sign::proofs::SectionRows::all_more), unfolding(pe_core::specs::Rows::each))]
-fn require_alone(
+pub fn require_alone(
     section: &SectionTable,
     optional_header: &OptionalHeader,
 ) -> Result<(), RewriteError>

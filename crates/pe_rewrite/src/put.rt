@@ -1,20 +1,30 @@
 //! Writes the file of an image with other resources into the caller's buffer. The caller has checked that everything fits.
 
-ghost use Rattle.std.specs.Prelude.{◌≡◌, ◌+◌, ◌≤◌, Ok, length};
+ghost use Rattle.std.specs.Prelude.{◌≡◌, ◌+◌, ◌≤◌, Ok, length, take};
 ghost use Rattle.pe_core.specs.Bytes.{splice};
 ghost use Rattle.pe_core.specs.Header.{header_view};
 ghost use Rattle.pe_core.specs.Sections.{raw_end};
+ghost use Rattle.pe_core.specs.Spelling.{spell_section};
 ghost use Rattle.pe_edit.specs.EditRefusals.{section_of};
 ghost use Rattle.pe_edit.specs.Views.{leaf_views};
 ghost use Rattle.pe_edit.specs.Written.{section};
-ghost use Rattle.pe_rewrite.specs.Edited.{Lies, edited_file, filled, sum_of};
+ghost use Rattle.pe_rewrite.specs.Edited.{Inside, Lies, RoomLies, edited_file, filled, moved_file, roomy_file, sum_of, with_zeros};
 
 use crate::place::Place;
-use pe_core::{Header, SectionTable, set_slice, set_u32, set_zeros};
+use crate::room::Room;
+use pe_core::{Header, SectionTable, set_slice, set_u16, set_u32, set_zeros};
 use pe_edit::{Leaves, write_section};
 use pe_sign::checksum;
 
-/// The file offset of the checksum, from the PE signature on.
+/// File offsets of fields of the headers, from the PE signature on.
+const NUMBER_OF_SECTIONS: usize = 6;
+
+const SYMBOLS: usize = 12;
+
+const INITIALIZED: usize = 32;
+
+const SIZE_OF_IMAGE: usize = 80;
+
 const CHECKSUM: usize = 88;
 
 /// The offset of a section's size in memory in its header, and that of the size in an entry of the data directories.
@@ -77,7 +87,31 @@ fn sum_of(file: &[u8], header: &Header<'_>) -> u32
     }
 }
 
-/// Writes the image with these leaves at the start of the buffer.
+/// Writes these leaves into the file of `size` bytes at the start of the buffer, which has room for them.
+fn set_over(out: &mut [u8], size: usize, header: &Header<'_>, place: Place, leaves: &Leaves<'_>)
+    requires lies { Inside (header_view header.now) place size }
+    requires made { section_of place.section.virtual_address (leaf_views leaves.now)
+        ≡ Ok (section place.section.virtual_address (leaf_views leaves.now)) }
+    requires length { length (section place.section.virtual_address (leaf_views leaves.now))
+        ≡ place.length }
+    requires room { size ≤ length out.old }
+    ensures { out.new ≡ splice out.old 0
+        (edited_file (header_view header.now) place (leaf_views leaves.now) (take size out.old)) }
+{
+    set_resources(out, place.section, place.length, leaves);
+    let length = place.length as u32;
+    set_u32(
+        out,
+        place.row + VIRTUAL_SIZE,
+        place.section.virtual_size.max(length),
+    );
+    set_u32(out, place.entry, place.section.virtual_address);
+    set_u32(out, place.entry + SIZE, length);
+    let sum = sum_of(&out[..size], header);
+    set_u32(out, header.dos_header.pe_pointer as usize + CHECKSUM, sum);
+}
+
+/// Writes the image with these leaves in place at the start of the buffer.
 pub fn set_edited(
     out: &mut [u8],
     bytes: &[u8],
@@ -95,15 +129,72 @@ pub fn set_edited(
         (edited_file (header_view header.now) place (leaf_views leaves.now) bytes.now) }
 {
     set_slice(out, 0, bytes);
-    set_resources(out, place.section, place.length, leaves);
-    let length = place.length as u32;
-    set_u32(
-        out,
-        place.row + VIRTUAL_SIZE,
-        place.section.virtual_size.max(length),
-    );
+    set_over(out, bytes.len(), header, place, leaves);
+}
+
+/// Writes a section header, 40 bytes.
+fn set_row(out: &mut [u8], offset: usize, header: SectionTable)
+    requires { offset + 40 ≤ length out.old }
+    ensures { out.new ≡ splice out.old offset (spell_section header) }
+{
+    set_slice(out, offset, &header.name);
+    set_u32(out, offset + 8, header.virtual_size);
+    set_u32(out, offset + 12, header.virtual_address);
+    set_u32(out, offset + 16, header.size_of_raw_data);
+    set_u32(out, offset + 20, header.pointer_to_raw_data);
+    set_u32(out, offset + 24, header.pointer_to_relocations);
+    set_u32(out, offset + 28, header.pointer_to_linenumbers);
+    set_u16(out, offset + 32, header.number_of_relocations);
+    set_u16(out, offset + 34, header.number_of_linenumbers);
+    set_u32(out, offset + 36, header.characteristics);
+}
+
+/// Writes the file with `more` zeros put in at `end`.
+fn set_apart(out: &mut [u8], bytes: &[u8], end: usize, more: usize)
+    requires end { end ≤ length bytes.now }
+    requires room { length bytes.now + more ≤ length out.old }
+    ensures { out.new ≡ splice out.old 0 (with_zeros end more bytes.now) }
+{
+    set_slice(out, 0, &bytes[..end]);
+    set_zeros(out, end, more);
+    set_slice(out, end + more, &bytes[end..]);
+}
+
+/// Writes the file with room for resources.
+fn set_room(out: &mut [u8], bytes: &[u8], header: &Header<'_>, room: &Room)
+    requires lies { RoomLies (header_view header.now) room.now (length bytes.now) }
+    requires room { length bytes.now + room.now.more ≤ length out.old }
+    ensures { out.new ≡ splice out.old 0 (roomy_file (header_view header.now) room.now bytes.now) }
+{
+    set_apart(out, bytes, room.end, room.more);
+    let pointer = header.dos_header.pe_pointer as usize;
+    let place = room.place;
+    set_u16(out, pointer + NUMBER_OF_SECTIONS, room.number_of_sections);
+    set_u32(out, pointer + SYMBOLS, room.pointer_to_symbol_table);
+    set_u32(out, pointer + INITIALIZED, room.size_of_initialized_data);
+    set_u32(out, pointer + SIZE_OF_IMAGE, room.size_of_image);
     set_u32(out, place.entry, place.section.virtual_address);
-    set_u32(out, place.entry + SIZE, length);
-    let sum = sum_of(&out[..bytes.len()], header);
-    set_u32(out, header.dos_header.pe_pointer as usize + CHECKSUM, sum);
+    set_u32(out, place.entry + SIZE, place.length as u32);
+    set_row(out, place.row, place.section);
+}
+
+/// Writes the image with these leaves at its end to the start of the buffer.
+pub fn set_moved(
+    out: &mut [u8],
+    bytes: &[u8],
+    header: &Header<'_>,
+    room: &Room,
+    leaves: &Leaves<'_>,
+)
+    requires lies { RoomLies (header_view header.now) room.now (length bytes.now) }
+    requires made { section_of room.now.place.section.virtual_address (leaf_views leaves.now)
+        ≡ Ok (section room.now.place.section.virtual_address (leaf_views leaves.now)) }
+    requires length { length (section room.now.place.section.virtual_address (leaf_views leaves.now))
+        ≡ room.now.place.length }
+    requires room { length bytes.now + room.now.more ≤ length out.old }
+    ensures { out.new ≡ splice out.old 0
+        (moved_file (header_view header.now) room.now (leaf_views leaves.now) bytes.now) }
+{
+    set_room(out, bytes, header, room);
+    set_over(out, bytes.len() + room.more, header, room.place, leaves);
 }

@@ -3,7 +3,7 @@ use Rattle.std.proofs.lemmas.Result.{err_from_is_err_and}
 use Rattle.pe_core.specs.Header.{header_view}
 use Rattle.pe_edit.specs.Views.{leaf_views}
 use Rattle.pe_rewrite.proofs.Calls.{file_returned, lies, made, room_short, size}
-use Rattle.pe_rewrite.proofs.edit.write_edited.Goals as goal
+use Rattle.pe_rewrite.proofs.edit.write_in_place.Goals as goal
 
 pub returns-in_err-require_room : goal.returns-in_err-require_room
 returns-in_err-require_room c =

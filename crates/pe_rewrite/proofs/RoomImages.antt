@@ -1,0 +1,250 @@
+-- The laws, of a file that an edit writes with its resources at the end.
+use Rattle.std.proofs.Common.{◌≡◌, ℕ, suc, ◌+◌, ◌-◌, ◌*◌, ◌/◌, ◌%◌, ◌^◌, ◌<◌, ◌≤◌, ◌≢◌, ◌==◌, ◌&&◌, ◌||◌, ◌⊎◌, inl, inr, Bool, true, false, List, [], ◌∷◌, ◌++◌, length, get_or, take, drop, map, max, Option, Some, None, Result, Ok, Err, refl, ap, sym, ◌∙◌, subst, ⊎_elim, arith, length-append}
+use Rattle.std.specs.Prelude.{nat_le, nat_lt, if◌then◌else◌}
+use Rattle.std.specs.Int.{is_power_of_two}
+use Rattle.std.specs.Option.{option_map}
+use Rattle.std.proofs.lemmas.Bool.{cases_lt}
+use Rattle.std.proofs.lemmas.List.{ext_get_or, get_or_append_left, get_or-append_right, get_or-drop, get_or-take, length-drop, length-take-le}
+use Rattle.pe_core.specs.Bytes.{AreBytes, bytes_of, splice}
+use Rattle.pe_core.specs.Header.{HeaderView, OptionalHeaderView, header_at}
+use Rattle.pe_core.specs.Refusals.{◌>>=◌}
+use Rattle.pe_core.specs.Rows.{each}
+use Rattle.pe_core.specs.SectionMap.{offset_of, section_map}
+use Rattle.pe_core.specs.Sections.{raw_end, sections_offset}
+use Rattle.pe_core.specs.declared.options.ParseMode.{ParseMode}
+use Rattle.pe_core.specs.declared.options.ParseOptions.{ParseOptions}
+use Rattle.pe_core.specs.declared.section_table.SectionTable.{SectionTable}
+use Rattle.pe_core.proofs.EntryItems.{get_or-each, length-each}
+use Rattle.pe_resource.specs.Contents.{file_bytes}
+use Rattle.pe_edit.specs.Written.{Each, Leaf, Numbers, section}
+use Rattle.pe_sign.proofs.Digests.{range_past}
+use Rattle.pe_rewrite.specs.Edited.{RoomLies, at_end, edited_file, edited_of, grown_size, in_place, is_moved_over, is_written, moved_file, or_at_end, roomy_file, sum_by, sum_of, wants_room, with_resources, with_sum}
+use Rattle.pe_rewrite.specs.Places.{is_outside, section_header, section_headers}
+use Rattle.pe_rewrite.specs.RewriteRefusals.{RewriteRefusal}
+use Rattle.pe_rewrite.specs.Rooms.{room_of}
+use Rattle.pe_rewrite.specs.WrittenImages.{edited_headers, entry_of, headers_roomy, leaves_of_image, optional_roomy, resized, sections_with}
+use Rattle.pe_rewrite.specs.declared.place.Place.{Place}
+use Rattle.pe_rewrite.specs.declared.place.Target.{Target}
+use Rattle.pe_rewrite.specs.declared.room.Room.{Room}
+use Rattle.pe_rewrite.proofs.Placed.{Placed, place_lies}
+use Rattle.pe_rewrite.proofs.Results.{first_ok}
+use Rattle.pe_rewrite.proofs.RoomBytes.{SmallRoom, roomy_byte, roomy_byte_after}
+use Rattle.pe_rewrite.proofs.RoomHeaders.{roomy_headers, small_room}
+use Rattle.pe_rewrite.proofs.RoomMapped.{roomy_map, roomy_mapped}
+use Rattle.pe_rewrite.proofs.RoomPlaced.{TableIs, other_header, roomy_placed, table_is}
+use Rattle.pe_rewrite.proofs.RoomWrites.{roomy_length}
+use Rattle.pe_rewrite.proofs.Roomy.{HasRoom, has_room, room_lies}
+use Rattle.pe_rewrite.proofs.WrittenImages.{IsFile, bytes_stay_placed, directory_read_placed, headers_parsed_placed, length_stays_placed, map_is_same_placed, mapped_byte_placed}
+use Rattle.pe_rewrite.proofs.WrittenSections.{IsEdited, is_edited, other_row, own_row}
+use Rattle.pe_rewrite.proofs.WrittenTrees.{leaves_found_placed}
+
+-- ---- the file
+
+same_ok : {X R : Type 0} (r : Result X R) (x y : X) → r ≡ Ok x → r ≡ Ok y → x ≡ y
+same_ok r x y e i = cc
+
+-- the file is that with these leaves, if there is this room
+moved_is : (b : List ℕ) (h : HeaderView) (xs : List Leaf) (m : Room) (f : List ℕ) → room_of b h xs ≡ Ok m → at_end b h xs ≡ Ok f → moved_file h m xs b ≡ f
+moved_is b h xs m f e i = same_ok (at_end b h xs) (moved_file h m xs b) f (ap (λ (r : Result Room RewriteRefusal). r >>= λ n. Ok (moved_file h n xs b)) e) i
+
+-- the checksum is by the same field
+sum_roomy : (p : ℕ) (o : Option OptionalHeaderView) (m : Room) (f : List ℕ) → sum_by p (option_map (optional_roomy m) o) f ≡ sum_by p o f
+sum_roomy p None m f = refl
+sum_roomy p (Some o) m f = refl
+
+file_roomy : (h : HeaderView) (m : Room) (f : List ℕ) → with_sum (headers_roomy m h) f ≡ with_sum h f
+unfolding with_sum
+file_roomy h m f = ap (λ (n : ℕ). splice f (h.dos_header.pe_pointer + 88) (bytes_of 4 n)) (sum_roomy h.dos_header.pe_pointer h.optional_header m f)
+
+some_is : {X : Type 0} (x y : X) → Some x ≡ Some y → x ≡ y
+some_is x y e = cc
+
+alignment_of : (b : List ℕ) (h : HeaderView) (xs : List Leaf) (m : Room) (x : HasRoom b h xs m) (w : OptionalHeaderView) → h.optional_header ≡ Some w → w.windows_fields.file_alignment ≡ x.target.file_alignment
+alignment_of b h xs m x w some =
+    let same : w ≡ x.of.optional = some_is w x.of.optional (sym some ∙ x.of.some) in
+    ap (λ (o : OptionalHeaderView). o.windows_fields.file_alignment) same ∙ ap (λ (t : Target). t.file_alignment) x.of.value
+
+-- f is the file with the leaves in this room
+pub record IsMoved (b : List ℕ) (h : HeaderView) (xs : List Leaf) (m : Room) (f : List ℕ) : Type 0 where
+  pub room : HasRoom b h xs m
+  pub file : IsFile (roomy_file h m b) (headers_roomy m h) xs m.place f
+
+pub is_moved : (b : List ℕ) (h : HeaderView) (xs : List Leaf) (m : Room) (f : List ℕ) → AreBytes b → room_of b h xs ≡ Ok m → at_end b h xs ≡ Ok f → IsMoved b h xs m f
+is_moved b h xs m f small e i =
+    let x : HasRoom b h xs m = has_room b h xs m e in
+    record {
+      room = x;
+      file = record {
+        placed = roomy_placed b h xs m small x;
+        file = file_roomy h m (with_resources m.place (section m.place.section.virtual_address xs) (roomy_file h m b)) ∙ moved_is b h xs m f e i;
+      };
+    }
+
+size_in_memory : (b : List ℕ) (h : HeaderView) (xs : List Leaf) (m : Room) → AreBytes b → HasRoom b h xs m → m.place.section.virtual_size < 2 ^ 32
+size_in_memory b h xs m small x = (small_room b h xs m small x).row.virtual_size
+
+-- ---- what stays, and what moves
+
+pub length_moved : (b : List ℕ) (h : HeaderView) (xs : List Leaf) (m : Room) (f : List ℕ) → AreBytes b → room_of b h xs ≡ Ok m → at_end b h xs ≡ Ok f → length f ≡ length b + m.more
+length_moved b h xs m f small e i =
+    let y : IsMoved b h xs m f = is_moved b h xs m f small e i in
+    length_stays_placed (roomy_file h m b) (headers_roomy m h) xs m.place f y.file ∙ roomy_length h m b (room_lies b h xs m y.room)
+
+six_of : (a b c d e w : Bool) → (a || (b || (c || (d || (e || w))))) ≡ false → (a ≡ false) × ((b ≡ false) × ((c ≡ false) × ((d ≡ false) × ((e ≡ false) × (w ≡ false)))))
+six_of false false false false false false h = (refl, (refl, (refl, (refl, (refl, refl)))))
+six_of false false false false false true h = absurd cc
+six_of false false false false true w h = absurd cc
+six_of false false false true e w h = absurd cc
+six_of false false true d e w h = absurd cc
+six_of false true c d e w h = absurd cc
+six_of true b c d e w h = absurd cc
+
+third_of : (a b c d : Bool) → (a || (b || (c || d))) ≡ false → c ≡ false
+third_of false false false d h = refl
+third_of false false true d h = absurd cc
+third_of false true c d h = absurd cc
+third_of true b c d h = absurd cc
+
+pub bytes_before : (b : List ℕ) (h : HeaderView) (xs : List Leaf) (m : Room) (f : List ℕ) (k : ℕ) → AreBytes b → room_of b h xs ≡ Ok m → at_end b h xs ≡ Ok f → k < m.end → is_moved_over h m k ≡ false → get_or f k 0 ≡ get_or b k 0
+bytes_before b h xs m f k small e i lt over =
+    let y : IsMoved b h xs m f = is_moved b h xs m f small e i in
+    let p : ℕ = h.dos_header.pe_pointer in
+    let in_raw : Bool = nat_le m.place.section.pointer_to_raw_data k && nat_lt k (m.place.section.pointer_to_raw_data + m.place.section.size_of_raw_data) in
+    let in_row : Bool = nat_le (m.place.row + 8) k && nat_lt k (m.place.row + 8 + 4) in
+    let in_entry : Bool = nat_le m.place.entry k && nat_lt k (m.place.entry + 8) in
+    let in_sum : Bool = nat_le (p + 88) k && nat_lt k (p + 88 + 4) in
+    let s = six_of (nat_le (p + 6) k && nat_lt k (p + 6 + 2)) (nat_le (p + 12) k && nat_lt k (p + 12 + 4)) (nat_le (p + 32) k && nat_lt k (p + 32 + 4)) (nat_le (p + 80) k && nat_lt k (p + 80 + 4)) (nat_le m.place.row k && nat_lt k (m.place.row + 40)) (is_written h m.place k) over in
+    bytes_stay_placed (roomy_file h m b) (headers_roomy m h) xs m.place f k y.file s.1.1.1.1.1
+    ∙ roomy_byte h m b k (room_lies b h xs m y.room) lt s.0 s.1.0 s.1.1.0 s.1.1.1.0 (third_of in_raw in_row in_entry in_sum s.1.1.1.1.1) s.1.1.1.1.0
+
+four_false : (a b c d : Bool) → a ≡ false → b ≡ false → c ≡ false → d ≡ false → (a || (b || (c || d))) ≡ false
+four_false a b c d i j k l = rw (i, j, k, l) refl
+
+pub bytes_after : (b : List ℕ) (h : HeaderView) (xs : List Leaf) (m : Room) (f : List ℕ) (k : ℕ) → AreBytes b → room_of b h xs ≡ Ok m → at_end b h xs ≡ Ok f → m.end ≤ k → get_or f (k + m.more) 0 ≡ get_or b k 0
+bytes_after b h xs m f k small e i from =
+    let y : IsMoved b h xs m f = is_moved b h xs m f small e i in
+    let l : RoomLies h m (length b) = room_lies b h xs m y.room in
+    let p : ℕ = h.dos_header.pe_pointer in
+    let q : ℕ = k + m.more in
+    bytes_stay_placed (roomy_file h m b) (headers_roomy m h) xs m.place f q y.file
+    (four_false _ _ _ _ (range_past m.place.section.pointer_to_raw_data m.place.section.size_of_raw_data q (omega (arith, l.section, from))) (range_past (m.place.row + 8) 4 q (omega (arith, l.row, from)))
+    (range_past m.place.entry 8 q (omega (arith, l.entry, l.row, from))) (range_past (p + 88) 4 q (omega (arith, l.sum, l.entry, l.row, from))))
+    ∙ roomy_byte_after h m b k l from
+
+pub more_multiple : (b : List ℕ) (h : HeaderView) (xs : List Leaf) (m : Room) (w : OptionalHeaderView) → room_of b h xs ≡ Ok m → h.optional_header ≡ Some w → m.more % w.windows_fields.file_alignment ≡ 0
+more_multiple b h xs m w e some =
+    let x : HasRoom b h xs m = has_room b h xs m e in
+    ap (λ (n : ℕ). n % w.windows_fields.file_alignment) (ap (λ (r : Room). r.more) (sym x.value)) ∙ ap (λ (u : ℕ). x.section.more % u) (alignment_of b h xs m x w some) ∙ x.is.multiple
+
+-- ---- the headers
+
+pub headers_moved : (mode : ParseMode) (b : List ℕ) (h : HeaderView) (xs : List Leaf) (m : Room) (f : List ℕ) → AreBytes b → header_at b mode ≡ Ok h → room_of b h xs ≡ Ok m → at_end b h xs ≡ Ok f → header_at f mode ≡ Ok (edited_headers m.place (sum_of h f) (headers_roomy m h))
+headers_moved mode b h xs m f small parsed e i =
+    let y : IsMoved b h xs m f = is_moved b h xs m f small e i in
+    headers_parsed_placed mode (roomy_file h m b) (headers_roomy m h) xs m.place f (roomy_headers mode b h xs m small parsed y.room) y.file
+    ∙ ap (λ (n : ℕ). Ok (edited_headers m.place n (headers_roomy m h))) (sum_roomy h.dos_header.pe_pointer h.optional_header m f)
+
+-- ---- the sections
+
+list_with : {X : Type 0} (f g : ℕ → X) (n m i : ℕ) (x : X) → m ≡ max n (i + 1) → i ≤ n → ((k : ℕ) → k < n → k ≢ i → f k ≡ g k) → f i ≡ x → each f m ≡ take i (each g n) ++ (x ∷ drop (i + 1) (each g n))
+list_with f g n m i x count le same own =
+    let l = each g n in
+    let size : length l ≡ n = length-each g n in
+    let start : length (take i l) ≡ i = length-take-le i l (omega (arith, size, le)) in
+    let rest : length (drop (i + 1) l) ≡ n - (i + 1) = length-drop (i + 1) l ∙ ap (λ (k : ℕ). k - (i + 1)) size in
+    let whole : length (take i l ++ (x ∷ drop (i + 1) l)) ≡ i + (1 + (n - (i + 1))) = length-append (take i l) (x ∷ drop (i + 1) l) ∙ omega (arith, start, rest) in
+    ext_get_or x (each f m) (take i l ++ (x ∷ drop (i + 1) l)) (length-each f m ∙ omega (arith, count, le, whole))
+    (λ k lt.
+    let small : k < m = omega (arith, lt, length-each f m) in
+    get_or-each f m k x small ∙ ⊎_elim
+    (λ (less : k < i).
+    let below : k < n = omega (arith, less, le) in
+    same k below (omega (arith, less)) ∙ sym (get_or_append_left (take i l) (x ∷ drop (i + 1) l) x k (omega (arith, start, less)) ∙ get_or-take i l k x less ∙ get_or-each g n k x below))
+    (λ (from : i ≤ k).
+    let right : get_or (take i l ++ (x ∷ drop (i + 1) l)) k x ≡ get_or (x ∷ drop (i + 1) l) (k - i) x = get_or-append_right (take i l) (x ∷ drop (i + 1) l) i k x start from in
+    ⊎_elim
+    (λ (more : i < k).
+    let below : k < n = omega (arith, small, count, more) in
+    let next : k - i ≡ suc (k - i - 1) = omega (arith, more) in
+    let there : (i + 1) + (k - i - 1) ≡ k = omega (arith, more) in
+    same k below (omega (arith, more))
+    ∙ sym (right ∙ ap (λ (j : ℕ). get_or (x ∷ drop (i + 1) l) j x) next ∙ get_or-drop (i + 1) l (k - i - 1) x ∙ ap (λ (j : ℕ). get_or l j x) there ∙ get_or-each g n k x below))
+    (λ (to : k ≤ i).
+    let is : k ≡ i = omega (arith, from, to) in
+    let none : k - i ≡ 0 = omega (arith, is) in
+    ap f is ∙ own ∙ sym (right ∙ ap (λ (j : ℕ). get_or (x ∷ drop (i + 1) l) j x) none))
+    (cases_lt i k))
+    (cases_lt k i))
+
+sections_by : (b : List ℕ) (h : HeaderView) (xs : List Leaf) (m : Room) (x : HasRoom b h xs m) → AreBytes b → (i : ℕ) → m.place.row ≡ sections_offset h + 40 * i →
+    section_headers (edited_file (headers_roomy m h) m.place xs (roomy_file h m b)) (headers_roomy m h) ≡ sections_with i (resized (grown_size m.place) m.place.section) (section_headers b h)
+sections_by b h xs m x small i row =
+    let t : TableIs b h xs m x = table_is b h xs m x in
+    let g : List ℕ = roomy_file h m b in
+    let h2 : HeaderView = headers_roomy m h in
+    let p : Placed g h2 xs m.place = roomy_placed b h xs m small x in
+    let d : IsEdited g h2 xs m.place p.index = is_edited g h2 xs m.place p in
+    let at : p.index ≡ i = omega (arith, d.row, row) in
+    let here : x.section.index ≡ i = omega (arith, t.row, row) in
+    let f : ℕ → SectionTable = section_header (edited_file h2 m.place xs g) h2 in
+    list_with f (section_header b h) h.coff_header.number_of_sections m.number_of_sections i (resized (grown_size m.place) m.place.section) (omega (arith, t.count, here)) (omega (arith, x.is.index, here))
+    (λ k lt other. other_row g h2 xs m.place p.index k d (omega (arith, t.count, lt)) (omega (arith, other, at)) ∙ other_header b h xs m x k lt (omega (arith, other, here)))
+    (ap f (sym at) ∙ own_row g h2 xs m.place p.index (size_in_memory b h xs m small x) d)
+
+pub sections_moved : (b : List ℕ) (h : HeaderView) (xs : List Leaf) (m : Room) (f : List ℕ) (i : ℕ) → AreBytes b → room_of b h xs ≡ Ok m → at_end b h xs ≡ Ok f → m.place.row ≡ sections_offset h + 40 * i →
+    section_headers f (headers_roomy m h) ≡ sections_with i (resized (grown_size m.place) m.place.section) (section_headers b h)
+sections_moved b h xs m f i small e j row =
+    let y : IsMoved b h xs m f = is_moved b h xs m f small e j in
+    ap (λ (g : List ℕ). section_headers g (headers_roomy m h)) (sym y.file.file) ∙ sections_by b h xs m y.room small i row
+
+-- ---- the map
+
+pub map_moved : (o : ParseOptions) (b : List ℕ) (h : HeaderView) (xs : List Leaf) (m : Room) (f : List ℕ) (alignment a : ℕ) → AreBytes b → room_of b h xs ≡ Ok m → at_end b h xs ≡ Ok f → is_outside m.place.section a ≡ true →
+    section_map o (section_headers f (headers_roomy m h)) alignment a ≡ section_map o (section_headers b h) alignment a
+map_moved o b h xs m f alignment a small e i out =
+    let y : IsMoved b h xs m f = is_moved b h xs m f small e i in
+    map_is_same_placed o (roomy_file h m b) (headers_roomy m h) xs m.place f alignment a (size_in_memory b h xs m small y.room) y.file out
+    ∙ roomy_map b h xs m y.room o.resolve_rva alignment a small out
+
+-- the optional header, by that of the image
+some_roomy : (h : HeaderView) (m : Room) (w : OptionalHeaderView) → h.optional_header ≡ Some w → (headers_roomy m h).optional_header ≡ Some (optional_roomy m w)
+some_roomy h m w some = ap (option_map (optional_roomy m)) some
+
+pub byte_moved : (o : ParseOptions) (b : List ℕ) (h : HeaderView) (xs : List Leaf) (m : Room) (f : List ℕ) (w : OptionalHeaderView) (a q : ℕ) → AreBytes b → room_of b h xs ≡ Ok m → at_end b h xs ≡ Ok f → h.optional_header ≡ Some w → o.resolve_rva ≡ true → is_outside m.place.section a ≡ true →
+    section_map o (section_headers b h) w.windows_fields.file_alignment a ≡ Some q → get_or f q 0 ≡ get_or b q 0
+byte_moved o b h xs m f w a q small e i some resolves out mapped =
+    let y : IsMoved b h xs m f = is_moved b h xs m f small e i in
+    let x : HasRoom b h xs m = y.room in
+    let n : ℕ = w.windows_fields.file_alignment in
+    let same : n ≡ x.target.file_alignment = alignment_of b h xs m x w some in
+    let there : section_map o (section_headers (roomy_file h m b) (headers_roomy m h)) n a ≡ Some q = roomy_map b h xs m x o.resolve_rva n a small out ∙ mapped in
+    let resolved : offset_of true n (section_headers b h) a ≡ Some q = ap (λ (r : Bool). offset_of r n (section_headers b h) a) (sym resolves) ∙ mapped in
+    mapped_byte_placed o (roomy_file h m b) (headers_roomy m h) xs m.place f (optional_roomy m w) a q y.file (some_roomy h m w some) resolves out there
+    ∙ roomy_mapped b h xs m x n a q same (ap is_power_of_two same ∙ x.headers.power) out resolved
+
+-- ---- the leaves
+
+pub directory_moved : (o : ParseOptions) (b : List ℕ) (h : HeaderView) (xs : List Leaf) (m : Room) (f : List ℕ) (w : OptionalHeaderView) → AreBytes b → room_of b h xs ≡ Ok m → at_end b h xs ≡ Ok f → h.optional_header ≡ Some w → o.resolve_rva ≡ true →
+    file_bytes f m.place.length (section_map o (section_headers f (headers_roomy m h)) w.windows_fields.file_alignment m.place.section.virtual_address) ≡ Ok (section m.place.section.virtual_address xs)
+directory_moved o b h xs m f w small e i some resolves =
+    let y : IsMoved b h xs m f = is_moved b h xs m f small e i in
+    directory_read_placed o (roomy_file h m b) (headers_roomy m h) xs m.place f (optional_roomy m w) (size_in_memory b h xs m small y.room) y.file (some_roomy h m w some) resolves
+
+pub leaves_moved : (o : ParseOptions) (b : List ℕ) (h : HeaderView) (xs : List Leaf) (m : Room) (f : List ℕ) (w : OptionalHeaderView) → AreBytes b → Each Numbers xs → room_of b h xs ≡ Ok m → at_end b h xs ≡ Ok f → h.optional_header ≡ Some w → o.resolve_rva ≡ true →
+    leaves_of_image o f (entry_of m.place) (section_headers f (headers_roomy m h)) w.windows_fields.file_alignment ≡ Ok (map (λ x. Ok x) xs)
+leaves_moved o b h xs m f w small numbers e i some resolves =
+    let y : IsMoved b h xs m f = is_moved b h xs m f small e i in
+    leaves_found_placed o (roomy_file h m b) (headers_roomy m h) xs m.place f (optional_roomy m w) (size_in_memory b h xs m small y.room) numbers y.file (some_roomy h m w some) resolves
+
+-- ---- which of the two an edit writes
+
+second_by : (t : Bool) (k : RewriteRefusal) (s : Result (List ℕ) RewriteRefusal) (f : List ℕ) → (if t then s else Err k) ≡ Ok f → s ≡ Ok f
+second_by true k s f e = e
+second_by false k s f e = absurd cc
+
+or_cases : (r s : Result (List ℕ) RewriteRefusal) (f : List ℕ) → or_at_end r s ≡ Ok f → (r ≡ Ok f) ⊎ (s ≡ Ok f)
+or_cases (Ok g) s f e = inl e
+or_cases (Err k) s f e = inr (second_by (wants_room k) k s f e)
+
+pub one_of_two : (b : List ℕ) (h : HeaderView) (xs : List Leaf) (f : List ℕ) → edited_of b h xs ≡ Ok f → (in_place b h xs ≡ Ok f) ⊎ (at_end b h xs ≡ Ok f)
+one_of_two b h xs f e = or_cases (in_place b h xs) (at_end b h xs) f e

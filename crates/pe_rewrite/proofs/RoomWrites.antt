@@ -1,0 +1,111 @@
+-- The file with room for resources, written into a buffer.
+use Rattle.std.proofs.Common.{◌≡◌, ℕ, ◌+◌, ◌≤◌, List, [], ◌∷◌, ◌++◌, length, take, drop, replicate, refl, ap, sym, ◌∙◌, subst, arith, length-append}
+use Rattle.std.proofs.lemmas.List.{append_assoc, length-drop, length-replicate, length-take-le}
+use Rattle.pe_core.specs.Bytes.{bytes_of, splice}
+use Rattle.pe_core.specs.Header.{HeaderView}
+use Rattle.pe_core.specs.Spelling.{spell_section}
+use Rattle.pe_core.specs.declared.section_table.SectionTable.{SectionTable}
+use Rattle.pe_core.proofs.Splices.{length-bytes_of, length-splice, splice-splice}
+use Rattle.pe_rewrite.specs.Edited.{Inside, RoomLies, changed, room_changes, roomy_file, with_zeros}
+use Rattle.pe_rewrite.specs.declared.room.Room.{Room}
+use Rattle.pe_rewrite.proofs.Writes.{Fit, inner, length-changed}
+
+-- ---- a section header
+
+-- the bytes x, n of them, are put at p: the bytes b have become now
+pub record Laid (b : List ℕ) (p n : ℕ) (now x : List ℕ) : Type 0 where
+  pub inside : p ≤ length b
+  pub count : length x ≡ n
+  pub same : now ≡ splice b p x
+
+pub laid_first : {b now : List ℕ} {p : ℕ} (x : List ℕ) (n : ℕ) → p ≤ length b → length x ≡ n → now ≡ splice b p x → Laid b p n now x
+laid_first x n h l e = record { inside = h; count = l; same = e }
+
+pub then_number : {b old now x : List ℕ} {p n : ℕ} (w v : ℕ) → Laid b p n old x → now ≡ splice old (p + n) (bytes_of w v) → Laid b p (n + w) now (x ++ bytes_of w v)
+then_number {b} {old} {now} {x} {p} {n} w v l e = record {
+  inside = l.inside;
+  count = omega (arith, length-append x (bytes_of w v), l.count, length-bytes_of w v);
+  same = e ∙ ap (λ (o : List ℕ). splice o (p + n) (bytes_of w v)) l.same ∙ ap (λ (k : ℕ). splice (splice b p x) (p + k) (bytes_of w v)) (sym l.count) ∙ splice-splice b p x (bytes_of w v) l.inside;
+}
+
+pub length_row : (s : SectionTable) → length s.name ≡ 8 → length (spell_section s) ≡ 40
+unfolding spell_section
+length_row s h = simp (length-append, length-bytes_of) (omega (arith, h))
+
+-- ---- the zeros
+
+pub length_apart : (e d : ℕ) (b : List ℕ) → e ≤ length b → length (with_zeros e d b) ≡ length b + d
+unfolding with_zeros
+length_apart e d b h = simp (length-append, length-replicate, length-drop) (omega (arith, length-take-le e b h, h))
+
+pub apart_set : (old b one two three : List ℕ) (e d : ℕ) → e ≤ length b → one ≡ splice old 0 (take e b) → two ≡ splice one e (replicate d 0) → three ≡ splice two (e + d) (drop e b) → three ≡ splice old 0 (with_zeros e d b)
+unfolding with_zeros
+apart_set old b one two three e d h i j k =
+    let x : List ℕ = take e b in
+    let z : List ℕ = replicate d 0 in
+    let size : length x ≡ e = length-take-le e b h in
+    let at_first : e ≡ 0 + length x = omega (arith, size) in
+    let first : two ≡ splice old 0 (x ++ z) =
+    j ∙ ap (λ (o : List ℕ). splice o e z) i ∙ ap (λ (n : ℕ). splice (splice old 0 x) n z) at_first ∙ splice-splice old 0 x z (omega arith) in
+    let zeros : length z ≡ d = length-replicate {A = ℕ} d 0 in
+    let at_second : e + d ≡ 0 + length (x ++ z) = omega (arith, length-append x z, size, zeros) in
+    k ∙ ap (λ (o : List ℕ). splice o (e + d) (drop e b)) first ∙ ap (λ (n : ℕ). splice (splice old 0 (x ++ z)) n (drop e b)) at_second ∙ splice-splice old 0 (x ++ z) (drop e b) (omega arith)
+    ∙ ap (splice old 0) (append_assoc x z (drop e b))
+
+-- ---- the headers
+
+pub room_fit : (h : HeaderView) (m : Room) (n : ℕ) → RoomLies h m n → Fit (n + m.more) (room_changes h.dos_header.pe_pointer m)
+room_fit h m n l =
+    let row : length (spell_section m.place.section) ≡ 40 = length_row m.place.section l.name in (
+      omega (arith, length-bytes_of 2 m.number_of_sections, l.sum, l.entry, l.row, l.end),
+      (
+        omega (arith, length-bytes_of 4 m.pointer_to_symbol_table, l.sum, l.entry, l.row, l.end),
+        (
+          omega (arith, length-bytes_of 4 m.size_of_initialized_data, l.sum, l.entry, l.row, l.end),
+          (
+            omega (arith, length-bytes_of 4 m.size_of_image, l.sum, l.entry, l.row, l.end),
+            (
+              omega (arith, length-bytes_of 4 m.place.section.virtual_address, l.entry, l.row, l.end),
+              (omega (arith, length-bytes_of 4 m.place.length, l.entry, l.row, l.end), (omega (arith, row, l.row, l.end), tt)),
+            ),
+          ),
+        ),
+      ),
+    )
+
+pub roomy_length : (h : HeaderView) (m : Room) (b : List ℕ) → RoomLies h m (length b) → length (roomy_file h m b) ≡ length b + m.more
+unfolding roomy_file
+roomy_length h m b l =
+    let zeros : length (with_zeros m.end m.more b) ≡ length b + m.more = length_apart m.end m.more b l.end in
+    length-changed (room_changes h.dos_header.pe_pointer m) (with_zeros m.end m.more b) (subst (λ (n : ℕ). Fit n (room_changes h.dos_header.pe_pointer m)) (sym zeros) (room_fit h m (length b) l)) ∙ zeros
+
+changed_front : (cs : List (ℕ × List ℕ)) (old b now : List ℕ) → Fit (length b) cs → now ≡ splice old 0 b → changed cs now ≡ splice old 0 (changed cs b)
+changed_front [] old b now f e = e
+changed_front (c ∷ cs) old b now f e =
+    let one : length (splice b c.0 c.1) ≡ length b = length-splice b c.0 c.1 f.0 in
+    changed_front cs old (splice b c.0 c.1) (splice now c.0 c.1) (subst (λ (n : ℕ). Fit n cs) (sym one) f.1) (inner old b now (splice now c.0 c.1) c.1 c.0 e refl f.0)
+
+pub room_set : (h : HeaderView) (m : Room) (old b one two three four five six seven new : List ℕ) → RoomLies h m (length b) → one ≡ splice old 0 (with_zeros m.end m.more b) →
+    two ≡ splice one (h.dos_header.pe_pointer + 6) (bytes_of 2 m.number_of_sections) →
+    three ≡ splice two (h.dos_header.pe_pointer + 12) (bytes_of 4 m.pointer_to_symbol_table) →
+    four ≡ splice three (h.dos_header.pe_pointer + 32) (bytes_of 4 m.size_of_initialized_data) →
+    five ≡ splice four (h.dos_header.pe_pointer + 80) (bytes_of 4 m.size_of_image) →
+    six ≡ splice five m.place.entry (bytes_of 4 m.place.section.virtual_address) →
+    seven ≡ splice six (m.place.entry + 4) (bytes_of 4 m.place.length) →
+    new ≡ splice seven m.place.row (spell_section m.place.section) → new ≡ splice old 0 (roomy_file h m b)
+unfolding roomy_file
+room_set h m old b one two three four five six seven new l i j k n o p q r =
+    let zeros : length (with_zeros m.end m.more b) ≡ length b + m.more = length_apart m.end m.more b l.end in
+    let fit = subst (λ (n : ℕ). Fit n (room_changes h.dos_header.pe_pointer m)) (sym zeros) (room_fit h m (length b) l) in
+    rw (r, q, p, o, n, k, j) (changed_front (room_changes h.dos_header.pe_pointer m) old (with_zeros m.end m.more b) one fit i)
+
+-- ---- the leaves in it
+
+pub room_inside : (h : HeaderView) (m : Room) (n : ℕ) → RoomLies h m n → Inside h m.place (n + m.more)
+room_inside h m n l = record {
+  sum = omega (arith, l.sum, l.entry, l.row, l.end);
+  entry = omega (arith, l.entry, l.row, l.end);
+  row = omega (arith, l.row, l.end);
+  end = omega (arith, l.section, l.end);
+  room = l.room;
+}

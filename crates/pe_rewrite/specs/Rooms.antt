@@ -1,0 +1,221 @@
+-- Where resources go that have no room in place: to the end of the image, into a new section or into their own if it is the
+-- last. (PE format: COFF file header, optional header, section table.)
+use Rattle.std.specs.Prelude.{ℕ, ◌+◌, ◌-◌, ◌*◌, ◌/◌, ◌%◌, ◌==◌, ◌&&◌, ◌||◌, max, min, Bool, true, false, Option, Some, None, List, [], ◌∷◌, Result, Ok, Err, length, nat_le, nat_lt, if◌then◌else◌}
+use Rattle.std.specs.List.{fold, list_all, position_or_len}
+use Rattle.pe_core.specs.Bytes.{le}
+use Rattle.pe_core.specs.Directories.{absent_directory}
+use Rattle.pe_core.specs.Header.{HeaderView, OptionalHeaderView}
+use Rattle.pe_core.specs.Refusals.{outcome, ◌>>=◌}
+use Rattle.pe_core.specs.Rows.{each}
+use Rattle.pe_core.specs.SectionMap.{raw_start, rounded_up}
+use Rattle.pe_core.specs.Sections.{raw_end, sections_offset}
+use Rattle.pe_core.specs.declared.data_directories.DataDirectory.{DataDirectory}
+use Rattle.pe_core.specs.declared.section_table.SectionTable.{SectionTable}
+use Rattle.pe_edit.specs.Written.{Leaf}
+use Rattle.pe_rewrite.specs.Places.{directory_at, header_tests, headers_end, index_of, is_alone, length_at, pages_end, section_header, section_headers, target_of}
+use Rattle.pe_rewrite.specs.RewriteRefusals.{RewriteRefusal, DebugData, NoHeaderRoom, ImageTooLarge, Section, SharedSection, Symbols, Overlap}
+use Rattle.pe_rewrite.specs.declared.place.Target.{Target}
+use Rattle.pe_rewrite.specs.declared.room.LastSection.{LastSection}
+use Rattle.pe_rewrite.specs.declared.room.Room.{Room}
+use Rattle.pe_rewrite.specs.declared.room.Sizes.{Sizes}
+
+-- ---- the section
+
+-- the section with more bytes of data
+abbrev pub enlarged : LastSection → SectionTable
+enlarged l = record l.section { size_of_raw_data = l.section.size_of_raw_data + l.more }
+
+-- the resource section, which has this index, with room for n bytes
+abbrev pub own_section : List ℕ → HeaderView → Target → ℕ → ℕ → LastSection
+own_section b h t n i =
+    let s = section_header b h i in
+    record { index = i; section = s; more = rounded_up (n - s.size_of_raw_data) t.file_alignment }
+
+-- where the data of all sections end in the file, and the headers
+abbrev pub later_end : ℕ → SectionTable → ℕ
+later_end n s = max n (if s.size_of_raw_data == 0 then 0 else raw_end s)
+
+abbrev pub data_end : List ℕ → HeaderView → Target → ℕ
+data_end b h t = fold later_end t.size_of_headers (section_headers b h)
+
+-- the RVA after the image
+abbrev pub image_end : Target → ℕ
+image_end t = rounded_up t.size_of_image t.section_alignment
+
+-- the header of a new section without data: `.rsrc`, of initialized data that can be read
+abbrev pub new_header : ℕ → ℕ → SectionTable
+new_header rva offset = record {
+  name = 46 ∷ 114 ∷ 115 ∷ 114 ∷ 99 ∷ 0 ∷ 0 ∷ 0 ∷ [];
+  virtual_size = 0;
+  virtual_address = rva;
+  size_of_raw_data = 0;
+  pointer_to_raw_data = offset;
+  pointer_to_relocations = 0;
+  pointer_to_linenumbers = 0;
+  number_of_relocations = 0;
+  number_of_linenumbers = 0;
+  characteristics = 0x40000040;
+}
+
+-- a new section after them, with room for n bytes
+abbrev pub new_section : List ℕ → HeaderView → Target → ℕ → LastSection
+new_section b h t n = record {
+  index = h.coff_header.number_of_sections;
+  section = new_header (image_end t) (data_end b h t);
+  more = rounded_up n t.file_alignment;
+}
+
+-- ---- the room that it makes
+
+-- how many sections there are with it, and where the section table ends
+abbrev pub count_with : HeaderView → ℕ → ℕ
+count_with h i = max h.coff_header.number_of_sections (i + 1)
+
+abbrev pub table_end : HeaderView → ℕ → ℕ
+table_end h i = sections_offset h + 40 * count_with h i
+
+-- a file offset after `more` bytes were put in at `end`
+abbrev pub moved : ℕ → ℕ → ℕ → ℕ
+moved end more p = if nat_lt p end then p else p + more
+
+-- the numbers that change, for n bytes of resources in the section: where its data end, and fields of the headers
+abbrev pub sizes_of : HeaderView → Target → ℕ → LastSection → Sizes
+sizes_of h t n l = record {
+  data_end = raw_end l.section + l.more;
+  pointer_to_symbol_table = moved (raw_end l.section) l.more h.coff_header.pointer_to_symbol_table;
+  size_of_initialized_data = t.size_of_initialized_data + l.more;
+  size_of_image = max t.size_of_image (rounded_up (l.section.virtual_address + n) t.section_alignment);
+}
+
+-- the room: the bytes of the file after the section's data move
+abbrev pub room_at : HeaderView → Target → ℕ → LastSection → Room
+room_at h t n l = record {
+  place = record {
+    entry = t.entry;
+    row = sections_offset h + 40 * l.index;
+    section = enlarged l;
+    length = n;
+  };
+  end = raw_end l.section;
+  more = l.more;
+  number_of_sections = count_with h l.index;
+  pointer_to_symbol_table = (sizes_of h t n l).pointer_to_symbol_table;
+  size_of_initialized_data = (sizes_of h t n l).size_of_initialized_data;
+  size_of_image = (sizes_of h t n l).size_of_image;
+}
+
+-- ---- whether it can be made
+
+-- 40 bytes of zeros
+abbrev pub are_zeros : List ℕ → ℕ → Bool
+are_zeros b p =
+    nat_le (p + 40) (length b)
+    && (le b p 8 == 0 && (le b (p + 8) 8 == 0 && (le b (p + 16) 8 == 0 && (le b (p + 24) 8 == 0 && le b (p + 32) 8 == 0))))
+
+-- there are fewer than 65,536 sections with it, after the DOS header, and if it is new, 40 zeros follow the section table, in the
+-- headers
+abbrev pub has_header : List ℕ → HeaderView → Target → ℕ → Bool
+has_header b h t i =
+    nat_lt (count_with h i) 65536
+    && (nat_le 64 h.dos_header.pe_pointer
+    && (nat_lt i h.coff_header.number_of_sections || (nat_le (headers_end h + 40) t.size_of_headers && are_zeros b (headers_end h))))
+
+-- the numbers have 32 bits
+abbrev pub is_u32 : ℕ → Bool
+is_u32 n = nat_lt n 4294967296
+
+abbrev pub are_u32 : Sizes → Bool
+are_u32 z =
+    is_u32 z.data_end && (is_u32 z.pointer_to_symbol_table && (is_u32 z.size_of_initialized_data && is_u32 z.size_of_image))
+
+-- the data start after the headers and at a sector, and end in the file, at a multiple of the file alignment
+abbrev pub ends_data : List ℕ → HeaderView → Target → LastSection → Bool
+ends_data b h t l =
+    nat_le (table_end h l.index) l.section.pointer_to_raw_data
+    && (l.section.pointer_to_raw_data % 512 == 0
+    && (raw_end l.section % t.file_alignment == 0 && nat_le (raw_end l.section) (length b)))
+
+-- the COFF symbols end before the section's data, or start after what was the end of all data, if there are any
+abbrev pub symbols_move : HeaderView → LastSection → Bool
+symbols_move h l =
+    let p = h.coff_header.pointer_to_symbol_table in
+    p == 0 || (nat_le (raw_end l.section) p || nat_le (p + 18 * h.coff_header.number_of_symbol_table) l.section.pointer_to_raw_data)
+
+-- another section ends before this one, in memory and, as mapped, in the file, where it starts after the section table
+abbrev pub is_before : ℕ → ℕ → SectionTable → SectionTable → Bool
+is_before alignment end s u =
+    nat_le (u.virtual_address + u.virtual_size) s.virtual_address
+    && (u.size_of_raw_data == 0
+    || (nat_le end (raw_start u)
+    && (nat_le (rounded_up (raw_end u) alignment) s.pointer_to_raw_data && nat_le (pages_end u) s.virtual_address)))
+
+abbrev pub is_before_or_same : List ℕ → HeaderView → Target → LastSection → ℕ → Bool
+is_before_or_same b h t l k = k == l.index || is_before t.file_alignment (table_end h l.index) l.section (section_header b h k)
+
+abbrev pub is_last : List ℕ → HeaderView → Target → LastSection → Bool
+is_last b h t l = list_all (is_before_or_same b h t l) (each (λ k. k) h.coff_header.number_of_sections)
+
+-- the directory of the debug data, which is the seventh
+abbrev pub debug_directory : Option OptionalHeaderView → DataDirectory
+debug_directory None = absent_directory
+debug_directory (Some o) = directory_at o 6
+
+-- the section's data have this RVA
+abbrev pub has_rva : ℕ → SectionTable → Bool
+has_rva rva s = nat_le s.virtual_address rva && nat_lt rva (s.virtual_address + s.size_of_raw_data)
+
+-- the index of the first section that has it, or the number of sections
+abbrev pub index_with : List ℕ → HeaderView → ℕ → ℕ
+index_with b h rva = position_or_len (has_rva rva) (section_headers b h)
+
+-- the data of the k-th debug entry from file offset p on start before `end`; an entry after the end of the file is none
+abbrev pub debug_stays : List ℕ → ℕ → ℕ → ℕ → Bool
+debug_stays b end p k = nat_lt (length b) (p + 28 * k + 28) || nat_lt (le b (p + 28 * k + 24) 4) end
+
+-- so do those of all debug entries, of 28 bytes each
+abbrev pub debug_all_stay : List ℕ → HeaderView → DataDirectory → ℕ → Bool
+debug_all_stay b h d end =
+    let i = index_with b h d.virtual_address in
+    let s = section_header b h i in
+    nat_le h.coff_header.number_of_sections i
+    || list_all (debug_stays b end (s.pointer_to_raw_data + (d.virtual_address - s.virtual_address))) (each (λ k. k) (min (d.size / 28) (length b / 28)))
+
+-- the tests, in their order
+abbrev pub room_tests : List ℕ → HeaderView → Target → ℕ → LastSection → List (Bool × RewriteRefusal)
+room_tests b h t n l =
+    (has_header b h t l.index, NoHeaderRoom)
+    ∷ (are_u32 (sizes_of h t n l), ImageTooLarge)
+    ∷ (ends_data b h t l, Section)
+    ∷ (is_alone (enlarged l) h.optional_header, SharedSection)
+    ∷ (symbols_move h l, Symbols)
+    ∷ (is_last b h t l, Overlap)
+    ∷ (debug_all_stay b h (debug_directory h.optional_header) (raw_end l.section), DebugData) ∷ []
+
+abbrev pub room_with : List ℕ → HeaderView → Target → ℕ → LastSection → Result Room RewriteRefusal
+room_with b h t n l = outcome (room_tests b h t n l) (room_at h t n l)
+
+-- ---- the room
+
+-- the first of two results that is accepted, or else the second
+abbrev pub or_else : Result Room RewriteRefusal → Result Room RewriteRefusal → Result Room RewriteRefusal
+or_else (Ok r) other = Ok r
+or_else (Err e) other = other
+
+-- room for n bytes in the resource section
+abbrev pub own_room : List ℕ → HeaderView → Target → ℕ → Result Room RewriteRefusal
+own_room b h t n = index_of b h t.rva >>= λ i. room_with b h t n (own_section b h t n i)
+
+-- room for the leaves in a new section, whose RVA and data have 32 bits
+abbrev pub new_room : List ℕ → HeaderView → Target → List Leaf → Result Room RewriteRefusal
+new_room b h t xs =
+    outcome {Y = Unit {0}} ((is_u32 (image_end t) && is_u32 (data_end b h t), ImageTooLarge) ∷ []) tt >>= λ u.
+    length_at (image_end t) xs >>= λ n.
+    room_with b h t n (new_section b h t n)
+
+-- room for the leaves at the end of the image: in their own section, or else in a new one
+abbrev pub room_of : List ℕ → HeaderView → List Leaf → Result Room RewriteRefusal
+room_of b h xs =
+    target_of h >>= λ t.
+    length_at t.rva xs >>= λ n.
+    outcome {Y = Unit {0}} (header_tests b h t) tt >>= λ u.
+    or_else (own_room b h t n) (new_room b h t xs)
