@@ -12,6 +12,7 @@ use Rattle.pe_records.specs.DebugRecords.{DebugFields, debug_data}
 use Rattle.pe_resource.specs.Resources.{ResourceView, IsResource}
 use Rattle.pe_unwind.specs.ExceptionTable.{ExceptionView, exception_at}
 use Rattle.pe_image.specs.Layout.{directory, alignment}
+use Rattle.pe_core.specs.declared.header.TheConstants.{COFF_MACHINE_ARM64, COFF_MACHINE_X86_64}
 
 -- absent, a value, or a refusal
 abbrev pub Field : Type 0 → Type 0
@@ -29,7 +30,7 @@ debug_field b opts sections o = field (λ d. debug_data opts b d sections (align
 -- exception data in a directory: entries of 12 bytes for x64, of 8 bytes for ARM64; absent for any other machine
 abbrev pub exceptions_for : ℕ → (ℕ → DataDirectory → Result ExceptionView Refusal) → Option DataDirectory → Field ExceptionView
 exceptions_for machine value d =
-    if machine == 0x8664 then field (value 12) d else (if machine == 0xAA64 then field (value 8) d else None)
+    if machine == COFF_MACHINE_X86_64 then field (value 12) d else (if machine == COFF_MACHINE_ARM64 then field (value 8) d else None)
 
 -- exception data: directory 3
 abbrev pub exception_field : List ℕ → ParseOptions → List SectionTable → ℕ → Option OptionalHeaderView → Field ExceptionView

@@ -4,6 +4,7 @@ use Rattle.std.specs.Prelude.{ℕ, ◌/◌, ◌%◌, ◌==◌, Bool, false, Opti
 use Rattle.pe_core.specs.Directories.{present}
 use Rattle.pe_core.specs.Header.{HeaderView, OptionalHeaderView}
 use Rattle.pe_core.specs.declared.data_directories.DataDirectory.{DataDirectory}
+use Rattle.pe_core.specs.declared.optional_header.TheConstants.{MAGIC_64}
 
 -- the directory with this number, if the image has it; without an optional header it has none
 abbrev pub directory : ℕ → Option OptionalHeaderView → Option DataDirectory
@@ -18,7 +19,7 @@ alignment (Some o) = o.windows_fields.file_alignment
 -- the optional header is that of PE32+
 abbrev pub is_64 : Option OptionalHeaderView → Bool
 is_64 None = false
-is_64 (Some o) = o.standard_fields.magic == 0x20B
+is_64 (Some o) = o.standard_fields.magic == MAGIC_64
 
 -- the RVA of the entry point; 0 without an optional header
 abbrev pub entry_point : Option OptionalHeaderView → ℕ

@@ -1,6 +1,8 @@
 -- The layout of an image as the code keeps it. For proofs only.
-use Rattle.std.specs.Prelude.{Option}
+use Rattle.std.specs.Prelude.{None, Option, if◌then◌else◌}
 use Rattle.pe_core.specs.Header.{OptionalHeaderView}
+use Rattle.pe_core.specs.declared.data_directories.DataDirectory.{DataDirectory}
+use Rattle.pe_core.specs.declared.options.ParseOptions.{ParseOptions}
 use Rattle.pe_image.specs.Layout.{directory, alignment, is_64, entry_point, image_base}
 use Rattle.pe_image.specs.declared.layout.Layout.{Layout}
 
@@ -19,3 +21,7 @@ layout_of o = record {
   relocations = directory 5 o;
   debug = directory 6 o;
 }
+
+-- the import directory of a layout, unless `parse_imports` is off
+abbrev pub import_directory_in : ParseOptions → Layout → Option DataDirectory
+import_directory_in opts layout = if opts.parse_imports then layout.imports else None

@@ -2,7 +2,7 @@
 //! error, but for an invalid export directory, which counts as absent. `PE` adds the other directories to it. Layout:
 //! <https://learn.microsoft.com/windows/win32/debug/pe-format>.
 
-ghost use Rattle.std.specs.Prelude.{◌≡◌, ◌<◌, ◌⊎◌, map, IfErr, IfOk, IfSome, IsSome, IsSomeAnd, None, Ok, if◌then◌else◌};
+ghost use Rattle.std.specs.Prelude.{◌≡◌, ◌<◌, ◌⊎◌, map, IfErr, IfOk, IfSome, IsSome, IsSomeAnd, Ok};
 ghost use Rattle.pe_core.specs.declared.error.Error.TheVariants.{Memory};
 ghost use Rattle.std.specs.Option.{option_map};
 ghost use Rattle.pe_core.specs.Exports.{export_data_view, export_view};
@@ -13,7 +13,7 @@ ghost use Rattle.pe_core.specs.SectionMap.{map_view, offset_in, section_map};
 ghost use Rattle.pe_core.specs.Sections.{sections_of};
 ghost use Rattle.pe_image.specs.Core.{export_data_of, exports_of, import_data_of, imports_of, core_with, sections_read, core_of, AreLibrariesOf};
 ghost use Rattle.pe_image.specs.CoreParts.{core_view, imported_view, CoreHasLayout, CoreHasLibraries};
-ghost use Rattle.pe_image.specs.LayoutParts.{layout_of};
+ghost use Rattle.pe_image.specs.LayoutParts.{import_directory_in, layout_of};
 ghost use Rattle.pe_image.specs.Limits.{entry_count, import_count, imports_with, number_or_0};
 ghost use Rattle.pe_image.specs.LimitSteps.{imported_of, unless_above};
 ghost use Rattle.pe_image.specs.Memory.{AsksForMemory, HasExports, HasImports, MemoryOnlyIf};
@@ -73,8 +73,8 @@ fn export_data<'a>(
 }
 
 /// The data directory of the imports. `None` if `parse_imports` is off.
-fn import_directory(opts: &ParseOptions, layout: &Layout) -> Option<DataDirectory>
-    ensures { result ≡ (if opts.now.parse_imports then layout.now.imports else None) }
+fn import_directory_in(opts: &ParseOptions, layout: &Layout) -> Option<DataDirectory>
+    ensures { result ≡ import_directory_in opts.now layout.now }
 {
     if opts.parse_imports {
         layout.imports
@@ -96,13 +96,13 @@ fn index<'s, A: Allocator + Copy>(
         (λ index. index ≡ map_view opts.now sections.entry.now layout.now.file_alignment)) }
     ensures refused { IfErr result (λ error. error ≡ Memory record {}) }
     ensures memory { MemoryOnlyIf (IsSome (option_map export_data_view export_data.now)
-        ⊎ IsSomeAnd (if opts.now.parse_imports then layout.now.imports else None) (λ d. IsSome
+        ⊎ IsSomeAnd (import_directory_in opts.now layout.now) (λ d. IsSome
         (section_map opts.now sections.entry.now layout.now.file_alignment d.virtual_address)))
         result }
 {
     let alignment = layout.file_alignment;
     if export_data.is_none() {
-        let Some(imports) = import_directory(opts, layout) else {
+        let Some(imports) = import_directory_in(opts, layout) else {
             return Ok(None);
         };
         let rva = imports.virtual_address as usize;
@@ -158,12 +158,12 @@ fn import_data<'a, A: Allocator + Copy + Drop>(
 ) -> Result<Option<ImportData<'a, A>>>
     ensures directory { ReturnsUnlessMemory (option_map import_data_view) result (import_data_of
         (offset_in sections.now) (entry_size layout.now.is_64) bytes.entry.now
-        (if opts.now.parse_imports then layout.now.imports else None)) }
+        (import_directory_in opts.now layout.now)) }
     ensures memory { MemoryOnlyIf
-        (IsSomeAnd (if opts.now.parse_imports then layout.now.imports else None)
+        (IsSomeAnd (import_directory_in opts.now layout.now)
         (λ d. IsSome (offset_in sections.now d.virtual_address))) result }
 {
-    let Some(directory) = import_directory(opts, layout) else {
+    let Some(directory) = import_directory_in(opts, layout) else {
         return Ok(None);
     };
     let data = ImportData::parse_with_map(alloc, bytes, directory, sections, layout.is_64)?;
@@ -222,7 +222,7 @@ fn libraries<'a, A: Allocator + Copy + Drop>(
     sections: &SectionMap<'_>,
 ) -> Result<Vec<&'a str, A>>
     requires { import_data_of (offset_in sections.now) (entry_size layout.now.is_64) bytes.now
-        (if opts.now.parse_imports then layout.now.imports else None)
+        (import_directory_in opts.now layout.now)
         ≡ Ok (option_map import_data_view import_data.now) }
     ensures listed { IfOk result (λ v.
         AreLibrariesOf (option_map import_data_view import_data.now) (map (λ s. s.now) v.items)) }
@@ -259,11 +259,11 @@ impl<'a, A: Allocator + Copy + Drop> Imported<'a, A> {
     ) -> Result<Imported<'a, A>>
         ensures imported { ReturnsUnlessMemory imported_view result (imported_of most
             (offset_in sections.now) (entry_size layout.now.is_64) bytes.entry.now
-            (if opts.now.parse_imports then layout.now.imports else None)) }
+            (import_directory_in opts.now layout.now)) }
         ensures libraries { IfOk result (λ imported. AreLibrariesOf
             (option_map import_data_view imported.data) (map (λ s. s.now) imported.libraries.items)) }
         ensures memory { MemoryOnlyIf
-            (IsSomeAnd (if opts.now.parse_imports then layout.now.imports else None)
+            (IsSomeAnd (import_directory_in opts.now layout.now)
             (λ d. IsSome (offset_in sections.now d.virtual_address))) result }
     {
         let data = import_data(alloc, bytes, opts, layout, sections)?;

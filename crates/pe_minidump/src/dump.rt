@@ -133,7 +133,7 @@ fn directory_bytes<'a>(bytes: &'a [u8], header: &DumpHeader) -> Result<&'a [u8]>
 }
 
 /// The first entry of a kind in the bytes of a directory.
-fn first_entry(directory: &[u8], stream_type: u32) -> Option<DirectoryEntry>
+pub fn first_entry(directory: &[u8], stream_type: u32) -> Option<DirectoryEntry>
     ensures { result ≡ first_entry directory.now stream_type }
 {
     (0..directory.len() / SIZE_OF_ENTRY)

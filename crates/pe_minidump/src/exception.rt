@@ -94,9 +94,9 @@ impl ExceptionRecord {
     }
 }
 
-/// The exception at the start of a stream. Error: `Short`.
+/// The exception at the start of a stream. Error: `Short` if it has fewer than 168 bytes.
 #[tactic(auto, unfolding(crate::specs::Records::exception_stream))]
-fn exception_of(stream: &[u8]) -> Result<Exception>
+pub fn exception_of(stream: &[u8]) -> Result<Exception>
     ensures { DumpReturns (λ e. e) result (at_start 168 (exception_stream stream.now 0) stream.now) }
 {
     require_fields(stream, SIZE_OF_EXCEPTION_STREAM)?;

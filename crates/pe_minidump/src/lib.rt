@@ -6,8 +6,8 @@
 //! and leaves all others as they are. No call copies the bytes of a file, and three alone allocate: `AddressIndex::new`,
 //! `module_ranges` and `Dump::memory_ranges`.
 //!
-//! Every call is proved to return what its definition in `specs/` says, for every byte string. `DumpRecord::at` alone asks
-//! something of its caller: that the record lies in the bytes.
+//! Every call is proved to return what its definition in `specs/` says, for every byte string. Two ask something of their
+//! caller: `DumpRecord::at` that the record lies in the bytes, and `headed_list` that the header has its three numbers.
 #![tactic(auto)]
 
 mod address_index;
@@ -37,12 +37,15 @@ mod unloaded_module;
 pub use address_index::{AddressIndex, AddressRange};
 pub use context_arm64::ContextArm64;
 pub use context_x64::ContextX64;
-pub use dump::{DirectoryEntry, Dump, DumpHeader, MINIDUMP_SIGNATURE, MINIDUMP_VERSION};
+pub use dump::{
+    DirectoryEntry, Dump, DumpHeader, MINIDUMP_SIGNATURE, MINIDUMP_VERSION, first_entry,
+};
 pub use error::{DumpError, Result};
-pub use exception::{Exception, ExceptionRecord};
+pub use exception::{Exception, ExceptionRecord, exception_of};
 pub use handle::Handle;
-pub use location::Location;
-pub use memory::{MemoryDescriptor, MemoryPiece, MemoryRange};
+pub use list::{counted_list, headed_list, headed_list_64};
+pub use location::{Location, located};
+pub use memory::{MemoryDescriptor, MemoryPiece, MemoryRange, piece};
 pub use memory_region::MemoryRegion;
 pub use memory64::{Memory64List, Memory64Pieces};
 pub use module::{FixedFileInfo, Module, module_ranges};
@@ -52,8 +55,9 @@ pub use stream_type::{
     MISC_INFO_STREAM, MODULE_LIST_STREAM, SYSTEM_INFO_STREAM, THREAD_INFO_LIST_STREAM,
     THREAD_LIST_STREAM, THREAD_NAMES_STREAM, UNLOADED_MODULE_LIST_STREAM,
 };
-pub use system::{MiscInfo, ProcessTimes, ProcessorPower, SystemInfo};
+pub use system::{MiscInfo, ProcessTimes, ProcessorPower, SystemInfo, misc_of, system_of};
 pub use table::{DumpRecord, Records, Table};
+pub use text::text_at;
 pub use thread::Thread;
 pub use thread_info::ThreadInfo;
 pub use thread_name::ThreadName;

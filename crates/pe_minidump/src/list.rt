@@ -15,7 +15,7 @@ use pe_core::{read_u32, read_u64};
 /// A list whose number of entries comes first. Errors, in order: `Short` if it is truncated; `ListSize` if the stream has another
 /// size than the entries, with 4 bytes before them for their number, or 8.
 #[tactic(auto, unfolding(crate::specs::Lists::counted_list))]
-pub(crate) fn counted_list<E: DumpRecord>(stream: &[u8]) -> Result<Table<'_, E>>
+pub fn counted_list<E: DumpRecord>(stream: &[u8]) -> Result<Table<'_, E>>
     ensures { DumpReturns (λ t. records E.record_at t.bytes.now t.stride t.count) result
         (counted_list E.record_at E.SIZE stream.entry.now) }
 {
@@ -63,7 +63,7 @@ fn list_with<E: DumpRecord>(stream: &[u8], head: usize, count: u64) -> Result<Ta
 /// A list with a header of at least `head` bytes, in which the number of entries has 4 bytes. Errors, in order: `Short` if the
 /// header is truncated; those of `list_with`.
 #[tactic(auto, unfolding(crate::specs::Lists::headed_list))]
-pub(crate) fn headed_list<E: DumpRecord>(stream: &[u8], head: usize) -> Result<Table<'_, E>>
+pub fn headed_list<E: DumpRecord>(stream: &[u8], head: usize) -> Result<Table<'_, E>>
     requires { 12 ≤ head }
     ensures { DumpReturns (λ t. records E.record_at t.bytes.now t.stride t.count) result
         (headed_list E.record_at E.SIZE head 4 stream.entry.now) }
@@ -74,7 +74,7 @@ pub(crate) fn headed_list<E: DumpRecord>(stream: &[u8], head: usize) -> Result<T
 
 /// The same, in which the number of entries has 8 bytes, and the header 16.
 #[tactic(auto, unfolding(crate::specs::Lists::headed_list))]
-pub(crate) fn headed_list_64<E: DumpRecord>(stream: &[u8]) -> Result<Table<'_, E>>
+pub fn headed_list_64<E: DumpRecord>(stream: &[u8]) -> Result<Table<'_, E>>
     ensures { DumpReturns (λ t. records E.record_at t.bytes.now t.stride t.count) result
         (headed_list E.record_at E.SIZE 16 8 stream.entry.now) }
 {

@@ -51,8 +51,8 @@ pub(crate) fn require_fields(bytes: &[u8], needed: usize) -> Result<()>
     Ok(())
 }
 
-/// So many bytes from an offset on. Error: `Location`.
-pub(crate) fn located(bytes: &[u8], rva: u64, size: u64) -> Result<&[u8]>
+/// So many bytes from an offset of a file on. Error: `Location` if they do not all lie in it.
+pub fn located(bytes: &[u8], rva: u64, size: u64) -> Result<&[u8]>
     ensures { DumpReturns (λ s. s.now) result (located bytes.entry.now rva size) }
 {
     let length = bytes.len() as u64;

@@ -129,8 +129,8 @@ fn bytes_from(file: &[u8], offset: u64, size: u64) -> &[u8]
     }
 }
 
-/// The piece of so many bytes from an offset on.
-pub(crate) fn piece(file: &[u8], start: u64, offset: u64, size: u64) -> MemoryPiece<'_>
+/// The piece of memory of so many bytes, which stand in a file from an offset on.
+pub fn piece(file: &[u8], start: u64, offset: u64, size: u64) -> MemoryPiece<'_>
     ensures { piece_view result ≡ piece file.entry.now start offset size }
 {
     let bytes = bytes_from(file, offset, size);

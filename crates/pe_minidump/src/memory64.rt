@@ -52,7 +52,7 @@ impl<'a> Memory64List<'a> {
     /// The list of a stream. Errors, in order: `Short`; `ListSize`; `Location` if the bytes of the pieces end past offset
     /// 2^64 - 1.
     #[tactic(auto, unfolding(crate::specs::Memory64::memory64_of))]
-    fn parse(file: &'a [u8], stream: &'a [u8]) -> Result<Memory64List<'a>>
+    pub fn parse(file: &'a [u8], stream: &'a [u8]) -> Result<Memory64List<'a>>
         ensures list { DumpReturns {Y = Listed64}
             (λ l. record { base_rva = l.base_rva; ranges = l.ranges.now }) result (memory64_of stream.entry.now) }
         ensures of_file { IfOk result (λ l. l.file.now ≡ file.entry.now) }
@@ -78,6 +78,13 @@ impl<'a> Memory64List<'a> {
             ranges,
             base_rva,
         })
+    }
+
+    /// The offset in the file of the first byte of the first piece.
+    pub fn base_rva(&self) -> u64
+        ensures { result ≡ self.now.base_rva }
+    {
+        self.base_rva
     }
 
     /// The number of pieces.

@@ -98,9 +98,9 @@ pub struct MiscInfo {
     pub processor_power: Option<ProcessorPower>,
 }
 
-/// The system at the start of a stream. Error: `Short`.
+/// The system at the start of a stream. Error: `Short` if it has fewer than 56 bytes.
 #[tactic(auto, unfolding(crate::specs::Records::system_info))]
-fn system_of(stream: &[u8]) -> Result<SystemInfo>
+pub fn system_of(stream: &[u8]) -> Result<SystemInfo>
     ensures { DumpReturns (λ s. s) result (at_start 56 (system_info stream.now 0) stream.now) }
 {
     require_fields(stream, SIZE_OF_SYSTEM_INFO)?;
@@ -153,9 +153,9 @@ fn power_of(stream: &[u8]) -> ProcessorPower
     }
 }
 
-/// What is known of the process, by the start of a stream. Error: `Short`.
+/// What is known of the process, by the start of a stream. Error: `Short` if it has fewer than 24 bytes.
 #[tactic(auto, unfolding(crate::specs::Streams::misc_of))]
-fn misc_of(stream: &[u8]) -> Result<MiscInfo>
+pub fn misc_of(stream: &[u8]) -> Result<MiscInfo>
     ensures { DumpReturns (λ m. m) result (at_start 24 (misc_of stream.now) stream.now) }
 {
     require_fields(stream, SIZE_OF_MISC_INFO)?;

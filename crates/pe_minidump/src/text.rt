@@ -19,16 +19,23 @@ use pe_core::read_u32;
 /// The size of the number before a string in bytes.
 const SIZE_OF_LENGTH: u64 = 4;
 
+/// The string at an offset of a file, as bytes in UTF-16LE. Errors, in order: `Location` if its length does not lie in the
+/// file; `Text` if it is odd; `Location` if the bytes do not.
+pub fn text_at(file: &[u8], rva: u64) -> Result<&[u8]>
+    ensures { DumpReturns (λ s. s.now) result (text_at file.entry.now rva) }
+{
+    let size = read_u32(located(file, rva, SIZE_OF_LENGTH)?, 0);
+    if size % 2 != 0 {
+        return Err(DumpError::Text { rva, size });
+    }
+    located(file, rva + SIZE_OF_LENGTH, u64::from(size))
+}
+
 impl<'a> Dump<'a> {
-    /// The string at an offset of the file, as bytes in UTF-16LE. Errors, in order: `Location` if its length does not lie in
-    /// the file; `Text` if it is odd; `Location` if the bytes do not.
+    /// The string at an offset of the file: that of `text_at`, with its errors.
     pub fn text(&self, rva: u64) -> Result<&'a [u8]>
         ensures { DumpReturns (λ s. s.now) result (text_at self.now.bytes.now rva) }
     {
-        let size = read_u32(located(self.bytes, rva, SIZE_OF_LENGTH)?, 0);
-        if size % 2 != 0 {
-            return Err(DumpError::Text { rva, size });
-        }
-        located(self.bytes, rva + SIZE_OF_LENGTH, u64::from(size))
+        text_at(self.bytes, rva)
     }
 }

@@ -2,6 +2,7 @@ pub mod Der
 pub mod Walks
 pub mod Fields
 pub mod Tags
+pub mod ObjectIds
 pub mod SignedDatas
 pub mod Signers
 pub mod Certificates

@@ -6,6 +6,7 @@ use Rattle.std.specs.Str.{bytes_eq}
 use Rattle.pe_core.specs.Refusals.{outcome, ◌>>=◌}
 use Rattle.pe_pkcs7.specs.Der.{element_at}
 use Rattle.pe_pkcs7.specs.Fields.{any_optional, field, optional, after, ends_at, part_of, only_element, only_if_there, content_bytes}
+use Rattle.pe_pkcs7.specs.ObjectIds.{SIGNED_DATA}
 use Rattle.pe_pkcs7.specs.Tags.{INTEGER, BIT_STRING, OCTET_STRING, OBJECT_IDENTIFIER, SEQUENCE, SET, tagged}
 use Rattle.pe_pkcs7.specs.declared.der.Element.{Element}
 use Rattle.pe_pkcs7.specs.declared.signed_data.ContentInfo.{ContentInfo}
@@ -37,10 +38,6 @@ whole_content_info b = element_at b 0 >>= λ x. content_info b x
 unfoldable pub content_of_type : List ℕ → List ℕ → Element → Element → Result Element SignatureError
 content_of_type oid b content_type content =
     outcome ((bytes_eq (content_bytes b content_type) oid, ContentType content_type.offset) ∷ []) content
-
--- id-signedData, 1.2.840.113549.1.7.2
-abbrev pub SIGNED_DATA : List ℕ
-SIGNED_DATA = 0x2A ∷ 0x86 ∷ 0x48 ∷ 0x86 ∷ 0xF7 ∷ 0x0D ∷ 0x01 ∷ 0x07 ∷ 0x02 ∷ []
 
 -- SignedData ::= SEQUENCE { version INTEGER, digestAlgorithms SET OF AlgorithmIdentifier,
 --   encapContentInfo EncapsulatedContentInfo, certificates [0] IMPLICIT SET OF OPTIONAL, crls [1] IMPLICIT SET OF OPTIONAL,

@@ -35,11 +35,12 @@ pub use fields::Elements;
 pub use indirect_data::{
     AlgorithmIdentifier, DigestInfo, SpcIndirectData, SpcPeImageData, SpcSpOpusInfo, TypeAndValue,
 };
-pub use name::{NameAttribute, NameAttributes};
+pub use name::{NameAttribute, NameAttributes, name_attribute_at};
 pub use object_ids::{
     CONTENT_TYPE, COUNTER_SIGNATURE, KEY_USAGE, MESSAGE_DIGEST, NESTED_SIGNATURE, SIGNED_DATA,
     SIGNING_TIME, SPC_INDIRECT_DATA, SPC_PE_IMAGE_DATA, SPC_SP_OPUS_INFO, TIME_STAMP_TOKEN,
-    TST_INFO,
+    TST_INFO, algorithm_number, attribute_number, content_type_number, extension_number,
+    name_number,
 };
 pub use signed_data::{ContentInfo, EncapsulatedContent, SignedData};
 pub use signer::{Attribute, IssuerAndSerial, SignerInfo};

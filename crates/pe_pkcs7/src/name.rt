@@ -66,7 +66,11 @@ fn attribute_in(
 /// the offset after it. Errors, in order: `Missing`, those of `element_at` and `Tag` of the next relative distinguished name,
 /// if the attribute is its first; those of `attribute_in`.
 #[tactic(auto, unfolding(crate::specs::Names::attribute_at))]
-fn attribute_at(name: &[u8], end: usize, offset: usize) -> Result<(NameAttribute, (usize, usize))>
+pub fn name_attribute_at(
+    name: &[u8],
+    end: usize,
+    offset: usize,
+) -> Result<(NameAttribute, (usize, usize))>
     ensures exact { result ≡ attribute_at name.now end offset }
     ensures within { IfOk result (λ x. (offset < x.1.1) × (offset < length name.now)) }
 {
@@ -112,7 +116,7 @@ impl<'a> Iterator for NameAttributes<'a> {
         if self.end <= offset && self.name.len() <= offset {
             return None;
         }
-        match attribute_at(self.name, self.end, offset) {
+        match name_attribute_at(self.name, self.end, offset) {
             Ok((attribute, (end, next))) => {
                 self.end = end;
                 self.next_offset = Some(next);

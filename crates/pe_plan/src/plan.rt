@@ -1,4 +1,15 @@
-//! The plan of a function, and the plan of an RVA of code.
+//! The plan of a function: all unwind records that an unwinder needs for one of its frames.
+//!
+//! A record describes the prolog of one range of code. A compiler may split a function: into its usual path and code that
+//! is rarely run, or where a part saves further registers. Each range has an entry in the function table
+//! (`RUNTIME_FUNCTION`) and a record of its own. That of a part has `UNW_FLAG_CHAININFO` and, after its codes, the entry to
+//! whose record it is chained
+//! ([layout](https://learn.microsoft.com/cpp/build/exception-handling-x64#chained-unwind-info-structures)). To leave the
+//! part, an unwinder undoes its codes and then those of each record up to the root, which is chained to none.
+//!
+//! A caller passes an RVA of code to `UnwindPlan::of`, or the entry that lookup found to `UnwindPlan::of_function`, and the
+//! records to `step` of pe_frame. Nothing in the format bounds a chain, and a hostile one may come back to a record of its
+//! own: that is `FunctionCycle`.
 
 ghost use Rattle.std.specs.Prelude.{◌≡◌, ◌↔◌, map, Err, IsSomeAnd};
 ghost use Rattle.std.specs.Option.{option_map};

@@ -8,11 +8,18 @@ use Rattle.pe_core.proofs.NumberBytes.{bytes_of-le}
 use Rattle.pe_core.specs.Bytes.{AreBytes, le, bytes_of, holds, range}
 use Rattle.std.proofs.lemmas.Bool.{eqb-true}
 use Rattle.pe_core.specs.Refusals.{Refusal, Short, Arm64Version, outcome}
-use Rattle.pe_unwind.specs.Arm64Record.{Arm64HandlerView, Arm64InfoView, extension_size, extension_at, scope_count, code_words, handler_size, handler_at, scopes_offset, codes_offset, handler_offset, record_size, info_with, info_tests, info_at, size_at, word_bytes, AreRecord}
+use Rattle.pe_unwind.specs.Arm64Record.{Arm64HandlerView, Arm64InfoView, extension_size, extension_at, scope_count, code_words, handler_size, handler_at, scopes_offset, record_size, info_with, info_tests, info_at, size_at, word_bytes, AreRecord}
 use Rattle.pe_unwind.specs.Arm64Words.{bits, has_handler, has_extension}
 use Rattle.pe_core.specs.Offsets.{StandAt}
 use Rattle.pe_unwind.specs.Offsets.{StandLast, Arm64PartsStand}
 use Rattle.pe_unwind.proofs.Offsets.{range_stands, tail_stands}
+
+-- where the codes and the handler of a record at offset p are
+abbrev codes_offset : ℕ → ℕ → Option ℕ → ℕ
+codes_offset p header extension = scopes_offset p header + 4 * scope_count header extension
+
+abbrev handler_offset : ℕ → ℕ → Option ℕ → ℕ
+handler_offset p header extension = codes_offset p header extension + 4 * code_words header extension
 
 -- what is returned passed its tests
 passed : {Y : Type 0} (s t u v w x : Bool) (i j k l m n : Refusal) (y o : Y) →

@@ -69,25 +69,38 @@ handler_at b q header = if has_handler header then Some (record { rva = le b q 4
 abbrev pub scopes_offset : ℕ → ℕ → ℕ
 scopes_offset p header = p + 4 + extension_size header
 
-abbrev pub codes_offset : ℕ → ℕ → Option ℕ → ℕ
-codes_offset p header extension = scopes_offset p header + 4 * scope_count header extension
-
-abbrev pub handler_offset : ℕ → ℕ → Option ℕ → ℕ
-handler_offset p header extension = codes_offset p header extension + 4 * code_words header extension
-
 -- the size of a record with these words is the sum of its parts
 abbrev pub record_size : ℕ → Option ℕ → ℕ
 record_size header extension = 4 + extension_size header + 4 * scope_count header extension + 4 * code_words header extension + handler_size header
 
+-- the parts of a record with these words, whose scopes, codes and handler follow one another from q on
+abbrev pub parts_with : List ℕ → ℕ → ℕ → Option ℕ → Arm64InfoView
+parts_with b q header extension =
+    let codes = q + 4 * scope_count header extension in
+    record {
+      header = header;
+      extension = extension;
+      scopes = range b q (4 * scope_count header extension);
+      codes = range b codes (4 * code_words header extension);
+      handler = handler_at b (codes + 4 * code_words header extension) header;
+    }
+
+-- the tests of these parts, in order
+abbrev pub parts_tests : List ℕ → ℕ → ℕ → Option ℕ → List (Bool × Refusal)
+parts_tests b q header extension =
+    let codes = q + 4 * scope_count header extension in
+    (holds b q (4 * scope_count header extension), Short)
+    ∷ (holds b codes (4 * code_words header extension), Short)
+    ∷ (holds b (codes + 4 * code_words header extension) (handler_size header), Short)
+    ∷ []
+
+-- the record with these words, or the first refusal of a part
+abbrev pub parts_at : List ℕ → ℕ → ℕ → Option ℕ → Result Arm64InfoView Refusal
+parts_at b q header extension = outcome (parts_tests b q header extension) (parts_with b q header extension)
+
 -- the record at offset p with these words
 abbrev pub info_with : List ℕ → ℕ → ℕ → Option ℕ → Arm64InfoView
-info_with b p header extension = record {
-  header = header;
-  extension = extension;
-  scopes = range b (scopes_offset p header) (4 * scope_count header extension);
-  codes = range b (codes_offset p header extension) (4 * code_words header extension);
-  handler = handler_at b (handler_offset p header extension) header;
-}
+info_with b p header extension = parts_with b (scopes_offset p header) header extension
 
 -- its tests, in order, and what each refuses
 abbrev pub info_tests : List ℕ → ℕ → ℕ → Option ℕ → List (Bool × Refusal)
@@ -95,10 +108,7 @@ info_tests b p header extension =
     (holds b p 4, Short)
     ∷ (bits header 18 2 == 0, Arm64Version)
     ∷ (holds b (p + 4) (extension_size header), Short)
-    ∷ (holds b (scopes_offset p header) (4 * scope_count header extension), Short)
-    ∷ (holds b (codes_offset p header extension) (4 * code_words header extension), Short)
-    ∷ (holds b (handler_offset p header extension) (handler_size header), Short)
-    ∷ []
+    ∷ parts_tests b (scopes_offset p header) header extension
 
 -- the record at offset p, or its first refusal
 unfoldable pub info_at : List ℕ → ℕ → Result Arm64InfoView Refusal

@@ -9,6 +9,7 @@ use Rattle.pe_unwind.specs.ExceptionTable.{ExceptionView, table_of}
 use Rattle.pe_unwind.specs.FunctionTable.{functions, Finds}
 use Rattle.pe_unwind.specs.declared.function_table.RuntimeFunction.{RuntimeFunction}
 use Rattle.peinfo.specs.FunctionLines.{function_line}
+use Rattle.pe_core.specs.declared.header.TheConstants.{COFF_MACHINE_X86_64}
 
 -- the functions of x64 exception data: none without any
 abbrev pub functions_of : Option ExceptionView → List RuntimeFunction
@@ -25,7 +26,7 @@ pub record IsFindText (b : List ℕ) (address : ℕ) (text : List ℕ) : Type 0 
   pub image : ImageView
   pub given : IsImage b default_options (Ok image)
   pub found : Option RuntimeFunction
-  pub finds : Finds (functions_of (exceptions_on 0x8664 image)) address found
+  pub finds : Finds (functions_of (exceptions_on COFF_MACHINE_X86_64 image)) address found
   pub shown : text ≡ found_line found
 
 -- the refusal of the image, or `Memory`: an allocation can fail only once the headers and the section headers are read

@@ -9,6 +9,7 @@ use Rattle.pe_unwind.specs.FunctionTable.{functions}
 use Rattle.pe_unwind.specs.declared.arm64.function.Arm64RuntimeFunction.{Arm64RuntimeFunction}
 use Rattle.pe_unwind.specs.declared.function_table.RuntimeFunction.{RuntimeFunction}
 use Rattle.peinfo.specs.Hex.{hex}
+use Rattle.pe_core.specs.declared.header.TheConstants.{COFF_MACHINE_ARM64}
 
 -- the line of an x64 entry: its start, its end and its unwind RVA
 unfoldable pub function_line : RuntimeFunction → List ℕ
@@ -28,7 +29,7 @@ lines_of None None = []
 
 -- the lines of the exception data of an image
 abbrev pub function_lines : ImageView → List ℕ
-function_lines image = lines_of (exceptions_on 0xAA64 image) image.exception_data
+function_lines image = lines_of (exceptions_on COFF_MACHINE_ARM64 image) image.exception_data
 
 -- the count of these lines
 abbrev pub count_of : Option ExceptionView → Option ExceptionView → ℕ
@@ -37,7 +38,7 @@ count_of None (Some exceptions) = length (functions (table_of exceptions))
 count_of None None = 0
 
 abbrev pub function_count : ImageView → ℕ
-function_count image = count_of (exceptions_on 0xAA64 image) image.exception_data
+function_count image = count_of (exceptions_on COFF_MACHINE_ARM64 image) image.exception_data
 
 -- the lines of an iterator's items; a truncated entry has none
 abbrev pub item_line : {X : Type 0} → (X → List ℕ) → Result X Refusal → List ℕ

@@ -16,6 +16,7 @@ use Rattle.pe_unwind.specs.Links.{links_of}
 use Rattle.pe_unwind.specs.UnwindRecord.{UnwindInfoView, HandlerView, Exception, Termination}
 use Rattle.pe_unwind.specs.declared.function_table.RuntimeFunction.{RuntimeFunction}
 use Rattle.peinfo.specs.Find.{functions_of, found_line}
+use Rattle.pe_core.specs.declared.header.TheConstants.{COFF_MACHINE_X86_64}
 
 -- a space, and a number in decimal
 unfoldable pub number_text : ℕ → List ℕ
@@ -50,7 +51,7 @@ PlansRecords None sections found answer = answer ≡ Ok []
 pub record IsPlanned (b : List ℕ) (address : ℕ) (found : Option RuntimeFunction) (answer : Result (List UnwindInfoView) Refusal) : Type 0 where
   pub image : ImageView
   pub given : IsImage b default_options (Ok image)
-  pub finds : Finds (functions_of (exceptions_on 0x8664 image)) address found
+  pub finds : Finds (functions_of (exceptions_on COFF_MACHINE_X86_64 image)) address found
   pub plan : PlansRecords image.exception_data image.sections found answer
 
 -- the line of that function, and those of its records

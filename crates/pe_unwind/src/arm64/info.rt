@@ -8,7 +8,7 @@ ghost use Rattle.std.specs.Option.{option_map};
 ghost use Rattle.pe_core.specs.Refusals.{Arm64Version, Returns, ReturnsAs, Short, outcome};
 ghost use Rattle.pe_core.specs.Bytes.{holds, le, range};
 ghost use Rattle.pe_unwind.specs.Arm64Words.{bits, epilog_scopes_left};
-ghost use Rattle.pe_unwind.specs.Arm64Record.{extension_view, arm64_handler_view, info_view, extension_size, extension_at, scope_count, code_words, handler_size, handler_at, info_at, size_at, scopes_of};
+ghost use Rattle.pe_unwind.specs.Arm64Record.{extension_view, arm64_handler_view, info_view, extension_size, extension_at, scope_count, code_words, handler_size, handler_at, info_at, parts_at, size_at, scopes_of};
 ghost use Rattle.pe_unwind.specs.Arm64Tiling.{stream_offset, stream_at};
 
 use crate::arm64::codes::Arm64UnwindCodeIterator;
@@ -127,19 +127,8 @@ fn parts_at<'a>(
     extension: Option<Arm64UnwindExtension>,
 ) -> Result<Arm64UnwindInfo<'a>>
     requires { offset ≤ length bytes.now }
-    ensures { ReturnsAs info_view result (
-        let scopes = 4 * scope_count header.0 (extension_view extension) in
-        let codes = 4 * code_words header.0 (extension_view extension) in
-        outcome ((holds bytes.entry.now offset scopes, Short)
-        ∷ (holds bytes.entry.now (offset + scopes) codes, Short)
-        ∷ (holds bytes.entry.now (offset + scopes + codes) (handler_size header.0), Short) ∷ [])
-        (record {
-          header = header.0;
-          extension = extension_view extension;
-          scopes = range bytes.entry.now offset scopes;
-          codes = range bytes.entry.now (offset + scopes) codes;
-          handler = handler_at bytes.entry.now (offset + scopes + codes) header.0;
-        })) }
+    ensures { ReturnsAs info_view result
+        (parts_at bytes.entry.now offset header.0 (extension_view extension)) }
 {
     let scope_bytes = slice_at(
         bytes,
