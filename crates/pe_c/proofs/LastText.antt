@@ -2,7 +2,7 @@
 use Rattle.std.proofs.Common.{◌≡◌, ℕ, ◌-◌, ◌≤◌, sym, arith}
 use Rattle.std.specs.Prelude.{codes}
 use Rattle.std.proofs.lemmas.List.{get_or_past}
-use Rattle.pe_c.specs.Texts.{texts, refusal_text, other_texts, other_text, sign_texts, sign_text, edit_texts, edit_text}
+use Rattle.pe_c.specs.Texts.{texts, refusal_text, other_texts, other_text, sign_texts, sign_text, edit_texts, edit_text, signature_texts, signature_text, dump_texts, dump_text}
 
 pub text_past : (n : ℕ) → 39 ≤ n → codes "unknown result" ≡ refusal_text n
 unfolding refusal_text
@@ -16,6 +16,14 @@ pub sign_text_past : (n : ℕ) → 6 ≤ n → codes "unknown result" ≡ sign_t
 unfolding sign_text
 sign_text_past n h = sym (get_or_past sign_texts n (codes "unknown result") (omega arith))
 
-pub edit_text_past : (n : ℕ) → 20 ≤ n → codes "unknown result" ≡ edit_text n
+pub edit_text_past : (n : ℕ) → 23 ≤ n → codes "unknown result" ≡ edit_text n
 unfolding edit_text
 edit_text_past n h = sym (get_or_past edit_texts n (codes "unknown result") (omega arith))
+
+pub signature_text_past : (n : ℕ) → 11 ≤ n → codes "unknown result" ≡ signature_text n
+unfolding signature_text
+signature_text_past n h = sym (get_or_past signature_texts n (codes "unknown result") (omega arith))
+
+pub dump_text_past : (n : ℕ) → 10 ≤ n → codes "unknown result" ≡ dump_text n
+unfolding dump_text
+dump_text_past n h = sym (get_or_past dump_texts n (codes "unknown result") (omega arith))

@@ -23,26 +23,26 @@ use Rattle.pe_c.specs.declared.resource_leaves.ResourceLeaf.{ResourceLeaf}
 use Rattle.pe_c.specs.declared.resource_leaves.ResourceLeaves.{ResourceLeaves}
 
 -- a walk that is over has no items
-pub over_has_none : (b : List ℕ) (image : images.Image) (sections : List SectionTable) → items_left b image sections no_leaves ≡ []
-over_has_none b image sections =
+pub over_has_none : (b : List ℕ) (offset : ℕ → Option ℕ) → items_left b offset no_leaves ≡ []
+over_has_none b offset =
     let inside : holds b 0 0 ≡ true = grind (arith, nat_tests) in
     rw inside (rw (last_position []) refl)
 
 -- the items of a walk with these data, by where it is in them
-items_at : (b : List ℕ) (image : images.Image) (sections : List SectionTable) (v : ResourceLeaves) (tree : Range) (d : List ℕ) (p : LeafPosition) → bytes_at b tree ≡ Ok d → v.tree ≡ tree → position_of v ≡ p →
-    items_left b image sections v ≡ map (item_reported b image sections tree.offset d) (leaves_at d p)
-items_at b image sections v tree d p there same at =
+items_at : (b : List ℕ) (offset : ℕ → Option ℕ) (v : ResourceLeaves) (tree : Range) (d : List ℕ) (p : LeafPosition) → bytes_at b tree ≡ Ok d → v.tree ≡ tree → position_of v ≡ p →
+    items_left b offset v ≡ map (item_reported b offset tree.offset d) (leaves_at d p)
+items_at b offset v tree d p there same at =
     let bytes : bytes_at b v.tree ≡ Ok d = ap (bytes_at b) same ∙ there in
-    rw bytes (rw same (ap (λ (q : LeafPosition). map (item_reported b image sections tree.offset d) (leaves_at d q)) at))
+    rw bytes (rw same (ap (λ (q : LeafPosition). map (item_reported b offset tree.offset d) (leaves_at d q)) at))
 
 -- what a step leaves that returned a leaf
-pub after_leaf : (b : List ℕ) (image : images.Image) (sections : List SectionTable) (v w : ResourceLeaves) (d : List ℕ) (p q : LeafPosition) (x : trees.ResourceLeaf) (y : ResourceLeaf) →
+pub after_leaf : (b : List ℕ) (offset : ℕ → Option ℕ) (v w : ResourceLeaves) (d : List ℕ) (p q : LeafPosition) (x : trees.ResourceLeaf) (y : ResourceLeaf) →
     bytes_at b w.tree ≡ Ok d → v.tree ≡ w.tree → position_of v ≡ p → q ≡ position_of w →
     ◌≡◌ {A = List (Result trees.ResourceLeaf TreeRefusal)} (leaves_at d q) (Ok x ∷ leaves_at d p) →
-    leaf_reported b image sections w.tree.offset d x ≡ Ok y → items_left b image sections v ≡ after_item (items_left b image sections w)
-after_leaf b image sections v w d p q x y there same at from first reported =
-    items_at b image sections v w.tree d p there same at
-    ∙ sym (ap after_item (items_at b image sections w w.tree d q there refl (sym from) ∙ ap (map (item_reported b image sections w.tree.offset d)) first) ∙ rw reported refl)
+    leaf_reported b offset w.tree.offset d x ≡ Ok y → items_left b offset v ≡ after_item (items_left b offset w)
+after_leaf b offset v w d p q x y there same at from first reported =
+    items_at b offset v w.tree d p there same at
+    ∙ sym (ap after_item (items_at b offset w w.tree d q there refl (sym from) ∙ ap (map (item_reported b offset w.tree.offset d)) first) ∙ rw reported refl)
 
 -- ---- the walk after a step
 
@@ -54,51 +54,51 @@ refuses_by : (w : ResourceLeaves) (bytes : Result (List ℕ) Refusal) (r : TreeR
 refuses_by w (Ok d) r = refl
 refuses_by w (Err e) r = refl
 
-pub ends_over : (b : List ℕ) (image : images.Image) (sections : List SectionTable) (w : ResourceLeaves) → first_item (items_left b image sections w) ≡ Ok None → leaves_walk b image sections w ≡ no_leaves
-ends_over b image sections w e = ap (walk_after w (bytes_at b w.tree)) e ∙ ends_by w (bytes_at b w.tree)
+pub ends_over : (b : List ℕ) (offset : ℕ → Option ℕ) (w : ResourceLeaves) → first_item (items_left b offset w) ≡ Ok None → leaves_walk b offset w ≡ no_leaves
+ends_over b offset w e = ap (walk_after w (bytes_at b w.tree)) e ∙ ends_by w (bytes_at b w.tree)
 
-pub refuses_over : (b : List ℕ) (image : images.Image) (sections : List SectionTable) (w : ResourceLeaves) (r : TreeRefusal) → first_item (items_left b image sections w) ≡ Err r → leaves_walk b image sections w ≡ no_leaves
-refuses_over b image sections w r e = ap (walk_after w (bytes_at b w.tree)) e ∙ refuses_by w (bytes_at b w.tree) r
+pub refuses_over : (b : List ℕ) (offset : ℕ → Option ℕ) (w : ResourceLeaves) (r : TreeRefusal) → first_item (items_left b offset w) ≡ Err r → leaves_walk b offset w ≡ no_leaves
+refuses_over b offset w r e = ap (walk_after w (bytes_at b w.tree)) e ∙ refuses_by w (bytes_at b w.tree) r
 
-pub goes_on : (b : List ℕ) (image : images.Image) (sections : List SectionTable) (w : ResourceLeaves) (d : List ℕ) (y : ResourceLeaf) → bytes_at b w.tree ≡ Ok d → first_item (items_left b image sections w) ≡ Ok (Some y) →
-    leaves_walk b image sections w ≡ walk_at w.tree (position_after d (position_of w))
-goes_on b image sections w d y e f = ap (walk_after w (bytes_at b w.tree)) f ∙ ap (λ (r : Result (List ℕ) Refusal). walk_after w r (Ok (Some y))) e
+pub goes_on : (b : List ℕ) (offset : ℕ → Option ℕ) (w : ResourceLeaves) (d : List ℕ) (y : ResourceLeaf) → bytes_at b w.tree ≡ Ok d → first_item (items_left b offset w) ≡ Ok (Some y) →
+    leaves_walk b offset w ≡ walk_at w.tree (position_after d (position_of w))
+goes_on b offset w d y e f = ap (walk_after w (bytes_at b w.tree)) f ∙ ap (λ (r : Result (List ℕ) Refusal). walk_after w r (Ok (Some y))) e
 
 -- ---- whole walks
 
 abbrev Item : Type 0
 Item = Result ResourceLeaf TreeRefusal
 
-over_is_over : (b : List ℕ) (image : images.Image) (sections : List SectionTable) → IsOver (StepsLeaves b image sections) no_leaves
-over_is_over b image sections answer next s =
-    let nothing : first_item (items_left b image sections no_leaves) ≡ Ok None = ap first_item (over_has_none b image sections) in
-    (s.0 ∙ nothing, s.2 ∙ ends_over b image sections no_leaves nothing)
+over_is_over : (b : List ℕ) (offset : ℕ → Option ℕ) → IsOver (StepsLeaves b offset) no_leaves
+over_is_over b offset answer next s =
+    let nothing : first_item (items_left b offset no_leaves) ≡ Ok None = ap first_item (over_has_none b offset) in
+    (s.0 ∙ nothing, s.2 ∙ ends_over b offset no_leaves nothing)
 
-over_at : (b : List ℕ) (image : images.Image) (sections : List SectionTable) (w : ResourceLeaves) → w ≡ no_leaves → IsOver (StepsLeaves b image sections) w
-over_at b image sections w e = subst (λ (v : ResourceLeaves). IsOver (StepsLeaves b image sections) v) (sym e) (over_is_over b image sections)
+over_at : (b : List ℕ) (offset : ℕ → Option ℕ) (w : ResourceLeaves) → w ≡ no_leaves → IsOver (StepsLeaves b offset) w
+over_at b offset w e = subst (λ (v : ResourceLeaves). IsOver (StepsLeaves b offset) v) (sym e) (over_is_over b offset)
 
-by_items : (b : List ℕ) (image : images.Image) (sections : List SectionTable) (w : ResourceLeaves) (items : List (Result ResourceLeaf TreeRefusal)) → items_left b image sections w ≡ items →
-    ReturnsItems (StepsLeaves b image sections) w (read_items (λ (x : ResourceLeaf). Ok x) items)
-by_items b image sections w [] e = λ answer next s.
-    let nothing : first_item (items_left b image sections w) ≡ Ok None = ap first_item e in
-    (s.0 ∙ nothing, over_at b image sections next (s.2 ∙ ends_over b image sections w nothing))
-by_items b image sections w (Ok x ∷ items) e = λ answer next s. (s.0 ∙ ap first_item e, by_items b image sections next items (s.1 ∙ ap after_item e))
-by_items b image sections w (Err r ∷ items) e = (
+by_items : (b : List ℕ) (offset : ℕ → Option ℕ) (w : ResourceLeaves) (items : List (Result ResourceLeaf TreeRefusal)) → items_left b offset w ≡ items →
+    ReturnsItems (StepsLeaves b offset) w (read_items (λ (x : ResourceLeaf). Ok x) items)
+by_items b offset w [] e = λ answer next s.
+    let nothing : first_item (items_left b offset w) ≡ Ok None = ap first_item e in
+    (s.0 ∙ nothing, over_at b offset next (s.2 ∙ ends_over b offset w nothing))
+by_items b offset w (Ok x ∷ items) e = λ answer next s. (s.0 ∙ ap first_item e, by_items b offset next items (s.1 ∙ ap after_item e))
+by_items b offset w (Err r ∷ items) e = (
   refl,
   λ answer next s.
-      let refusal : first_item (items_left b image sections w) ≡ Err r = ap first_item e in
-      (s.0 ∙ refusal, over_at b image sections next (s.2 ∙ refuses_over b image sections w r refusal)),
+      let refusal : first_item (items_left b offset w) ≡ Err r = ap first_item e in
+      (s.0 ∙ refusal, over_at b offset next (s.2 ∙ refuses_over b offset w r refusal)),
 )
 
-pub leaves_in_turn : (b : List ℕ) (image : images.Image) (sections : List SectionTable) (w : ResourceLeaves) →
-    ReturnsItems (StepsLeaves b image sections) w (read_items (λ (x : ResourceLeaf). Ok x) (items_left b image sections w))
-leaves_in_turn b image sections w = by_items b image sections w (items_left b image sections w) refl
+pub leaves_in_turn : (b : List ℕ) (offset : ℕ → Option ℕ) (w : ResourceLeaves) →
+    ReturnsItems (StepsLeaves b offset) w (read_items (λ (x : ResourceLeaf). Ok x) (items_left b offset w))
+leaves_in_turn b offset w = by_items b offset w (items_left b offset w) refl
 
-pub leaves_of_tree : (b : List ℕ) (image : images.Image) (sections : List SectionTable) (tree : List ℕ × List (Result trees.ResourceLeaf TreeRefusal)) (w : ResourceLeaves) → StartsTree b image sections tree w →
-    ReturnsItems (StepsLeaves b image sections) w (read_items (λ (x : ResourceLeaf). Ok x) (map (item_reported b image sections w.tree.offset tree.0) tree.1))
-leaves_of_tree b image sections tree w h =
-    by_items b image sections w (map (item_reported b image sections w.tree.offset tree.0) tree.1)
-    (items_at b image sections w w.tree tree.0 (position_of w) h.bytes_of_tree refl refl ∙ ap (map (item_reported b image sections w.tree.offset tree.0)) h.leaves)
+pub leaves_of_tree : (b : List ℕ) (image : images.Image) (sections : List SectionTable) (offset : ℕ → Option ℕ) (tree : List ℕ × List (Result trees.ResourceLeaf TreeRefusal)) (w : ResourceLeaves) → StartsTree b image sections tree w →
+    ReturnsItems (StepsLeaves b offset) w (read_items (λ (x : ResourceLeaf). Ok x) (map (item_reported b offset w.tree.offset tree.0) tree.1))
+leaves_of_tree b image sections offset tree w h =
+    by_items b offset w (map (item_reported b offset w.tree.offset tree.0) tree.1)
+    (items_at b offset w w.tree tree.0 (position_of w) h.bytes_of_tree refl refl ∙ ap (map (item_reported b offset w.tree.offset tree.0)) h.leaves)
 
 -- ---- names
 

@@ -4,17 +4,23 @@ use Rattle.std.specs.List.{find, list_all}
 use Rattle.std.specs.Option.{option_map}
 use Rattle.std.specs.Borrow.{Bor}
 use Rattle.pe_core.specs.Refusals.{Refusal}
+use Rattle.pe_unwind.specs.Arm64Record.{Arm64InfoView}
+use Rattle.pe_unwind.specs.Arm64Unwinding.{info_of_function}
 use Rattle.pe_unwind.specs.ExceptionTable.{ExceptionView}
 use Rattle.pe_unwind.specs.UnwindRecord.{UnwindInfoView}
+use Rattle.pe_unwind.specs.declared.arm64.function.Arm64RuntimeFunction.{Arm64RuntimeFunction}
 use Rattle.pe_unwind.specs.declared.function_table.RuntimeFunction.{RuntimeFunction}
 use Rattle.pe_frame.specs.AddressRanges.{has_address}
+use Rattle.pe_frame.specs.Arm64Walks as arm64
+use Rattle.pe_frame.specs.FrameWalks.{Process}
 use Rattle.pe_frame.specs.Modules.{module_at, module_base, module_size}
 use Rattle.pe_frame.specs.Walks.{CallsBy, CallsByPlan, CallsFound, CallsIn}
+use Rattle.pe_frame.specs.declared.arm64.walk.Arm64StackFrame.{Arm64StackFrame}
 use Rattle.pe_frame.specs.declared.modules.Module.{Module}
 use Rattle.pe_frame.specs.declared.walk.StackFrame.{StackFrame}
 use Rattle.pe_frame.specs.declared.walk.WalkEnd.{WalkEnd}
 use Rattle.pe_frame.proofs.Lookups.{found_of_all}
-use Rattle.pe_c.specs.StackWalks.{exceptions_of, has_table, module_of, module_with, modules_of, view_base, view_size}
+use Rattle.pe_c.specs.WalkModules.{exceptions_of, has_table, module_of, module_with, modules_of, view_base, view_size}
 use Rattle.pe_c.specs.declared.stack_walk.ModuleView.{ModuleView}
 
 by : {X Y : Type 0} (f : X → Y) (b : Bool) (x : X) (o : Option X) (q : Option Y) → q ≡ option_map f o → cond b (Some (f x)) q ≡ option_map f (cond b (Some x) o)
@@ -37,6 +43,14 @@ tabled views a v all e = found_of_all (has_address view_base view_size a) has_ta
 
 -- ---- the exception data of a module, wherever they stand
 
+value_of : (x : Option (Bor ExceptionView)) (seen : Option ExceptionView) → option_copied x ≡ seen → option_map (λ e. e.now) x ≡ seen
+value_of None seen e = e
+value_of (Some b) seen e = e
+
+value_of_ref : (seen : Option ExceptionView) → option_map {T = Bor ExceptionView} (λ e. e.now) (option_map {T = ExceptionView} (λ e. record { ref_ptr = (0, 0); now = e }) seen) ≡ seen
+value_of_ref None = refl
+value_of_ref (Some e) = refl
+
 module _ (memory : ℕ → Option ℕ) (modules : List Module) (v : ModuleView) (s : StackFrame) where
   abbrev by_data : Option (Bor ExceptionView) → Module
   by_data x = module_with v x
@@ -54,17 +68,32 @@ module _ (memory : ℕ → Option ℕ) (modules : List Module) (v : ModuleView) 
   same_data x y None answer h = h
   same_data x y (Some e) answer h = (h.0, h.1, same_function x y e h.0 answer h.2)
 
-  value_of : (x : Option (Bor ExceptionView)) (seen : Option ExceptionView) → option_copied x ≡ seen → option_map (λ e. e.now) x ≡ seen
-  value_of None seen e = e
-  value_of (Some b) seen e = e
-
-  value_of_ref : (seen : Option ExceptionView) → option_map {T = Bor ExceptionView} (λ e. e.now) (option_map {T = ExceptionView} (λ e. record { ref_ptr = (0, 0); now = e }) seen) ≡ seen
-  value_of_ref None = refl
-  value_of_ref (Some e) = refl
-
   -- what calls a frame does not depend on where the exception data stand
   pub viewed_caller : (x : Option (Bor ExceptionView)) (m : Module) (answer : Result StackFrame WalkEnd) → m ≡ module_with v x → option_copied x ≡ exceptions_of v → CallsIn memory modules s (Some m) answer → CallsIn memory modules s (Some (module_of v)) answer
   viewed_caller x m answer is seen h =
       let there : CallsIn memory modules s (Some (by_data x)) answer = subst (λ (n : Module). CallsIn memory modules s (Some n) answer) is h in
       let read : CallsBy memory modules (by_data x) s (exceptions_of v) answer = subst (λ (d : Option ExceptionView). CallsBy memory modules (by_data x) s d answer) (value_of x (exceptions_of v) seen) there in
       subst (λ (d : Option ExceptionView). CallsBy memory modules (module_of v) s d answer) (sym (value_of_ref (exceptions_of v))) (same_data x (option_map (λ e. record { ref_ptr = (0, 0); now = e }) (exceptions_of v)) (exceptions_of v) answer read)
+
+-- the same on ARM64
+
+module _ (p : Process) (v : ModuleView) (s : Arm64StackFrame) where
+  same_info : (x y : Option (Bor ExceptionView)) (f : Arm64RuntimeFunction) (info : Option (Result Arm64InfoView Refusal)) (answer : Result Arm64StackFrame WalkEnd) → arm64.CallsByInfo p (module_with v x) f s info answer → arm64.CallsByInfo p (module_with v y) f s info answer
+  same_info x y f None answer h = h
+  same_info x y f (Some (Err r)) answer h = h
+  same_info x y f (Some (Ok i)) answer h = h
+
+  same_arm64_function : (x y : Option (Bor ExceptionView)) (e : ExceptionView) (found : Result (Option Arm64RuntimeFunction) Refusal) (answer : Result Arm64StackFrame WalkEnd) → arm64.CallsFound p (module_with v x) e s found answer → arm64.CallsFound p (module_with v y) e s found answer
+  same_arm64_function x y e (Err r) answer h = h
+  same_arm64_function x y e (Ok None) answer h = h
+  same_arm64_function x y e (Ok (Some f)) answer h = same_info x y f (info_of_function e (module_with v x).sections.now (module_with v x).opts f) answer h
+
+  same_arm64_data : (x y : Option (Bor ExceptionView)) (seen : Option ExceptionView) (answer : Result Arm64StackFrame WalkEnd) → arm64.CallsBy p (module_with v x) s seen answer → arm64.CallsBy p (module_with v y) s seen answer
+  same_arm64_data x y None answer h = h
+  same_arm64_data x y (Some e) answer h = (h.0, h.1, same_arm64_function x y e h.0 answer h.2)
+
+  pub viewed_arm64_caller : (x : Option (Bor ExceptionView)) (m : Module) (answer : Result Arm64StackFrame WalkEnd) → m ≡ module_with v x → option_copied x ≡ exceptions_of v → arm64.CallsIn p s (Some m) answer → arm64.CallsIn p s (Some (module_of v)) answer
+  viewed_arm64_caller x m answer is seen h =
+      let there : arm64.CallsIn p s (Some (module_with v x)) answer = subst (λ (n : Module). arm64.CallsIn p s (Some n) answer) is h in
+      let read : arm64.CallsBy p (module_with v x) s (exceptions_of v) answer = subst (λ (d : Option ExceptionView). arm64.CallsBy p (module_with v x) s d answer) (value_of x (exceptions_of v) seen) there in
+      subst (λ (d : Option ExceptionView). arm64.CallsBy p (module_of v) s d answer) (sym (value_of_ref (exceptions_of v))) (same_arm64_data x (option_map (λ e. record { ref_ptr = (0, 0); now = e }) (exceptions_of v)) (exceptions_of v) answer read)

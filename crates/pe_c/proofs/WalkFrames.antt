@@ -10,8 +10,10 @@ use Rattle.pe_frame.specs.declared.walk.StackFrame.{StackFrame}
 use Rattle.pe_frame.specs.declared.walk.Way.{Way}
 use Rattle.pe_frame.specs.declared.walk.Way.TheVariants.{Top, Records, Leaf, Interrupt, Scanned}
 use Rattle.pe_c.specs.StackFrames.{half_xmm, whole_xmm}
-use Rattle.pe_c.specs.StackWalks.{after_frame, bit_of, frame_in, is_set, way_number, way_of}
+use Rattle.pe_c.specs.FrameCalls.{bit_of, is_set, way_number, way_of}
+use Rattle.pe_c.specs.StackWalks.{after_frame, frame_in, stack_walks}
 use Rattle.pe_c.specs.declared.stack_walk.StackWalk.{StackWalk}
+use Rattle.pe_c.proofs.FrameRuns.{KeepWalks}
 
 -- ---- registers
 
@@ -43,7 +45,7 @@ registers_of_halves xmm all =
 
 -- ---- numbers
 
-same_way : (way : Way) → way_of (way_number way) ≡ way
+pub same_way : (way : Way) → way_of (way_number way) ≡ way
 unfolding way_of
 same_way Top = refl
 same_way Records = refl
@@ -51,7 +53,7 @@ same_way Leaf = refl
 same_way Interrupt = refl
 same_way Scanned = refl
 
-same_bit : (b : Bool) → is_set (bit_of b) ≡ b
+pub same_bit : (b : Bool) → is_set (bit_of b) ≡ b
 same_bit true = refl
 same_bit false = refl
 
@@ -59,3 +61,12 @@ same_bit false = refl
 
 pub kept : (w : StackWalk) (s : StackFrame) → length (s.registers).xmm ≡ 16 → frame_in (after_frame w s) ≡ s
 kept w s all = rw (registers_of_halves (s.registers).xmm all, same_way s.way, same_bit s.has_called) refl
+
+pub keep_walks : KeepWalks stack_walks
+keep_walks = record {
+  returned = λ w s. refl;
+  counted = λ w s. refl;
+  unended = λ w s. refl;
+  over = λ w e. refl;
+  ended = λ w e. refl;
+}

@@ -21,6 +21,7 @@ use Rattle.pe_c.specs.StackFrames.{OverPieces, error_number, error_address}
 use Rattle.pe_c.specs.declared.arm64.frames.Arm64FrameRegisters.{Arm64FrameRegisters}
 use Rattle.pe_c.specs.declared.arm64.frames.Arm64StackFrame.{Arm64StackFrame}
 use Rattle.pe_c.specs.declared.image.Image.{Image}
+use Rattle.pe_c.specs.declared.results.TheConstants.{DONE}
 
 -- ---- unwind data
 
@@ -56,7 +57,7 @@ at_arm64_address frame (Some a) = record frame { address = a }
 -- number, with the address that it speaks of. Nothing else of the frame changes.
 abbrev pub HandsOutArm64Left : ℕ → Arm64StackFrame → Arm64StackFrame → Result (Arm64Registers × Bool) FrameError → Type 0
 HandsOutArm64Left number old new (Ok u) =
-    (number ≡ 0) × (new ≡ record old { registers = flat_arm64_registers u.0; interrupted = if u.1 then 1 else 0 })
+    (number ≡ DONE) × (new ≡ record old { registers = flat_arm64_registers u.0; interrupted = if u.1 then 1 else 0 })
 HandsOutArm64Left number old new (Err e) = (number ≡ error_number e) × (new ≡ at_arm64_address old (error_address e))
 
 -- how many instructions before the frame's RVA its function has

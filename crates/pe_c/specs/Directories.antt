@@ -20,6 +20,7 @@ use Rattle.pe_c.specs.declared.base_relocations.Relocation.{Relocation}
 use Rattle.pe_c.specs.declared.base_relocations.RelocationBlock.{RelocationBlock}
 use Rattle.pe_c.specs.declared.image.Image as images
 use Rattle.pe_c.specs.declared.ranges.Range.{Range}
+use Rattle.pe_c.specs.declared.results.TheConstants.{DONE, NOTHING}
 
 -- the number of a refusal of a directory, written by tools/make_errors
 abbrev pub directory_number : DirectoryRefusal → ℕ
@@ -35,8 +36,8 @@ directory_number BoundImportName = 308
 
 -- 0 and the value; 100 where there is none; else the number of the refusal. `out` is unchanged without a value
 abbrev pub DirectoryHandsOut : {Y : Type 0} → ℕ → Y → Y → Result (Option Y) DirectoryRefusal → Type 0
-DirectoryHandsOut number old new (Ok (Some value)) = (number ≡ 0) × (new ≡ value)
-DirectoryHandsOut number old new (Ok None) = (number ≡ 100) × (new ≡ old)
+DirectoryHandsOut number old new (Ok (Some value)) = (number ≡ DONE) × (new ≡ value)
+DirectoryHandsOut number old new (Ok None) = (number ≡ NOTHING) × (new ≡ old)
 DirectoryHandsOut number old new (Err refusal) = (number ≡ directory_number refusal) × (new ≡ old)
 
 -- the image as pe_directories takes it, in the mode in which it is read

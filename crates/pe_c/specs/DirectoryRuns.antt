@@ -15,7 +15,7 @@ use Rattle.pe_c.specs.Clr.{first_stream_in, stream_reported, streams_after}
 use Rattle.pe_c.specs.DelayImports.{first_library_in, first_of_walk, functions_after}
 use Rattle.pe_c.specs.Directories.{block_reported, first_in, first_va_in, left_after, relocation_reported, step_of}
 use Rattle.pe_c.specs.Ranges.{IsRange, range_after}
-use Rattle.pe_c.specs.Runs.{read_in_turn, read_items}
+use Rattle.pe_c.specs.Runs.{read_in_turn, read_items, EachHas, ReturnsItems}
 use Rattle.pe_c.specs.declared.base_relocations.Relocation.{Relocation}
 use Rattle.pe_c.specs.declared.base_relocations.RelocationBlock.{RelocationBlock}
 use Rattle.pe_c.specs.declared.bound_imports.BoundForwarder.{BoundForwarder}
@@ -54,6 +54,11 @@ pub record HasBlock (b : List ℕ) (y : RelocationBlock) (x : Block) : Type 0 wh
   pub page : y.page_rva ≡ x.page_rva
   pub entries : IsRange b y.entries x.entries
 
+-- a walk over blocks returns what these items report, each with its block
+abbrev pub ReturnsBlocks : List ℕ → Range → List (Result Block DirectoryRefusal) → Type 0
+ReturnsBlocks b walk items =
+    ReturnsItems (StepsBlocks b) walk (blocks_reported walk items) × EachHas (HasBlock b) (blocks_reported walk items) items
+
 abbrev pub StepsRelocations : ℕ → List ℕ → Range → Result (Option Relocation) DirectoryRefusal → Range → Type 0
 StepsRelocations page b = StepsBy (λ walk. relocation_reported) (first_in (first_relocation page) b) left_after
 
@@ -82,6 +87,12 @@ pub record HasStream (b metadata : List ℕ) (y : MetadataStream) (s : Stream) :
   pub name : IsRange b y.name s.name
   pub content : HasContent b y (record_at metadata s.offset s.size (range metadata s.offset s.size))
 
+-- a walk over streams of these metadata returns what these items report, each with its stream
+abbrev pub ReturnsStreams : List ℕ → List ℕ → MetadataStreams → List (Result Stream DirectoryRefusal) → Type 0
+ReturnsStreams b metadata walk items =
+    ReturnsItems (StepsStreams b) walk (streams_reported walk items)
+    × EachHas (HasStream b metadata) (streams_reported walk items) items
+
 -- ---- delay imports; `i` is the image as pe_directories takes it
 
 abbrev pub StepsDelayLibraries : ImageView → Range → Result (Option DelayLibrary) DirectoryRefusal → Range → Type 0
@@ -106,6 +117,12 @@ bounds_reported b table walk items = read_in_turn (bound_reported b table) after
 pub record HasBound (b directory : List ℕ) (y : BoundImport) (x : Bound) : Type 0 where
   pub name : (text : List ℕ) × (bound_name directory x.name ≡ Ok text) × IsRange b y.name text
   pub forwarders : IsRange b y.forwarders x.forwarders
+
+-- a walk over bound imports of the directory in a range returns what these items report, each with its DLL
+abbrev pub ReturnsBounds : List ℕ → Range → List ℕ → Range → List (Result Bound DirectoryRefusal) → Type 0
+ReturnsBounds b table directory walk items =
+    ReturnsItems (StepsBoundImports b table) walk (bounds_reported b table walk items)
+    × EachHas (HasBound b directory) (bounds_reported b table walk items) items
 
 abbrev pub StepsForwarders : List ℕ → Range → Range → Result (Option BoundForwarder) DirectoryRefusal → Range → Type 0
 StepsForwarders b table old answer new = (answer ≡ next_forwarder b table old) × (new ≡ after_forwarder b table old)

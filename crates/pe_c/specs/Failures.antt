@@ -4,11 +4,13 @@ use Rattle.pe_core.specs.Bytes.{le, holds}
 use Rattle.pe_core.specs.Directories.{kept}
 use Rattle.pe_core.specs.Header.{directories_offset, is_pe32_plus}
 use Rattle.pe_core.specs.Options.{is_permissive}
-use Rattle.pe_core.specs.Refusals.{Refusal}
+use Rattle.pe_core.specs.Refusals.{BadMagic, HeaderPointer, Refusal, TeSize}
 use Rattle.pe_core.specs.declared.options.ParseMode.{ParseMode}
 use Rattle.pe_c.specs.HandsOut.{result_number}
 use Rattle.pe_c.specs.Modes.{mode_of_number}
 use Rattle.pe_c.specs.declared.failure.Failure.{Failure}
+use Rattle.pe_core.specs.declared.header.TheConstants.{DOS_MAGIC, PE_MAGIC, TE_MAGIC}
+use Rattle.pe_core.specs.declared.optional_header.TheConstants.{MAGIC_32}
 
 -- the failure with this number, of n bytes at an offset, which hold this value
 abbrev pub failure_at : ℕ → ℕ → ℕ → ℕ → Failure
@@ -38,15 +40,15 @@ or_later (Some f) later = Some f
 abbrev pub dos_failures : List ℕ → ParseMode → List (Bool × Failure)
 dos_failures b mode =
     (holds b 0 64, truncated_at 0 64)
-    ∷ (le b 0 2 == 0x5A4D, refused_at 3 b 0 2)
-    ∷ (nat_le 64 (le b 60 4) || is_permissive mode, refused_at 4 b 60 4)
+    ∷ (le b 0 2 == DOS_MAGIC, refused_at (result_number BadMagic) b 0 2)
+    ∷ (nat_le 64 (le b 60 4) || is_permissive mode, refused_at (result_number HeaderPointer) b 60 4)
     ∷ []
 
 -- the PE signature at offset p and the COFF header after it
 abbrev pub pe_failures : List ℕ → ℕ → List (Bool × Failure)
 pe_failures b p =
     (holds b p 4, truncated_at p 4)
-    ∷ (le b p 4 == 0x4550, refused_at 3 b p 4)
+    ∷ (le b p 4 == PE_MAGIC, refused_at (result_number BadMagic) b p 4)
     ∷ (holds b (p + 4) 20, truncated_at (p + 4) 20)
     ∷ []
 
@@ -60,7 +62,7 @@ optional_failures b p =
     let size = fields_size b p in
     let directories = 8 * kept (le b (p + (size - 4)) 4) in
     (holds b p 2, truncated_at p 2)
-    ∷ (le b p 2 == 0x10B || is_pe32_plus b p, refused_at 3 b p 2)
+    ∷ (le b p 2 == MAGIC_32 || is_pe32_plus b p, refused_at (result_number BadMagic) b p 2)
     ∷ (holds b p size, truncated_at p size)
     ∷ (holds b (p + size) directories, truncated_at (p + size) directories)
     ∷ []
@@ -84,8 +86,8 @@ image_failure b mode = header_failure b (mode_of_number mode)
 unfoldable pub te_failures : List ℕ → List (Bool × Failure)
 te_failures b =
     (holds b 0 40, truncated_at 0 40)
-    ∷ (le b 0 2 == 0x5A56, refused_at 3 b 0 2)
-    ∷ (nat_le 40 (le b 6 2), refused_at 31 b 6 2)
+    ∷ (le b 0 2 == TE_MAGIC, refused_at (result_number BadMagic) b 0 2)
+    ∷ (nat_le 40 (le b 6 2), refused_at (result_number TeSize) b 6 2)
     ∷ []
 
 -- ---- what a failure says of a call

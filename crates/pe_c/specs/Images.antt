@@ -10,6 +10,8 @@ use Rattle.pe_core.specs.declared.section_table.SectionTable.{SectionTable}
 use Rattle.pe_c.specs.declared.image.Image.{Image}
 use Rattle.pe_c.specs.HandsOut.{result_number}
 use Rattle.pe_c.specs.Modes.{mode_of_number, options_of}
+use Rattle.pe_c.specs.declared.results.TheConstants.{DONE, ROOM}
+use Rattle.pe_core.specs.declared.optional_header.TheConstants.{MAGIC_64}
 
 -- a directory, or zeros where it is absent
 abbrev pub or_absent : Option DataDirectory → DataDirectory
@@ -27,7 +29,7 @@ all_directories kept =
 
 -- the file offset of the data directories of an optional header at this offset
 abbrev pub directories_at : ℕ → OptionalHeaderView → ℕ
-directories_at start o = start + directories_offset (o.standard_fields.magic == 0x20B)
+directories_at start o = start + directories_offset (o.standard_fields.magic == MAGIC_64)
 
 -- the file offset of the certificate table's directory, the fifth, in an optional header at this offset, if that keeps
 -- it; else 0
@@ -74,7 +76,7 @@ with_optional image start o = record image {
   checksum = o.windows_fields.check_sum;
   number_of_directories = length o.data_directories;
   directories = all_directories o.data_directories;
-  width = if o.standard_fields.magic == 0x20B then 64 else 32;
+  width = if o.standard_fields.magic == MAGIC_64 then 64 else 32;
   subsystem = o.windows_fields.subsystem;
   dll_characteristics = o.windows_fields.dll_characteristics;
 }
@@ -118,12 +120,12 @@ image_at b mode = header_at b (mode_of_number mode) >>= λ h. Ok (image_info_of 
 
 -- the section headers are at the start of the room and the rest is unchanged; or they are refused and all is unchanged
 abbrev pub PutsRows : ℕ → List SectionTable → List SectionTable → Result (List SectionTable) Refusal → Type 0
-PutsRows number old new (Ok sections) = (number ≡ 0) × (new ≡ sections ++ drop (length sections) old)
+PutsRows number old new (Ok sections) = (number ≡ DONE) × (new ≡ sections ++ drop (length sections) old)
 PutsRows number old new (Err refusal) = (number ≡ result_number refusal) × (new ≡ old)
 
 -- 101 where the room is too small, and it is unchanged
 abbrev pub PutsIf : Bool → ℕ → List SectionTable → List SectionTable → Result (List SectionTable) Refusal → Type 0
-PutsIf false number old new sections = (number ≡ 101) × (new ≡ old)
+PutsIf false number old new sections = (number ≡ ROOM) × (new ≡ old)
 PutsIf true number old new sections = PutsRows number old new sections
 
 -- what reading so many section headers from an offset on into a room returns

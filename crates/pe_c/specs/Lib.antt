@@ -17,8 +17,15 @@ pub mod Plans
 pub mod Ranges
 pub mod Runs
 pub mod Signing
+pub mod SignatureParts
+pub mod Signatures
+pub mod X509
+pub mod NameWalks
 pub mod StackFrames
+pub mod WalkModules
+pub mod FrameCalls
 pub mod StackWalks
+pub mod Arm64StackWalks
 pub mod Texts
 pub mod Unwinding
 pub mod Versions
@@ -41,3 +48,11 @@ pub mod Te
 pub mod Failures
 pub mod ResourceEdits
 pub mod VersionWrites
+pub mod Dumps
+pub mod DumpRecords
+pub mod DumpMemory
+pub mod DumpContexts
+pub mod DumpLaws
+pub mod RecordCodes
+pub mod SectionIndexes
+pub mod Views

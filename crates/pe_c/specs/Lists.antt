@@ -6,6 +6,7 @@ use Rattle.pe_c.specs.Runs.{ReturnsItems}
 use Rattle.pe_c.specs.VersionBlocks.{block_step, block_walk}
 use Rattle.pe_c.specs.declared.ranges.Range.{Range}
 use Rattle.pe_c.specs.declared.version_blocks.VersionBlock.{VersionBlock}
+use Rattle.pe_c.specs.declared.results.TheConstants.{DONE, ROOM}
 
 -- ---- what a list has
 
@@ -59,12 +60,12 @@ StepsVersionBlocks b old answer new = (answer ≡ block_step b old) × (new ≡ 
 
 -- 0, the values at the start of the array, and their number; else the number of the error, and nothing is written
 abbrev pub WritesList : {X : Type 0} → ℕ → List X → List X → ℕ → ℕ → Result (List X) ℕ → Type 0
-WritesList number old new before written (Ok xs) = (number ≡ 0) × (new ≡ xs ++ drop (length xs) old) × (written ≡ length xs)
+WritesList number old new before written (Ok xs) = (number ≡ DONE) × (new ≡ xs ++ drop (length xs) old) × (written ≡ length xs)
 WritesList number old new before written (Err e) = (number ≡ e) × (new ≡ old) × (written ≡ before)
 
 -- what a call returns, by whether there is no room; then the number is 101, and nothing changes
 abbrev pub HandsOutListIf : {W X : Type 0} → Bool → (W → Result (Option X) ℕ → W → Type 0) → ℕ → W → W → List X → List X → ℕ → ℕ → Type 0
-HandsOutListIf true Steps number w v old new before written = (number ≡ 101) × (v ≡ w) × (new ≡ old) × (written ≡ before)
+HandsOutListIf true Steps number w v old new before written = (number ≡ ROOM) × (v ≡ w) × (new ≡ old) × (written ≡ before)
 HandsOutListIf {W} {X} false Steps number w v old new before written =
     (answer : Result (List X) ℕ) × Lists Steps (length old) w answer v × WritesList number old new before written answer
 

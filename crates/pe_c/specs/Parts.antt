@@ -1,8 +1,8 @@
 -- The ranges of results are the parts of what they were read from.
-use Rattle.std.specs.Prelude.{◌≡◌, ℕ, List, [], ◌∷◌, ◌++◌, map, Option, Some, None, Ok, Err}
+use Rattle.std.specs.Prelude.{◌≡◌, ℕ, List, [], ◌∷◌, ◌++◌, map, Option, Some, None, Ok, Err, ◌==◌, Result}
 use Rattle.std.specs.List.{AllZip}
 use Rattle.pe_core.specs.Exports.{ExportDataView, ExportView}
-use Rattle.pe_core.specs.Imports.{ImportRecordView, ImportView, imports}
+use Rattle.pe_core.specs.Imports.{ImportRecordView, ImportView, imports, entry_size, import_data_at}
 use Rattle.pe_core.specs.Refusals.{Refusal, ◌>>=◌}
 use Rattle.pe_core.specs.declared.import.ImportDirectoryEntry.{ImportDirectoryEntry}
 use Rattle.pe_c.specs.declared.exports.Export.{Export}
@@ -10,9 +10,13 @@ use Rattle.pe_c.specs.declared.exports.Exports.{Exports}
 use Rattle.pe_c.specs.declared.imports.Import.{Import}
 use Rattle.pe_c.specs.declared.imports.Library.{Library}
 use Rattle.pe_c.specs.Exports.{or_zero, one_if_some}
-use Rattle.pe_c.specs.Imports.{StepsImports}
+use Rattle.pe_c.specs.Imports.{StepsImports, StepsLibraries}
 use Rattle.pe_c.specs.Ranges.{IsPart, IsRange}
 use Rattle.pe_c.specs.Runs.{ReturnsItems}
+use Rattle.pe_core.specs.declared.section_table.SectionTable.{SectionTable}
+use Rattle.pe_c.specs.declared.image.Image.{Image}
+use Rattle.pe_c.specs.declared.imports.Libraries.{Libraries}
+use Rattle.pe_c.specs.Images.{import_directory, map_of_image}
 
 -- a walk at its start has the tables of these export data
 pub record HasTables (b : List ℕ) (w : Exports) (d : ExportDataView) : Type 0 where
@@ -54,6 +58,17 @@ pub record ReportsLibrary (offset : ℕ → Option ℕ) (w : ℕ) (b : List ℕ)
       (reported : List Import) × ReturnsItems (StepsImports offset w b) x.imports (map (λ y. Ok y) reported) × AllZip (ReportsImport b) reported is
   pub refused : (refusal : Refusal) → imports offset w b (r ∷ []) ≡ Err refusal →
       (reported : List Import) × (is : List ImportView) × ReturnsItems (StepsImports offset w b) x.imports (map (λ y. Ok y) reported ++ Err refusal ∷ []) × AllZip (ReportsImport b) reported is
+
+-- the records of an image's import directory
+abbrev pub import_records_at : List ℕ → Image → List SectionTable → Result (List ImportRecordView) Refusal
+import_records_at b image sections =
+    import_data_at (map_of_image image sections) (entry_size (image.width == 64)) b (import_directory image).virtual_address
+
+-- a walk over the libraries of an image returns these items, and these libraries report these records
+abbrev pub ReportsLibraries : List ℕ → Image → List SectionTable → Libraries → List (Result Library Refusal) → List Library → List ImportRecordView → Type 0
+ReportsLibraries b image sections walk items reported rs =
+    ReturnsItems (StepsLibraries (map_of_image image sections) (entry_size (image.width == 64)) b) walk items
+    × AllZip (ReportsLibrary (map_of_image image sections) (entry_size (image.width == 64)) b) reported rs
 
 -- the imports of records are those of the first, followed by those of the others
 abbrev pub ImportsInTurn : Type 0

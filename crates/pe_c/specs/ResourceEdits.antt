@@ -15,6 +15,7 @@ use Rattle.pe_rewrite.specs.RewriteRefusals as rewrites
 use Rattle.pe_c.specs.HandsOut.{result_number}
 use Rattle.pe_c.specs.Signing.{headers_of}
 use Rattle.pe_c.specs.declared.image.Image as images
+use Rattle.pe_c.specs.declared.results.TheConstants.{DONE}
 
 -- the numbers of refusals, written by tools/make_errors
 abbrev pub edit_number : EditRefusal → ℕ
@@ -38,6 +39,9 @@ rewrite_number rewrites.SharedSection = 462
 rewrite_number rewrites.Symbols = 463
 rewrite_number rewrites.Overlap = 464
 rewrite_number rewrites.NoRoom = 465
+rewrite_number rewrites.NoHeaderRoom = 471
+rewrite_number rewrites.ImageTooLarge = 472
+rewrite_number rewrites.DebugData = 473
 
 abbrev pub record_number : RecordRefusal → ℕ
 record_number records.Record = 466
@@ -60,12 +64,12 @@ NumberReturnsWritten (Err n) defined old new = (defined ≡ Err n) × (new ≡ o
 
 -- 0 and the value; else the number of the refusal, and `out` is unchanged
 abbrev pub HandsOutByNumber : {Y : Type 0} → ℕ → Y → Y → Result Y ℕ → Type 0
-HandsOutByNumber number old new (Ok value) = (number ≡ 0) × (new ≡ value)
+HandsOutByNumber number old new (Ok value) = (number ≡ DONE) × (new ≡ value)
 HandsOutByNumber number old new (Err n) = (number ≡ n) × (new ≡ old)
 
 -- 0, the length of a file at `out` and the file in the room; else the number of the refusal, and both are unchanged
 abbrev pub HandsOutFile : ℕ → ℕ → ℕ → List ℕ → List ℕ → Result (ℕ × List ℕ) ℕ → Type 0
-HandsOutFile number old new room room_after (Ok file) = (number ≡ 0) × (new ≡ file.0) × (room_after ≡ file.1)
+HandsOutFile number old new room room_after (Ok file) = (number ≡ DONE) × (new ≡ file.0) × (room_after ≡ file.1)
 HandsOutFile number old new room room_after (Err n) = (number ≡ n) × (new ≡ old) × (room_after ≡ room)
 
 -- the length of a file, and a room with it at its start

@@ -21,6 +21,7 @@ use Rattle.pe_c.specs.declared.ranges.Range.{Range}
 use Rattle.pe_c.specs.declared.resource_leaves.ResourceLeaf.{ResourceLeaf}
 use Rattle.pe_c.specs.declared.resource_leaves.ResourceLeaves.{ResourceLeaves}
 use Rattle.pe_c.specs.declared.resource_leaves.ResourceName.{ResourceName}
+use Rattle.pe_c.specs.declared.results.TheConstants.{DONE, NOTHING}
 
 -- the number of a refusal of a resource tree, written by tools/make_errors
 abbrev pub tree_number : TreeRefusal → ℕ
@@ -31,8 +32,8 @@ tree_number NoEntries = 403
 
 -- 0 and the value; 100 where there is none; else the number of the refusal. `out` is unchanged without a value
 abbrev pub TreeHandsOut : {Y : Type 0} → ℕ → Y → Y → Result (Option Y) TreeRefusal → Type 0
-TreeHandsOut number old new (Ok (Some value)) = (number ≡ 0) × (new ≡ value)
-TreeHandsOut number old new (Ok None) = (number ≡ 100) × (new ≡ old)
+TreeHandsOut number old new (Ok (Some value)) = (number ≡ DONE) × (new ≡ value)
+TreeHandsOut number old new (Ok None) = (number ≡ NOTHING) × (new ≡ old)
 TreeHandsOut number old new (Err refusal) = (number ≡ tree_number refusal) × (new ≡ old)
 
 -- ---- a leaf
@@ -64,17 +65,17 @@ leaf_of_names t n l e content = record {
   code_page = e.code_page;
 }
 
--- where the content of a leaf is in the file
-abbrev pub content_of : List ℕ → images.Image → List SectionTable → ResourceDataEntry → Range × ℕ
-content_of b image sections e = content_reported (file_range b e.size (map_of_image image sections e.offset_to_data))
+-- where the content of a leaf is in the file; `offset` maps an RVA to its file offset
+abbrev pub content_of : List ℕ → (ℕ → Option ℕ) → ResourceDataEntry → Range × ℕ
+content_of b offset e = content_reported (file_range b e.size (offset e.offset_to_data))
 
 -- a leaf as callers get it; it is refused where one of its names is
-abbrev pub leaf_reported : List ℕ → images.Image → List SectionTable → ℕ → List ℕ → trees.ResourceLeaf → Result ResourceLeaf Refusal
-leaf_reported b image sections start d x =
+abbrev pub leaf_reported : List ℕ → (ℕ → Option ℕ) → ℕ → List ℕ → trees.ResourceLeaf → Result ResourceLeaf Refusal
+leaf_reported b offset start d x =
     name_in start d x.resource_type >>= λ t.
     name_in start d x.name >>= λ n.
     name_in start d x.language >>= λ l.
-    Ok (leaf_of_names t n l x.data_entry (content_of b image sections x.data_entry))
+    Ok (leaf_of_names t n l x.data_entry (content_of b offset x.data_entry))
 
 -- the name that is reported of an entry with these units, if it has a name, is that: its range is the units
 abbrev pub IsNameOf : List ℕ → ResourceName → Option (List ℕ) → Type 0
@@ -89,9 +90,9 @@ of_file (Ok x) = Ok x
 of_file (Err refusal) = Err (Image refusal)
 
 -- an item of a tree as callers get it
-abbrev pub item_reported : List ℕ → images.Image → List SectionTable → ℕ → List ℕ → Result trees.ResourceLeaf TreeRefusal → Result ResourceLeaf TreeRefusal
-item_reported b image sections start d (Ok x) = of_file (leaf_reported b image sections start d x)
-item_reported b image sections start d (Err refusal) = Err refusal
+abbrev pub item_reported : List ℕ → (ℕ → Option ℕ) → ℕ → List ℕ → Result trees.ResourceLeaf TreeRefusal → Result ResourceLeaf TreeRefusal
+item_reported b offset start d (Ok x) = of_file (leaf_reported b offset start d x)
+item_reported b offset start d (Err refusal) = Err refusal
 
 -- the position of a walk in its data
 abbrev pub position_of : ResourceLeaves → LeafPosition
@@ -104,13 +105,13 @@ position_of w = record {
 }
 
 -- the items that a walk over these data has left
-abbrev pub items_in : List ℕ → images.Image → List SectionTable → ResourceLeaves → Result (List ℕ) Refusal → List (Result ResourceLeaf TreeRefusal)
-items_in b image sections w (Ok d) = map (item_reported b image sections w.tree.offset d) (leaves_at d (position_of w))
-items_in b image sections w (Err refusal) = Err (Image refusal) ∷ []
+abbrev pub items_in : List ℕ → (ℕ → Option ℕ) → ResourceLeaves → Result (List ℕ) Refusal → List (Result ResourceLeaf TreeRefusal)
+items_in b offset w (Ok d) = map (item_reported b offset w.tree.offset d) (leaves_at d (position_of w))
+items_in b offset w (Err refusal) = Err (Image refusal) ∷ []
 
 -- the items that a walk has left; one refusal alone where its data are not inside the bytes
-abbrev pub items_left : List ℕ → images.Image → List SectionTable → ResourceLeaves → List (Result ResourceLeaf TreeRefusal)
-items_left b image sections w = items_in b image sections w (bytes_at b w.tree)
+abbrev pub items_left : List ℕ → (ℕ → Option ℕ) → ResourceLeaves → List (Result ResourceLeaf TreeRefusal)
+items_left b offset w = items_in b offset w (bytes_at b w.tree)
 
 -- what a step returns where these items are left
 abbrev pub first_item : {X R : Type 0} → List (Result X R) → Result (Option X) R
@@ -146,15 +147,15 @@ walk_after w (Ok d) (Ok None) = no_leaves
 walk_after w (Ok d) (Err refusal) = no_leaves
 walk_after w (Err refusal) answer = no_leaves
 
-abbrev pub leaves_walk : List ℕ → images.Image → List SectionTable → ResourceLeaves → ResourceLeaves
-leaves_walk b image sections w = walk_after w (bytes_at b w.tree) (first_item (items_left b image sections w))
+abbrev pub leaves_walk : List ℕ → (ℕ → Option ℕ) → ResourceLeaves → ResourceLeaves
+leaves_walk b offset w = walk_after w (bytes_at b w.tree) (first_item (items_left b offset w))
 
 -- a step: what it returns, the items that it leaves, and the walk after it
-abbrev pub StepsLeaves : List ℕ → images.Image → List SectionTable → ResourceLeaves → Result (Option ResourceLeaf) TreeRefusal → ResourceLeaves → Type 0
-StepsLeaves b image sections old answer new =
-    (answer ≡ first_item (items_left b image sections old))
-    × (items_left b image sections new ≡ after_item (items_left b image sections old))
-    × (new ≡ leaves_walk b image sections old)
+abbrev pub StepsLeaves : List ℕ → (ℕ → Option ℕ) → ResourceLeaves → Result (Option ResourceLeaf) TreeRefusal → ResourceLeaves → Type 0
+StepsLeaves b offset old answer new =
+    (answer ≡ first_item (items_left b offset old))
+    × (items_left b offset new ≡ after_item (items_left b offset old))
+    × (new ≡ leaves_walk b offset old)
 
 -- the walk before the first leaf of an image's resources; `None` where the directory is absent, or has no first directory
 abbrev pub leaves_start : List ℕ → images.Image → List SectionTable → Result (Option ResourceLeaves) Refusal
@@ -177,6 +178,6 @@ pub record StartsTree (b : List ℕ) (image : images.Image) (sections : List Sec
 
 -- what a call that starts a walk returns
 abbrev pub StartsLeaves : List ℕ → images.Image → List SectionTable → ℕ → ResourceLeaves → ResourceLeaves → Result (Option (List ℕ × List (Result trees.ResourceLeaf TreeRefusal))) Refusal → Type 0
-StartsLeaves b image sections number old new (Ok (Some tree)) = (number ≡ 0) × StartsTree b image sections tree new
-StartsLeaves b image sections number old new (Ok None) = (number ≡ 100) × (new ≡ old)
+StartsLeaves b image sections number old new (Ok (Some tree)) = (number ≡ DONE) × StartsTree b image sections tree new
+StartsLeaves b image sections number old new (Ok None) = (number ≡ NOTHING) × (new ≡ old)
 StartsLeaves b image sections number old new (Err refusal) = (number ≡ result_number refusal) × (new ≡ old)

@@ -19,6 +19,7 @@ use Rattle.pe_c.specs.declared.image.Image as images
 use Rattle.pe_c.specs.declared.ranges.Range.{Range}
 use Rattle.pe_c.specs.declared.signing.ChecksumField.{ChecksumField}
 use Rattle.pe_c.specs.declared.signing.Digest.{Digest}
+use Rattle.pe_c.specs.declared.results.TheConstants.{DONE}
 
 -- the number of a refusal of signing, written by tools/make_errors
 abbrev pub sign_number : SignRefusal → ℕ
@@ -32,12 +33,12 @@ sign_number TooLarge = 206
 
 -- 0 and the value; else the number of the refusal, and `out` is unchanged
 abbrev pub SignHandsOut : {Y : Type 0} → ℕ → Y → Y → Result Y SignRefusal → Type 0
-SignHandsOut number old new (Ok value) = (number ≡ 0) × (new ≡ value)
+SignHandsOut number old new (Ok value) = (number ≡ DONE) × (new ≡ value)
 SignHandsOut number old new (Err refusal) = (number ≡ sign_number refusal) × (new ≡ old)
 
 -- 0, the length of a file at `out` and the file in the room; else the number of the refusal, and both are unchanged
 abbrev pub SignHandsOutWritten : ℕ → ℕ → ℕ → List ℕ → List ℕ → Result (ℕ × List ℕ) SignRefusal → Type 0
-SignHandsOutWritten number old new room room_after (Ok file) = (number ≡ 0) × (new ≡ file.0) × (room_after ≡ file.1)
+SignHandsOutWritten number old new room room_after (Ok file) = (number ≡ DONE) × (new ≡ file.0) × (room_after ≡ file.1)
 SignHandsOutWritten number old new room room_after (Err refusal) = (number ≡ sign_number refusal) × (new ≡ old) × (room_after ≡ room)
 
 -- the headers of the bytes, in the mode of an image

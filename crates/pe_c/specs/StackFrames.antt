@@ -23,6 +23,7 @@ use Rattle.pe_c.specs.Unwinding.{image_exceptions}
 use Rattle.pe_c.specs.declared.image.Image.{Image}
 use Rattle.pe_c.specs.declared.stack_frames.FrameRegisters.{FrameRegisters}
 use Rattle.pe_c.specs.declared.stack_frames.StackFrame.{StackFrame}
+use Rattle.pe_c.specs.declared.results.TheConstants.{BAD_ADDRESS, BAD_OPERATION, DONE, LONG_CHAIN, MISSING, NOT_RISING}
 
 -- ---- registers
 
@@ -47,12 +48,12 @@ flat_registers g = record { general = g.general; xmm = each (half_xmm g.xmm) 32;
 -- the number of an error of a step
 abbrev pub error_number : FrameError → ℕ
 error_number (Codes e) = result_number (kind_of e)
-error_number (Memory a) = 102
-error_number (Address a) = 103
-error_number (Operation o) = 104
-error_number (Arm64Code c) = 104
-error_number (Packed d) = 104
-error_number (NotRising a) = 105
+error_number (Memory a) = MISSING
+error_number (Address a) = BAD_ADDRESS
+error_number (Operation o) = BAD_OPERATION
+error_number (Arm64Code c) = BAD_OPERATION
+error_number (Packed d) = BAD_OPERATION
+error_number (NotRising a) = NOT_RISING
 
 -- the address that an error of a step speaks of
 abbrev pub error_address : FrameError → Option ℕ
@@ -69,20 +70,20 @@ at_address frame (Some a) = record frame { address = a }
 -- The number that a step returns, and the frame after it: the registers of the caller; or an error's number, with the
 -- address that it speaks of. Nothing else of the frame changes.
 abbrev pub HandsOutCaller : ℕ → StackFrame → StackFrame → Result Registers FrameError → Type 0
-HandsOutCaller number old new (Ok u) = (number ≡ 0) × (new ≡ record old { registers = flat_registers u })
+HandsOutCaller number old new (Ok u) = (number ≡ DONE) × (new ≡ record old { registers = flat_registers u })
 HandsOutCaller number old new (Err e) = (number ≡ error_number e) × (new ≡ at_address old (error_address e))
 
 -- The same of a pop of the return address, which leaves the XMM registers as they are.
 abbrev pub HandsOutPopped : ℕ → StackFrame → StackFrame → Result Registers FrameError → Type 0
 HandsOutPopped number old new (Ok u) =
-    (number ≡ 0) × (new ≡ record old { registers = record (old.registers) { general = u.general; rip = u.rip } })
+    (number ≡ DONE) × (new ≡ record old { registers = record (old.registers) { general = u.general; rip = u.rip } })
 HandsOutPopped number old new (Err e) = (number ≡ error_number e) × (new ≡ at_address old (error_address e))
 
 -- What a step by the records of a function leaves: it is a step of pe_frame in the image, with the code from the frame's RVA on.
 -- `HandsOut` says what becomes of it, or of a number that refuses it.
 abbrev pub StepsBy : ExceptionView → List SectionTable → ParseOptions → List ℕ → (ℕ → Option ℕ) → StackFrame → (Result (Result (Registers × Bool) FrameError) ℕ → Type 0) → Result (Option (List UnwindInfoView)) Refusal → Type 0
 StepsBy v sections opts code memory old HandsOut (Err refusal) = HandsOut (Err (result_number refusal))
-StepsBy v sections opts code memory old HandsOut (Ok None) = HandsOut (Err 106)
+StepsBy v sections opts code memory old HandsOut (Ok None) = HandsOut (Err LONG_CHAIN)
 StepsBy v sections opts code memory old HandsOut (Ok (Some plan)) =
     (left : Result (Registers × Bool) FrameError)
     × StepsInImage v sections opts memory plan (old.function).begin_address old.rva code (registers_of old.registers) left

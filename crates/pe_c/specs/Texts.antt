@@ -1,6 +1,7 @@
 -- The texts of results.
 -- `tools/make_errors` writes the list of errors.
 use Rattle.std.specs.Prelude.{ℕ, ◌-◌, nat_lt, List, [], ◌∷◌, slice_index_or, codes, if◌then◌else◌}
+use Rattle.pe_c.specs.declared.results.TheConstants.{NOTHING}
 
 -- the texts of 0 and of the refusals, in the order of their numbers
 abbrev pub texts : List (List ℕ)
@@ -63,7 +64,7 @@ other_texts =
     []
 
 unfoldable pub other_text : ℕ → List ℕ
-other_text n = slice_index_or other_texts (n - 100) (codes "unknown result")
+other_text n = slice_index_or other_texts (n - NOTHING) (codes "unknown result")
 
 -- the texts of the refusals of signing, in the order of their numbers
 abbrev pub sign_texts : List (List ℕ)
@@ -122,26 +123,70 @@ edit_texts =
     codes "data directories end after the section table starts" ∷
     codes "alignment of sections or of their data is too small or no power of two" ∷
     codes "no section starts at the RVA of the resource directory" ∷
-    codes "data of the resource section are in the headers, truncated or not aligned" ∷
+    codes "data of the sections are in the headers, truncated or not aligned" ∷
     codes "the entry point or another directory lies in the resource section" ∷
-    codes "COFF symbols lie in the data of the resource section" ∷
-    codes "another section shares bytes or pages with the resource section or the headers" ∷
+    codes "COFF symbols lie in the data of the resource section or at its end" ∷
+    codes "section shares bytes or pages with the resource section or headers, or is after it" ∷
     codes "resources do not fit into the data of their section or into the image in memory" ∷
     codes "resource has a range outside of the array, or an id or language above 65,535" ∷
     codes "names of the resources have more than 16 MiB" ∷
     codes "key of a version block has an odd number of bytes, or a code unit of zero" ∷
     codes "text of a version block has an odd number of bytes" ∷
     codes "version block has more than 65,535 bytes" ∷
+    codes "headers have no room for another section header" ∷
+    codes "image with the resources ends after 4 GB" ∷
+    codes "data of a debug entry start after the data of the sections" ∷
     []
 
 -- the text of a refusal of resources that are written, by its number from 451 on
 unfoldable pub edit_text : ℕ → List ℕ
 edit_text n = slice_index_or edit_texts n (codes "unknown result")
 
+-- the texts of the refusals of signatures, in the order of their numbers
+abbrev pub signature_texts : List (List ℕ)
+signature_texts =
+    codes "element of a signature truncated before its content" ∷
+    codes "element of a signature has a tag number above 30" ∷
+    codes "element of a signature has an indefinite length" ∷
+    codes "length of an element of a signature has more than 4 octets after its first" ∷
+    codes "length of an element of a signature is not in its shortest form" ∷
+    codes "element of a signature ends after its parent" ∷
+    codes "element of a signature is missing" ∷
+    codes "element of a signature has another tag" ∷
+    codes "bytes follow the last field of an element of a signature" ∷
+    codes "content of a signature has another type" ∷
+    codes "time of a signature is not in the form of RFC 5280" ∷
+    []
+
+-- the text of a refusal of a signature, by its number from 501 on
+unfoldable pub signature_text : ℕ → List ℕ
+signature_text n = slice_index_or signature_texts n (codes "unknown result")
+
+-- the texts of the refusals of minidumps, in the order of their numbers
+abbrev pub dump_texts : List (List ℕ)
+dump_texts =
+    codes "invalid signature of a minidump" ∷
+    codes "invalid version of a minidump" ∷
+    codes "directory of the streams ends past the end of the file" ∷
+    codes "location in a minidump ends past the end of the file" ∷
+    codes "number of entries of a list and the size of its stream do not agree" ∷
+    codes "entries of a list smaller than their fields" ∷
+    codes "string has an odd number of bytes" ∷
+    codes "context smaller than its fields" ∷
+    codes "context without control or integer registers" ∷
+    codes "context of another machine" ∷
+    []
+
+-- the text of a refusal of a minidump, by its number from 551 on
+unfoldable pub dump_text : ℕ → List ℕ
+dump_text n = slice_index_or dump_texts n (codes "unknown result")
+
 -- the text of the number of a result
 unfoldable pub result_text : ℕ → List ℕ
 result_text n =
-    if nat_lt n 100 then refusal_text n
+    if nat_lt n NOTHING then refusal_text n
     else (if nat_lt n 201 then other_text n
     else (if nat_lt n 301 then sign_text (n - 201) else (if nat_lt n 401 then directory_text (n - 301)
-    else (if nat_lt n 451 then tree_text (n - 401) else edit_text (n - 451)))))
+    else (if nat_lt n 451 then tree_text (n - 401)
+    else (if nat_lt n 501 then edit_text (n - 451)
+    else (if nat_lt n 551 then signature_text (n - 501) else dump_text (n - 551)))))))

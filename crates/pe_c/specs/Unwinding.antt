@@ -18,7 +18,7 @@ use Rattle.pe_unwind.specs.declared.unwind_code.StackFrameOffset.TheVariants.{RS
 use Rattle.pe_unwind.specs.declared.unwind_code.UnwindCode.{UnwindCode}
 use Rattle.pe_unwind.specs.declared.unwind_code.UnwindOperation.{UnwindOperation}
 use Rattle.pe_unwind.specs.declared.unwind_code.UnwindOperation.TheVariants.{PushNonVolatile, Alloc, SetFPRegister, SaveNonVolatile, SaveXMM, Epilog, SaveXMM128, PushMachineFrame, Noop}
-use Rattle.pe_frame.specs.Undoing.{offset_number}
+use Rattle.pe_frame.specs.Undoing.{bytes_above}
 use Rattle.pe_c.specs.Exports.{one_if_some}
 use Rattle.pe_c.specs.Images.{exception_directory, is_absent, map_of_image}
 use Rattle.pe_c.specs.HandsOut.{HandsOut, HandsOutIf}
@@ -140,7 +140,7 @@ from_frame (FP n) = 1
 -- a code that saves a register
 abbrev pub saving : ℕ → ℕ → Register → StackFrameOffset → Code
 saving code_offset operation register offset =
-    record { code_offset = code_offset; operation = operation; operand = register.0; from_frame = from_frame offset; value = offset_number offset }
+    record { code_offset = code_offset; operation = operation; operand = register.0; from_frame = from_frame offset; value = bytes_above offset }
 
 -- a code of another operation
 abbrev pub plain : ℕ → ℕ → ℕ → ℕ → Code

@@ -19,6 +19,7 @@ use Rattle.pe_c.specs.HandsOut.{HandsOutIf}
 use Rattle.pe_c.specs.Images.{is_absent, resource_directory}
 use Rattle.pe_c.specs.Modes.{options_of}
 use Rattle.pe_c.specs.Ranges.{range_of, IsRange}
+use Rattle.pe_c.specs.declared.results.TheConstants.{DONE, NOTHING}
 
 -- the range of the content of the first resource with an id, or what refuses it; none without a resource directory
 abbrev pub IsContentBy : Bool → ParseOptions → List ℕ → Image → List SectionTable → ℕ → Result (Option ByteRange) Refusal → Type 0
@@ -68,7 +69,7 @@ name_at n =
 
 -- what a call for the value of a name returns; any other number is no name
 abbrev pub HandsOutText : List ℕ → Image → List SectionTable → ℕ → Option VersionName → ℕ → Range → Range → Type 0
-HandsOutText b image sections mode None number old new = (number ≡ 100) × (new ≡ old)
+HandsOutText b image sections mode None number old new = (number ≡ NOTHING) × (new ≡ old)
 HandsOutText b image sections mode (Some name) number old new =
     (c : Result (Option ByteRange) Refusal) × IsContentOf b image sections mode 16 c × HandsOutIf number old new (c >>= value_at b name)
 
@@ -95,8 +96,8 @@ AreImageResources b image sections mode x =
 
 -- 100 where there is nothing; else 0, and the range lies in the bytes and these are its bytes
 abbrev pub ReportsRange : List ℕ → ℕ → Range → Option (List ℕ) → Type 0
-ReportsRange b number out None = number ≡ 100
-ReportsRange b number out (Some bytes) = (number ≡ 0) × IsRange b out bytes
+ReportsRange b number out None = number ≡ NOTHING
+ReportsRange b number out (Some bytes) = (number ≡ DONE) × IsRange b out bytes
 
 -- the fixed file information of version information, if there are both
 abbrev pub fixed_of : Option VersionView → Option VsFixedFileInfo

@@ -7,3 +7,4 @@ pub mod codes;
 pub mod frames;
 pub mod functions;
 pub mod records;
+pub mod stack_walk;

@@ -6,7 +6,7 @@ ghost use Rattle.std.specs.Prelude.{◌≡◌, ◌+◌, ◌≤◌, ◌^◌, leng
 ghost use Rattle.pe_core.specs.Refusals.{answer_of};
 ghost use Rattle.pe_records.specs.DebugDirectory.{debug_entry_at};
 ghost use Rattle.pe_c.specs.HandsOut.{HandsOutIf};
-ghost use Rattle.pe_c.specs.DebugWalks.{HandsOutPogoEntry, IsNamed, StepsPogo, StepsOverPogo, pogo_entry};
+ghost use Rattle.pe_c.specs.DebugWalks.{HandsOutPogoEntry, IsNamed, StepsPogo, StepsPogoEntries, StepsOverPogo, pogo_entry};
 ghost use Rattle.pe_c.specs.Walks.{next_of, walk_of};
 
 use crate::ranges::{NO_BYTES, Range, slice_of};
@@ -102,6 +102,18 @@ fn pogo_entry(walk: &Range, entry: &POGOInfoEntry) -> PogoEntry
         },
         rva: entry.rva,
         size: entry.size,
+    }
+}
+
+/// The next entry of a POGO record as callers get it.
+pub fn next_pogo_reported(bytes: &[u8], walk: &mut Range) -> Result<Option<PogoEntry>>
+    ensures { StepsPogoEntries bytes.now walk.old (answer_of result) walk.new }
+{
+    let here = *walk;
+    match next_pogo_entry(bytes, walk) {
+        Some(Ok(entry)) => Ok(Some(pogo_entry(&here, &entry))),
+        None => Ok(None),
+        Some(Err(error)) => Err(error),
     }
 }
 

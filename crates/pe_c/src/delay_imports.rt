@@ -114,7 +114,7 @@ fn library_of(image: &ImageBytes<'_>, entry: DelayImport) -> Result<DelayLibrary
 }
 
 /// The next DLL of a walk. It is over after an error.
-fn next_library(image: &ImageBytes<'_>, walk: &mut Range) -> Result<Option<DelayLibrary>>
+pub fn next_library(image: &ImageBytes<'_>, walk: &mut Range) -> Result<Option<DelayLibrary>>
     ensures library { directory_answer (λ x. x) result
         ≡ step_of (λ x. x) (first_library_in (image_view image.now) walk.old) }
     ensures walk { walk.new
@@ -200,7 +200,7 @@ fn function_of(image: &ImageBytes<'_>, entry: &DelayImport, lookup: u64) -> Resu
 }
 
 /// The next function of a walk, whose attributes and bytes left are these. It is over after an error.
-fn next_function(
+pub fn next_function(
     bytes: &[u8],
     image: &Image,
     sections: &[SectionTable],

@@ -8,12 +8,14 @@ ghost use Rattle.pe_core.specs.Exports.{export_data_view};
 ghost use Rattle.pe_core.specs.Refusals.{answer_of};
 ghost use Rattle.pe_c.specs.ExportAddresses.{address_table, address_table_at, dll_name, exported_with, exported_at, text_range};
 ghost use Rattle.pe_c.specs.HandsOut.{HandsOutIf};
+ghost use Rattle.pe_c.specs.Views.{map_of};
 ghost use Rattle.pe_c.specs.Images.{export_directory, map_of_image};
 
 use crate::exports::export_table;
-use crate::image::{EXPORT_TABLE, Image, directory, is_absent, offset_of};
+use crate::image::{EXPORT_TABLE, Image, directory, is_absent};
 use crate::ranges::{NO_BYTES, Range, slice_of};
 use crate::results::{hand_out_some, options};
+use crate::view::{View, map_by, without_index};
 use pe_core::{
     DataDirectory, ExportAddress, ExportAddresses, ExportData, Result, SectionTable, text_at,
 };
@@ -49,11 +51,11 @@ pub struct Exported {
 }
 
 /// The range of the text at an RVA, if the RVA is mapped and a text is there.
-fn text_range(bytes: &[u8], rva: u32, image: &Image, sections: &[SectionTable]) -> Option<Range>
-    ensures { result ≡ text_range (map_of_image image.now sections.now) bytes.now rva }
+fn text_range(view: &View, rva: u32) -> Option<Range>
+    ensures { result ≡ text_range (map_of view.now) view.now.bytes.now rva }
 {
-    let offset = offset_of(rva, image, sections)?;
-    let text = text_at(bytes, offset)?;
+    let offset = map_by(view, rva)?;
+    let text = text_at(view.bytes, offset)?;
     Some(Range {
         offset: offset as u64,
         length: text.len() as u64,
@@ -61,16 +63,17 @@ fn text_range(bytes: &[u8], rva: u32, image: &Image, sections: &[SectionTable]) 
 }
 
 /// The range of the DLL's name. The RVA 0 is that of none.
-fn dll_name(bytes: &[u8], rva: u32, image: &Image, sections: &[SectionTable]) -> Option<Range>
-    ensures { result ≡ dll_name (map_of_image image.now sections.now) bytes.now rva }
+fn dll_name(view: &View, rva: u32) -> Option<Range>
+    ensures { result ≡ dll_name (map_of view.now) view.now.bytes.now rva }
 {
     if rva == 0 {
         return None;
     }
-    text_range(bytes, rva, image, sections)
+    text_range(view, rva)
 }
 
 /// The address table of export data.
+#[tactic(auto, unfolding(crate::specs::SectionIndexes::sections_by))]
 fn table_of(
     bytes: &[u8],
     export_data: &ExportData,
@@ -82,7 +85,7 @@ fn table_of(
 {
     let fields = &export_data.directory;
     let size = 4 * u64::from(fields.address_table_entries);
-    let name = dll_name(bytes, fields.name_rva, image, sections);
+    let name = dll_name(&without_index(bytes, image, sections), fields.name_rva);
     AddressTable {
         name: name.unwrap_or(NO_BYTES),
         addresses: export_table(fields.address_table_rva, size, image, sections),
@@ -124,16 +127,11 @@ pub extern "C" fn pe_c_export_addresses(
 }
 
 /// The entry of an export, with the range of a forwarder's text.
-fn exported_with(
-    bytes: &[u8],
-    image: &Image,
-    sections: &[SectionTable],
-    address: ExportAddress,
-) -> Exported
-    ensures { result ≡ exported_with (map_of_image image.now sections.now) bytes.now address }
+fn exported_with(view: &View, address: ExportAddress) -> Exported
+    ensures { result ≡ exported_with (map_of view.now) view.now.bytes.now address }
 {
     let forwarder = if address.is_forwarder {
-        text_range(bytes, address.rva, image, sections)
+        text_range(view, address.rva)
     } else {
         None
     };
@@ -145,25 +143,19 @@ fn exported_with(
     }
 }
 
-pub fn exported_at(
-    bytes: &[u8],
-    image: &Image,
-    sections: &[SectionTable],
-    table: &AddressTable,
-    index: u64,
-) -> Result<Option<Exported>>
+pub fn exported_at(view: &View, table: &AddressTable, index: u64) -> Result<Option<Exported>>
     ensures { answer_of result ≡ exported_at
-        (map_of_image image.now sections.now) bytes.now table.now index }
+        (map_of view.now) view.now.bytes.now table.now index }
 {
     let addresses = ExportAddresses {
-        addresses: slice_of(bytes, &table.addresses)?,
+        addresses: slice_of(view.bytes, &table.addresses)?,
         names: &[],
         ordinals: &[],
         directory: table.directory,
         ordinal_base: table.ordinal_base,
     };
     match addresses.at(index as usize) {
-        Some(address) => Ok(Some(exported_with(bytes, image, sections, address))),
+        Some(address) => Ok(Some(exported_with(view, address))),
         None => Ok(None),
     }
 }
@@ -173,6 +165,7 @@ pub fn exported_at(
 ///
 /// Errors: `SHORT` where the table is not inside the bytes.
 #[unsafe(no_mangle)]
+#[tactic(auto, unfolding(crate::specs::SectionIndexes::sections_by))]
 pub extern "C" fn pe_c_export_at(
     bytes: &[u8],
     image: &Image,
@@ -184,5 +177,6 @@ pub extern "C" fn pe_c_export_at(
     ensures { HandsOutIf result out.old out.new
         (exported_at (map_of_image image.now sections.now) bytes.now table.now index) }
 {
-    hand_out_some(exported_at(bytes, image, sections, table, index), out)
+    let view = without_index(bytes, image, sections);
+    hand_out_some(exported_at(&view, table, index), out)
 }

@@ -9,10 +9,12 @@ ghost use Rattle.pe_core.specs.Refusals.{ReturnsAs, answer_of};
 ghost use Rattle.pe_c.specs.HandsOut.{HandsOutIf};
 ghost use Rattle.pe_c.specs.Exports.{HandsOutExport, FindsNext, StepsExports, export_table, tables_at, tables_or_short, reported_entry, view_of, walk_over};
 ghost use Rattle.pe_c.specs.Images.{map_of_image};
+ghost use Rattle.pe_c.specs.Views.{map_of};
 
 use crate::image::{EXPORT_TABLE, Image, directory, is_absent, offset_of};
 use crate::ranges::{NO_BYTES, Range, range_from, slice_of};
 use crate::results::{hand_out_some, options};
+use crate::view::{View, map_by, without_index};
 use pe_core::{ExportData, Result, SectionTable, read_u32, text_at, u16_at, u32_at};
 
 /// A walk over the exports of an image: the tables of its export directory, and the index of the next name.
@@ -112,22 +114,16 @@ struct Tables<'a> {
 
 /// The export of entry `i` of the name table, if its name is mapped and is text, and its ordinal is in the address
 /// table.
-fn reported_entry(
-    bytes: &[u8],
-    tables: &Tables<'_>,
-    i: usize,
-    image: &Image,
-    sections: &[SectionTable],
-) -> Option<Export>
+fn reported_entry(view: &View, tables: &Tables<'_>, i: usize) -> Option<Export>
     requires { 4 * i + 4 ≤ length tables.now.names.now }
     ensures { result ≡ reported_entry
-        (map_of_image image.now sections.now) bytes.now (view_of tables.now) i }
+        (map_of view.now) view.now.bytes.now (view_of tables.now) i }
 {
-    let offset = offset_of(read_u32(tables.names, 4 * i), image, sections)?;
-    let name = text_at(bytes, offset)?;
+    let offset = map_by(view, read_u32(tables.names, 4 * i))?;
+    let name = text_at(view.bytes, offset)?;
     let ordinal = u16_at(tables.ordinals, 2 * i).ok()?;
     let rva = u32_at(tables.addresses, 4 * usize::from(ordinal)).ok()?;
-    let exported = offset_of(rva, image, sections);
+    let exported = map_by(view, rva);
     Some(Export {
         name: Range {
             offset: offset as u64,
@@ -142,18 +138,11 @@ fn reported_entry(
 }
 
 /// The first entry of the name table, from `from` on, that has an export, and the index after it.
-fn find_next(
-    bytes: &[u8],
-    tables: &Tables<'_>,
-    from: usize,
-    image: &Image,
-    sections: &[SectionTable],
-) -> Option<(Export, u64)>
-    ensures { FindsNext (reported_entry (map_of_image image.now sections.now) bytes.now
-        (view_of tables.now)) from (length tables.now.names.now / 4) result }
+fn find_next(view: &View, tables: &Tables<'_>, from: usize) -> Option<(Export, u64)>
+    ensures { FindsNext (reported_entry (map_of view.now) view.now.bytes.now (view_of tables.now)) from (length tables.now.names.now / 4) result }
 {
     for i in from..tables.names.len() / 4 {
-        if let Some(export) = reported_entry(bytes, tables, i, image, sections) {
+        if let Some(export) = reported_entry(view, tables, i) {
             return Some((export, i as u64 + 1));
         }
     }
@@ -172,20 +161,15 @@ fn tables_of<'a>(bytes: &'a [u8], walk: &Exports) -> Result<Tables<'a>>
 }
 
 /// One step of a walk.
-pub fn step(
-    bytes: &[u8],
-    image: &Image,
-    sections: &[SectionTable],
-    walk: &mut Exports,
-) -> Result<Option<Export>>
+pub fn step(view: &View, walk: &mut Exports) -> Result<Option<Export>>
     ensures { StepsExports
-        (map_of_image image.now sections.now) bytes.now walk.old (answer_of result) walk.new }
+        (map_of view.now) view.now.bytes.now walk.old (answer_of result) walk.new }
 {
     let count = walk.names.length / 4;
     if count <= walk.next {
         return Ok(None);
     }
-    let tables = match tables_of(bytes, walk) {
+    let tables = match tables_of(view.bytes, walk) {
         Ok(tables) => tables,
         Err(error) => {
             // Without names the walk is over.
@@ -193,7 +177,7 @@ pub fn step(
             return Err(error);
         }
     };
-    match find_next(bytes, &tables, walk.next as usize, image, sections) {
+    match find_next(view, &tables, walk.next as usize) {
         Some((export, next)) => {
             walk.next = next;
             Ok(Some(export))
@@ -211,6 +195,7 @@ pub fn step(
 ///
 /// Errors: `SHORT` where the tables are not inside the bytes. After it the walk is over.
 #[unsafe(no_mangle)]
+#[tactic(auto, unfolding(crate::specs::SectionIndexes::sections_by))]
 pub extern "C" fn pe_c_next_export(
     bytes: &[u8],
     image: &Image,
@@ -221,5 +206,5 @@ pub extern "C" fn pe_c_next_export(
     ensures { HandsOutExport
         (map_of_image image.now sections.now) bytes.now walk.old walk.new result out.old out.new }
 {
-    hand_out_some(step(bytes, image, sections, walk), out)
+    hand_out_some(step(&without_index(bytes, image, sections), walk), out)
 }

@@ -10,11 +10,14 @@ ghost use Rattle.pe_core.specs.SectionMap.{mapped};
 ghost use Rattle.pe_core.specs.Text.{text_at};
 ghost use Rattle.pe_c.specs.HandsOut.{HandsOutIf};
 ghost use Rattle.pe_c.specs.Images.{map_of_image};
+ghost use Rattle.pe_c.specs.Views.{map_of};
 ghost use Rattle.pe_c.specs.Imports.{import_at, import_step, libraries_at, library_at, library_of, library_step, named_reported};
 
-use crate::image::{IMPORT_TABLE, Image, directory, is_absent, offset_of};
+use crate::image::{IMPORT_TABLE, Image, directory, is_absent};
 use crate::ranges::{NO_BYTES, Range, range_from};
 use crate::results::{hand_out_some, options};
+use crate::section_index::sections_by;
+use crate::view::{View, map_by, without_index};
 use crate::walks::next_entry;
 use pe_core::{
     Error, ImportDirectoryEntry, Reason, Result, SectionTable, lookup_number, lookup_size,
@@ -99,6 +102,14 @@ fn require_offset(rva: u32, image: &Image, sections: &[SectionTable]) -> Result<
     mapped_offset(rva, sections, image.file_alignment, &options(image.mode))
 }
 
+/// The same of a view.
+fn require_offset_by(view: &View, rva: u32) -> Result<usize>
+    ensures { Returns result (mapped (map_of view.now rva)) }
+{
+    let sections = sections_by(view.sections, view.index, rva);
+    require_offset(rva, view.image, sections)
+}
+
 /// The name at a file offset, to which an RVA leads: `ImportName` where it is not NUL-terminated or not UTF-8.
 fn name_at(bytes: &[u8], offset: usize, rva: u32) -> Result<&str>
     ensures { ReturnsAs (λ s. s.now) result (name_or_refusal (text_at bytes.now offset)) }
@@ -152,19 +163,14 @@ fn list_at(bytes: &[u8], offset: Option<usize>, is_64: bool) -> Result<&[u8]>
 
 /// The library of a record. Errors: `Unmapped`, `ImportName` of its name, then `Short` of its list.
 #[tactic(auto, unfolding(pe_core::specs::Imports::import_record))]
-fn library_of(
-    bytes: &[u8],
-    entry: &ImportDirectoryEntry,
-    image: &Image,
-    sections: &[SectionTable],
-) -> Result<Library>
-    ensures { ReturnsAs (λ l. Some l) result (library_of (map_of_image image.now sections.now)
-        (entry_size (image.now.width == 64)) bytes.now entry.now) }
+fn library_of(view: &View, entry: &ImportDirectoryEntry) -> Result<Library>
+    ensures { ReturnsAs (λ l. Some l) result (library_of (map_of view.now)
+        (entry_size (view.now.image.now.width == 64)) view.now.bytes.now entry.now) }
 {
-    let offset = require_offset(entry.name_rva, image, sections)?;
-    let name = name_at(bytes, offset, entry.name_rva)?;
-    let list_offset = offset_of(entry.lookups_rva(), image, sections);
-    let list = list_at(bytes, list_offset, image.width == 64)?;
+    let offset = require_offset_by(view, entry.name_rva)?;
+    let name = name_at(view.bytes, offset, entry.name_rva)?;
+    let list_offset = map_by(view, entry.lookups_rva());
+    let list = list_at(view.bytes, list_offset, view.image.width == 64)?;
     Ok(Library {
         name: range_from(name.len() as u64, Some(offset)),
         imports: Imports {
@@ -182,39 +188,29 @@ fn library_of(
 
 /// The library whose record is at a file offset, or none where the record ends the directory.
 #[tactic(auto, unfolding(pe_core::specs::Imports::import_record_at))]
-fn library_at(
-    bytes: &[u8],
-    offset: usize,
-    image: &Image,
-    sections: &[SectionTable],
-) -> Result<Option<Library>>
-    ensures returned { Returns result (library_at (map_of_image image.now sections.now)
-        (entry_size (image.now.width == 64)) bytes.now offset) }
-    ensures inside { IfOk result (λ l. IfSome l (λ _. offset + 20 ≤ length bytes.now)) }
+fn library_at(view: &View, offset: usize) -> Result<Option<Library>>
+    ensures returned { Returns result (library_at (map_of view.now)
+        (entry_size (view.now.image.now.width == 64)) view.now.bytes.now offset) }
+    ensures inside { IfOk result (λ l. IfSome l (λ _. offset + 20 ≤ length view.now.bytes.now)) }
 {
-    let entry = ImportDirectoryEntry::parse(bytes, offset)?;
+    let entry = ImportDirectoryEntry::parse(view.bytes, offset)?;
     if entry.is_last() {
         return Ok(None);
     }
-    let library = library_of(bytes, &entry, image, sections)?;
+    let library = library_of(view, &entry)?;
     Ok(Some(library))
 }
 
 /// One step over libraries: its result, and the walk after it.
 #[tactic(auto, unfolding(crate::specs::Imports::library_step))]
-pub fn library_step(
-    bytes: &[u8],
-    image: &Image,
-    sections: &[SectionTable],
-    walk: Libraries,
-) -> (Result<Option<Library>>, Libraries)
-    ensures { (answer_of result.0, result.1) ≡ library_step (map_of_image image.now sections.now)
-        (entry_size (image.now.width == 64)) bytes.now walk }
+pub fn library_step(view: &View, walk: Libraries) -> (Result<Option<Library>>, Libraries)
+    ensures { (answer_of result.0, result.1) ≡ library_step (map_of view.now)
+        (entry_size (view.now.image.now.width == 64)) view.now.bytes.now walk }
 {
     if walk.is_over != 0 {
         return (Ok(None), walk);
     }
-    match library_at(bytes, walk.next as usize, image, sections) {
+    match library_at(view, walk.next as usize) {
         Ok(Some(library)) => {
             let after = Libraries {
                 next: walk.next + SIZE_OF_RECORD,
@@ -234,6 +230,7 @@ pub fn library_step(
 /// Errors: `SHORT` where the record is truncated; `UNMAPPED`, `IMPORT_NAME` of its name; `SHORT` where no zero entry
 /// ends its list. After the last and after an error the walk is over.
 #[unsafe(no_mangle)]
+#[tactic(auto, unfolding(crate::specs::SectionIndexes::sections_by))]
 pub extern "C" fn pe_c_next_library(
     bytes: &[u8],
     image: &Image,
@@ -247,26 +244,20 @@ pub extern "C" fn pe_c_next_library(
     ensures walk { walk.new ≡ (library_step (map_of_image image.now sections.now)
         (entry_size (image.now.width == 64)) bytes.now walk.old).1 }
 {
-    let (reported, after) = library_step(bytes, image, sections, *walk);
+    let (reported, after) = library_step(&without_index(bytes, image, sections), *walk);
     *walk = after;
     hand_out_some(reported, out)
 }
 
 /// The import by name of an entry. Errors: `Unmapped` of the entry's RVA, `Short` of the hint, `ImportName`.
-fn named_import(
-    bytes: &[u8],
-    entry: u64,
-    rva: u64,
-    image: &Image,
-    sections: &[SectionTable],
-) -> Result<Import>
+fn named_import(view: &View, entry: u64, rva: u64) -> Result<Import>
     ensures { Returns result
-        (named_reported (map_of_image image.now sections.now) bytes.now entry rva) }
+        (named_reported (map_of view.now) view.now.bytes.now entry rva) }
 {
     let name_rva = (entry % 0x8000_0000) as u32;
-    let offset = require_offset(name_rva, image, sections)?;
-    let hint = u16_at(bytes, offset)?;
-    let name = name_at(bytes, offset + SIZE_OF_HINT, name_rva)?;
+    let offset = require_offset_by(view, name_rva)?;
+    let hint = u16_at(view.bytes, offset)?;
+    let name = name_at(view.bytes, offset + SIZE_OF_HINT, name_rva)?;
     Ok(Import {
         name: range_from(name.len() as u64, Some(offset + SIZE_OF_HINT)),
         rva,
@@ -278,17 +269,11 @@ fn named_import(
 /// The import of an entry and its slot. With its highest bit set the low 16 bits of an entry are an ordinal; else its
 /// low 31 bits are the RVA of a hint and a name.
 #[tactic(auto, unfolding(pe_core::specs::Imports::import_of))]
-fn import_at(
-    bytes: &[u8],
-    entry: u64,
-    rva: u64,
-    image: &Image,
-    sections: &[SectionTable],
-) -> Result<Import>
-    ensures { Returns result (import_at (map_of_image image.now sections.now)
-        (entry_size (image.now.width == 64)) bytes.now entry rva) }
+fn import_at(view: &View, entry: u64, rva: u64) -> Result<Import>
+    ensures { Returns result (import_at (map_of view.now)
+        (entry_size (view.now.image.now.width == 64)) view.now.bytes.now entry rva) }
 {
-    let highest = if image.width == 64 {
+    let highest = if view.image.width == 64 {
         0x8000_0000_0000_0000
     } else {
         0x8000_0000
@@ -301,27 +286,22 @@ fn import_at(
             has_name: 0,
         });
     }
-    named_import(bytes, entry, rva, image, sections)
+    named_import(view, entry, rva)
 }
 
 /// One step over the imports of a library.
 #[tactic(auto, unfolding(crate::specs::Imports::import_step))]
-pub fn import_step(
-    bytes: &[u8],
-    image: &Image,
-    sections: &[SectionTable],
-    walk: &mut Imports,
-) -> Result<Option<Import>>
-    ensures { (answer_of result, walk.new) ≡ import_step (map_of_image image.now sections.now)
-        (entry_size (image.now.width == 64)) bytes.now walk.old }
+pub fn import_step(view: &View, walk: &mut Imports) -> Result<Option<Import>>
+    ensures { (answer_of result, walk.new) ≡ import_step (map_of view.now)
+        (entry_size (view.now.image.now.width == 64)) view.now.bytes.now walk.old }
 {
-    let is_64 = image.width == 64;
+    let is_64 = view.image.width == 64;
     let size = lookup_size(is_64);
-    let Some(left) = next_entry(bytes, &mut walk.left, size)? else {
+    let Some(left) = next_entry(view.bytes, &mut walk.left, size)? else {
         return Ok(None);
     };
     let entry = lookup_number(left, 0, is_64);
-    match import_at(bytes, entry, walk.rva, image, sections) {
+    match import_at(view, entry, walk.rva) {
         Ok(import) => {
             // A caller may pass any RVA.
             walk.rva = walk.rva.wrapping_add(size as u64);
@@ -340,6 +320,7 @@ pub fn import_step(
 /// Errors: `SHORT` where the walk is not inside the bytes, or its entry is truncated; `UNMAPPED` of the entry's RVA;
 /// `SHORT` of the hint there; `IMPORT_NAME` of the name. After an error the walk is over.
 #[unsafe(no_mangle)]
+#[tactic(auto, unfolding(crate::specs::SectionIndexes::sections_by))]
 pub extern "C" fn pe_c_next_import(
     bytes: &[u8],
     image: &Image,
@@ -353,5 +334,8 @@ pub extern "C" fn pe_c_next_import(
     ensures walk { walk.new ≡ (import_step (map_of_image image.now sections.now)
         (entry_size (image.now.width == 64)) bytes.now walk.old).1 }
 {
-    hand_out_some(import_step(bytes, image, sections, walk), out)
+    hand_out_some(
+        import_step(&without_index(bytes, image, sections), walk),
+        out,
+    )
 }

@@ -4,9 +4,13 @@
 pub mod coff;
 pub mod debug;
 pub mod directories;
+pub mod dumps;
 pub mod failures;
 pub mod frames;
+pub mod indexes;
 pub mod lists;
+pub mod results;
+pub mod signatures;
 pub mod te;
 pub mod version_blocks;
 pub mod walks;
@@ -16,9 +20,8 @@ ghost use Rattle.pe_c.specs.Certificates.{StepsCertificates, ReportsCertificate,
 ghost use Rattle.pe_c.specs.DebugWalks.{StepsPogoEntries, entries_reported};
 ghost use Rattle.pe_c.specs.ExportAddresses.{address_table, addresses_in, exported_with, exported_at};
 ghost use Rattle.pe_c.specs.Exports.{StepsExports, count_of, tables_or_short, reported_entry, reported_from, walk_over, with_tables};
-ghost use Rattle.pe_c.specs.Images.{import_directory, map_of_image};
-ghost use Rattle.pe_c.specs.Imports.{StepsLibraries, libraries_at};
-ghost use Rattle.pe_c.specs.Parts.{HasTables, ImportsInTurn, ReportsExport, ReportsLibrary};
+ghost use Rattle.pe_c.specs.Imports.{libraries_at};
+ghost use Rattle.pe_c.specs.Parts.{HasTables, ImportsInTurn, ReportsExport, ReportsLibraries, import_records_at};
 ghost use Rattle.pe_c.specs.Modes.{options_of};
 ghost use Rattle.pe_c.specs.Plans.{HandsOutAfter, ReturnsInTurn, ReportsUnwindRecord, ending_of, plan_from};
 ghost use Rattle.pe_c.specs.Ranges.{IsPart, IsRange, bytes_at};
@@ -46,7 +49,7 @@ ghost use Rattle.pe_core.specs.Bytes.{AreBytes, holds};
 ghost use Rattle.pe_core.specs.ExportAddresses.{AddressesView, address_with, forwarder_text};
 ghost use Rattle.pe_core.specs.Exports.{ExportDataView, export_at, export_data_at, exports};
 ghost use Rattle.pe_core.specs.Header.{HeaderView};
-ghost use Rattle.pe_core.specs.Imports.{ImportRecordView, entry_size, import_data_at};
+ghost use Rattle.pe_core.specs.Imports.{ImportRecordView};
 ghost use Rattle.pe_core.specs.Refusals.{CertificateTable, Memory, Refusal, outcome};
 ghost use Rattle.pe_core.specs.declared.data_directories.DataDirectory.{DataDirectory};
 ghost use Rattle.pe_core.specs.declared.error.Error.{Error};
@@ -71,7 +74,8 @@ ghost use Rattle.pe_unwind.specs.declared.arm64.codes.Arm64UnwindCodeData.{Arm64
 ghost use Rattle.pe_unwind.specs.declared.function_table.RuntimeFunction.{RuntimeFunction};
 ghost use Rattle.pe_unwind.specs.declared.unwind_code.UnwindCode.{UnwindCode};
 ghost use Rattle.std.specs.List.{AllZip};
-ghost use Rattle.std.specs.Prelude.{◌≡◌, ℕ, ◌+◌, List, Option, Ok, Err, IfSome, ◌⊎◌, ◌*◌, ◌%◌, ◌==◌, ◌^◌, ◌<◌, ◌≤◌, length, Some, Result, true, false, [], ◌∷◌, ◌++◌, ◌≢◌, map};
+ghost use Rattle.std.specs.Prelude.{◌≡◌, ℕ, ◌+◌, List, Option, Ok, Err, IfSome, ◌⊎◌, ◌*◌, ◌%◌, ◌^◌, ◌<◌, ◌≤◌, length, Some, Result, true, false, [], ◌∷◌, ◌++◌, ◌≢◌, map};
+ghost use Rattle.pe_core.specs.declared.header.TheConstants.{COFF_MACHINE_X86_64};
 
 /// The ranges of an unwind record lie in the bytes, and are its codes and its handler's data.
 pub fn ranges_of_records()
@@ -97,7 +101,7 @@ pub fn ranges_of_arm64_records()
 #[tactic(auto, using(crate::proofs::TableLinks::links_of_tables))]
 pub fn function_tables_have_their_links()
     ensures { (b : List ℕ) (image : Image) (sections : List SectionTable) (table : Range) →
-        exception_table_at 0x8664 12 b image sections image.mode ≡ Ok (Some table) →
+        exception_table_at COFF_MACHINE_X86_64 12 b image sections image.mode ≡ Ok (Some table) →
         (v : ExceptionView) × (image_exceptions b image sections image.mode ≡ Ok v)
         × (v.content ≡ b)
         × (links_at b image sections table ≡ Ok (links_of v sections (options_of image.mode))) }
@@ -271,19 +275,15 @@ pub fn exports_by_index_are_those_by_name()
 pub fn walks_report_the_imports()
     ensures libraries { (b : List ℕ) (image : Image) (sections : List SectionTable)
         (walk : Libraries) (rs : List ImportRecordView) → AreBytes b → length b ≤ 2 ^ 63 →
-        libraries_at image sections ≡ Ok (Some walk) → import_data_at (map_of_image image sections)
-        (entry_size (image.width == 64)) b (import_directory image).virtual_address ≡ Ok rs →
-        (reported : List Library) × ReturnsItems (StepsLibraries (map_of_image image sections)
-        (entry_size (image.width == 64)) b) walk (map (λ x. Ok x) reported) × AllZip (ReportsLibrary
-        (map_of_image image sections) (entry_size (image.width == 64)) b) reported rs }
+        libraries_at image sections ≡ Ok (Some walk) → import_records_at b image sections ≡ Ok rs →
+        (reported : List Library)
+        × ReportsLibraries b image sections walk (map (λ x. Ok x) reported) reported rs }
     ensures refused { (b : List ℕ) (image : Image) (sections : List SectionTable)
         (walk : Libraries) (refusal : Refusal) → AreBytes b → length b ≤ 2 ^ 63 →
-        libraries_at image sections ≡ Ok (Some walk) → import_data_at (map_of_image image sections)
-        (entry_size (image.width == 64)) b (import_directory image).virtual_address ≡ Err refusal →
-        (reported : List Library) × (rs : List ImportRecordView) × ReturnsItems
-        (StepsLibraries (map_of_image image sections) (entry_size (image.width == 64)) b) walk
-        (map (λ x. Ok x) reported ++ Err refusal ∷ []) × AllZip (ReportsLibrary
-        (map_of_image image sections) (entry_size (image.width == 64)) b) reported rs }
+        libraries_at image sections ≡ Ok (Some walk) →
+        import_records_at b image sections ≡ Err refusal →
+        (reported : List Library) × (rs : List ImportRecordView)
+        × ReportsLibraries b image sections walk (map (λ x. Ok x) reported ++ Err refusal ∷ []) reported rs }
     ensures in_turn { ImportsInTurn }
 {}
 

@@ -13,6 +13,8 @@ use crate::results::{DONE, ROOM, number_of};
 use pe_core::{Error, Reason};
 
 pub mod arm64;
+pub mod debug;
+pub mod delay_imports;
 pub mod exports;
 pub mod imports;
 pub mod relocations;

@@ -7,11 +7,13 @@ ghost use Rattle.std.specs.Prelude.{◌≡◌, Ok, position, slice_get};
 ghost use Rattle.pe_c.specs.HandsOut.{HandsOutIf};
 ghost use Rattle.pe_c.specs.MapRanges.{holds_offset, range_at, range_in, rva_at, rva_in};
 ghost use Rattle.pe_c.specs.Maps.{covers};
+ghost use Rattle.pe_c.specs.SectionIndexes.{sections_by};
 
 use crate::image::Image;
 use crate::maps::{bytes_between, covers, first_covering, raw_start, reach};
 use crate::ranges::Range;
 use crate::results::{hand_out_some, options};
+use crate::section_index::sections_by;
 use crate::view::View;
 use pe_core::SectionTable;
 
@@ -50,12 +52,14 @@ fn range_by_sections(
 
 /// The same in an image as loaded too, where it goes to the end of the bytes.
 fn range_at(view: &View, rva: u32) -> Option<Range>
-    ensures { result ≡ range_at view.now.bytes.now view.now.image.now view.now.sections.now rva }
+    ensures { result ≡ range_at view.now.bytes.now view.now.image.now
+        (sections_by view.now.sections.now view.now.index.now rva) rva }
 {
     if !options(view.image.mode).resolve_rva {
         return bytes_between(view.bytes, u64::from(rva), view.bytes.len() as u64);
     }
-    range_by_sections(view.bytes, view.sections, view.image.file_alignment, rva)
+    let sections = sections_by(view.sections, view.index, rva);
+    range_by_sections(view.bytes, sections, view.image.file_alignment, rva)
 }
 
 /// Returns the bytes from an RVA to the end of what its section has in the file: the first section that covers the RVA, by
@@ -64,7 +68,8 @@ fn range_at(view: &View, rva: u32) -> Option<Range>
 #[unsafe(no_mangle)]
 pub extern "C" fn pe_c_range_at(view: &View, rva: u32, out: &mut Range) -> u32
     ensures { HandsOutIf result out.old out.new
-        (Ok (range_at view.now.bytes.now view.now.image.now view.now.sections.now rva)) }
+        (Ok (range_at view.now.bytes.now view.now.image.now
+        (sections_by view.now.sections.now view.now.index.now rva) rva)) }
 {
     hand_out_some(Ok(range_at(view, rva)), out)
 }

@@ -6,10 +6,12 @@ ghost use Rattle.std.specs.Prelude.{◌≡◌, ◌<◌, ◌^◌, Ok, position};
 ghost use Rattle.pe_core.specs.SectionMap.{raw_start, reach};
 ghost use Rattle.pe_c.specs.HandsOut.{HandsOutIf};
 ghost use Rattle.pe_c.specs.Maps.{bytes_between, covers, memory_size, section_at, section_range};
+ghost use Rattle.pe_c.specs.SectionIndexes.{section_by};
 
 use crate::image::Image;
 use crate::ranges::Range;
 use crate::results::{DONE, NOTHING, hand_out_some, options};
+use crate::section_index::{number_found, numbered};
 use crate::view::View;
 use pe_core::{SectionTable, rounded_up};
 
@@ -67,7 +69,7 @@ pub fn first_covering(sections: &[SectionTable], alignment: u32, rva: u32) -> Op
 }
 
 /// The index of the section that maps an RVA: the first that covers it. None in an image as loaded.
-fn section_at(image: &Image, sections: &[SectionTable], rva: u32) -> Option<usize>
+fn section_in(image: &Image, sections: &[SectionTable], rva: u32) -> Option<usize>
     ensures { result ≡ section_at image.now sections.now rva }
 {
     if options(image.mode).resolve_rva {
@@ -119,14 +121,28 @@ fn section_range(bytes: &[u8], image: &Image, section: &SectionTable) -> Option<
     bytes_between(bytes, start, start + reach(section, image.file_alignment))
 }
 
+/// The same by the index of a view, where it has one.
+fn section_by(view: &View, rva: u32) -> Option<usize>
+    ensures { result ≡ section_by view.now.image.now view.now.sections.now view.now.index.now rva }
+{
+    if view.index.is_empty() {
+        return section_in(view.image, view.sections, rva);
+    }
+    let number = number_found(view.index, rva);
+    match section_in(view.image, numbered(view.sections, number), rva) {
+        Some(_) => Some((number as usize).saturating_sub(1)),
+        None => None,
+    }
+}
+
 /// Returns the index of the section that maps an RVA: the first that covers it, by which `pe_c_offset` maps it.
 /// `NOTHING` where none does, and in an image as loaded, where no section maps RVAs. It never returns an error.
 #[unsafe(no_mangle)]
 pub extern "C" fn pe_c_section_at(view: &View, rva: u32, out: &mut u64) -> u32
     ensures { HandsOutIf result out.old out.new
-        (Ok (section_at view.now.image.now view.now.sections.now rva)) }
+        (Ok (section_by view.now.image.now view.now.sections.now view.now.index.now rva)) }
 {
-    match section_at(view.image, view.sections, rva) {
+    match section_by(view, rva) {
         Some(index) => {
             *out = index as u64;
             DONE

@@ -35,7 +35,7 @@ pub struct Plan {
 /// Starts the plan of a function, by its unwind RVA. Always returns `DONE`.
 #[unsafe(no_mangle)]
 pub extern "C" fn pe_c_plan_from(unwind: u32, out: &mut Plan) -> u32
-    ensures done { result ≡ 0 }
+    ensures done { result ≡ DONE }
     ensures plan { out.new ≡ plan_from unwind }
 {
     *out = Plan {

@@ -1,4 +1,4 @@
-//! The resources of an image changed in place: the file of an image with other resources over the data of its resource section.
+//! The resources of an image changed: the file of an image with other resources, in its resource section or at its end.
 //! Resources are records, with their names and contents as ranges of one array of bytes that the caller passes beside the file.
 //! A caller lists the leaves that are there, changes the list, and passes all of it.
 //! https://learn.microsoft.com/windows/win32/debug/pe-format#the-rsrc-section
@@ -48,6 +48,9 @@ fn number_of_rewrite(error: &RewriteError) -> u32
         RewriteError::Symbols(_) => 463,
         RewriteError::Overlap(_) => 464,
         RewriteError::NoRoom { .. } => 465,
+        RewriteError::NoHeaderRoom(_) => 471,
+        RewriteError::ImageTooLarge => 472,
+        RewriteError::DebugData(_) => 473,
     }
 }
 
@@ -98,7 +101,7 @@ fn edited_length(
     }
 }
 
-/// Returns the length of the file that `pe_c_edit` writes with these arguments, which is that of the image.
+/// Returns the length of the file that `pe_c_edit` writes with these arguments, which is that of the image or more.
 ///
 /// Errors: those of `pe_c_edit`, but for that of the room.
 #[unsafe(no_mangle)]
@@ -146,8 +149,9 @@ fn edit_to(
 ///
 /// Errors: those of `pe_c_image`; `EDIT_RECORD`, `EDIT_NAMES`; `NO_OPTIONAL_HEADER`, `EDIT_NO_DIRECTORY`; `EDIT_SIGNED`;
 /// `EDIT_TOO_MANY`, `EDIT_NAME`, `EDIT_ORDER`, `EDIT_TABLES_TOO_LARGE`, `EDIT_TOO_LARGE`; `EDIT_HEADERS`, `SHORT` of the section
-/// table; `EDIT_ALIGNMENT`; `EDIT_NO_SECTION`, `EDIT_SECTION`, `EDIT_SHARED_SECTION`, `EDIT_SYMBOLS`, `EDIT_OVERLAP`,
-/// `EDIT_NO_ROOM`; `WRITE_FIT` if the file does not fit into the room. After an error `room` is unchanged.
+/// table; `EDIT_ALIGNMENT`; of a new section `EDIT_IMAGE_TOO_LARGE`, `EDIT_NO_HEADER_ROOM`, `EDIT_SECTION`,
+/// `EDIT_SHARED_SECTION`, `EDIT_SYMBOLS`, `EDIT_OVERLAP`, `EDIT_DEBUG_DATA`; `WRITE_FIT` if the file does not fit into the room.
+/// After an error `room` is unchanged.
 #[unsafe(no_mangle)]
 pub extern "C" fn pe_c_edit(
     bytes: &[u8],

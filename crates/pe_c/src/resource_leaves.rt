@@ -6,11 +6,15 @@ ghost use Rattle.std.specs.Prelude.{◌≡◌, ◌≤◌, ◌^◌};
 ghost use Rattle.pe_core.specs.Refusals.{answer_of};
 ghost use Rattle.pe_resource.specs.Leaves.{tree_answer};
 ghost use Rattle.pe_c.specs.HandsOut.{HandsOutIf};
+ghost use Rattle.pe_c.specs.Images.{map_of_image};
+ghost use Rattle.pe_c.specs.Views.{map_of};
 ghost use Rattle.pe_c.specs.ResourceLeaves.{StartsLeaves, TreeHandsOut, after_item, content_of, first_item, image_tree, items_left, leaf_reported, leaves_start, leaves_walk, name_in, position_of, walk_at};
 
 use crate::image::{Image, RESOURCE_TABLE, directory, is_absent};
 use crate::ranges::{NO_BYTES, Range, range_of, slice_of};
 use crate::results::{DONE, NOTHING, hand_out_leaf, number_of, options};
+use crate::section_index::sections_by;
+use crate::view::{View, without_index};
 use pe_core::{ByteRange, Result, SectionTable};
 use pe_resource::{LeafPosition, ResourceData, ResourceEntry, ResourceTreeError};
 
@@ -127,36 +131,32 @@ fn name_in(start: u64, data: &[u8], entry: ResourceEntry) -> Result<ResourceName
 }
 
 /// Where the content of a leaf is: its range and 0, or the empty range and why there is none.
-fn content_of(
-    bytes: &[u8],
-    image: &Image,
-    sections: &[SectionTable],
-    leaf: &pe_resource::ResourceLeaf,
-) -> (Range, u32)
-    ensures { result ≡ content_of bytes.now image.now sections.now leaf.now.data_entry }
+fn content_of(view: &View, leaf: &pe_resource::ResourceLeaf) -> (Range, u32)
+    ensures { result ≡ content_of view.now.bytes.now (map_of view.now) leaf.now.data_entry }
 {
-    match leaf.content_range(bytes, sections, image.file_alignment, &options(image.mode)) {
+    let (image, rva) = (view.image, leaf.data_entry.offset_to_data);
+    let sections = sections_by(view.sections, view.index, rva);
+    let opts = options(image.mode);
+    match leaf.content_range(view.bytes, sections, image.file_alignment, &opts) {
         Ok(range) => (range_of(range), DONE),
         Err(error) => (NO_BYTES, number_of(&error)),
     }
 }
 
 fn leaf_reported(
-    bytes: &[u8],
-    image: &Image,
-    sections: &[SectionTable],
+    view: &View,
     start: u64,
     data: &[u8],
     leaf: &pe_resource::ResourceLeaf,
 ) -> Result<ResourceLeaf>
     requires { start ≤ 2 ^ 63 }
     ensures { answer_of result
-        ≡ leaf_reported bytes.now image.now sections.now start data.now leaf.now }
+        ≡ leaf_reported view.now.bytes.now (map_of view.now) start data.now leaf.now }
 {
     let resource_type = name_in(start, data, leaf.resource_type)?;
     let name = name_in(start, data, leaf.name)?;
     let language = name_in(start, data, leaf.language)?;
-    let (content, content_result) = content_of(bytes, image, sections, leaf);
+    let (content, content_result) = content_of(view, leaf);
     Ok(ResourceLeaf {
         resource_type,
         name,
@@ -221,25 +221,23 @@ pub extern "C" fn pe_c_resource_leaves(
 /// The next leaf of a walk. It is over after an error.
 #[tactic(auto, using(crate::proofs::LeafRuns::over_has_none))]
 pub fn next_leaf(
-    bytes: &[u8],
-    image: &Image,
-    sections: &[SectionTable],
+    view: &View,
     walk: &mut ResourceLeaves,
 ) -> std::result::Result<Option<ResourceLeaf>, ResourceTreeError>
     ensures leaf { tree_answer result
-        ≡ first_item (items_left bytes.now image.now sections.now walk.old) }
-    ensures left { items_left bytes.now image.now sections.now walk.new
-        ≡ after_item (items_left bytes.now image.now sections.now walk.old) }
-    ensures walk { walk.new ≡ leaves_walk bytes.now image.now sections.now walk.old }
+        ≡ first_item (items_left view.now.bytes.now (map_of view.now) walk.old) }
+    ensures left { items_left view.now.bytes.now (map_of view.now) walk.new
+        ≡ after_item (items_left view.now.bytes.now (map_of view.now) walk.old) }
+    ensures walk { walk.new ≡ leaves_walk view.now.bytes.now (map_of view.now) walk.old }
 {
     let tree = walk.tree;
     let mut position = position_of(walk);
     *walk = OVER;
-    let data = slice_of(bytes, &tree)?;
+    let data = slice_of(view.bytes, &tree)?;
     let Some(item) = position.next(data) else {
         return Ok(None);
     };
-    let leaf = leaf_reported(bytes, image, sections, tree.offset, data, &item?)?;
+    let leaf = leaf_reported(view, tree.offset, data, &item?)?;
     *walk = walk_at(tree, &position);
     Ok(Some(leaf))
 }
@@ -249,6 +247,7 @@ pub fn next_leaf(
 /// Errors, after which the walk is over: `SHORT` where `walk` is not inside the bytes, or where a directory, its entries, a
 /// data entry or a name is truncated; `TREE_NOT_DIRECTORY`, `TREE_NOT_DATA`, `TREE_NO_ENTRIES` of an entry that has no leaf.
 #[unsafe(no_mangle)]
+#[tactic(auto, unfolding(crate::specs::SectionIndexes::sections_by))]
 pub extern "C" fn pe_c_next_resource_leaf(
     bytes: &[u8],
     image: &Image,
@@ -257,10 +256,10 @@ pub extern "C" fn pe_c_next_resource_leaf(
     out: &mut ResourceLeaf,
 ) -> u32
     ensures leaf { TreeHandsOut result out.old out.new
-        (first_item (items_left bytes.now image.now sections.now walk.old)) }
-    ensures left { items_left bytes.now image.now sections.now walk.new
-        ≡ after_item (items_left bytes.now image.now sections.now walk.old) }
-    ensures walk { walk.new ≡ leaves_walk bytes.now image.now sections.now walk.old }
+        (first_item (items_left bytes.now (map_of_image image.now sections.now) walk.old)) }
+    ensures left { items_left bytes.now (map_of_image image.now sections.now) walk.new
+        ≡ after_item (items_left bytes.now (map_of_image image.now sections.now) walk.old) }
+    ensures walk { walk.new ≡ leaves_walk bytes.now (map_of_image image.now sections.now) walk.old }
 {
-    hand_out_leaf(next_leaf(bytes, image, sections, walk), out)
+    hand_out_leaf(next_leaf(&without_index(bytes, image, sections), walk), out)
 }

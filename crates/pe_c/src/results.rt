@@ -1,6 +1,7 @@
 //! The results of calls as numbers, in groups: 0; from 1 on the errors of pe_core; from 100 on those that this crate alone has
 //! and those of a step of a stack walk; from 201 on errors of signing, from 301 on those of further directories, from 401 on
-//! those of the resource tree. Callers may store them: the numbers stay the same from version to version.
+//! those of the resource tree, from 451 on those of resources that are written, from 501 on those of signatures, from 551 on those
+//! of minidumps. Callers may store them: the numbers stay the same from version to version.
 
 ghost use Rattle.std.specs.Prelude.{◌≡◌};
 ghost use Rattle.pe_core.specs.Refusals.{kind_of, kind_of_reason, answer_of};
@@ -47,10 +48,10 @@ pub const LONG_CHAIN: u32 = 106;
 /// Returns the number of this ABI, which its name has too. The header and the cargo crate refer to that name, so that a
 /// program that was compiled for another ABI does not link. The number grows with each change that breaks callers.
 #[unsafe(no_mangle)]
-pub extern "C" fn pe_c_abi_3() -> u32
-    ensures { result ≡ 3 }
+pub extern "C" fn pe_c_abi_4() -> u32
+    ensures { result ≡ 4 }
 {
-    3
+    4
 }
 
 /// The number of a reason. `tools/make_errors` writes the arms.

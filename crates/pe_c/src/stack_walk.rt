@@ -2,25 +2,31 @@
 //! outwards. The caller keeps the walk between two calls, and holds the modules and the memory.
 //! https://learn.microsoft.com/cpp/build/exception-handling-x64
 
-ghost use Rattle.std.specs.Prelude.{◌≡◌, ◌≤◌, ◌<◌, ◌+◌, ℕ, length, List, Option, Some, IfSome, IsTrue};
+ghost use Rattle.std.specs.Prelude.{◌≡◌, ◌≤◌, ◌<◌, ◌+◌, length, Some, IfSome, IsTrue};
 ghost use Rattle.std.specs.List.{list_all};
 ghost use Rattle.std.specs.Option.{option_map};
 ghost use Rattle.pe_core.specs.Refusals.{answer_by};
 ghost use Rattle.pe_frame.specs.AddressRanges.{AreAscending, has_address};
-ghost use Rattle.pe_frame.specs.Modules.{is_after_call_of, is_code_return_of, module_at, module_base, module_size};
-ghost use Rattle.pe_frame.specs.Walks.{CallsIn, lookup_address};
-ghost use Rattle.pe_frame.specs.Walks as frames;
-ghost use Rattle.pe_frame.specs.declared.modules.Module.{Module};
-ghost use Rattle.pe_c.specs.StackWalks.{FillsFrames, HandsOutFrame, HandsOutFrames, HandsOutNext, after_end, after_frame, end_address, end_error, end_number, exceptions_of, has_table, module_of, module_with, modules_of, state_of, view_base, view_size, viewed, way_number, way_of};
+ghost use Rattle.pe_frame.specs.Arm64Walks as arm64;
+ghost use Rattle.pe_frame.specs.Modules.{is_after_call_arm64_of, is_after_call_of, is_code_return_arm64_of, is_code_return_of, module_at, module_base, module_size};
+ghost use Rattle.pe_frame.specs.Walks.{Calls, CallsIn, lookup_address};
+ghost use Rattle.pe_c.specs.FrameCalls.{HandsOutFrame, HandsOutFrames};
+ghost use Rattle.pe_c.specs.StackWalks.{after_frame, stack_walks};
+ghost use Rattle.pe_c.specs.WalkModules.{exceptions_of, has_table, module_of, module_with, modules_of, view_base, view_size, viewed};
 
+use crate::frame_calls::{
+    WalkRecord, error_of_end, next_frame_over, next_frames_over, number_of_end, number_of_way,
+    way_of,
+};
 use crate::ranges::Range;
-use crate::results::{DONE, LONG_CHAIN, NOTHING, number_of, options};
-use crate::stack_frames::{FrameRegisters, flat_registers, registers_of, reported};
+use crate::results::options;
+use crate::stack_frames::{FrameRegisters, flat_registers, registers_of};
 use crate::view::View;
 use pe_core::{ByteRange, Error, Result};
 use pe_frame::{
-    AddressRange, CallSites, LoadedModules, Memory, MemoryList, MemoryPiece, Module, StackFrame,
-    WalkEnd, WalkPosition, Way, caller_in_module, caller_outside, first_overlap, first_with,
+    AddressRange, Arm64StackFrame, CallSites, LoadedModules, Memory, MemoryPiece, Module,
+    StackFrame, WalkEnd, WalkPosition, caller_in_module, caller_in_module_arm64, caller_outside,
+    caller_outside_arm64, first_overlap, first_with,
 };
 use pe_unwind::ExceptionData;
 
@@ -94,6 +100,7 @@ fn module_with<'a>(view: &ModuleView<'a>, exceptions: Option<&'a ExceptionData<'
         bytes,
         image,
         sections,
+        ..
     } = view.image;
     Module {
         base: view.base,
@@ -125,6 +132,26 @@ fn ends_code_call_in(view: &ModuleView<'_>, address: u64) -> bool
     module_with(view, exceptions.as_ref()).is_code_return(address)
 }
 
+/// Whether an address, which may be the end of a module, is one after a call on ARM64 in it.
+fn ends_call_arm64_in(view: &ModuleView<'_>, address: u64) -> bool
+    requires table { IsTrue (has_table view.now) }
+    requires near { address ≤ view.now.base + view.now.image.image.now.size_of_image }
+    ensures { result ≡ is_after_call_arm64_of (Some (module_of view.now)) address }
+{
+    let exceptions = exceptions_of(view);
+    module_with(view, exceptions.as_ref()).is_after_call_arm64(address)
+}
+
+/// The same in an executable section.
+fn ends_code_call_arm64_in(view: &ModuleView<'_>, address: u64) -> bool
+    requires table { IsTrue (has_table view.now) }
+    requires near { address ≤ view.now.base + view.now.image.image.now.size_of_image }
+    ensures { result ≡ is_code_return_arm64_of (Some (module_of view.now)) address }
+{
+    let exceptions = exceptions_of(view);
+    module_with(view, exceptions.as_ref()).is_code_return_arm64(address)
+}
+
 impl<'a> AddressRange for ModuleView<'a> {
     ghost start_of = { view_base };
 
@@ -148,7 +175,7 @@ fn have_tables(views: &[ModuleView<'_>]) -> bool
 
 /// The modules that a caller passes.
 #[derive(Clone, Copy)]
-struct ViewedModules<'a> {
+pub struct ViewedModules<'a> {
     views: &'a [ModuleView<'a>],
     /// Whether they are in ascending order and do not overlap.
     is_ascending: bool,
@@ -158,7 +185,7 @@ struct ViewedModules<'a> {
 
 impl<'a> ViewedModules<'a> {
     /// These modules. Error: `Short` if a function table does not lie in the bytes of its module.
-    fn new(views: &'a [ModuleView<'a>]) -> Result<ViewedModules<'a>>
+    pub fn new(views: &'a [ModuleView<'a>]) -> Result<ViewedModules<'a>>
         ensures { answer_by (λ m. m.views.now) result ≡ viewed views.entry.now }
     {
         if !have_tables(views) {
@@ -199,6 +226,25 @@ impl<'a> ViewedModules<'a> {
         let module = module_with(view, exceptions.as_ref());
         caller_in_module(self, &module, frame, memory)
     }
+
+    /// The same on ARM64.
+    fn caller_in_arm64<M: Memory>(
+        &self,
+        view: &ModuleView<'_>,
+        frame: &Arm64StackFrame,
+        memory: &M,
+    ) -> std::result::Result<Arm64StackFrame, WalkEnd>
+        requires table { IsTrue (has_table view.now) }
+        requires has { IsTrue (has_address module_base module_size
+            (arm64.lookup_address frame.now) (module_of view.now)) }
+        ensures { arm64.CallsIn
+            (record { memory = M.word memory.now; modules = modules_of self.now.views.now })
+            frame.now (Some (module_of view.now)) result }
+    {
+        let exceptions = exceptions_of(view);
+        let module = module_with(view, exceptions.as_ref());
+        caller_in_module_arm64(self, &module, frame, memory)
+    }
 }
 
 impl<'a> CallSites for ViewedModules<'a> {
@@ -217,6 +263,20 @@ impl<'a> CallSites for ViewedModules<'a> {
             None => false,
         }
     }
+
+    fn ends_call_arm64(&self, address: u64) -> bool {
+        match self.find(address.saturating_sub(1)) {
+            Some(view) => ends_call_arm64_in(view, address),
+            None => false,
+        }
+    }
+
+    fn ends_code_call_arm64(&self, address: u64) -> bool {
+        match self.find(address.saturating_sub(1)) {
+            Some(view) => ends_code_call_arm64_in(view, address),
+            None => false,
+        }
+    }
 }
 
 impl<'a> LoadedModules for ViewedModules<'a> {
@@ -232,81 +292,21 @@ impl<'a> LoadedModules for ViewedModules<'a> {
             None => caller_outside(self, frame, memory),
         }
     }
-}
 
-/// The number of a way.
-fn number_of_way(way: Way) -> u32
-    ensures { result ≡ way_number way }
-{
-    match way {
-        Way::Top => 0,
-        Way::Records => 1,
-        Way::Leaf => 2,
-        Way::Interrupt => 3,
-        Way::Scanned => 4,
-    }
-}
-
-/// The way with a number.
-#[tactic(auto, unfolding(crate::specs::StackWalks::way_of))]
-fn way_of(number: u32) -> Way
-    ensures { result ≡ way_of number }
-{
-    match number {
-        1 => Way::Records,
-        2 => Way::Leaf,
-        3 => Way::Interrupt,
-        4 => Way::Scanned,
-        _ => Way::Top,
-    }
-}
-
-/// The number of a reason why a walk is over.
-fn number_of_end(end: &WalkEnd) -> u32
-    ensures { result ≡ end_number end.now }
-{
-    match end {
-        WalkEnd::Bound => 0,
-        WalkEnd::Bottom => 1,
-        WalkEnd::NoModule => 2,
-        WalkEnd::NoFunction => 3,
-        WalkEnd::Records(_) => 4,
-        WalkEnd::LongChain => 5,
-        WalkEnd::Step(_) => 6,
-    }
-}
-
-/// The number of the error for which a walk is over, and the address that it speaks of.
-fn error_of_end(end: &WalkEnd) -> (u32, Option<u64>)
-    ensures { result ≡ (end_error end.now, end_address end.now) }
-{
-    match end {
-        WalkEnd::Records(error) => (number_of(error), None),
-        WalkEnd::LongChain => (LONG_CHAIN, None),
-        WalkEnd::Step(error) => reported(error),
-        _ => (0, None),
-    }
-}
-
-/// Where a walk is.
-fn position_of(walk: &StackWalk) -> WalkPosition
-    ensures { (memory : ℕ → Option ℕ) (modules : List Module) →
-        frames.state_of memory modules result ≡ state_of memory modules walk.now }
-{
-    WalkPosition {
-        frame: StackFrame {
-            registers: registers_of(&walk.registers),
-            way: way_of(walk.way),
-            has_called: walk.has_called != 0,
-        },
-        has_returned: walk.has_returned != 0,
-        remaining: walk.remaining as usize,
-        end: WalkEnd::Bound,
+    fn caller_of_arm64<M: Memory>(
+        &self,
+        frame: &Arm64StackFrame,
+        memory: &M,
+    ) -> std::result::Result<Arm64StackFrame, WalkEnd> {
+        match self.find(frame.lookup_address()) {
+            Some(view) => self.caller_in_arm64(view, frame, memory),
+            None => caller_outside_arm64(self, frame, memory),
+        }
     }
 }
 
 /// Writes a frame to a walk.
-fn hand_out_frame(frame: &StackFrame, walk: &mut StackWalk)
+fn write_frame(frame: &StackFrame, walk: &mut StackWalk)
     requires { 0 < walk.old.remaining }
     ensures after { walk.new ≡ after_frame walk.old frame.now }
     ensures xmm { length frame.now.registers.xmm ≡ 16 }
@@ -318,35 +318,34 @@ fn hand_out_frame(frame: &StackFrame, walk: &mut StackWalk)
     walk.has_called = u32::from(frame.has_called);
 }
 
-/// Writes to a walk why it is over.
-fn hand_out_end(end: &WalkEnd, walk: &mut StackWalk)
-    ensures { walk.new ≡ after_end walk.old end.now }
-{
-    let (error, address) = error_of_end(end);
-    walk.remaining = 0;
-    walk.end = number_of_end(end);
-    walk.error = error;
-    walk.address = address.unwrap_or(0);
-}
+impl WalkRecord for StackWalk {
+    type Frame = StackFrame;
 
-/// The next frame of a walk over these modules and this memory.
-fn next_frame<M: Memory>(modules: &ViewedModules<'_>, memory: &M, walk: &mut StackWalk) -> u32
-    ensures { HandsOutNext (M.word memory.now) (modules_of modules.now.views.now) result
-        walk.old walk.new }
-{
-    if walk.remaining == 0 {
-        return NOTHING;
+    ghost records = { stack_walks };
+
+    fn position(&self) -> WalkPosition<StackFrame> {
+        WalkPosition {
+            frame: StackFrame {
+                registers: registers_of(&self.registers),
+                way: way_of(self.way),
+                has_called: self.has_called != 0,
+            },
+            has_returned: self.has_returned != 0,
+            remaining: self.remaining as usize,
+            end: WalkEnd::Bound,
+        }
     }
-    let mut position = position_of(walk);
-    match position.next(modules, memory) {
-        Some(frame) => {
-            hand_out_frame(&frame, walk);
-            DONE
-        }
-        None => {
-            hand_out_end(&position.end, walk);
-            NOTHING
-        }
+
+    fn put_frame(&mut self, frame: &StackFrame) {
+        write_frame(frame, self);
+    }
+
+    fn put_end(&mut self, end: &WalkEnd) {
+        let (error, address) = error_of_end(end);
+        self.remaining = 0;
+        self.end = number_of_end(end);
+        self.error = error;
+        self.address = address.unwrap_or(0);
     }
 }
 
@@ -364,36 +363,10 @@ pub extern "C" fn pe_c_next_frame(
     pieces: &[MemoryPiece],
     walk: &mut StackWalk,
 ) -> u32
-    ensures { HandsOutFrame modules.now memory.now pieces.now result walk.old walk.new }
+    ensures { HandsOutFrame Calls stack_walks
+        modules.now memory.now pieces.now result walk.old walk.new }
 {
-    let modules = match ViewedModules::new(modules) {
-        Ok(modules) => modules,
-        Err(error) => return number_of(&error),
-    };
-    match MemoryList::new(memory, pieces) {
-        Ok(memory) => next_frame(&modules, &memory, walk),
-        Err(error) => number_of(&error),
-    }
-}
-
-/// The next frames of a walk: in each slot the walk as it is after a frame. Returns how many there are.
-#[tactic(auto, using(crate::proofs::NextFrames::none_yet, crate::proofs::NextFrames::one_more, crate::proofs::NextFrames::others_stay, crate::proofs::NextFrames::over_here, crate::proofs::NextFrames::all_filled))]
-fn next_frames<M: Memory>(
-    modules: &ViewedModules<'_>,
-    memory: &M,
-    walk: &mut StackWalk,
-    frames: &mut [StackWalk],
-) -> usize
-    ensures { FillsFrames (M.word memory.now) (modules_of modules.now.views.now) result
-        frames.old frames.new walk.old walk.new }
-{
-    for i in 0..frames.len() {
-        if next_frame(modules, memory, walk) == NOTHING {
-            return i;
-        }
-        frames[i] = *walk;
-    }
-    frames.len()
+    next_frame_over(modules, memory, pieces, walk)
 }
 
 /// Fills `frames` with the next frames of a stack walk on x64: each is the walk as `pe_c_next_frame` leaves it after a frame. Sets
@@ -412,18 +385,8 @@ pub extern "C" fn pe_c_next_frames(
     frames: &mut [StackWalk],
     count: &mut u64,
 ) -> u32
-    ensures { HandsOutFrames modules.now memory.now pieces.now result
+    ensures { HandsOutFrames Calls stack_walks modules.now memory.now pieces.now result
         (frames.old, count.old) (frames.new, count.new) walk.old walk.new }
 {
-    let modules = match ViewedModules::new(modules) {
-        Ok(modules) => modules,
-        Err(error) => return number_of(&error),
-    };
-    let memory = match MemoryList::new(memory, pieces) {
-        Ok(memory) => memory,
-        Err(error) => return number_of(&error),
-    };
-    let filled = next_frames(&modules, &memory, walk, frames);
-    *count = filled as u64;
-    if filled < frames.len() { NOTHING } else { DONE }
+    next_frames_over(modules, memory, pieces, walk, frames, count)
 }

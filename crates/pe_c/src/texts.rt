@@ -1,7 +1,7 @@
 //! The texts of the results of calls, for a caller's messages.
 
 ghost use Rattle.std.specs.Prelude.{◌≡◌, ◌≤◌, length, take, drop, ◌++◌};
-ghost use Rattle.pe_c.specs.Texts.{refusal_text, other_text, result_text, sign_text, directory_text, tree_text, edit_text};
+ghost use Rattle.pe_c.specs.Texts.{refusal_text, other_text, result_text, sign_text, directory_text, tree_text, edit_text, signature_text, dump_text};
 
 use crate::results::{BAD_ADDRESS, BAD_OPERATION, LONG_CHAIN, MISSING, NOT_RISING, NOTHING, ROOM};
 
@@ -16,6 +16,12 @@ const TREES: u32 = 401;
 
 /// The number of the first error of resources that are written.
 const EDITS: u32 = 451;
+
+/// The number of the first error of signatures.
+const SIGNATURES: u32 = 501;
+
+/// The number of the first error of minidumps.
+const DUMPS: u32 = 551;
 
 /// The text of 0 or of the number of an error. `tools/make_errors` writes the arms.
 #[tactic(auto, unfolding(crate::specs::Texts::refusal_text))]
@@ -147,16 +153,60 @@ fn edit_text(number: u32) -> &'static str
         7 => "data directories end after the section table starts",
         8 => "alignment of sections or of their data is too small or no power of two",
         9 => "no section starts at the RVA of the resource directory",
-        10 => "data of the resource section are in the headers, truncated or not aligned",
+        10 => "data of the sections are in the headers, truncated or not aligned",
         11 => "the entry point or another directory lies in the resource section",
-        12 => "COFF symbols lie in the data of the resource section",
-        13 => "another section shares bytes or pages with the resource section or the headers",
+        12 => "COFF symbols lie in the data of the resource section or at its end",
+        13 => "section shares bytes or pages with the resource section or headers, or is after it",
         14 => "resources do not fit into the data of their section or into the image in memory",
         15 => "resource has a range outside of the array, or an id or language above 65,535",
         16 => "names of the resources have more than 16 MiB",
         17 => "key of a version block has an odd number of bytes, or a code unit of zero",
         18 => "text of a version block has an odd number of bytes",
         19 => "version block has more than 65,535 bytes",
+        20 => "headers have no room for another section header",
+        21 => "image with the resources ends after 4 GB",
+        22 => "data of a debug entry start after the data of the sections",
+        _ => "unknown result",
+    }
+}
+
+/// The text of an error of a signature, by its number from `SIGNATURES` on. `tools/make_errors` writes the arms.
+#[tactic(auto, unfolding(crate::specs::Texts::signature_text))]
+fn signature_text(number: u32) -> &'static str
+    ensures { result.now ≡ signature_text number }
+{
+    match number {
+        0 => "element of a signature truncated before its content",
+        1 => "element of a signature has a tag number above 30",
+        2 => "element of a signature has an indefinite length",
+        3 => "length of an element of a signature has more than 4 octets after its first",
+        4 => "length of an element of a signature is not in its shortest form",
+        5 => "element of a signature ends after its parent",
+        6 => "element of a signature is missing",
+        7 => "element of a signature has another tag",
+        8 => "bytes follow the last field of an element of a signature",
+        9 => "content of a signature has another type",
+        10 => "time of a signature is not in the form of RFC 5280",
+        _ => "unknown result",
+    }
+}
+
+/// The text of an error of a minidump, by its number from `DUMPS` on. `tools/make_errors` writes the arms.
+#[tactic(auto, unfolding(crate::specs::Texts::dump_text))]
+fn dump_text(number: u32) -> &'static str
+    ensures { result.now ≡ dump_text number }
+{
+    match number {
+        0 => "invalid signature of a minidump",
+        1 => "invalid version of a minidump",
+        2 => "directory of the streams ends past the end of the file",
+        3 => "location in a minidump ends past the end of the file",
+        4 => "number of entries of a list and the size of its stream do not agree",
+        5 => "entries of a list smaller than their fields",
+        6 => "string has an odd number of bytes",
+        7 => "context smaller than its fields",
+        8 => "context without control or integer registers",
+        9 => "context of another machine",
         _ => "unknown result",
     }
 }
@@ -176,8 +226,12 @@ fn text_of(number: u32) -> &'static str
         directory_text(number - DIRECTORIES)
     } else if number < EDITS {
         tree_text(number - TREES)
-    } else {
+    } else if number < SIGNATURES {
         edit_text(number - EDITS)
+    } else if number < DUMPS {
+        signature_text(number - SIGNATURES)
+    } else {
+        dump_text(number - DUMPS)
     }
 }
 

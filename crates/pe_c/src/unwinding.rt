@@ -10,7 +10,7 @@ ghost use Rattle.pe_unwind.specs.ScopeTable.{scope_at};
 ghost use Rattle.pe_unwind.specs.UnwindRecord.{unwind_view};
 ghost use Rattle.pe_c.specs.HandsOut.{HandsOut, HandsOutIf};
 ghost use Rattle.pe_c.specs.Ranges.{bytes_at};
-ghost use Rattle.pe_frame.specs.Undoing.{offset_number};
+ghost use Rattle.pe_frame.specs.Undoing.{bytes_above};
 ghost use Rattle.pe_c.specs.Exports.{one_if_some};
 ghost use Rattle.pe_c.specs.Unwinding.{exception_table_at, LocatesIn, HandsOutFound, function_in, or_no_function, handler_kind, handler_address, handler_range, flat_record, flat_record_at, FindsOffset, FollowsToRecord, HandsOutRecord, links_at, from_frame, saving, plain, flat, StepsOver, WalksIn, HandsOutCode, scopes_at};
 ghost use Rattle.pe_c.specs.Walks.{next_of, walk_of};
@@ -99,7 +99,7 @@ pub struct Code {
 #[tactic(auto, unfolding(crate::specs::Unwinding::exception_table_at))]
 fn table_of(bytes: &[u8], image: &Image, sections: &[SectionTable]) -> Result<Option<Range>>
     ensures { answer_of result
-        ≡ exception_table_at 0x8664 12 bytes.now image.now sections.now image.now.mode }
+        ≡ exception_table_at COFF_MACHINE_X86_64 12 bytes.now image.now sections.now image.now.mode }
 {
     let directory = directory(image, EXCEPTION_TABLE);
     if image.machine != COFF_MACHINE_X86_64 || is_absent(directory) {
@@ -128,7 +128,7 @@ pub extern "C" fn pe_c_function_table(
     out: &mut Range,
 ) -> u32
     ensures { HandsOutIf result out.old out.new
-        (exception_table_at 0x8664 12 bytes.now image.now sections.now image.now.mode) }
+        (exception_table_at COFF_MACHINE_X86_64 12 bytes.now image.now sections.now image.now.mode) }
 {
     hand_out_some(table_of(bytes, image, sections), out)
 }
@@ -334,7 +334,7 @@ pub extern "C" fn pe_c_unwind_record(
 
 /// Whether an offset counts from the frame register, and the offset in bytes.
 fn from_offset(offset: StackFrameOffset) -> (u8, u32)
-    ensures { result ≡ (from_frame offset, offset_number offset) }
+    ensures { result ≡ (from_frame offset, bytes_above offset) }
 {
     match offset {
         StackFrameOffset::RSP(value) => (0, value),

@@ -1,6 +1,11 @@
-//! An image as calls take it: its bytes, its headers, which say how it is read, and its section headers.
+//! An image as calls take it: its bytes, its headers, which say how it is read, its section headers, and an index of these where
+//! the caller has made one.
 
-use crate::image::Image;
+ghost use Rattle.std.specs.Prelude.{◌≡◌, []};
+ghost use Rattle.pe_c.specs.Views.{map_of};
+
+use crate::image::{Image, offset_of};
+use crate::section_index::{IndexEntry, sections_by};
 use pe_core::SectionTable;
 
 /// What `pe_c_image` and `pe_c_sections` returned of the bytes, or what a caller made in their place.
@@ -11,4 +16,33 @@ pub struct View<'a> {
     pub bytes: &'a [u8],
     pub image: &'a Image,
     pub sections: &'a [SectionTable],
+    /// What `pe_c_index` wrote for these sections; no entries without an index.
+    pub index: &'a [IndexEntry],
+}
+
+/// A view without an index, of the parts that older calls take.
+pub fn without_index<'a>(
+    bytes: &'a [u8],
+    image: &'a Image,
+    sections: &'a [SectionTable],
+) -> View<'a>
+    ensures bytes { result.bytes.now ≡ bytes.entry.now }
+    ensures image { result.image.now ≡ image.entry.now }
+    ensures sections { result.sections.now ≡ sections.entry.now }
+    ensures index { result.index.now ≡ [] }
+{
+    View {
+        bytes,
+        image,
+        sections,
+        index: &[],
+    }
+}
+
+/// The offset of an RVA.
+pub fn map_by(view: &View, rva: u32) -> Option<usize>
+    ensures { result ≡ map_of view.now rva }
+{
+    let sections = sections_by(view.sections, view.index, rva);
+    offset_of(rva, view.image, sections)
 }

@@ -52,7 +52,7 @@ pub struct Arm64StackFrame {
 }
 
 /// The registers that a caller passes.
-fn registers_of(registers: &Arm64FrameRegisters) -> Arm64Registers
+pub fn registers_of(registers: &Arm64FrameRegisters) -> Arm64Registers
     ensures { result ≡ arm64_registers_of registers.now }
 {
     Arm64Registers {
@@ -64,7 +64,7 @@ fn registers_of(registers: &Arm64FrameRegisters) -> Arm64Registers
 }
 
 /// Registers as callers get them.
-fn flat_registers(registers: &Arm64Registers) -> Arm64FrameRegisters
+pub fn flat_registers(registers: &Arm64Registers) -> Arm64FrameRegisters
     ensures { result ≡ flat_arm64_registers registers.now }
 {
     Arm64FrameRegisters {
@@ -214,7 +214,7 @@ pub extern "C" fn pe_c_step_arm64_pieces(
 /// of `frame`: the caller goes on at the link register. Always returns `DONE`.
 #[unsafe(no_mangle)]
 pub extern "C" fn pe_c_leaf_arm64(frame: &mut Arm64StackFrame) -> u32
-    ensures done { result ≡ 0 }
+    ensures done { result ≡ DONE }
     ensures caller { frame.new ≡ left_arm64 frame.old }
 {
     frame.registers = flat_registers(&leaf_arm64(registers_of(&frame.registers)));

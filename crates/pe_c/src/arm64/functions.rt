@@ -40,7 +40,7 @@ pub struct Arm64Packed {
 #[tactic(auto, unfolding(crate::specs::Unwinding::exception_table_at))]
 fn table_of(bytes: &[u8], image: &Image, sections: &[SectionTable]) -> Result<Option<Range>>
     ensures { answer_of result
-        ≡ exception_table_at 0xAA64 8 bytes.now image.now sections.now image.now.mode }
+        ≡ exception_table_at COFF_MACHINE_ARM64 8 bytes.now image.now sections.now image.now.mode }
 {
     let directory = directory(image, EXCEPTION_TABLE);
     if image.machine != COFF_MACHINE_ARM64 || is_absent(directory) {
@@ -66,7 +66,7 @@ pub extern "C" fn pe_c_arm64_table(
     out: &mut Range,
 ) -> u32
     ensures { HandsOutIf result out.old out.new
-        (exception_table_at 0xAA64 8 bytes.now image.now sections.now image.now.mode) }
+        (exception_table_at COFF_MACHINE_ARM64 8 bytes.now image.now sections.now image.now.mode) }
 {
     hand_out_some(table_of(bytes, image, sections), out)
 }
@@ -137,7 +137,7 @@ pub extern "C" fn pe_c_arm64_packed_fields(
     function: &Arm64RuntimeFunction,
     out: &mut Arm64Packed,
 ) -> u32
-    ensures done { result ≡ 0 }
+    ensures done { result ≡ DONE }
     ensures fields { out.new ≡ packed_fields function.now }
 {
     *out = Arm64Packed {

@@ -1,10 +1,11 @@
 //! Laws of lists in one call: what list calls write, one after the other, is what the steps of the walk return.
 
 ghost use Rattle.std.specs.Prelude.{ℕ, Option, List};
-ghost use Rattle.pe_core.specs.declared.section_table.SectionTable.{SectionTable};
+ghost use Rattle.pe_directories.specs.ImageParts.{ImageView};
 ghost use Rattle.pe_c.specs.Arm64.{StepsArm64Codes};
+ghost use Rattle.pe_c.specs.DebugWalks.{StepsPogoEntries};
 ghost use Rattle.pe_c.specs.Directories.{directory_number};
-ghost use Rattle.pe_c.specs.DirectoryRuns.{StepsBlocks, StepsRelocations};
+ghost use Rattle.pe_c.specs.DirectoryRuns.{StepsBlocks, StepsDelayLibraries, StepsDelayedFunctions, StepsRelocations};
 ghost use Rattle.pe_c.specs.Exports.{StepsExports};
 ghost use Rattle.pe_c.specs.HandsOut.{result_number};
 ghost use Rattle.pe_c.specs.Imports.{StepsImports, StepsLibraries};
@@ -26,9 +27,14 @@ pub fn lists_are_what_steps_return()
         GiveLists result_number (StepsLibraries offset w b) }
     ensures imports { (offset : ℕ → Option ℕ) (w : ℕ) (b : List ℕ) →
         GiveLists result_number (StepsImports offset w b) }
-    ensures leaves { (b : List ℕ) (image : Image) (sections : List SectionTable) →
-        GiveLists tree_number (StepsLeaves b image sections) }
+    ensures leaves { (b : List ℕ) (offset : ℕ → Option ℕ) →
+        GiveLists tree_number (StepsLeaves b offset) }
     ensures relocation_blocks { (b : List ℕ) → GiveLists directory_number (StepsBlocks b) }
     ensures relocations { (page : ℕ) (b : List ℕ) →
         GiveLists directory_number (StepsRelocations page b) }
+    ensures delay_imports { (i : ImageView) →
+        GiveLists directory_number (StepsDelayLibraries i) }
+    ensures delayed_functions { (image : Image) (i : ImageView) →
+        GiveLists directory_number (StepsDelayedFunctions image i) }
+    ensures pogo_entries { (b : List ℕ) → GiveLists result_number (StepsPogoEntries b) }
 {}

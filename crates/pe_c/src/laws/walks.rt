@@ -2,7 +2,7 @@
 //! list that the crates below define, and then nothing. An error is the last item. Each walk has a clause for the walk that a
 //! call starts for an image, one for any walk over some bytes, and one for a walk that is not inside the bytes.
 
-ghost use Rattle.std.specs.Prelude.{◌≡◌, ◌+◌, ◌<◌, ◌==◌, ◌∷◌, List, Ok, Err, Result, Some, [], length, map, ℕ};
+ghost use Rattle.std.specs.Prelude.{◌≡◌, ◌+◌, ◌<◌, ◌==◌, ◌∷◌, List, Ok, Err, Result, Some, [], length, map, ℕ, Option};
 ghost use Rattle.pe_core.specs.Refusals.{Refusal};
 ghost use Rattle.pe_core.specs.Rows.{entry_items};
 ghost use Rattle.pe_core.specs.declared.section_table.SectionTable.{SectionTable};
@@ -26,12 +26,12 @@ ghost use Rattle.pe_resource.specs.declared.leaves.ResourceLeaf as trees;
 ghost use Rattle.pe_c.specs.BoundImports.{bound_imports_at};
 ghost use Rattle.pe_c.specs.Clr.{clr_metadata_at, streams_in};
 ghost use Rattle.pe_c.specs.DelayImports.{entry_with, function_of, functions_of, library_of};
-ghost use Rattle.pe_c.specs.DirectoryRuns.{HasBlock, HasBound, HasStream, StepsBlocks, StepsBoundImports, StepsCallbacks, StepsDelayLibraries, StepsDelayedFunctions, StepsForwarders, StepsRelocations, StepsStreams, blocks_reported, bounds_reported, forwarders_reported, relocations_reported, streams_reported};
+ghost use Rattle.pe_c.specs.DirectoryRuns.{HasBlock, HasBound, StepsBlocks, StepsBoundImports, StepsCallbacks, StepsDelayLibraries, StepsDelayedFunctions, StepsForwarders, StepsRelocations, StepsStreams, forwarders_reported, relocations_reported, ReturnsBlocks, ReturnsBounds, ReturnsStreams};
 ghost use Rattle.pe_c.specs.Directories.{callbacks_at, image_parts, table_at};
 ghost use Rattle.pe_c.specs.Images.{directory};
 ghost use Rattle.pe_c.specs.Ranges.{bytes_at};
 ghost use Rattle.pe_c.specs.ResourceLeaves.{StartsTree, StepsLeaves, item_reported, items_left};
-ghost use Rattle.pe_c.specs.Runs.{EachHas, ReturnsItems, read_items};
+ghost use Rattle.pe_c.specs.Runs.{ReturnsItems, read_items};
 ghost use Rattle.pe_c.specs.declared.base_relocations.RelocationBlock.{RelocationBlock};
 ghost use Rattle.pe_c.specs.declared.bound_imports.BoundImport.{BoundImport};
 ghost use Rattle.pe_c.specs.declared.clr.Metadata.{Metadata};
@@ -70,13 +70,11 @@ pub fn walks_give_the_relocations()
         table_at 5 b image sections ≡ Ok (Some walk) →
         walk_table (image_parts b image sections) (directory image 5) ≡ Ok (Some table) →
         Items first_block table items →
-        ReturnsItems (StepsBlocks b) walk (blocks_reported walk items)
-        × EachHas (HasBlock b) (blocks_reported walk items) items }
+        ReturnsBlocks b walk items }
     ensures blocks { (b : List ℕ) (walk : Range) (bytes : List ℕ)
         (items : List (Result Block DirectoryRefusal)) → bytes_at b walk ≡ Ok bytes →
         Items first_block bytes items →
-        ReturnsItems (StepsBlocks b) walk (blocks_reported walk items)
-        × EachHas (HasBlock b) (blocks_reported walk items) items }
+        ReturnsBlocks b walk items }
     ensures blocks_outside { (b : List ℕ) (walk : Range) (refusal : Refusal) →
         bytes_at b walk ≡ Err refusal →
         ReturnsItems (StepsBlocks b) walk (Err (refusals.Image refusal) ∷ []) }
@@ -103,13 +101,11 @@ pub fn walks_give_the_streams()
         clr_metadata_at b image sections header ≡ Ok (Some root) →
         clr_metadata (image_parts b image sections) header ≡ Ok metadata →
         Items first_stream (metadata.number_of_streams, metadata.stream_headers) items →
-        ReturnsItems (StepsStreams b) root.streams (streams_reported root.streams items)
-        × EachHas (HasStream b metadata.bytes) (streams_reported root.streams items) items }
+        ReturnsStreams b metadata.bytes root.streams items }
     ensures streams { (b : List ℕ) (walk : MetadataStreams) (metadata headers : List ℕ)
         (items : List (Result Stream DirectoryRefusal)) → bytes_at b walk.metadata ≡ Ok metadata →
         bytes_at b walk.headers ≡ Ok headers → Items first_stream (walk.count, headers) items →
-        ReturnsItems (StepsStreams b) walk (streams_reported walk items)
-        × EachHas (HasStream b metadata) (streams_reported walk items) items }
+        ReturnsStreams b metadata walk items }
     ensures outside { (b : List ℕ) (walk : MetadataStreams) (refusal : DirectoryRefusal) →
         streams_in b walk ≡ Err refusal →
         ReturnsItems (StepsStreams b) walk (Err refusal ∷ []) }
@@ -161,14 +157,12 @@ pub fn walks_give_the_bound_imports()
         (items : List (Result Bound DirectoryRefusal)) →
         bound_imports_at b image ≡ Ok (Some walk) →
         bound_table b (directory image 11) ≡ Ok table → Items first_bound_import table items →
-        ReturnsItems (StepsBoundImports b walk) walk (bounds_reported b walk walk items)
-        × EachHas (HasBound b table) (bounds_reported b walk walk items) items }
+        ReturnsBounds b walk table walk items }
     ensures imports { (b : List ℕ) (table : Range) (directory : List ℕ) (walk : Range)
         (bytes : List ℕ) (items : List (Result Bound DirectoryRefusal)) →
         bytes_at b table ≡ Ok directory → bytes_at b walk ≡ Ok bytes →
         Items first_bound_import bytes items →
-        ReturnsItems (StepsBoundImports b table) walk (bounds_reported b table walk items)
-        × EachHas (HasBound b directory) (bounds_reported b table walk items) items }
+        ReturnsBounds b table directory walk items }
     ensures imports_outside { (b : List ℕ) (table walk : Range) (refusal : Refusal) →
         bytes_at b walk ≡ Err refusal → ReturnsItems (StepsBoundImports b table) walk
         (Err (refusals.Image refusal) ∷ []) }
@@ -185,15 +179,14 @@ pub fn walks_give_the_bound_imports()
 {}
 
 /// A walk over the leaves of a resource tree returns the leaves that it has left, up to the first error. So the walk that
-/// `pe_c_resource_leaves` starts returns those of the tree.
-#[tactic(auto, using(crate::proofs::LeafRuns::leaves_of_tree))]
+/// `pe_c_resource_leaves` starts returns those of the tree, whatever maps the RVAs of their contents.
 pub fn walks_give_the_leaves()
     ensures of_tree { (b : List ℕ) (image : Image) (sections : List SectionTable)
+        (offset : ℕ → Option ℕ)
         (tree : List ℕ × List (Result trees.ResourceLeaf TreeRefusal)) (walk : ResourceLeaves) →
-        StartsTree b image sections tree walk → ReturnsItems (StepsLeaves b image sections) walk
-        (read_items (λ x. Ok x)
-        (map (item_reported b image sections walk.tree.offset tree.0) tree.1)) }
-    ensures leaves { (b : List ℕ) (image : Image) (sections : List SectionTable)
-        (walk : ResourceLeaves) → ReturnsItems (StepsLeaves b image sections) walk
-        (read_items (λ x. Ok x) (items_left b image sections walk)) }
+        StartsTree b image sections tree walk → ReturnsItems (StepsLeaves b offset) walk
+        (read_items (λ x. Ok x) (map (item_reported b offset walk.tree.offset tree.0) tree.1)) }
+    ensures leaves { (b : List ℕ) (offset : ℕ → Option ℕ)
+        (walk : ResourceLeaves) → ReturnsItems (StepsLeaves b offset) walk
+        (read_items (λ x. Ok x) (items_left b offset walk)) }
 {}

@@ -4,8 +4,8 @@ ghost use Rattle.std.specs.Prelude.{◌≡◌};
 ghost use Rattle.pe_c.specs.ExportAddresses.{exported_at};
 ghost use Rattle.pe_c.specs.Exports.{StepsExports};
 ghost use Rattle.pe_c.specs.HandsOut.{result_number};
-ghost use Rattle.pe_c.specs.Images.{map_of_image};
 ghost use Rattle.pe_c.specs.Lists.{HandsOutList, Numbered, StepsByIndex};
+ghost use Rattle.pe_c.specs.Views.{map_of};
 
 use crate::export_addresses::{AddressTable, Exported, exported_at};
 use crate::exports::{Export, Exports, step};
@@ -20,10 +20,10 @@ struct Names<'a> {
 
 impl<'a> Steps<Exports, Export> for Names<'a> {
     ghost steps = { λ s. Numbered result_number (StepsExports
-        (map_of_image s.view.now.image.now s.view.now.sections.now) s.view.now.bytes.now) };
+        (map_of s.view.now) s.view.now.bytes.now) };
 
     fn step(&self, walk: &mut Exports) -> Result<Option<Export>, u32> {
-        numbered(step(self.view.bytes, self.view.image, self.view.sections, walk))
+        numbered(step(self.view, walk))
     }
 }
 
@@ -38,7 +38,7 @@ pub extern "C" fn pe_c_list_exports(
     written: &mut u64,
 ) -> u32
     ensures { HandsOutList (Numbered result_number
-        (StepsExports (map_of_image view.now.image.now view.now.sections.now) view.now.bytes.now))
+        (StepsExports (map_of view.now) view.now.bytes.now))
         result walk.old walk.new entries.old entries.new written.old written.new }
 {
     hand_out_list(&Names { view }, walk, entries, written)
@@ -53,13 +53,10 @@ struct Addresses<'a> {
 
 impl<'a> Steps<u64, Exported> for Addresses<'a> {
     ghost steps = { λ s. Numbered result_number (StepsByIndex (exported_at
-        (map_of_image s.view.now.image.now s.view.now.sections.now)
-        s.view.now.bytes.now s.table.now)) };
+        (map_of s.view.now) s.view.now.bytes.now s.table.now)) };
 
     fn step(&self, index: &mut u64) -> Result<Option<Exported>, u32> {
-        let view = self.view;
-        let given = exported_at(view.bytes, view.image, view.sections, self.table, *index);
-        next_index(given, index)
+        next_index(exported_at(self.view, self.table, *index), index)
     }
 }
 
@@ -75,7 +72,7 @@ pub extern "C" fn pe_c_list_export_addresses(
     written: &mut u64,
 ) -> u32
     ensures { HandsOutList (Numbered result_number (StepsByIndex (exported_at
-        (map_of_image view.now.image.now view.now.sections.now) view.now.bytes.now table.now)))
+        (map_of view.now) view.now.bytes.now table.now)))
         result next.old next.new entries.old entries.new written.old written.new }
 {
     hand_out_list(&Addresses { view, table }, next, entries, written)

@@ -3,9 +3,9 @@
 ghost use Rattle.std.specs.Prelude.{◌≡◌, ◌==◌};
 ghost use Rattle.pe_core.specs.Imports.{entry_size};
 ghost use Rattle.pe_c.specs.HandsOut.{result_number};
-ghost use Rattle.pe_c.specs.Images.{map_of_image};
 ghost use Rattle.pe_c.specs.Imports.{StepsImports, StepsLibraries};
 ghost use Rattle.pe_c.specs.Lists.{HandsOutList, Numbered};
+ghost use Rattle.pe_c.specs.Views.{map_of};
 
 use crate::imports::{Import, Imports, Libraries, Library, import_step, library_step};
 use crate::lists::{Steps, hand_out_list, numbered};
@@ -19,12 +19,11 @@ struct LibrarySteps<'a> {
 
 impl<'a> Steps<Libraries, Library> for LibrarySteps<'a> {
     ghost steps = { λ s. Numbered result_number (StepsLibraries
-        (map_of_image s.view.now.image.now s.view.now.sections.now)
+        (map_of s.view.now)
         (entry_size (s.view.now.image.now.width == 64)) s.view.now.bytes.now) };
 
     fn step(&self, walk: &mut Libraries) -> Result<Option<Library>, u32> {
-        let view = self.view;
-        let (given, after) = library_step(view.bytes, view.image, view.sections, *walk);
+        let (given, after) = library_step(self.view, *walk);
         *walk = after;
         numbered(given)
     }
@@ -41,7 +40,7 @@ pub extern "C" fn pe_c_list_libraries(
     written: &mut u64,
 ) -> u32
     ensures { HandsOutList (Numbered result_number
-        (StepsLibraries (map_of_image view.now.image.now view.now.sections.now)
+        (StepsLibraries (map_of view.now)
         (entry_size (view.now.image.now.width == 64)) view.now.bytes.now))
         result walk.old walk.new entries.old entries.new written.old written.new }
 {
@@ -56,11 +55,11 @@ struct ImportSteps<'a> {
 
 impl<'a> Steps<Imports, Import> for ImportSteps<'a> {
     ghost steps = { λ s. Numbered result_number (StepsImports
-        (map_of_image s.view.now.image.now s.view.now.sections.now)
+        (map_of s.view.now)
         (entry_size (s.view.now.image.now.width == 64)) s.view.now.bytes.now) };
 
     fn step(&self, walk: &mut Imports) -> Result<Option<Import>, u32> {
-        numbered(import_step(self.view.bytes, self.view.image, self.view.sections, walk))
+        numbered(import_step(self.view, walk))
     }
 }
 
@@ -75,7 +74,7 @@ pub extern "C" fn pe_c_list_imports(
     written: &mut u64,
 ) -> u32
     ensures { HandsOutList (Numbered result_number
-        (StepsImports (map_of_image view.now.image.now view.now.sections.now)
+        (StepsImports (map_of view.now)
         (entry_size (view.now.image.now.width == 64)) view.now.bytes.now))
         result walk.old walk.new entries.old entries.new written.old written.new }
 {

@@ -4,6 +4,7 @@ ghost use Rattle.std.specs.Prelude.{◌≡◌};
 ghost use Rattle.pe_c.specs.HandsOut.{result_number};
 ghost use Rattle.pe_c.specs.Lists.{HandsOutList, Numbered, StepsVersionBlocks};
 ghost use Rattle.pe_c.specs.ResourceLeaves.{StepsLeaves, tree_number};
+ghost use Rattle.pe_c.specs.Views.{map_of};
 
 use crate::lists::{Steps, hand_out_list, numbered};
 use crate::ranges::Range;
@@ -20,10 +21,10 @@ struct Leaves<'a> {
 
 impl<'a> Steps<ResourceLeaves, ResourceLeaf> for Leaves<'a> {
     ghost steps = { λ s. Numbered tree_number
-        (StepsLeaves s.view.now.bytes.now s.view.now.image.now s.view.now.sections.now) };
+        (StepsLeaves s.view.now.bytes.now (map_of s.view.now)) };
 
     fn step(&self, walk: &mut ResourceLeaves) -> Result<Option<ResourceLeaf>, u32> {
-        match next_leaf(self.view.bytes, self.view.image, self.view.sections, walk) {
+        match next_leaf(self.view, walk) {
             Ok(leaf) => Ok(leaf),
             Err(error) => Err(number_of_tree(&error)),
         }
@@ -41,7 +42,7 @@ pub extern "C" fn pe_c_list_resource_leaves(
     written: &mut u64,
 ) -> u32
     ensures { HandsOutList (Numbered tree_number
-        (StepsLeaves view.now.bytes.now view.now.image.now view.now.sections.now))
+        (StepsLeaves view.now.bytes.now (map_of view.now)))
         result walk.old walk.new entries.old entries.new written.old written.new }
 {
     hand_out_list(&Leaves { view }, walk, entries, written)

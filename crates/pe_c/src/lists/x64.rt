@@ -3,12 +3,13 @@
 ghost use Rattle.std.specs.Prelude.{◌≡◌};
 ghost use Rattle.pe_c.specs.HandsOut.{result_number};
 ghost use Rattle.pe_c.specs.Lists.{HandsOutList, Numbered, StepsByIndex, by_number, if_there};
-ghost use Rattle.pe_c.specs.Unwinding.{StepsCodes, flat_answer, function_in};
+ghost use Rattle.pe_c.specs.RecordCodes.{HandsOutRecordCodes};
+ghost use Rattle.pe_c.specs.Unwinding.{StepsCodes, flat_answer, function_in, links_at};
 
 use crate::lists::{Steps, hand_out_list, if_there, next_index};
 use crate::ranges::Range;
-use crate::results::number_of;
-use crate::unwinding::{Code, CodeWalk, flat, function_in, next_code};
+use crate::results::{DONE, number_of};
+use crate::unwinding::{Code, CodeWalk, UnwindRecord, flat, function_in, next_code, read_record};
 use crate::view::View;
 use pe_unwind::{RuntimeFunction, UnwindCode};
 
@@ -90,4 +91,39 @@ pub extern "C" fn pe_c_list_codes(
         result walk.old walk.new entries.old entries.new written.old written.new }
 {
     hand_out_list(&Codes { bytes: view.bytes }, walk, entries, written)
+}
+
+/// Reads the unwind record of an unwind RVA, as `pe_c_unwind_record` does, and lists its codes, as `pe_c_list_codes` does: `out` is
+/// the record, whose walk is moved past the codes that are written. A record has at most 255 codes. It makes no use of an index.
+///
+/// Errors, after which `out` is unchanged too: those of `pe_c_unwind_record`; `ROOM` where `codes` is empty; of the first code those
+/// of `pe_c_next_code`.
+#[unsafe(no_mangle)]
+pub extern "C" fn pe_c_record_codes(
+    view: &View,
+    table: &Range,
+    unwind: u32,
+    out: &mut UnwindRecord,
+    codes: &mut [Code],
+    written: &mut u64,
+) -> u32
+    ensures { HandsOutRecordCodes view.now.bytes.now
+        (links_at view.now.bytes.now view.now.image.now view.now.sections.now table.now) unwind
+        result out.old out.new codes.old codes.new written.old written.new }
+{
+    match read_record(view.bytes, view.image, view.sections, table, unwind) {
+        Ok(record) => {
+            let mut walk = record.codes;
+            let steps = Codes { bytes: view.bytes };
+            let number = hand_out_list(&steps, &mut walk, codes, written);
+            if number == DONE {
+                *out = UnwindRecord {
+                    codes: walk,
+                    ..record
+                };
+            }
+            number
+        }
+        Err(error) => number_of(&error),
+    }
 }

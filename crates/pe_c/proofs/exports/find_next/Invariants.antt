@@ -1,7 +1,7 @@
 use Rattle.pe_c.proofs.exports.find_next.Given as goal
 use Rattle.pe_c.specs.Exports.{HaveNone, reported_entry, view_of}
-use Rattle.pe_c.specs.Images.{map_of_image}
+use Rattle.pe_c.specs.Views.{map_of}
 
 -- no entry before the i-th has an export
 abbrev pub invariant-loop-i : goal.invariant-loop-i
-invariant-loop-i l = HaveNone (reported_entry (map_of_image l.image l.sections) l.bytes (view_of l.tables)) l.from l.i
+invariant-loop-i l = HaveNone (reported_entry (map_of l.view) l.view.bytes.now (view_of l.tables)) l.from l.i

@@ -1,8 +1,9 @@
 use Rattle.pe_c.proofs.ListRuns.{give_lists}
 use Rattle.pe_c.proofs.laws.lists.lists_are_what_steps_return.Goals as goal
 use Rattle.pe_c.specs.Arm64.{StepsArm64Codes}
+use Rattle.pe_c.specs.DebugWalks.{StepsPogoEntries}
 use Rattle.pe_c.specs.Directories.{directory_number}
-use Rattle.pe_c.specs.DirectoryRuns.{StepsBlocks, StepsRelocations}
+use Rattle.pe_c.specs.DirectoryRuns.{StepsBlocks, StepsDelayLibraries, StepsDelayedFunctions, StepsRelocations}
 use Rattle.pe_c.specs.Exports.{StepsExports}
 use Rattle.pe_c.specs.HandsOut.{result_number}
 use Rattle.pe_c.specs.Imports.{StepsImports, StepsLibraries}
@@ -25,10 +26,19 @@ pub returns-clause-imports : goal.returns-clause-imports
 returns-clause-imports c offset w b = give_lists result_number (StepsImports offset w b)
 
 pub returns-clause-leaves : goal.returns-clause-leaves
-returns-clause-leaves c b image sections = give_lists tree_number (StepsLeaves b image sections)
+returns-clause-leaves c b offset = give_lists tree_number (StepsLeaves b offset)
 
 pub returns-clause-relocation_blocks : goal.returns-clause-relocation_blocks
 returns-clause-relocation_blocks c b = give_lists directory_number (StepsBlocks b)
 
 pub returns-clause-relocations : goal.returns-clause-relocations
 returns-clause-relocations c page b = give_lists directory_number (StepsRelocations page b)
+
+pub returns-clause-delay_imports : goal.returns-clause-delay_imports
+returns-clause-delay_imports c i = give_lists directory_number (StepsDelayLibraries i)
+
+pub returns-clause-delayed_functions : goal.returns-clause-delayed_functions
+returns-clause-delayed_functions c image i = give_lists directory_number (StepsDelayedFunctions image i)
+
+pub returns-clause-pogo_entries : goal.returns-clause-pogo_entries
+returns-clause-pogo_entries c b = give_lists result_number (StepsPogoEntries b)

@@ -1,5 +1,5 @@
 use Rattle.std.proofs.Common.{◌∙◌}
-use Rattle.pe_c.specs.StackWalks.{modules_of}
+use Rattle.pe_c.specs.WalkModules.{modules_of}
 use Rattle.pe_c.proofs.ViewedModules.{viewed_caller}
 use Rattle.pe_c.proofs.stack_walk.ViewedModules.caller_in.Goals as goal
 

@@ -1,6 +1,6 @@
 use Rattle.std.proofs.Common.{sym, arith}
 use Rattle.pe_frame.proofs.Lookups.{in_module}
-use Rattle.pe_c.specs.StackWalks.{module_of, modules_of}
+use Rattle.pe_c.specs.WalkModules.{module_of, modules_of}
 use Rattle.pe_c.proofs.stack_walk.ViewedModulesCallSites.ends_code_call.Goals as goal
 
 pub ends_code_call_in-requires-clause-near : goal.ends_code_call_in-requires-clause-near

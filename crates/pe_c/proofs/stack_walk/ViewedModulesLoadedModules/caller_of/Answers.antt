@@ -4,7 +4,7 @@ use Rattle.pe_core.proofs.Map.{found_passes}
 use Rattle.pe_frame.specs.AddressRanges.{has_address}
 use Rattle.pe_frame.specs.Modules.{module_base, module_size}
 use Rattle.pe_frame.specs.Walks.{lookup_address}
-use Rattle.pe_c.specs.StackWalks.{module_of, modules_of}
+use Rattle.pe_c.specs.WalkModules.{module_of, modules_of}
 use Rattle.pe_c.proofs.stack_walk.ViewedModulesLoadedModules.caller_of.Goals as goal
 
 pub caller_in-requires-clause-has : goal.caller_in-requires-clause-has

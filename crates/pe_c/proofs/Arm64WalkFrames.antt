@@ -1,0 +1,19 @@
+-- Frames in the records of walks on ARM64: what is written there is read again.
+use Rattle.std.proofs.Common.{◌≡◌, refl}
+use Rattle.pe_frame.specs.declared.arm64.walk.Arm64StackFrame.{Arm64StackFrame}
+use Rattle.pe_c.specs.Arm64StackWalks.{after_frame, arm64_stack_walks, frame_in}
+use Rattle.pe_c.specs.declared.arm64.stack_walk.Arm64StackWalk.{Arm64StackWalk}
+use Rattle.pe_c.proofs.FrameRuns.{KeepWalks}
+use Rattle.pe_c.proofs.WalkFrames.{same_bit, same_way}
+
+pub kept : (w : Arm64StackWalk) (s : Arm64StackFrame) → frame_in (after_frame w s) ≡ s
+kept w s = rw (same_way s.way, same_bit s.has_called) refl
+
+pub keep_walks : KeepWalks arm64_stack_walks
+keep_walks = record {
+  returned = λ w s. refl;
+  counted = λ w s. refl;
+  unended = λ w s. refl;
+  over = λ w e. refl;
+  ended = λ w e. refl;
+}

@@ -1,0 +1,184 @@
+//! Walks of a stack, a frame a call, on any machine: the walk of pe_frame, through the modules of a process, from the innermost
+//! frame outwards. The caller keeps the walk between two calls, in a record with the registers of its machine, and holds the
+//! modules and the memory.
+
+ghost use Rattle.std.specs.Prelude.{◌≡◌, ◌<◌, ◌==◌};
+ghost use Rattle.pe_frame.specs.FrameWalks.{Process, state_of};
+ghost use Rattle.pe_c.specs.FrameCalls.{FillsFrames, HandsOutFrame, HandsOutFrames, HandsOutNext, WalkRecords, end_address, end_error, end_number, state_in, way_number, way_of};
+
+use crate::results::{DONE, LONG_CHAIN, NOTHING, number_of};
+use crate::stack_frames::reported;
+use crate::stack_walk::{ModuleView, ViewedModules};
+use pe_core::Result;
+use pe_frame::{
+    LoadedModules, Memory, MemoryList, MemoryPiece, WalkEnd, WalkFrame, WalkPosition, Way,
+};
+
+/// The record of a walk on some machine: where the walk is, and the frame that was returned last.
+pub trait WalkRecord: Copy {
+    /// A frame of its machine.
+    type Frame: WalkFrame;
+
+    // What a record says, and what it is after a frame and after the end.
+    ghost records: { WalkRecords Self Self.Frame };
+
+    /// Where the walk is.
+    fn position(&self) -> WalkPosition<Self::Frame>
+        ensures { (p : Process) → state_of p result ≡ state_in records p self.now };
+
+    /// Writes a frame.
+    fn put_frame(&mut self, frame: &Self::Frame)
+        requires { 0 < records.remaining self.old }
+        ensures after { self.new ≡ records.after_frame self.old frame.now }
+        ensures kept { records.frame self.new ≡ frame.now };
+
+    /// Writes why the walk is over.
+    fn put_end(&mut self, end: &WalkEnd)
+        ensures { self.new ≡ records.after_end self.old end.now };
+}
+
+/// The number of a way.
+pub fn number_of_way(way: Way) -> u32
+    ensures { result ≡ way_number way }
+{
+    match way {
+        Way::Top => 0,
+        Way::Records => 1,
+        Way::Leaf => 2,
+        Way::Interrupt => 3,
+        Way::Scanned => 4,
+    }
+}
+
+/// The way with a number.
+#[tactic(auto, unfolding(crate::specs::FrameCalls::way_of))]
+pub fn way_of(number: u32) -> Way
+    ensures { result ≡ way_of number }
+{
+    match number {
+        1 => Way::Records,
+        2 => Way::Leaf,
+        3 => Way::Interrupt,
+        4 => Way::Scanned,
+        _ => Way::Top,
+    }
+}
+
+/// The number of a reason why a walk is over.
+pub fn number_of_end(end: &WalkEnd) -> u32
+    ensures { result ≡ end_number end.now }
+{
+    match end {
+        WalkEnd::Bound => 0,
+        WalkEnd::Bottom => 1,
+        WalkEnd::NoModule => 2,
+        WalkEnd::NoFunction => 3,
+        WalkEnd::Records(_) => 4,
+        WalkEnd::LongChain => 5,
+        WalkEnd::Step(_) => 6,
+    }
+}
+
+/// The number of the error for which a walk is over, and the address that it speaks of.
+pub fn error_of_end(end: &WalkEnd) -> (u32, Option<u64>)
+    ensures { result ≡ (end_error end.now, end_address end.now) }
+{
+    match end {
+        WalkEnd::Records(error) => (number_of(error), None),
+        WalkEnd::LongChain => (LONG_CHAIN, None),
+        WalkEnd::Step(error) => reported(error),
+        _ => (0, None),
+    }
+}
+
+/// The next frame of a walk over these modules and this memory.
+fn next_frame<W: WalkRecord, L: LoadedModules, M: Memory>(
+    modules: &L,
+    memory: &M,
+    walk: &mut W,
+) -> u32
+    ensures { HandsOutNext W.Frame.Calls W.records
+        (record { memory = M.word memory.now; modules = L.modules modules.now })
+        result walk.old walk.new }
+{
+    let mut position = walk.position();
+    if position.remaining == 0 {
+        return NOTHING;
+    }
+    match position.next(modules, memory) {
+        Some(frame) => {
+            walk.put_frame(&frame);
+            DONE
+        }
+        None => {
+            walk.put_end(&position.end);
+            NOTHING
+        }
+    }
+}
+
+/// The next frames of a walk: in each slot the walk as it is after a frame. Returns how many there are.
+#[tactic(auto, using(crate::proofs::NextFrames::none_yet, crate::proofs::NextFrames::one_more, crate::proofs::NextFrames::others_stay, crate::proofs::NextFrames::over_here, crate::proofs::NextFrames::all_filled))]
+fn next_frames<W: WalkRecord, L: LoadedModules, M: Memory>(
+    modules: &L,
+    memory: &M,
+    walk: &mut W,
+    frames: &mut [W],
+) -> usize
+    ensures { FillsFrames W.Frame.Calls W.records
+        (record { memory = M.word memory.now; modules = L.modules modules.now })
+        result frames.old frames.new walk.old walk.new }
+{
+    for i in 0..frames.len() {
+        if next_frame(modules, memory, walk) == NOTHING {
+            return i;
+        }
+        frames[i] = *walk;
+    }
+    frames.len()
+}
+
+/// The next frame of a walk over what a caller passes.
+pub fn next_frame_over<W: WalkRecord>(
+    modules: &[ModuleView<'_>],
+    memory: &[u8],
+    pieces: &[MemoryPiece],
+    walk: &mut W,
+) -> u32
+    ensures { HandsOutFrame W.Frame.Calls W.records
+        modules.now memory.now pieces.now result walk.old walk.new }
+{
+    let modules = match ViewedModules::new(modules) {
+        Ok(modules) => modules,
+        Err(error) => return number_of(&error),
+    };
+    match MemoryList::new(memory, pieces) {
+        Ok(memory) => next_frame(&modules, &memory, walk),
+        Err(error) => number_of(&error),
+    }
+}
+
+/// The next frames of a walk over what a caller passes, and how many there are.
+pub fn next_frames_over<W: WalkRecord>(
+    modules: &[ModuleView<'_>],
+    memory: &[u8],
+    pieces: &[MemoryPiece],
+    walk: &mut W,
+    frames: &mut [W],
+    count: &mut u64,
+) -> u32
+    ensures { HandsOutFrames W.Frame.Calls W.records modules.now memory.now pieces.now
+        result (frames.old, count.old) (frames.new, count.new) walk.old walk.new }
+{
+    let modules = match ViewedModules::new(modules) {
+        Ok(modules) => modules,
+        Err(error) => return number_of(&error),
+    };
+    let memory = match MemoryList::new(memory, pieces) {
+        Ok(memory) => memory,
+        Err(error) => return number_of(&error),
+    };
+    let filled = next_frames(&modules, &memory, walk, frames);
+    *count = filled as u64;
+    if filled < frames.len() { NOTHING } else { DONE }
+}
