@@ -1,5 +1,5 @@
-/* pe.h: reads PE images (Windows .exe and .dll files), and attaches their certificates, by a proved library, from C11 and
- * C++17.
+/* pe.h: reads PE images (Windows .exe and .dll files), TE images, COFF objects and minidumps, walks stacks, attaches certificates
+ * and changes resources, by a proved library, from C11 and C++17.
  *
  * The caller's obligations, for each call:
  *   - `bytes` points to the `length` bytes of the image, a file or memory, which are readable and which nothing writes
@@ -13,8 +13,8 @@
  * No call allocates, keeps state, prints, calls back, or needs initialisation. Any thread may call at any time.
  *
  * Results. A call returns PE_C_DONE and fills `out`, or returns another number and leaves `out` unchanged, but for the
- * address in a frame. The comment of a call lists its errors in the order in which they are tested. PE_C_NOTHING means
- * that there is nothing of the kind; it is no error.
+ * address in a frame, `failure` of the calls for signatures, and `written` of pe_c_index. The comment of a call lists its
+ * errors in the order in which they are tested. PE_C_NOTHING means that there is nothing of the kind; it is no error.
  *
  * Units. An `offset` is a number of bytes from the start of `bytes`: in a file a file offset, in an image as loaded an
  * RVA. A range that a call returns lies inside `bytes`.
@@ -77,9 +77,9 @@ extern "C" {
  *
  * Its number is in the name of this call, and grows with each change that breaks callers. A program refers to the name
  * from each file that includes this header, so it does not link with an archive of another ABI. Returns the number. */
-uint32_t pe_c_abi_3(void);
+uint32_t pe_c_abi_4(void);
 #if defined(__GNUC__)
-static uint32_t (*const pe_c_abi)(void) __attribute__((used)) = pe_c_abi_3;
+static uint32_t (*const pe_c_abi)(void) __attribute__((used)) = pe_c_abi_4;
 #endif
 
 /* ---- results
@@ -160,16 +160,40 @@ enum {
     PE_C_EDIT_HEADERS = 458,        /* data directories end after the section table starts */
     PE_C_EDIT_ALIGNMENT = 459,      /* alignment of sections or of their data is too small or no power of two */
     PE_C_EDIT_NO_SECTION = 460,     /* no section starts at the RVA of the resource directory */
-    PE_C_EDIT_SECTION = 461,        /* data of the resource section are in the headers, truncated or not aligned */
+    PE_C_EDIT_SECTION = 461,        /* data of the sections are in the headers, truncated or not aligned */
     PE_C_EDIT_SHARED_SECTION = 462, /* the entry point or another directory lies in the resource section */
-    PE_C_EDIT_SYMBOLS = 463,        /* COFF symbols lie in the data of the resource section */
-    PE_C_EDIT_OVERLAP = 464,        /* another section shares bytes or pages with the resource section or the headers */
+    PE_C_EDIT_SYMBOLS = 463,        /* COFF symbols lie in the data of the resource section or at its end */
+    PE_C_EDIT_OVERLAP = 464,        /* section shares bytes or pages with the resource section or headers, or is after it */
     PE_C_EDIT_NO_ROOM = 465,        /* resources do not fit into the data of their section or into the image in memory */
     PE_C_EDIT_RECORD = 466,         /* resource has a range outside of the array, or an id or language above 65,535 */
     PE_C_EDIT_NAMES = 467,          /* names of the resources have more than 16 MiB */
     PE_C_BLOCK_KEY = 468,           /* key of a version block has an odd number of bytes, or a code unit of zero */
     PE_C_BLOCK_TEXT = 469,          /* text of a version block has an odd number of bytes */
     PE_C_BLOCK_TOO_LONG = 470,      /* version block has more than 65,535 bytes */
+    PE_C_EDIT_NO_HEADER_ROOM = 471, /* headers have no room for another section header */
+    PE_C_EDIT_IMAGE_TOO_LARGE = 472, /* image with the resources ends after 4 GB */
+    PE_C_EDIT_DEBUG_DATA = 473,     /* data of a debug entry start after the data of the sections */
+    PE_C_SIGNATURE_TRUNCATED = 501, /* element of a signature truncated before its content */
+    PE_C_SIGNATURE_TAG_NUMBER = 502, /* element of a signature has a tag number above 30 */
+    PE_C_SIGNATURE_INDEFINITE_LENGTH = 503, /* element of a signature has an indefinite length */
+    PE_C_SIGNATURE_LENGTH_OCTETS = 504, /* length of an element of a signature has more than 4 octets after its first */
+    PE_C_SIGNATURE_LENGTH_FORM = 505, /* length of an element of a signature is not in its shortest form */
+    PE_C_SIGNATURE_PAST_PARENT = 506, /* element of a signature ends after its parent */
+    PE_C_SIGNATURE_MISSING = 507,   /* element of a signature is missing */
+    PE_C_SIGNATURE_TAG = 508,       /* element of a signature has another tag */
+    PE_C_SIGNATURE_TRAILING = 509,  /* bytes follow the last field of an element of a signature */
+    PE_C_SIGNATURE_CONTENT_TYPE = 510, /* content of a signature has another type */
+    PE_C_SIGNATURE_BAD_TIME = 511,  /* time of a signature is not in the form of RFC 5280 */
+    PE_C_DUMP_SIGNATURE = 551,      /* invalid signature of a minidump */
+    PE_C_DUMP_VERSION = 552,        /* invalid version of a minidump */
+    PE_C_DUMP_DIRECTORY = 553,      /* directory of the streams ends past the end of the file */
+    PE_C_DUMP_LOCATION = 554,       /* location in a minidump ends past the end of the file */
+    PE_C_DUMP_LIST_SIZE = 555,      /* number of entries of a list and the size of its stream do not agree */
+    PE_C_DUMP_ENTRY_SIZE = 556,     /* entries of a list smaller than their fields */
+    PE_C_DUMP_TEXT = 557,           /* string has an odd number of bytes */
+    PE_C_DUMP_CONTEXT_SIZE = 558,   /* context smaller than its fields */
+    PE_C_DUMP_CONTEXT_FLAGS = 559,  /* context without control or integer registers */
+    PE_C_DUMP_MACHINE = 560,        /* context of another machine */
 };
 
 /* Modes. PE_C_MAPPED is added to one of the others, or stands for PE_C_STRICT | PE_C_MAPPED. */
@@ -259,6 +283,12 @@ PE_C_SIZE(pe_c_directory, 8);
 PE_C_SIZE(pe_c_image_info, 208);
 PE_C_SIZE(pe_c_section, 40);
 
+/* An entry of an index of the sections, which pe_c_index makes: the RVAs from `start` up to the start of the next entry. */
+typedef struct {
+    uint64_t start;                 /* the first RVA */
+    uint64_t section;               /* index of the section that maps them, plus 1; 0 where none does */
+} pe_c_index_entry;
+
 /* An image as newer calls take it, in place of its parts: what pe_c_image and pe_c_sections returned of the bytes. */
 typedef struct {
     const uint8_t *bytes;
@@ -266,9 +296,12 @@ typedef struct {
     const pe_c_image_info *image;   /* not NULL */
     const pe_c_section *sections;
     size_t count;                   /* of the sections */
+    const pe_c_index_entry *index;  /* what pe_c_index made of these sections; may be NULL without entries */
+    size_t entries;                 /* of the index; 0 without one, and then calls test the sections in turn */
 } pe_c_view;
 
-PE_C_SIZE(pe_c_view, 40);
+PE_C_SIZE(pe_c_index_entry, 16);
+PE_C_SIZE(pe_c_view, 56);
 
 /* Reads the headers of an image, which are at the same offsets in a file and in memory.
  * Errors: PE_C_SHORT, PE_C_BAD_MAGIC of the DOS header; PE_C_HEADER_POINTER in strict mode; PE_C_SHORT, PE_C_BAD_MAGIC of
@@ -385,6 +418,16 @@ PE_C_SIZE(pe_c_headers_info, 368);
 uint32_t pe_c_headers(const uint8_t *bytes, size_t length, uint32_t mode, pe_c_headers_info *out) PE_C_RESULT(4);
 
 /* ---- the section map, section by section */
+
+/* Makes an index of the sections at the start of the array, and writes how many entries it has: two for each section. The array
+ * has to have four for each, of which the second half is left open; what follows is unchanged. Calls that take a view with these
+ * entries return what they return without them, and map an RVA in steps that grow with the logarithm of the number of sections,
+ * not with that number itself: 65,535 in a hostile file. pe_c_rva, pe_c_first_debug_entry, pe_c_record_codes and the lists of
+ * delay imports make no use of it. Few calls, and images with few sections, as most, gain nothing by it. No entries, and
+ * PE_C_DONE, where no section is searched: in an image as loaded, and where the file alignment is not a power of two. An index in
+ * the view that is passed makes no difference. An index of other sections gives wrong offsets, and no other harm.
+ * Errors: PE_C_ROOM where the array has too few entries; then `written` is how many it has to have. */
+uint32_t pe_c_index(const pe_c_view *view, pe_c_index_entry *room, size_t entries, uint64_t *written) PE_C_RESULT(1, 4);
 
 /* Returns the index of the section that maps an RVA: the first that covers it, by which pe_c_offset maps it.
  * PE_C_NOTHING where none does, and in an image as loaded, where no section maps RVAs. It never returns an error. */
@@ -827,6 +870,343 @@ PE_C_SIZE(pe_c_certificate, 24);
 uint32_t pe_c_next_certificate(const uint8_t *bytes, size_t length, pe_c_range *walk, pe_c_certificate *out)
     PE_C_RESULT(3, 4);
 
+/* ---- signatures
+ *
+ * What an Authenticode signature says: what is signed, by whom, when, and what a verifier hashes. Nothing is verified here. A
+ * signature is the body of a certificate of type WIN_CERT_TYPE_PKCS_SIGNED_DATA: PKCS #7 signed data, written by DER as elements
+ * of a tag, a length and a content. A time stamp and a nested signature are attributes of a signer, and each is a signature again.
+ * RFC 5652, RFC 5280, RFC 3161, and Microsoft's "Windows Authenticode Portable Executable Signature Format".
+ *
+ *     pe_c_signature(bytes, length, &certificate.body, &failure, &signed_data);
+ *     pe_c_indirect_data(bytes, length, &signed_data.content, &failure, &indirect);
+ *     while (pe_c_next_element(bytes, length, &signed_data.signers, &failure, &element) == PE_C_DONE)
+ *         pe_c_signer(bytes, length, &element.whole, &failure, &signer);
+ *
+ * `range` is that of an element; bytes after the element are not read. `bytes` may be a file, or a signature alone. A range that
+ * is returned is of the content of an element, or, where its comment says "whole", of the whole element with its tag and length,
+ * which another call reads. It is {0, 0} where the field is absent. Offsets count from the start of `bytes`.
+ *
+ * Errors of all these calls: PE_C_SHORT where `range` or `walk` is not inside the bytes; of each element that is read
+ * PE_C_SIGNATURE_TRUNCATED, _TAG_NUMBER, _INDEFINITE_LENGTH, _LENGTH_OCTETS, _TRUNCATED, _LENGTH_FORM, _PAST_PARENT; of a field
+ * _MISSING before these, and _TAG after them; _TRAILING where bytes follow the last field. `failure` then has where and what;
+ * else it is unchanged. Elements that a call returns whole are not read any further: an error there is that of another call.
+ *
+ * A signature costs what its bytes cost: a call reads the head of each field once, and walks go through one list. A caller that
+ * goes into nested signatures bounds how deep. */
+
+/* Why an element is refused. */
+typedef struct {
+    uint64_t offset;                /* of the element, or of the range that is not inside the bytes */
+    uint64_t value;                 /* _TAG: the tag that is there; _LENGTH_OCTETS: octets of the length after its first;
+                                     * _PAST_PARENT: bytes of the content; PE_C_SHORT: bytes of the range; else 0 */
+    uint64_t left;                  /* _TRUNCATED, _PAST_PARENT: bytes that the parent has left; _TRAILING: bytes that
+                                     * follow; else 0 */
+    uint32_t expected;              /* _TAG: the tag that the grammar has there; else 0 */
+    uint32_t result;                /* what the call returned */
+} pe_c_signature_failure;
+
+/* Object identifiers with a number. Those of other kinds have 0. Numbers are stable; tools/make_object_ids writes this list. */
+enum {
+    PE_C_OID_OTHER = 0,
+    /* content types, and types of what is signed */
+    PE_C_OID_DATA = 1,                          /* 1.2.840.113549.1.7.1: id-data */
+    PE_C_OID_SIGNED_DATA = 2,                   /* 1.2.840.113549.1.7.2: id-signedData: the content of a signature */
+    PE_C_OID_TST_INFO = 3,                      /* 1.2.840.113549.1.9.16.1.4: id-ct-TSTInfo: what a time-stamp token signs */
+    PE_C_OID_SPC_INDIRECT_DATA = 4,             /* 1.3.6.1.4.1.311.2.1.4: SPC_INDIRECT_DATA_OBJID: what Authenticode signs */
+    PE_C_OID_SPC_PE_IMAGE_DATA = 5,             /* 1.3.6.1.4.1.311.2.1.15: SPC_PE_IMAGE_DATA_OBJID: of an image */
+    PE_C_OID_SPC_SIP_INFO = 6,                  /* 1.3.6.1.4.1.311.2.1.30: SPC_SIPINFO_OBJID: of a script or a package */
+    PE_C_OID_SPC_CAB_DATA = 7,                  /* 1.3.6.1.4.1.311.2.1.25: SPC_CAB_DATA_OBJID: of a cabinet */
+    PE_C_OID_CTL = 8,                           /* 1.3.6.1.4.1.311.10.1: szOID_CTL: of a catalog */
+    /* attributes of signers */
+    PE_C_OID_CONTENT_TYPE = 101,                /* 1.2.840.113549.1.9.3: contentType: the type of what is signed */
+    PE_C_OID_MESSAGE_DIGEST = 102,              /* 1.2.840.113549.1.9.4: messageDigest: the digest of what is signed */
+    PE_C_OID_SIGNING_TIME = 103,                /* 1.2.840.113549.1.9.5: signingTime */
+    PE_C_OID_COUNTER_SIGNATURE = 104,           /* 1.2.840.113549.1.9.6: countersignature: a signer again */
+    PE_C_OID_SIGNING_CERTIFICATE = 105,         /* 1.2.840.113549.1.9.16.2.12: id-aa-signingCertificate */
+    PE_C_OID_AA_TIME_STAMP_TOKEN = 106,         /* 1.2.840.113549.1.9.16.2.14: id-aa-timeStampToken: a time-stamp token (RFC 3161) */
+    PE_C_OID_SIGNING_CERTIFICATE_V2 = 107,      /* 1.2.840.113549.1.9.16.2.47: id-aa-signingCertificateV2 */
+    PE_C_OID_SPC_STATEMENT_TYPE = 108,          /* 1.3.6.1.4.1.311.2.1.11: SPC_STATEMENT_TYPE_OBJID */
+    PE_C_OID_SPC_SP_OPUS_INFO = 109,            /* 1.3.6.1.4.1.311.2.1.12: SPC_SP_OPUS_INFO_OBJID: of the program */
+    PE_C_OID_NESTED_SIGNATURE = 110,            /* 1.3.6.1.4.1.311.2.4.1: szOID_NESTED_SIGNATURE: more signatures of the image */
+    PE_C_OID_TIME_STAMP_TOKEN = 111,            /* 1.3.6.1.4.1.311.3.3.1: szOID_RFC3161_counterSign: a time-stamp token (RFC 3161) */
+    /* algorithms: of digests, of signatures, of keys */
+    PE_C_OID_MD5 = 201,                         /* 1.2.840.113549.2.5 */
+    PE_C_OID_SHA1 = 202,                        /* 1.3.14.3.2.26 */
+    PE_C_OID_SHA256 = 203,                      /* 2.16.840.1.101.3.4.2.1 */
+    PE_C_OID_SHA384 = 204,                      /* 2.16.840.1.101.3.4.2.2 */
+    PE_C_OID_SHA512 = 205,                      /* 2.16.840.1.101.3.4.2.3 */
+    PE_C_OID_RSA = 206,                         /* 1.2.840.113549.1.1.1: a key; of a signature PKCS #1 v1.5 */
+    PE_C_OID_MD5_RSA = 207,                     /* 1.2.840.113549.1.1.4: PKCS #1 v1.5, as the next four */
+    PE_C_OID_SHA1_RSA = 208,                    /* 1.2.840.113549.1.1.5 */
+    PE_C_OID_SHA256_RSA = 209,                  /* 1.2.840.113549.1.1.11 */
+    PE_C_OID_SHA384_RSA = 210,                  /* 1.2.840.113549.1.1.12 */
+    PE_C_OID_SHA512_RSA = 211,                  /* 1.2.840.113549.1.1.13 */
+    PE_C_OID_RSA_PSS = 212,                     /* 1.2.840.113549.1.1.10: with its digest among the parameters */
+    PE_C_OID_EC = 213,                          /* 1.2.840.10045.2.1: a key, with its curve as the parameters */
+    PE_C_OID_ECDSA_SHA1 = 214,                  /* 1.2.840.10045.4.1 */
+    PE_C_OID_ECDSA_SHA256 = 215,                /* 1.2.840.10045.4.3.2 */
+    PE_C_OID_ECDSA_SHA384 = 216,                /* 1.2.840.10045.4.3.3 */
+    PE_C_OID_ECDSA_SHA512 = 217,                /* 1.2.840.10045.4.3.4 */
+    PE_C_OID_DSA = 218,                         /* 1.2.840.10040.4.1: a key */
+    PE_C_OID_DSA_SHA1 = 219,                    /* 1.2.840.10040.4.3 */
+    /* attributes of names */
+    PE_C_OID_COMMON_NAME = 301,                 /* 2.5.4.3: CN */
+    PE_C_OID_SERIAL_NUMBER = 302,               /* 2.5.4.5 */
+    PE_C_OID_COUNTRY = 303,                     /* 2.5.4.6: C */
+    PE_C_OID_LOCALITY = 304,                    /* 2.5.4.7: L */
+    PE_C_OID_STATE = 305,                       /* 2.5.4.8: ST */
+    PE_C_OID_STREET = 306,                      /* 2.5.4.9: STREET */
+    PE_C_OID_ORGANIZATION = 307,                /* 2.5.4.10: O */
+    PE_C_OID_ORGANIZATIONAL_UNIT = 308,         /* 2.5.4.11: OU */
+    PE_C_OID_BUSINESS_CATEGORY = 309,           /* 2.5.4.15 */
+    PE_C_OID_POSTAL_CODE = 310,                 /* 2.5.4.17 */
+    PE_C_OID_DOMAIN_COMPONENT = 311,            /* 0.9.2342.19200300.100.1.25: DC */
+    PE_C_OID_USER_ID = 312,                     /* 0.9.2342.19200300.100.1.1: UID */
+    PE_C_OID_EMAIL_ADDRESS = 313,               /* 1.2.840.113549.1.9.1 */
+    PE_C_OID_JURISDICTION_COUNTRY = 314,        /* 1.3.6.1.4.1.311.60.2.1.3 */
+    PE_C_OID_JURISDICTION_STATE = 315,          /* 1.3.6.1.4.1.311.60.2.1.2 */
+    PE_C_OID_JURISDICTION_LOCALITY = 316,       /* 1.3.6.1.4.1.311.60.2.1.1 */
+    /* extensions of certificates */
+    PE_C_OID_SUBJECT_KEY_IDENTIFIER = 401,      /* 2.5.29.14 */
+    PE_C_OID_KEY_USAGE = 402,                   /* 2.5.29.15: what the key is for */
+    PE_C_OID_SUBJECT_ALT_NAME = 403,            /* 2.5.29.17 */
+    PE_C_OID_BASIC_CONSTRAINTS = 404,           /* 2.5.29.19: whether it is a certificate of an authority */
+    PE_C_OID_CERTIFICATE_POLICIES = 405,        /* 2.5.29.32 */
+    PE_C_OID_AUTHORITY_KEY_IDENTIFIER = 406,    /* 2.5.29.35 */
+    PE_C_OID_EXTENDED_KEY_USAGE = 407,          /* 2.5.29.37: what the key is for, by object identifiers */
+    PE_C_OID_CRL_DISTRIBUTION_POINTS = 408,     /* 2.5.29.31 */
+    PE_C_OID_AUTHORITY_INFORMATION_ACCESS = 409, /* 1.3.6.1.5.5.7.1.1 */
+};
+
+/* An object identifier. */
+typedef struct {
+    pe_c_range octets;
+    uint32_t id;                    /* PE_C_OID_, of the group that the field has */
+    uint32_t spare;                 /* 0 */
+} pe_c_oid;
+
+/* An algorithm, AlgorithmIdentifier. */
+typedef struct {
+    pe_c_oid oid;                   /* of algorithms */
+    pe_c_range parameters;          /* whole */
+} pe_c_algorithm;
+
+/* An element of DER. */
+typedef struct {
+    pe_c_range whole;
+    pe_c_range content;
+    uint32_t tag;                   /* the identifier octet, such as 0x30 for a SEQUENCE, 4 for an OCTET STRING */
+    uint32_t spare;                 /* 0 */
+} pe_c_der_element;
+
+/* A signature: ContentInfo, SignedData, EncapsulatedContentInfo. */
+typedef struct {
+    pe_c_oid content_type;          /* of what is signed, by content types */
+    pe_c_range version;             /* an INTEGER, which is 1 in Authenticode */
+    pe_c_range digest_algorithms;   /* a walk for pe_c_next_element, each for pe_c_algorithm_identifier */
+    pe_c_range content;             /* what is signed, whole: for pe_c_indirect_data, or in a time stamp for pe_c_time_stamp */
+    pe_c_range digested;            /* what messageDigest is the digest of: the content of `content` */
+    pe_c_range certificates;        /* a walk, each for pe_c_x509 */
+    pe_c_range crls;                /* a walk over certificate revocation lists */
+    pe_c_range signers;             /* a walk, each for pe_c_signer */
+    uint32_t has_content;           /* 1 where what is signed is there, 0 where it is detached */
+    uint32_t spare;                 /* 0 */
+} pe_c_signed_data;
+
+/* What Authenticode signs, SpcIndirectDataContent. */
+typedef struct {
+    pe_c_oid value_type;            /* by content types; of an image PE_C_OID_SPC_PE_IMAGE_DATA */
+    pe_c_range value;               /* whole; of an image for pe_c_image_data */
+    pe_c_algorithm digest_algorithm;
+    pe_c_range digest;              /* of what pe_c_digest_ranges says */
+} pe_c_spc_indirect_data;
+
+/* SpcPeImageData. */
+typedef struct {
+    pe_c_range flags;               /* a BIT STRING, not used */
+    pe_c_range file;                /* whole: [2] with the text <<<Obsolete>>>, or [1] with page hashes */
+} pe_c_spc_pe_image_data;
+
+/* A signer, SignerInfo. Its certificate is the one with this issuer and serial number. Its signature is over the octet
+ * signed_first and the bytes of signed_rest; without signed attributes over what is signed, the field `digested`. */
+typedef struct {
+    pe_c_range version;             /* an INTEGER, which is 1 with an issuer and a serial number */
+    pe_c_range issuer;              /* whole, for pe_c_name */
+    pe_c_range serial;              /* an INTEGER: two's complement, the high byte first */
+    pe_c_range key_identifier;      /* of the certificate, where there is no issuer */
+    pe_c_algorithm digest_algorithm;
+    pe_c_range signed_attributes;   /* a walk for pe_c_next_element, each for pe_c_attribute */
+    pe_c_range signed_rest;         /* the octets of the signed attributes after their tag */
+    pe_c_algorithm signature_algorithm;
+    pe_c_range signature;
+    pe_c_range unsigned_attributes; /* a walk, each for pe_c_attribute */
+    uint32_t has_signed_attributes; /* 1 where there are signed attributes, else 0 */
+    uint32_t signed_first;          /* 0x31, the tag of a SET, in place of their own tag; 0 without them */
+} pe_c_signer_info;
+
+/* An attribute of a signer. Its values are a walk for pe_c_next_element, mostly of one:
+ *   PE_C_OID_MESSAGE_DIGEST      an OCTET STRING, whose content is the digest
+ *   PE_C_OID_SIGNING_TIME        for pe_c_time
+ *   PE_C_OID_SPC_SP_OPUS_INFO    for pe_c_opus_info
+ *   PE_C_OID_COUNTER_SIGNATURE   for pe_c_signer: its messageDigest is the digest of the signature of this signer
+ *   PE_C_OID_TIME_STAMP_TOKEN    for pe_c_signature, whose content is for pe_c_time_stamp
+ *   PE_C_OID_NESTED_SIGNATURE    each for pe_c_signature */
+typedef struct {
+    pe_c_oid type;                  /* by attributes */
+    pe_c_range values;
+} pe_c_signer_attribute;
+
+/* What a signer says of the program, SpcSpOpusInfo. */
+typedef struct {
+    pe_c_range program_name;
+    pe_c_range more_info;
+    uint32_t program_name_tag;      /* 0x80 for UTF-16, the high byte first; 0x81 for ASCII; 0 without a name */
+    uint32_t more_info_tag;         /* 0x80 for a URL in ASCII; 0xA1 for an object, 0xA2 for a file; 0 without one */
+} pe_c_spc_opus_info;
+
+/* A certificate of X.509, of those in a signature. The issuer's signature is over the bytes of to_be_signed. */
+typedef struct {
+    pe_c_range to_be_signed;        /* whole */
+    pe_c_range serial;              /* an INTEGER: two's complement, the high byte first */
+    pe_c_range issuer;              /* whole, for pe_c_name */
+    pe_c_range subject;             /* whole, for pe_c_name */
+    pe_c_range not_before;          /* whole, for pe_c_time */
+    pe_c_range not_after;           /* whole, for pe_c_time */
+    pe_c_range public_key;          /* whole: SubjectPublicKeyInfo */
+    pe_c_range extensions;          /* a walk for pe_c_next_element, each for pe_c_extension */
+    pe_c_algorithm signature_algorithm;
+    pe_c_range signature;           /* the bits of the BIT STRING, without the octet before them */
+} pe_c_x509_certificate;
+
+/* An extension of a certificate. */
+typedef struct {
+    pe_c_oid type;                  /* by extensions */
+    pe_c_range value;               /* the content of its OCTET STRING: an element */
+    uint32_t critical;              /* 1 where it is critical, else 0 */
+    uint32_t spare;                 /* 0 */
+} pe_c_x509_extension;
+
+/* A walk over the attributes of a name. */
+typedef struct {
+    pe_c_range left;                /* the bytes of the name that are left */
+    uint64_t rdn_end;               /* where the relative distinguished name ends that is read */
+} pe_c_name_walk;
+
+/* An attribute of a name. */
+typedef struct {
+    pe_c_oid type;                  /* by attributes of names */
+    pe_c_range value;
+    uint32_t tag;                   /* of the value: PrintableString 0x13, UTF8String 0x0C, IA5String 0x16, BMPString 0x1E, .. */
+    uint32_t starts_rdn;            /* 1 where it is the first of its relative distinguished name, else 0 */
+} pe_c_name_attribute;
+
+/* A time in UTC. */
+typedef struct {
+    uint32_t year;                  /* 0 to 9999 */
+    uint32_t month;                 /* 1 to 12 */
+    uint32_t day;                   /* 1 to 31; that a month has fewer days is not tested */
+    uint32_t hour;
+    uint32_t minute;
+    uint32_t second;                /* 0 to 59; a fraction is left out */
+} pe_c_utc_time;
+
+/* What a time-stamp token says, TSTInfo. */
+typedef struct {
+    pe_c_range version;             /* an INTEGER, which is 1 */
+    pe_c_range policy;              /* an object identifier */
+    pe_c_algorithm digest_algorithm;
+    pe_c_range digest;              /* of the signature that is stamped, the field `signature` of its signer */
+    pe_c_range serial;              /* an INTEGER */
+    pe_c_range time;                /* whole, for pe_c_time */
+    pe_c_range accuracy;            /* whole */
+    pe_c_range nonce;               /* an INTEGER */
+    pe_c_range authority;           /* who stamps, a GeneralName */
+} pe_c_tst_info;
+
+PE_C_SIZE(pe_c_signature_failure, 32);
+PE_C_SIZE(pe_c_oid, 24);
+PE_C_SIZE(pe_c_algorithm, 40);
+PE_C_SIZE(pe_c_der_element, 40);
+PE_C_SIZE(pe_c_signed_data, 144);
+PE_C_SIZE(pe_c_spc_indirect_data, 96);
+PE_C_SIZE(pe_c_spc_pe_image_data, 32);
+PE_C_SIZE(pe_c_signer_info, 216);
+PE_C_SIZE(pe_c_signer_attribute, 40);
+PE_C_SIZE(pe_c_spc_opus_info, 40);
+PE_C_SIZE(pe_c_x509_certificate, 184);
+PE_C_SIZE(pe_c_x509_extension, 48);
+PE_C_SIZE(pe_c_name_walk, 24);
+PE_C_SIZE(pe_c_name_attribute, 48);
+PE_C_SIZE(pe_c_utc_time, 24);
+PE_C_SIZE(pe_c_tst_info, 168);
+
+/* Reads a signature: the body of a certificate, or the value of an attribute that is a nested signature or a time stamp.
+ * Errors, then: PE_C_SIGNATURE_CONTENT_TYPE where the content is no signed data. */
+uint32_t pe_c_signature(const uint8_t *bytes, size_t length, const pe_c_range *range, pe_c_signature_failure *failure,
+                        pe_c_signed_data *out) PE_C_RESULT(3, 4, 5);
+
+/* Returns the next element of a list: certificates, signers, attributes, their values, extensions, algorithms. The walk starts as
+ * the range of the list. A member of the list that another call refuses does not end the walk. */
+uint32_t pe_c_next_element(const uint8_t *bytes, size_t length, pe_c_range *walk, pe_c_signature_failure *failure,
+                           pe_c_der_element *out) PE_C_RESULT(3, 4, 5);
+
+/* Reads an algorithm. */
+uint32_t pe_c_algorithm_identifier(const uint8_t *bytes, size_t length, const pe_c_range *range,
+                                   pe_c_signature_failure *failure, pe_c_algorithm *out) PE_C_RESULT(3, 4, 5);
+
+/* Reads what Authenticode signs: the content of a signature with the type PE_C_OID_SPC_INDIRECT_DATA. */
+uint32_t pe_c_indirect_data(const uint8_t *bytes, size_t length, const pe_c_range *range, pe_c_signature_failure *failure,
+                            pe_c_spc_indirect_data *out) PE_C_RESULT(3, 4, 5);
+
+/* Reads what a signature says of an image as a file. */
+uint32_t pe_c_image_data(const uint8_t *bytes, size_t length, const pe_c_range *range, pe_c_signature_failure *failure,
+                         pe_c_spc_pe_image_data *out) PE_C_RESULT(3, 4, 5);
+
+/* Reads a signer of a signature, or a counter-signature. */
+uint32_t pe_c_signer(const uint8_t *bytes, size_t length, const pe_c_range *range, pe_c_signature_failure *failure,
+                     pe_c_signer_info *out) PE_C_RESULT(3, 4, 5);
+
+/* Reads an attribute of a signer. */
+uint32_t pe_c_attribute(const uint8_t *bytes, size_t length, const pe_c_range *range, pe_c_signature_failure *failure,
+                        pe_c_signer_attribute *out) PE_C_RESULT(3, 4, 5);
+
+/* Reads what a signer says of the program. */
+uint32_t pe_c_opus_info(const uint8_t *bytes, size_t length, const pe_c_range *range, pe_c_signature_failure *failure,
+                        pe_c_spc_opus_info *out) PE_C_RESULT(3, 4, 5);
+
+/* Reads a certificate. */
+uint32_t pe_c_x509(const uint8_t *bytes, size_t length, const pe_c_range *range, pe_c_signature_failure *failure,
+                   pe_c_x509_certificate *out) PE_C_RESULT(3, 4, 5);
+
+/* Reads an extension of a certificate. */
+uint32_t pe_c_extension(const uint8_t *bytes, size_t length, const pe_c_range *range, pe_c_signature_failure *failure,
+                        pe_c_x509_extension *out) PE_C_RESULT(3, 4, 5);
+
+/* Returns what a key is for, of an extension with the type PE_C_OID_KEY_USAGE: 0x80 digitalSignature, 0x40 contentCommitment, 0x20
+ * keyEncipherment, 0x10 dataEncipherment, 8 keyAgreement, 4 keyCertSign, 2 cRLSign, 1 encipherOnly, 0x8000 decipherOnly.
+ * PE_C_NOTHING where the value has no bits, more than 16, or unused bits that are more than 7 or not 0. `range` is that of the
+ * extension. */
+uint32_t pe_c_key_usage(const uint8_t *bytes, size_t length, const pe_c_range *range, pe_c_signature_failure *failure,
+                        uint32_t *out) PE_C_RESULT(3, 4, 5);
+
+/* Returns a walk over the attributes of a name: of an issuer or a subject. */
+uint32_t pe_c_name(const uint8_t *bytes, size_t length, const pe_c_range *range, pe_c_signature_failure *failure,
+                   pe_c_name_walk *out) PE_C_RESULT(3, 4, 5);
+
+/* Returns the next attribute of a name, in the order of the name: the country mostly first. */
+uint32_t pe_c_next_name_attribute(const uint8_t *bytes, size_t length, pe_c_name_walk *walk,
+                                  pe_c_signature_failure *failure, pe_c_name_attribute *out) PE_C_RESULT(3, 4, 5);
+
+/* Reads a time: the end of a validity, the value of signingTime, the time of a time stamp.
+ * Errors, then: PE_C_SIGNATURE_BAD_TIME where it is no UTCTime or GeneralizedTime, not in the form of RFC 5280 (seconds, and Z), or
+ * has a number that no time has. */
+uint32_t pe_c_time(const uint8_t *bytes, size_t length, const pe_c_range *range, pe_c_signature_failure *failure,
+                   pe_c_utc_time *out) PE_C_RESULT(3, 4, 5);
+
+/* Reads what a time stamp says: the content of a signature with the type PE_C_OID_TST_INFO. */
+uint32_t pe_c_time_stamp(const uint8_t *bytes, size_t length, const pe_c_range *range, pe_c_signature_failure *failure,
+                         pe_c_tst_info *out) PE_C_RESULT(3, 4, 5);
+
 /* ---- signing
  *
  * A signing tool hashes an image, makes a certificate of the digest, and attaches that. A signature must survive being
@@ -1013,11 +1393,12 @@ typedef struct {
     uint64_t length;                /* bytes; those past the last address have none */
 } pe_c_memory_piece;
 
-/* A module of a process on x64: its image, which has size_of_image bytes where it is loaded. What the view leads to stays
- * readable as long as the record is passed. */
+/* A module of a process: its image, which has size_of_image bytes where it is loaded. What the view leads to stays readable as
+ * long as the record is passed. */
 typedef struct {
     pe_c_view image;
-    pe_c_range table;               /* of pe_c_function_table; all 0 where that returned PE_C_NOTHING: leaf functions alone */
+    pe_c_range table;               /* of pe_c_function_table, on ARM64 pe_c_arm64_table; all 0 where that returned
+                                       PE_C_NOTHING: leaf functions alone */
     uint64_t base;                  /* address where it is loaded */
 } pe_c_module;
 
@@ -1026,7 +1407,8 @@ enum {
     PE_C_WAY_TOP = 0,               /* it is the top frame */
     PE_C_WAY_RECORDS = 1,           /* by the unwind records of the function that it called */
     PE_C_WAY_LEAF = 2,              /* it called a leaf function */
-    PE_C_WAY_INTERRUPT = 3,         /* an interrupt stopped it: the records before it show what the processor pushed */
+    PE_C_WAY_INTERRUPT = 3,         /* an interrupt stopped it: the records before it show what the processor pushed, on ARM64
+                                       what the operating system saved */
     PE_C_WAY_SCANNED = 4            /* by a scan of the stack, where no records led on: it may be wrong, and those after it */
 };
 
@@ -1056,7 +1438,7 @@ typedef struct {
     uint32_t spare;                 /* 0 */
 } pe_c_stack_walk;
 
-PE_C_SIZE(pe_c_module, 64);
+PE_C_SIZE(pe_c_module, 80);
 PE_C_SIZE(pe_c_stack_walk, 432);
 PE_C_SIZE(pe_c_function, 12);
 PE_C_SIZE(pe_c_walk, 24);
@@ -1201,7 +1583,7 @@ uint32_t pe_c_next_frames(const pe_c_module *modules, size_t module_count, const
  * those of each epilog, which a scope locates. The length of a function is in its unwind data.
  *
  * For the registers of the caller: pe_c_arm64_table, pe_c_find_arm64_function, then pe_c_step_arm64, or pe_c_leaf_arm64
- * where it returned PE_C_NOTHING.
+ * where it returned PE_C_NOTHING. For a whole stack: pe_c_next_arm64_frame.
  * https://learn.microsoft.com/cpp/build/arm64-exception-handling */
 
 /* An entry of the function table. */
@@ -1405,6 +1787,37 @@ uint32_t pe_c_step_arm64_pieces(const uint8_t *bytes, size_t length, const pe_c_
 /* Finds the registers of the caller of a leaf function, one that no function of the table covers, and writes them over those
  * of the frame: the caller goes on at the link register. It always returns PE_C_DONE. */
 uint32_t pe_c_leaf_arm64(pe_c_arm64_frame *frame) PE_C_NOT_NULL(1);
+
+/* A walk of a stack on ARM64, and the frame that was returned last, as pe_c_stack_walk. */
+typedef struct {
+    pe_c_arm64_registers registers; /* inside the function of the frame */
+    uint64_t remaining;             /* how many frames follow at most; 0 once the walk is over */
+    uint64_t address;               /* of a walk that is over, as `address` of a frame; else 0 */
+    uint32_t has_returned;          /* 0 before the first call, else 1 */
+    uint32_t way;                   /* PE_C_WAY_* */
+    uint32_t has_called;            /* 1 where the function of the frame has called: pc is the return address. 0 where pc is the
+                                       instruction that is about to run */
+    uint32_t end;                   /* PE_C_END_* of a walk that is over */
+    uint32_t error;                 /* a result, for PE_C_END_RECORDS and _STEP; else 0 */
+    uint32_t spare;                 /* 0 */
+} pe_c_arm64_stack_walk;
+
+PE_C_SIZE(pe_c_arm64_stack_walk, 368);
+
+/* As pe_c_next_frame, on ARM64. In each frame the function is looked up by pc, or by the call, four bytes before it, where the
+ * function has called. In the top frame, and in one that was interrupted, the caller may have no unwind data: then it is found by
+ * the link register, if a call ends there, else by the first of 128 words from the stack pointer on that is, without its signature,
+ * after a call in an executable section. The stack pointer may stay where it is in these alone, and sink past an interrupt alone.
+ * Errors, which change nothing: those of pe_c_next_frame. */
+uint32_t pe_c_next_arm64_frame(const pe_c_module *modules, size_t module_count, const uint8_t *memory, size_t memory_length,
+                               const pe_c_memory_piece *pieces, size_t piece_count, pe_c_arm64_stack_walk *walk)
+    PE_C_RESULT(7);
+
+/* The same for several frames in one call, as pe_c_next_frames.
+ * Errors, which change nothing: those of pe_c_next_frame. */
+uint32_t pe_c_next_arm64_frames(const pe_c_module *modules, size_t module_count, const uint8_t *memory, size_t memory_length,
+                                const pe_c_memory_piece *pieces, size_t piece_count, pe_c_arm64_stack_walk *walk,
+                                pe_c_arm64_stack_walk *frames, size_t frame_count, uint64_t *count) PE_C_RESULT(7, 10);
 
 /* ---- exports
  *
@@ -1811,9 +2224,9 @@ uint32_t pe_c_version_text_in(const uint8_t *bytes, size_t length, const pe_c_ra
 
 /* ---- resources written
  *
- * The resources of an image changed in place: a caller lists the leaves that are there, changes the list, and passes all of it.
- * The new resources go over the data of the old ones' section; all other bytes of the file stay, but for the sizes of that
- * section and of its directory, and the checksum, which is made good, or stays 0 where it was 0.
+ * The resources of an image changed: a caller lists the leaves that are there, changes the list, and passes all of it. The new
+ * resources go over the data of the old ones' section, or where they do not fit there to the end of the image. What the headers
+ * say of them changes too, and the checksum, which is made good, or stays 0 where it was 0.
  *
  * `bytes` are the whole file, also in mode PE_C_MAPPED. The calls read the headers from them, in the mode of `image`, whose other
  * fields make no difference.
@@ -1830,7 +2243,7 @@ typedef struct {
 
 PE_C_SIZE(pe_c_resource, 72);
 
-/* Returns the length of the file that pe_c_edit writes with these arguments, which is that of the image.
+/* Returns the length of the file that pe_c_edit writes with these arguments, which is that of the image or more.
  * Errors: those of pe_c_edit, but for PE_C_WRITE_FIT. */
 uint32_t pe_c_edited_length(const uint8_t *bytes, size_t length, const pe_c_image_info *image,
                             const pe_c_resource *resources, size_t resource_count, const uint8_t *data,
@@ -1842,17 +2255,23 @@ uint32_t pe_c_edited_length(const uint8_t *bytes, size_t length, const pe_c_imag
  * data_length is.
  * The resources are sorted by type, name and language: names before ids, names by their code units, ids and languages by their
  * numbers. No two have the same type, name and language.
+ * They go over the data of their section if they fit there, and no byte of the file moves. Otherwise they go to the end of the
+ * image, into their own section if it is the last or into a new one, and what follows the data of the sections in the file moves
+ * by the bytes that are added, a multiple of the file alignment; so does the pointer to COFF symbols there.
  * Errors: those of pe_c_image; PE_C_EDIT_RECORD where a range is not inside the data, or an id or a language is not below 2^16;
  * PE_C_EDIT_NAMES where the names have more than 16 MiB, each counted as often as a resource has it; PE_C_NO_OPTIONAL_HEADER;
  * PE_C_EDIT_NO_DIRECTORY where the image has fewer than three directories; PE_C_EDIT_SIGNED where it has certificates;
  * PE_C_EDIT_TOO_MANY, PE_C_EDIT_NAME, PE_C_EDIT_ORDER, PE_C_EDIT_TABLES_TOO_LARGE, PE_C_EDIT_TOO_LARGE of the resources;
  * PE_C_EDIT_HEADERS where the directories end after the start of the section table; PE_C_SHORT where that is truncated;
- * PE_C_EDIT_ALIGNMENT where that of sections is below 4096, or that of their data below 512 or no power of two;
- * PE_C_EDIT_NO_SECTION where no section starts at the RVA of the resource directory; PE_C_EDIT_SECTION where its data start in
- * the headers, end after the end of the file, or are not aligned to 512 bytes; PE_C_EDIT_SHARED_SECTION where the entry point or
- * another directory lies in it; PE_C_EDIT_SYMBOLS where COFF symbols lie in its data; PE_C_EDIT_OVERLAP where another section
- * shares bytes or pages with it, or bytes with the headers; PE_C_EDIT_NO_ROOM where the resources have more bytes than its data,
- * or end after the image in memory; PE_C_WRITE_FIT where the file does not fit into the array. */
+ * PE_C_EDIT_ALIGNMENT where that of sections is below 4096, or that of their data below 512 or no power of two; of a new section,
+ * PE_C_EDIT_IMAGE_TOO_LARGE where its RVA or the offset of its data is not below 2^32, and PE_C_EDIT_TOO_LARGE of the resources
+ * at its RVA; PE_C_EDIT_NO_HEADER_ROOM where no 40 zeros follow the section table in the headers, there are 65,535 sections, or the
+ * PE signature lies in the DOS header; PE_C_EDIT_IMAGE_TOO_LARGE where the image ends after 4 GB; PE_C_EDIT_SECTION where the data of the
+ * sections do not end in the file, at a multiple of the file alignment; PE_C_EDIT_SHARED_SECTION where the entry point or a
+ * directory leads after the image in memory; PE_C_EDIT_SYMBOLS where COFF symbols start before the end of the data and end after
+ * it; PE_C_EDIT_OVERLAP where a section ends after the image in memory, or shares bytes with the headers;
+ * PE_C_EDIT_DEBUG_DATA where the data of a debug entry start after the data of the sections; PE_C_WRITE_FIT where the file does
+ * not fit into the array. */
 uint32_t pe_c_edit(const uint8_t *bytes, size_t length, const pe_c_image_info *image, const pe_c_resource *resources,
                    size_t resource_count, const uint8_t *data, size_t data_length, uint8_t *room, size_t room_length,
                    uint64_t *out) PE_C_RESULT(3, 10);
@@ -2092,7 +2511,15 @@ uint32_t pe_c_list_functions(const pe_c_view *view, const pe_c_range *table, uin
 uint32_t pe_c_list_codes(const pe_c_view *view, pe_c_walk *walk, pe_c_code *entries, size_t number_of_entries,
                          uint64_t *written) PE_C_RESULT(1, 2, 5);
 
-/* The same of the functions of an ARM64 image, as pe_c_arm64_function_at reads them. */
+/* Returns the unwind record of an unwind RVA as pe_c_unwind_record does, and lists its codes: out->codes is the walk after them.
+ * A record has at most 255 codes. It makes no use of an index.
+ * Errors, after which `out` is unchanged too: those of pe_c_unwind_record; PE_C_ROOM; of the first code those of
+ * pe_c_next_code. */
+uint32_t pe_c_record_codes(const pe_c_view *view, const pe_c_range *table, uint32_t unwind, pe_c_record *out,
+                           pe_c_code *codes, size_t number_of_codes, uint64_t *written) PE_C_RESULT(1, 2, 4, 7);
+
+/* Lists the functions of an ARM64 table as pe_c_arm64_function_at reads them, from the index `next` on, which moves past them.
+ * Errors: PE_C_ROOM; PE_C_SHORT where the table is not inside the bytes. */
 uint32_t pe_c_list_arm64_functions(const pe_c_view *view, const pe_c_range *table, uint64_t *next,
                                    pe_c_arm64_function *entries, size_t number_of_entries,
                                    uint64_t *written) PE_C_RESULT(1, 2, 3, 6);
@@ -2134,6 +2561,371 @@ uint32_t pe_c_list_relocation_blocks(const pe_c_view *view, pe_c_range *walk, pe
 /* Lists the relocations of a block, whose page RVA is page_rva. Errors: PE_C_ROOM; those of pe_c_next_relocation. */
 uint32_t pe_c_list_relocations(const pe_c_view *view, uint32_t page_rva, pe_c_range *walk, pe_c_relocation *entries,
                                size_t number_of_entries, uint64_t *written) PE_C_RESULT(1, 3, 6);
+
+/* Lists the DLLs of a delay import directory. It makes no use of an index. Errors: PE_C_ROOM; those of
+ * pe_c_next_delay_import. */
+uint32_t pe_c_list_delay_imports(const pe_c_view *view, pe_c_range *walk, pe_c_delay_import *entries,
+                                 size_t number_of_entries, uint64_t *written) PE_C_RESULT(1, 2, 5);
+
+/* Lists what is imported of a DLL that is loaded later. It makes no use of an index. Errors: PE_C_ROOM; those of
+ * pe_c_next_delayed_function. */
+uint32_t pe_c_list_delayed_functions(const pe_c_view *view, pe_c_delayed_functions *walk, pe_c_delayed_function *entries,
+                                     size_t number_of_entries, uint64_t *written) PE_C_RESULT(1, 2, 5);
+
+/* Lists the entries of a POGO record. Errors: PE_C_ROOM; those of pe_c_next_pogo_entry. */
+uint32_t pe_c_list_pogo_entries(const pe_c_view *view, pe_c_range *walk, pe_c_pogo_entry *entries,
+                                size_t number_of_entries, uint64_t *written) PE_C_RESULT(1, 2, 5);
+
+/* ---- minidumps
+ *
+ * A minidump is a file of its own kind: `bytes` are those of the dump, and offsets count from its start. Its directory says where
+ * each stream is, one of each kind. A caller takes the range of a stream once, and reads its records by index, until
+ * PE_C_NOTHING. A stream that is damaged costs that stream alone.
+ *
+ * The stack of a thread: take the context of the exception, if the thread is the one that it names, else that of the thread, by
+ * pe_c_dump_context. The images of the modules make pe_c_module records: one is the image of a module if time_date_stamp and
+ * size_of_image are the same. pe_c_dump_memory_at and pe_c_next_memory64 return the pieces of memory, which pe_c_next_frame
+ * takes with the bytes of the dump as its memory.
+ *
+ * A location is what a record says, and may be anywhere: the calls that take one test it.
+ * https://learn.microsoft.com/windows/win32/api/minidumpapiset/ */
+
+/* Kinds of streams, MINIDUMP_STREAM_TYPE. Others are bytes. */
+enum {
+    PE_C_THREAD_LIST_STREAM = 3,
+    PE_C_MODULE_LIST_STREAM = 4,
+    PE_C_MEMORY_LIST_STREAM = 5,
+    PE_C_EXCEPTION_STREAM = 6,
+    PE_C_SYSTEM_INFO_STREAM = 7,
+    PE_C_MEMORY64_LIST_STREAM = 9,
+    PE_C_HANDLE_DATA_STREAM = 12,
+    PE_C_FUNCTION_TABLE_STREAM = 13,
+    PE_C_UNLOADED_MODULE_LIST_STREAM = 14,
+    PE_C_MISC_INFO_STREAM = 15,
+    PE_C_MEMORY_INFO_LIST_STREAM = 16,
+    PE_C_THREAD_INFO_LIST_STREAM = 17,
+    PE_C_THREAD_NAMES_STREAM = 24
+};
+
+/* The header, MINIDUMP_HEADER. */
+typedef struct {
+    pe_c_range directory;           /* entries of 12 bytes */
+    uint64_t flags;                 /* what the writer was asked for, MINIDUMP_TYPE */
+    uint32_t version;               /* A793h in the low 16 bits; the others are the writer's own */
+    uint32_t number_of_streams;
+    uint32_t check_sum;             /* mostly 0 */
+    uint32_t time_date_stamp;       /* when the dump was written, in seconds since 1970 */
+} pe_c_dump_info;
+
+/* Where bytes are, MINIDUMP_LOCATION_DESCRIPTOR. One of no bytes says that there are none. */
+typedef struct {
+    uint32_t size;
+    uint32_t rva;                   /* offset in the dump */
+} pe_c_dump_location;
+
+/* An entry of the directory, MINIDUMP_DIRECTORY. */
+typedef struct {
+    uint32_t stream_type;           /* PE_C_*_STREAM; 0 is none */
+    pe_c_dump_location location;
+} pe_c_dump_entry;
+
+/* The memory of a stack, MINIDUMP_MEMORY_DESCRIPTOR. It may be empty: the pieces of memory have what there is of it. */
+typedef struct {
+    uint64_t start_of_memory_range;
+    pe_c_dump_location memory;
+} pe_c_dump_stack;
+
+/* A thread, MINIDUMP_THREAD. */
+typedef struct {
+    uint32_t thread_id;
+    uint32_t suspend_count;         /* 0 if it runs */
+    uint32_t priority_class;
+    uint32_t priority;
+    uint64_t teb;                   /* address of its environment block */
+    pe_c_dump_stack stack;
+    pe_c_dump_location thread_context; /* no bytes where it has none */
+} pe_c_dump_thread;
+
+/* The version of a module, VS_FIXEDFILEINFO. A signature of 0 says that there is none. */
+typedef struct {
+    uint32_t signature;             /* FEEF04BDh */
+    uint32_t struc_version;
+    uint32_t file_version_ms;       /* major part in the upper 16 bits, minor part in the lower */
+    uint32_t file_version_ls;       /* build and revision */
+    uint32_t product_version_ms;
+    uint32_t product_version_ls;
+    uint32_t file_flags_mask;
+    uint32_t file_flags;
+    uint32_t file_os;
+    uint32_t file_type;
+    uint32_t file_subtype;
+    uint32_t file_date_ms;
+    uint32_t file_date_ls;
+} pe_c_dump_version;
+
+/* A module, MINIDUMP_MODULE. */
+typedef struct {
+    uint64_t base_of_image;         /* address where it is loaded */
+    uint32_t size_of_image;         /* SizeOfImage of its image */
+    uint32_t check_sum;             /* CheckSum of its image */
+    uint32_t time_date_stamp;       /* TimeDateStamp of its image */
+    uint32_t module_name_rva;       /* its path, for pe_c_dump_text */
+    pe_c_dump_version version_info;
+    pe_c_dump_location cv_record;   /* its CodeView record: pe_c_dump_range, then pe_c_codeview. No bytes where there is none */
+    pe_c_dump_location misc_record; /* its IMAGE_DEBUG_MISC */
+    uint32_t spare;                 /* 0 */
+} pe_c_dump_module;
+
+/* The name of a thread, MINIDUMP_THREAD_NAME. */
+typedef struct {
+    uint64_t rva_of_thread_name;    /* for pe_c_dump_text */
+    uint32_t thread_id;
+    uint32_t spare;                 /* 0 */
+} pe_c_dump_thread_name;
+
+/* A module that was unloaded, MINIDUMP_UNLOADED_MODULE. */
+typedef struct {
+    uint64_t base_of_image;
+    uint32_t size_of_image;
+    uint32_t check_sum;
+    uint32_t time_date_stamp;
+    uint32_t module_name_rva;       /* for pe_c_dump_text */
+} pe_c_dump_unloaded;
+
+/* More on a thread, MINIDUMP_THREAD_INFO. */
+typedef struct {
+    uint32_t thread_id;
+    uint32_t dump_flags;            /* MINIDUMP_THREAD_INFO_*: 2 is the thread that wrote the dump */
+    uint32_t dump_error;            /* an HRESULT of the writer */
+    uint32_t exit_status;           /* 259 while it runs */
+    uint64_t create_time;           /* in 100 ns since 1601 */
+    uint64_t exit_time;
+    uint64_t kernel_time;           /* in 100 ns */
+    uint64_t user_time;
+    uint64_t start_address;         /* of its function */
+    uint64_t affinity;
+} pe_c_dump_thread_info;
+
+/* A handle, MINIDUMP_HANDLE_DESCRIPTOR. */
+typedef struct {
+    uint64_t handle;
+    uint32_t type_name_rva;         /* for pe_c_dump_text; 0 if there is none */
+    uint32_t object_name_rva;       /* likewise */
+    uint32_t attributes;
+    uint32_t granted_access;
+    uint32_t handle_count;
+    uint32_t pointer_count;
+} pe_c_dump_handle;
+
+/* A region of memory, MINIDUMP_MEMORY_INFO. */
+typedef struct {
+    uint64_t base_address;
+    uint64_t allocation_base;
+    uint64_t region_size;
+    uint32_t allocation_protect;    /* PAGE_* */
+    uint32_t state;                 /* MEM_COMMIT, MEM_RESERVE or MEM_FREE */
+    uint32_t protect;               /* PAGE_* */
+    uint32_t memory_type;           /* MEM_IMAGE, MEM_MAPPED or MEM_PRIVATE */
+} pe_c_dump_region;
+
+/* The exception that a dump was written for, MINIDUMP_EXCEPTION_STREAM. */
+typedef struct {
+    uint32_t thread_id;
+    uint32_t exception_code;
+    uint32_t exception_flags;
+    uint32_t number_parameters;     /* as the file says, so it may be above 15 */
+    uint64_t exception_record;      /* address, in the process, of another exception that it belongs to, or 0 */
+    uint64_t exception_address;     /* of the instruction */
+    uint64_t exception_information[15];
+    pe_c_dump_location thread_context; /* of the thread as it crashed */
+} pe_c_dump_raised;
+
+/* The system, MINIDUMP_SYSTEM_INFO. */
+typedef struct {
+    uint16_t processor_architecture; /* 9 x64, 12 ARM64, 0 x86: of which machine the contexts are */
+    uint16_t processor_level;
+    uint16_t processor_revision;
+    uint8_t number_of_processors;
+    uint8_t product_type;           /* VER_NT_* */
+    uint32_t major_version;
+    uint32_t minor_version;
+    uint32_t build_number;
+    uint32_t platform_id;           /* VER_PLATFORM_* */
+    uint32_t csd_version_rva;       /* the name of the service pack, for pe_c_dump_text */
+    uint16_t suite_mask;            /* VER_SUITE_* */
+    uint16_t spare;                 /* 0 */
+} pe_c_dump_system_info;
+
+/* How long a process ran. */
+typedef struct {
+    uint32_t process_create_time;   /* in seconds since 1970 */
+    uint32_t process_user_time;     /* in seconds */
+    uint32_t process_kernel_time;
+} pe_c_dump_times;
+
+/* The speed of the processor. */
+typedef struct {
+    uint32_t processor_max_mhz;
+    uint32_t processor_current_mhz;
+    uint32_t processor_mhz_limit;
+    uint32_t processor_max_idle_state;
+    uint32_t processor_current_idle_state;
+} pe_c_dump_power;
+
+/* What is known of a process, MINIDUMP_MISC_INFO and _2. What is not there is 0. */
+typedef struct {
+    uint32_t size_of_info;          /* as the writer says it */
+    uint32_t flags1;                /* MINIDUMP_MISC1_* */
+    uint32_t process_id;            /* with bit 0 of the flags */
+    pe_c_dump_times process_times;  /* with bit 1 */
+    uint32_t has_processor_power;   /* 1 with bit 2 in a stream of 44 bytes or more, else 0 */
+    pe_c_dump_power processor_power;
+} pe_c_dump_process_info;
+
+/* A piece of memory, as pe_c_next_frame takes it with the bytes of the dump as its memory. */
+typedef struct {
+    pe_c_memory_piece memory;
+    uint64_t lost;                  /* how many more bytes the dump says it has, which a truncated file does not have */
+} pe_c_dump_piece;
+
+/* A walk over the pieces of a full dump. */
+typedef struct {
+    pe_c_range entries;             /* those that are left, 16 bytes each */
+    uint64_t next;                  /* offset of the bytes of the next piece */
+} pe_c_memory64_walk;
+
+/* The registers of a thread on x64, CONTEXT. */
+typedef struct {
+    pe_c_registers registers;       /* xmm is 0 where it was not saved */
+    uint32_t context_flags;         /* CONTEXT_*: bit 3 says that xmm was saved */
+    uint32_t eflags;
+} pe_c_context;
+
+/* The registers of a thread on ARM64, ARM64_NT_CONTEXT. */
+typedef struct {
+    pe_c_arm64_registers registers; /* d8 to d15 are 0 where they were not saved */
+    uint32_t context_flags;         /* CONTEXT_ARM64_*: bit 2 says that they were */
+    uint32_t cpsr;
+} pe_c_arm64_context;
+
+PE_C_SIZE(pe_c_dump_info, 40);
+PE_C_SIZE(pe_c_dump_location, 8);
+PE_C_SIZE(pe_c_dump_entry, 12);
+PE_C_SIZE(pe_c_dump_stack, 16);
+PE_C_SIZE(pe_c_dump_thread, 48);
+PE_C_SIZE(pe_c_dump_version, 52);
+PE_C_SIZE(pe_c_dump_module, 96);
+PE_C_SIZE(pe_c_dump_thread_name, 16);
+PE_C_SIZE(pe_c_dump_unloaded, 24);
+PE_C_SIZE(pe_c_dump_thread_info, 64);
+PE_C_SIZE(pe_c_dump_handle, 32);
+PE_C_SIZE(pe_c_dump_region, 40);
+PE_C_SIZE(pe_c_dump_raised, 160);
+PE_C_SIZE(pe_c_dump_system_info, 32);
+PE_C_SIZE(pe_c_dump_times, 12);
+PE_C_SIZE(pe_c_dump_power, 20);
+PE_C_SIZE(pe_c_dump_process_info, 48);
+PE_C_SIZE(pe_c_dump_piece, 32);
+PE_C_SIZE(pe_c_memory64_walk, 24);
+PE_C_SIZE(pe_c_context, 400);
+PE_C_SIZE(pe_c_arm64_context, 336);
+
+/* Reads the header of a minidump, and tests that its directory is inside the bytes.
+ * Errors: PE_C_SHORT where there are fewer than 32 bytes; PE_C_DUMP_SIGNATURE; PE_C_DUMP_VERSION; PE_C_DUMP_DIRECTORY. */
+uint32_t pe_c_dump(const uint8_t *bytes, size_t length, pe_c_dump_info *out) PE_C_RESULT(3);
+
+/* Returns the entry of the directory with an index, or PE_C_NOTHING.
+ * Errors: PE_C_DUMP_LOCATION where the directory is not inside the bytes. */
+uint32_t pe_c_dump_entry_at(const uint8_t *bytes, size_t length, const pe_c_range *directory, uint64_t index,
+                            pe_c_dump_entry *out) PE_C_RESULT(3, 5);
+
+/* Returns the range of the stream of a kind, that of the first entry of the kind, or PE_C_NOTHING.
+ * Errors: PE_C_DUMP_LOCATION where the directory or the stream is not inside the bytes. */
+uint32_t pe_c_dump_stream(const uint8_t *bytes, size_t length, const pe_c_range *directory, uint32_t stream_type,
+                          pe_c_range *out) PE_C_RESULT(3, 5);
+
+/* Returns the range of a location. Errors: PE_C_DUMP_LOCATION where it is not inside the bytes. */
+uint32_t pe_c_dump_range(const uint8_t *bytes, size_t length, const pe_c_dump_location *location, pe_c_range *out)
+    PE_C_RESULT(3, 4);
+
+/* Returns the range of a string, in UTF-16LE without its final zero. `rva` is what a record says.
+ * Errors: PE_C_DUMP_LOCATION where its length is not inside the bytes; PE_C_DUMP_TEXT where that is odd; PE_C_DUMP_LOCATION where
+ * the string is not inside the bytes. */
+uint32_t pe_c_dump_text(const uint8_t *bytes, size_t length, uint64_t rva, pe_c_range *out) PE_C_RESULT(4);
+
+/* Returns the thread with an index in the stream of threads, or PE_C_NOTHING.
+ * Errors: PE_C_DUMP_LOCATION where the stream is not inside the bytes; PE_C_SHORT where it has fewer than 4 bytes;
+ * PE_C_DUMP_LIST_SIZE where it has another size than the number of threads and so many threads. */
+uint32_t pe_c_dump_thread_at(const uint8_t *bytes, size_t length, const pe_c_range *stream, uint64_t index,
+                             pe_c_dump_thread *out) PE_C_RESULT(3, 5);
+
+/* The same of modules, which stand in no order. Errors: those of pe_c_dump_thread_at. */
+uint32_t pe_c_dump_module_at(const uint8_t *bytes, size_t length, const pe_c_range *stream, uint64_t index,
+                             pe_c_dump_module *out) PE_C_RESULT(3, 5);
+
+/* The same of names of threads. Errors: those of pe_c_dump_thread_at. */
+uint32_t pe_c_dump_thread_name_at(const uint8_t *bytes, size_t length, const pe_c_range *stream, uint64_t index,
+                                  pe_c_dump_thread_name *out) PE_C_RESULT(3, 5);
+
+/* Returns the unloaded module with an index in their stream, or PE_C_NOTHING.
+ * Errors: PE_C_DUMP_LOCATION where the stream is not inside the bytes; PE_C_SHORT where its header is truncated;
+ * PE_C_DUMP_ENTRY_SIZE where its records are smaller than their fields; PE_C_DUMP_LIST_SIZE where they start in the header, or
+ * end past the stream. */
+uint32_t pe_c_dump_unloaded_at(const uint8_t *bytes, size_t length, const pe_c_range *stream, uint64_t index,
+                               pe_c_dump_unloaded *out) PE_C_RESULT(3, 5);
+
+/* The same of thread information. Errors: those of pe_c_dump_unloaded_at. */
+uint32_t pe_c_dump_thread_info_at(const uint8_t *bytes, size_t length, const pe_c_range *stream, uint64_t index,
+                                  pe_c_dump_thread_info *out) PE_C_RESULT(3, 5);
+
+/* The same of handles. Errors: those of pe_c_dump_unloaded_at. */
+uint32_t pe_c_dump_handle_at(const uint8_t *bytes, size_t length, const pe_c_range *stream, uint64_t index,
+                             pe_c_dump_handle *out) PE_C_RESULT(3, 5);
+
+/* The same of regions of memory. Errors: those of pe_c_dump_unloaded_at. */
+uint32_t pe_c_dump_region_at(const uint8_t *bytes, size_t length, const pe_c_range *stream, uint64_t index,
+                             pe_c_dump_region *out) PE_C_RESULT(3, 5);
+
+/* Reads the exception, by its stream.
+ * Errors: PE_C_DUMP_LOCATION where the stream is not inside the bytes; PE_C_SHORT where it has fewer than 168 bytes. */
+uint32_t pe_c_dump_exception(const uint8_t *bytes, size_t length, const pe_c_range *stream, pe_c_dump_raised *out)
+    PE_C_RESULT(3, 4);
+
+/* Reads the system, by its stream.
+ * Errors: PE_C_DUMP_LOCATION where the stream is not inside the bytes; PE_C_SHORT where it has fewer than 56 bytes. */
+uint32_t pe_c_dump_system(const uint8_t *bytes, size_t length, const pe_c_range *stream, pe_c_dump_system_info *out)
+    PE_C_RESULT(3, 4);
+
+/* Reads what is known of the process, by its stream.
+ * Errors: PE_C_DUMP_LOCATION where the stream is not inside the bytes; PE_C_SHORT where it has fewer than 24 bytes. */
+uint32_t pe_c_dump_process(const uint8_t *bytes, size_t length, const pe_c_range *stream, pe_c_dump_process_info *out)
+    PE_C_RESULT(3, 4);
+
+/* Returns the piece of memory with an index in PE_C_MEMORY_LIST_STREAM, or PE_C_NOTHING. Errors: those of pe_c_dump_thread_at. */
+uint32_t pe_c_dump_memory_at(const uint8_t *bytes, size_t length, const pe_c_range *stream, uint64_t index,
+                             pe_c_dump_piece *out) PE_C_RESULT(3, 5);
+
+/* Returns a walk over the pieces of memory of a full dump, by PE_C_MEMORY64_LIST_STREAM. It reads each size once.
+ * Errors: PE_C_DUMP_LOCATION where the stream is not inside the bytes; PE_C_SHORT where it has fewer than 16 bytes;
+ * PE_C_DUMP_LIST_SIZE where it has another size than so many entries; PE_C_DUMP_LOCATION where the bytes of the pieces end past
+ * offset 2^64 - 1. */
+uint32_t pe_c_dump_memory64(const uint8_t *bytes, size_t length, const pe_c_range *stream, pe_c_memory64_walk *out)
+    PE_C_RESULT(3, 4);
+
+/* Returns the next piece of memory of a full dump.
+ * Errors: PE_C_SHORT where the entries are not inside the bytes, or the last one is truncated. */
+uint32_t pe_c_next_memory64(const uint8_t *bytes, size_t length, pe_c_memory64_walk *walk, pe_c_dump_piece *out)
+    PE_C_RESULT(3, 4);
+
+/* Reads a context of x64: that of the exception, or of a thread.
+ * Errors: PE_C_DUMP_LOCATION where it is not inside the bytes; PE_C_DUMP_CONTEXT_SIZE where it has fewer than 1,232 bytes;
+ * PE_C_DUMP_MACHINE where its flags are not of x64; PE_C_DUMP_CONTEXT_FLAGS where control or integer registers were not saved. */
+uint32_t pe_c_dump_context(const uint8_t *bytes, size_t length, const pe_c_dump_location *location, pe_c_context *out)
+    PE_C_RESULT(3, 4);
+
+/* The same of ARM64, whose contexts have 912 bytes. Errors: those of pe_c_dump_context. */
+uint32_t pe_c_dump_context_arm64(const uint8_t *bytes, size_t length, const pe_c_dump_location *location,
+                                 pe_c_arm64_context *out) PE_C_RESULT(3, 4);
 
 #ifdef __cplusplus
 }

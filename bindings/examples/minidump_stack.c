@@ -38,7 +38,8 @@ int main(int argc, char **argv)
     uint32_t result = pe_c_image(bytes, length, PE_C_PERMISSIVE, &image);
     if (result == PE_C_DONE)
         result = pe_c_sections(bytes, length, &image, sections, MOST_SECTIONS);
-    pe_c_module module = {{bytes, length, &image, sections, image.number_of_sections}, {0, 0}, strtoull(argv[2], NULL, 16)};
+    pe_c_view view = {bytes, length, &image, sections, image.number_of_sections, NULL, 0};
+    pe_c_module module = {view, {0, 0}, strtoull(argv[2], NULL, 16)};
     if (result == PE_C_DONE)
         result = pe_c_function_table(bytes, length, &image, sections, image.number_of_sections, &module.table);
     if (result != PE_C_DONE && result != PE_C_NOTHING)

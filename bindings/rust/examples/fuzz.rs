@@ -11,7 +11,7 @@ mod made;
 mod reading;
 
 use pe_c::{sys, Image, Layout, Mode};
-use reading::{read_all, read_others, Seen};
+use reading::{read_all, read_dump, read_others, Seen};
 use std::ffi::c_void;
 use std::ops::Range;
 use std::time::Instant;
@@ -209,7 +209,23 @@ fn read_by_lies(bytes: &[u8], random: &mut Random, seen: &mut Seen) {
         let mut fields = sys::Arm64Packed::default();
         sys::pe_c_arm64_packed_fields(&sys::Arm64Function { begin: few, unwind: few.rotate_left(7) }, &mut fields);
     }
-    let view = sys::View { bytes: start, length, image: &image, sections: sections.as_ptr(), count: sections.len() };
+    let lies = [few % 96, few, few.rotate_left(9)]
+        .map(|rva| sys::IndexEntry { start: u64::from(rva), section: random.edge(sections.len() as u64 + 2) });
+    let mut view = sys::View {
+        bytes: start,
+        length,
+        image: &image,
+        sections: sections.as_ptr(),
+        count: sections.len(),
+        index: lies.as_ptr(),
+        entries: few as usize % 4,
+    };
+    let mut room = [sys::IndexEntry::default(); 64];
+    let mut made = 0;
+    // SAFETY: as above, and the view is of what is lent.
+    if unsafe { sys::pe_c_index(&view, room.as_mut_ptr(), room.len(), &mut made) } == 0 && few % 2 == 0 {
+        (view.index, view.entries) = (room.as_ptr(), made as usize);
+    }
     let mut entry = sys::DebugEntry::default();
     // SAFETY: as above, and the view is of what is lent.
     unsafe {
@@ -262,6 +278,14 @@ fn read_by_lies(bytes: &[u8], random: &mut Random, seen: &mut Seen) {
     list!(pe_c_list_version_blocks(; range), VersionBlock);
     list!(pe_c_list_relocation_blocks(; range), RelocationBlock);
     list!(pe_c_list_relocations(few; range), Relocation);
+    list!(pe_c_list_delay_imports(; range), DelayImport);
+    list!(pe_c_list_delayed_functions(; sys::DelayedFunctions { left: range, attributes: few, spare: 1 }), DelayedFunction);
+    list!(pe_c_list_pogo_entries(; range), PogoEntry);
+    let (mut record, mut codes, mut written) = (sys::Record::default(), [sys::Code::default(); 3], 0);
+    let room = few as usize % 4;
+    // SAFETY: as above.
+    unsafe { sys::pe_c_record_codes(&view, &range, few % 512, &mut record, codes.as_mut_ptr(), room, &mut written) };
+    assert!(written <= room as u64 && codes[written as usize..].iter().all(|it| *it == sys::Code::default()));
     for entry in [
         entry,
         sys::DebugEntry {
@@ -280,6 +304,26 @@ fn read_by_lies(bytes: &[u8], random: &mut Random, seen: &mut Seen) {
         call!(pe_c_pdb_checksum_of(few, &entry), PdbChecksum);
     }
     call!(pe_c_headers(few), Headers);
+    let location = sys::DumpLocation { size: random.edge(number) as u32, rva: random.edge(number) as u32 };
+    call!(pe_c_dump_range(&location), Range);
+    call!(pe_c_dump_entry_at(&range, index), DumpEntry);
+    call!(pe_c_dump_stream(&range, few % 32), Range);
+    call!(pe_c_dump_text(range.offset), Range);
+    call!(pe_c_dump_thread_at(&range, index), DumpThread);
+    call!(pe_c_dump_module_at(&range, index), DumpModule);
+    call!(pe_c_dump_thread_name_at(&range, index), DumpThreadName);
+    call!(pe_c_dump_unloaded_at(&range, index), DumpUnloaded);
+    call!(pe_c_dump_thread_info_at(&range, index), DumpThreadInfo);
+    call!(pe_c_dump_handle_at(&range, index), DumpHandle);
+    call!(pe_c_dump_region_at(&range, index), DumpRegion);
+    call!(pe_c_dump_memory_at(&range, index), DumpPiece);
+    call!(pe_c_dump_exception(&range), DumpException);
+    call!(pe_c_dump_system(&range), DumpSystem);
+    call!(pe_c_dump_process(&range), DumpProcess);
+    call!(pe_c_dump_context(&location), Context);
+    call!(pe_c_dump_context_arm64(&location), Arm64Context);
+    let memory = call!(pe_c_dump_memory64(&range), Memory64Walk);
+    walk!(pe_c_next_memory64(sys::Memory64Walk { next: index, ..memory }), DumpPiece);
     walk!(pe_c_next_debug_entry(range), DebugEntry);
     walk!(pe_c_next_pogo_entry(range), PogoEntry);
     walk!(pe_c_next_certificate(range), Certificate);
@@ -426,6 +470,30 @@ fn read_by_lies(bytes: &[u8], random: &mut Random, seen: &mut Seen) {
     call!(pe_c_te(), TeHeader);
     call!(pe_c_te_debug_entries(&te), Range);
     call!(pe_c_te_first_debug_entry(&te, few % 24), DebugEntry);
+    let mut failure = sys::SignatureFailure::default();
+    let signed = call!(pe_c_signature(&range, &mut failure), SignedData);
+    let indirect = call!(pe_c_indirect_data(&signed.content, &mut failure), SpcIndirectData);
+    call!(pe_c_image_data(&indirect.value, &mut failure), SpcPeImageData);
+    call!(pe_c_time_stamp(&signed.content, &mut failure), TstInfo);
+    call!(pe_c_algorithm_identifier(&range, &mut failure), Algorithm);
+    call!(pe_c_signer(&range, &mut failure), SignerInfo);
+    call!(pe_c_attribute(&range, &mut failure), SignerAttribute);
+    call!(pe_c_opus_info(&range, &mut failure), SpcOpusInfo);
+    call!(pe_c_x509(&range, &mut failure), X509Certificate);
+    call!(pe_c_extension(&range, &mut failure), X509Extension);
+    call!(pe_c_name(&range, &mut failure), NameWalk);
+    call!(pe_c_time(&range, &mut failure), UtcTime);
+    let (mut elements, mut name) = (range, sys::NameWalk { left: range, rdn_end: random.edge(number) });
+    for _ in 0..MOST {
+        let (mut element, mut attribute) = (sys::DerElement::default(), sys::NameAttribute::default());
+        let mut usage = 0;
+        // SAFETY: as above.
+        unsafe {
+            sys::pe_c_next_element(start, length, &mut elements, &mut failure, &mut element);
+            sys::pe_c_key_usage(start, length, &elements, &mut failure, &mut usage);
+            sys::pe_c_next_name_attribute(start, length, &mut name, &mut failure, &mut attribute);
+        }
+    }
     call!(pe_c_image_failure(few), Failure);
     call!(pe_c_te_failure(), Failure);
     let (mut entries, mut headers) = (range, sections);
@@ -479,7 +547,8 @@ fn read_by_lies(bytes: &[u8], random: &mut Random, seen: &mut Seen) {
         let leaf = sys::pe_c_leaf(start, length, &mut frame);
         seen.refusals += u64::from(step != 0) + u64::from(leaf != 0);
     }
-    let view = sys::View { bytes: start, length, image: &image, sections: first, count };
+    let none = std::ptr::null();
+    let view = sys::View { bytes: start, length, image: &image, sections: first, count, index: none, entries: 0 };
     let table = call_of_image!(pe_c_function_table(), Range);
     let piece = sys::MemoryPiece { start: random.edge(number), offset: 0, length: length as u64 };
     let lie = sys::MemoryPiece { offset: range.offset, length: range.length, ..piece };
@@ -517,6 +586,40 @@ fn read_by_lies(bytes: &[u8], random: &mut Random, seen: &mut Seen) {
         let leaf = sys::pe_c_leaf_arm64(&mut frame);
         seen.refusals += u64::from(step != 0) + u64::from(leaf != 0);
     }
+    let table = call_of_image!(pe_c_arm64_table(), Range);
+    for (table, pieces) in [(table, [piece; 2]), (range, [piece; 2]), (table, [piece, lie])] {
+        let modules = [sys::Module { image: view, table, base: image.base }; 2];
+        let registers = sys::Arm64Registers { pc: image.base.wrapping_add(u64::from(few % 96)), ..frame.registers };
+        let mut walk =
+            sys::Arm64StackWalk { registers, remaining: u64::from(few % 32), way: few % 8, ..Default::default() };
+        let (mut frames, mut filled) = ([sys::Arm64StackWalk::default(); 3], 0);
+        for _ in 0..MOST {
+            // SAFETY: as above. The bytes of the image stand for memory.
+            unsafe {
+                let (list, many) = (pieces.as_ptr(), pieces.len());
+                sys::pe_c_next_arm64_frame(modules.as_ptr(), 2, start, length, list, many, &mut walk);
+                let room = frames.as_mut_ptr();
+                sys::pe_c_next_arm64_frames(
+                    modules.as_ptr(),
+                    2,
+                    start,
+                    length,
+                    list,
+                    many,
+                    &mut walk,
+                    room,
+                    3,
+                    &mut filled,
+                );
+            }
+            assert!(filled <= 3);
+        }
+    }
+}
+
+/// What the tests make that is no image.
+fn other_files() -> [Vec<u8>; 4] {
+    [made::object(), made::te_image(), made::full_dump(made::X64), made::full_dump(made::ARM64)]
 }
 
 /// The arguments: the seconds, the seed, and the files.
@@ -540,7 +643,8 @@ fn main() {
     let read = names.iter().filter_map(|name| std::fs::read(name).ok());
     let mut files: Vec<Vec<u8>> = read.filter(|bytes| (64..=ROOM).contains(&bytes.len())).collect();
     if files.is_empty() {
-        files = made::all().into_iter().map(|(_, bytes)| bytes).chain([made::object(), made::te_image()]).collect();
+        let others = [made::with_signature()].into_iter().chain(other_files());
+        files = made::all().into_iter().map(|(_, bytes)| bytes).chain(others).collect();
     }
     let files: Vec<_> = files.into_iter().map(|bytes| (hot_offsets(&bytes), bytes)).collect();
     let memory = fenced();
@@ -559,6 +663,7 @@ fn main() {
             if random.below(4) == 0 {
                 let mut others = Seen::up_to(most);
                 read_others(input, &mut others);
+                read_dump(input, &mut others);
                 seen.add(others);
                 read_by_lies(input, &mut random, &mut seen);
             }

@@ -1,5 +1,5 @@
-//! Writes the images of the tests to a folder, for other programs: `made FOLDER`. A TE image and an object have names of their
-//! own, since most programs take images alone.
+//! Writes the images of the tests to a folder, for other programs: `made FOLDER`. A TE image, an object and minidumps have names of
+//! their own, since most programs take images alone.
 
 #[path = "../tests/made/mod.rs"]
 mod made;
@@ -10,5 +10,7 @@ fn main() -> std::io::Result<()> {
         std::fs::write(format!("{folder}/{name}.bin"), bytes)?;
     }
     std::fs::write(format!("{folder}/te_image.te"), made::te_image())?;
+    std::fs::write(format!("{folder}/x64.dmp"), made::full_dump(made::X64))?;
+    std::fs::write(format!("{folder}/arm64.dmp"), made::full_dump(made::ARM64))?;
     std::fs::write(format!("{folder}/object.obj"), made::object())
 }

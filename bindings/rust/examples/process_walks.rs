@@ -75,6 +75,7 @@ fn main() -> Result<()> {
     for (base, file) in &files {
         images.push((*base, Image::parse(file, Mode::Permissive)?));
     }
-    let modules: std::result::Result<Vec<_>, _> = images.iter().map(|(base, image)| Module::new(image, *base)).collect();
+    let modules: std::result::Result<Vec<_>, _> =
+        images.iter().map(|(base, image)| Module::new(image, *base)).collect();
     show_all(&lines[files.len()..], &modules?)
 }

@@ -4,7 +4,7 @@
 
 use crate::image::{bytes_of, Error, Image};
 use crate::sys;
-use crate::walk::ImageWalk;
+use crate::walk::ImageList;
 use core::iter::FusedIterator;
 
 /// A DLL that is loaded when one of its functions is called first.
@@ -24,7 +24,7 @@ impl<'i, 'a> DelayImport<'i, 'a> {
 
     /// The functions that are imported of this DLL.
     pub fn functions(&self) -> DelayedFunctions<'i, 'a> {
-        DelayedFunctions(ImageWalk::new(self.image, self.raw.functions))
+        DelayedFunctions(ImageList::new(self.image, self.raw.functions))
     }
 }
 
@@ -54,14 +54,14 @@ impl<'i, 'a> DelayImport<'i, 'a> {
 /// # Ok::<(), pe_c::Error>(())
 /// ```
 #[derive(Clone, Debug)]
-pub struct DelayImports<'i, 'a>(ImageWalk<'i, 'a, sys::Range>);
+pub struct DelayImports<'i, 'a>(ImageList<'i, 'a, sys::Range, sys::DelayImport>);
 
 impl<'i, 'a> Iterator for DelayImports<'i, 'a> {
     type Item = Result<DelayImport<'i, 'a>, Error>;
 
     fn next(&mut self) -> Option<Self::Item> {
         let image = self.0.image;
-        let found: Result<sys::DelayImport, Error> = self.0.step(sys::pe_c_next_delay_import)?;
+        let found = self.0.step(sys::pe_c_list_delay_imports)?;
         Some(found.and_then(|raw| {
             let name = bytes_of(raw.name, image.bytes())?;
             Ok(DelayImport { image, name, raw })
@@ -86,14 +86,14 @@ pub struct DelayedFunction<'a> {
 /// [`Error::DIRECTORY_VA_BELOW_BASE`], [`Error::UNMAPPED`] of its address, [`Error::SHORT`] of the hint there,
 /// [`Error::DIRECTORY_DELAY_IMPORT_NAME`]. [`DelayImports`] has an example.
 #[derive(Clone, Debug)]
-pub struct DelayedFunctions<'i, 'a>(ImageWalk<'i, 'a, sys::DelayedFunctions>);
+pub struct DelayedFunctions<'i, 'a>(ImageList<'i, 'a, sys::DelayedFunctions, sys::DelayedFunction>);
 
 impl<'a> Iterator for DelayedFunctions<'_, 'a> {
     type Item = Result<DelayedFunction<'a>, Error>;
 
     fn next(&mut self) -> Option<Self::Item> {
         let bytes = self.0.image.bytes();
-        let found: Result<sys::DelayedFunction, Error> = self.0.step(sys::pe_c_next_delayed_function)?;
+        let found = self.0.step(sys::pe_c_list_delayed_functions)?;
         Some(found.and_then(|found| {
             let name = bytes_of(found.name, bytes)?;
             Ok(DelayedFunction { name: (found.has_name != 0).then_some(name), ordinal: found.ordinal })
@@ -112,6 +112,6 @@ impl<'a> Image<'a> {
     /// [`Error::UNMAPPED`], [`Error::SHORT`].
     pub fn delay_imports(&self) -> Result<Option<DelayImports<'_, 'a>>, Error> {
         let walk = self.ask(sys::pe_c_delay_imports)?;
-        Ok(walk.map(|walk| DelayImports(ImageWalk::new(self, walk))))
+        Ok(walk.map(|walk| DelayImports(ImageList::new(self, walk))))
     }
 }

@@ -47,6 +47,11 @@ impl<'s> MemoryList<'s> {
         }
     }
 
+    /// No memory.
+    pub(crate) fn empty() -> Self {
+        MemoryList { bytes: &[], pieces: &[] }
+    }
+
     pub(crate) fn bytes(&self) -> &'s [u8] {
         self.bytes
     }

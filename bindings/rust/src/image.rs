@@ -6,7 +6,7 @@
 //! library are made here and in `walk`.
 
 use crate::frames::MemoryList;
-use crate::sys::{self, Directory, Headers, ImageInfo, Section};
+use crate::sys::{self, Directory, Headers, ImageInfo, IndexEntry, Section};
 use alloc::vec::Vec;
 use core::fmt;
 
@@ -198,18 +198,14 @@ errors! {
     EDIT_HEADERS = 458;
     /// Alignment of sections or of their data is too small or no power of two.
     EDIT_ALIGNMENT = 459;
-    /// No section starts at the RVA of the resource directory.
-    EDIT_NO_SECTION = 460;
-    /// Data of the resource section are in the headers, truncated or not aligned.
+    /// Data of the sections are in the headers, truncated or not aligned.
     EDIT_SECTION = 461;
     /// The entry point or another directory lies in the resource section.
     EDIT_SHARED_SECTION = 462;
-    /// COFF symbols lie in the data of the resource section.
+    /// COFF symbols lie in the data of the resource section or at its end.
     EDIT_SYMBOLS = 463;
-    /// Another section shares bytes or pages with the resource section or the headers.
+    /// Section shares bytes or pages with the resource section or headers, or is after it.
     EDIT_OVERLAP = 464;
-    /// Resources do not fit into the data of their section or into the image in memory.
-    EDIT_NO_ROOM = 465;
     /// Resource has a range outside of the array, or an id or language above 65,535.
     EDIT_RECORD = 466;
     /// Names of the resources have more than 16 MiB.
@@ -220,6 +216,54 @@ errors! {
     BLOCK_TEXT = 469;
     /// Version block has more than 65,535 bytes.
     BLOCK_TOO_LONG = 470;
+    /// Headers have no room for another section header.
+    EDIT_NO_HEADER_ROOM = 471;
+    /// Image with the resources ends after 4 GB.
+    EDIT_IMAGE_TOO_LARGE = 472;
+    /// Data of a debug entry start after the data of the sections.
+    EDIT_DEBUG_DATA = 473;
+    /// Element of a signature truncated before its content.
+    SIGNATURE_TRUNCATED = 501;
+    /// Element of a signature has a tag number above 30.
+    SIGNATURE_TAG_NUMBER = 502;
+    /// Element of a signature has an indefinite length.
+    SIGNATURE_INDEFINITE_LENGTH = 503;
+    /// Length of an element of a signature has more than 4 octets after its first.
+    SIGNATURE_LENGTH_OCTETS = 504;
+    /// Length of an element of a signature is not in its shortest form.
+    SIGNATURE_LENGTH_FORM = 505;
+    /// Element of a signature ends after its parent.
+    SIGNATURE_PAST_PARENT = 506;
+    /// Element of a signature is missing.
+    SIGNATURE_MISSING = 507;
+    /// Element of a signature has another tag.
+    SIGNATURE_TAG = 508;
+    /// Bytes follow the last field of an element of a signature.
+    SIGNATURE_TRAILING = 509;
+    /// Content of a signature has another type.
+    SIGNATURE_CONTENT_TYPE = 510;
+    /// Time of a signature is not in the form of RFC 5280.
+    SIGNATURE_BAD_TIME = 511;
+    /// Invalid signature of a minidump.
+    DUMP_SIGNATURE = 551;
+    /// Invalid version of a minidump.
+    DUMP_VERSION = 552;
+    /// Directory of the streams ends past the end of the file.
+    DUMP_DIRECTORY = 553;
+    /// Location in a minidump ends past the end of the file.
+    DUMP_LOCATION = 554;
+    /// Number of entries of a list and the size of its stream do not agree.
+    DUMP_LIST_SIZE = 555;
+    /// Entries of a list smaller than their fields.
+    DUMP_ENTRY_SIZE = 556;
+    /// String has an odd number of bytes.
+    DUMP_TEXT = 557;
+    /// Context smaller than its fields.
+    DUMP_CONTEXT_SIZE = 558;
+    /// Context without control or integer registers.
+    DUMP_CONTEXT_FLAGS = 559;
+    /// Context of another machine.
+    DUMP_MACHINE = 560;
     // Of steps of a stack walk, which pe_core does not make.
     /// Eight bytes of memory are missing: [`StepError::Missing`](crate::StepError::Missing).
     MISSING = 102;
@@ -364,7 +408,12 @@ pub struct Image<'a> {
     layout: Layout,
     info: ImageInfo,
     sections: Vec<Section>,
+    /// The index of the sections, where these are many; else empty.
+    index: Vec<IndexEntry>,
 }
+
+/// From so many sections on an image has an index of them: an index costs a search what some twenty sections cost it.
+const MANY_SECTIONS: usize = 32;
 
 impl fmt::Debug for Image<'_> {
     fn fmt(&self, f: &mut fmt::Formatter<'_>) -> fmt::Result {
@@ -426,11 +475,12 @@ impl<'a> Image<'a> {
     /// - [`Error::SHORT`], [`Error::BAD_MAGIC`] of the DOS header; in strict mode [`Error::HEADER_POINTER`];
     /// - [`Error::SHORT`], [`Error::BAD_MAGIC`] of the PE signature; [`Error::SHORT`] of the COFF header;
     /// - [`Error::SHORT`], [`Error::BAD_MAGIC`] of the optional header; [`Error::SHORT`] of its fields and directories;
-    /// - [`Error::MEMORY`] where the section headers cannot be allocated, at most 65,535 of 40 bytes;
+    /// - [`Error::MEMORY`] where the section headers cannot be allocated, at most 65,535 of 40 bytes, or from 32 of them on an
+    ///   index of these, of 64 bytes each;
     /// - [`Error::SHORT`] where they are truncated.
     pub fn parse_as(bytes: &'a [u8], mode: Mode, layout: Layout) -> Result<Self, Error> {
         // SAFETY: it takes no arguments. The call is here so that no program links with an archive of another ABI.
-        unsafe { sys::pe_c_abi_3() };
+        unsafe { sys::pe_c_abi_4() };
         let mut info = ImageInfo::default();
         let way = number_of(mode, layout);
         // SAFETY: as above.
@@ -447,7 +497,9 @@ impl<'a> Image<'a> {
         if number != sys::DONE {
             return Err(Error(number));
         }
-        Ok(Image { bytes, mode, layout, info, sections })
+        let mut image = Image { bytes, mode, layout, info, sections, index: Vec::new() };
+        image.make_index()?;
+        Ok(image)
     }
 
     /// The bytes of the image.
@@ -533,7 +585,29 @@ impl<'a> Image<'a> {
             image: &self.info,
             sections: self.sections.as_ptr(),
             count: self.sections.len(),
+            index: self.index.as_ptr(),
+            entries: self.index.len(),
         }
+    }
+
+    /// Makes the index of the sections, where these are many: few are tested in turn as fast.
+    fn make_index(&mut self) -> Result<(), Error> {
+        if self.sections.len() < MANY_SECTIONS {
+            return Ok(());
+        }
+        let needed = 4 * self.sections.len();
+        let mut room = Vec::new();
+        room.try_reserve_exact(needed).map_err(|_| Error::MEMORY)?;
+        room.resize(needed, IndexEntry::default());
+        let (view, mut written) = (self.view(), 0);
+        // SAFETY: the view is of what `self` lends for the call, and the room has so many entries.
+        let number = unsafe { sys::pe_c_index(&view, room.as_mut_ptr(), needed, &mut written) };
+        if number != sys::DONE {
+            return Err(Error(number));
+        }
+        room.truncate(written as usize);
+        self.index = room;
+        Ok(())
     }
 
     /// Makes a call that takes the image.
@@ -550,7 +624,7 @@ impl<'a> Image<'a> {
     fn call_with<M, T: Default>(&self, call: CallWith<M, T>, more: M) -> Result<Option<T>, Error> {
         let mut out = T::default();
         let (bytes, sections) = (self.bytes, &self.sections);
-        // SAFETY: as above, and `more` is a number, or comes from a reference of the three calls below.
+        // SAFETY: as above, and `more` is a number, or comes from a reference of the calls below.
         let number =
             unsafe { call(bytes.as_ptr(), bytes.len(), &self.info, sections.as_ptr(), sections.len(), more, &mut out) };
         returned(number, out)
@@ -679,10 +753,5 @@ impl<'a> Image<'a> {
         unsafe {
             sys::pe_c_step_arm64(bytes.as_ptr(), bytes.len(), &self.info, first, count, stack, stack_length, frame)
         }
-    }
-
-    /// Makes a call that moves a walk.
-    pub(crate) fn step<W, T: Default>(&self, call: CallWith<*mut W, T>, walk: &mut W) -> Result<Option<T>, Error> {
-        self.call_with(call, walk)
     }
 }

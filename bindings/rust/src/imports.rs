@@ -4,7 +4,7 @@
 
 use crate::image::{bytes_of, Error, Image};
 use crate::sys;
-use crate::walk::{ImageList, ImageWalk};
+use crate::walk::ImageList;
 use core::iter::FusedIterator;
 
 /// A DLL that an image imports from.
@@ -54,14 +54,14 @@ impl<'i, 'a> Library<'i, 'a> {
 /// # Ok::<(), pe_c::Error>(())
 /// ```
 #[derive(Clone, Debug)]
-pub struct Libraries<'i, 'a>(ImageWalk<'i, 'a, sys::Libraries>);
+pub struct Libraries<'i, 'a>(ImageList<'i, 'a, sys::Libraries, sys::Library>);
 
 impl<'i, 'a> Iterator for Libraries<'i, 'a> {
     type Item = Result<Library<'i, 'a>, Error>;
 
     fn next(&mut self) -> Option<Self::Item> {
         let image = self.0.image;
-        let found: Result<sys::Library, Error> = self.0.step(sys::pe_c_next_library)?;
+        let found: Result<sys::Library, Error> = self.0.step(sys::pe_c_list_libraries)?;
         Some(found.and_then(|raw| {
             let name = bytes_of(raw.name, image.bytes())?;
             Ok(Library { image, name, raw })
@@ -112,6 +112,6 @@ impl<'a> Image<'a> {
     /// [`Error::UNMAPPED`].
     pub fn libraries(&self) -> Result<Option<Libraries<'_, 'a>>, Error> {
         let walk = self.ask(sys::pe_c_import_libraries)?;
-        Ok(walk.map(|walk| Libraries(ImageWalk::new(self, walk))))
+        Ok(walk.map(|walk| Libraries(ImageList::new(self, walk))))
     }
 }

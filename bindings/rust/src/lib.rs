@@ -1,7 +1,8 @@
 //! Reads PE images (Windows .exe and .dll files) by a proved library: headers, debug data, certificates, x64 and ARM64
 //! unwind data, exports, imports, delay and bound imports, TLS callbacks, the load configuration, base relocations, the CLR
-//! header with its metadata, Rich headers, resources, version information and the manifest. For signing tools it says what a
-//! digest covers, and attaches and detaches certificates.
+//! header with its metadata, Rich headers, resources, version information and the manifest; also TE images, COFF objects and
+//! minidumps. It walks stacks, changes resources, and says what signatures say. For signing tools it says what a digest covers,
+//! and attaches and detaches certificates.
 //!
 //! The library is proved to return what its definitions say, for every byte string; this crate is a thin safe layer over
 //! it, and is tested. Start with [`Image::parse`], or for a module in memory [`Image::parse_as`]; each part of an image is a
@@ -11,7 +12,7 @@
 //! |---|---|---|
 //! | headers, sections | [`info`](Image::info), [`headers`](Image::headers), [`sections`](Image::sections), [`offset`](Image::offset) | [PE Format] |
 //! | debug data | [`symbol_key`](Image::symbol_key), [`debug_entries`](Image::debug_entries), [`pogo`](Image::pogo), .. | [debug section] |
-//! | certificates | [`certificates`](Image::certificates) | [certificate table] |
+//! | certificates | [`certificates`](Image::certificates); what a signature says [`Signature`] | [certificate table] |
 //! | signing | [`digest_ranges`](Image::digest_ranges), [`checksum`](Image::checksum), [`attach`](Image::attach), [`detach`](Image::detach) | [image hash] |
 //! | unwind data | [`functions`](Image::functions), [`arm64_functions`](Image::arm64_functions) | [x64], [ARM64] |
 //! | a stack walk | [`Frames`], on x64 and ARM64; one step of it [`Functions::step`], [`Registers::leaf`], over memory in pieces [`Functions::step_pieces`] | [x64] |
@@ -25,7 +26,9 @@
 //! | base relocations | [`relocation_blocks`](Image::relocation_blocks) | [.reloc] |
 //! | .NET | [`clr`](Image::clr) | [ECMA-335], II.24 and II.25 |
 //! | resources | [`version`](Image::version), [`version_text`](Image::version_text), [`version_blocks`](Image::version_blocks), [`manifest`](Image::manifest) | [version information] |
-//! | | [`resource_leaves`](Image::resource_leaves) | [.rsrc] |
+//! | | [`resource_leaves`](Image::resource_leaves); to change them [`ResourceEditor`] | [.rsrc] |
+//! | other files | TE images [`Te`], COFF objects [`Coff`] | [PE Format] |
+//! | | minidumps [`Dump`], the stacks of one [`Stacks`] | |
 //!
 //! [PE Format]: https://learn.microsoft.com/windows/win32/debug/pe-format
 //! [debug section]: https://learn.microsoft.com/windows/win32/debug/pe-format#the-debug-section
@@ -50,8 +53,8 @@
 //! - A directory that is absent is `Ok(None)`; a damaged one is an [`Error`]. An error in one part, a directory or a debug
 //!   record, does not affect another; of debug records that is proved over all bytes.
 //! - Every list is an iterator. After an `Err` item it returns `None`; [`VersionBlocks`] alone may go on after one.
-//! - No bytes, registers or memory make a call panic or loop forever. Only [`Image::parse`] and a clone of an
-//!   [`Image`], both for the section headers, [`Image::attach`], [`Image::detach`] and [`Text::to_string_lossy`] allocate.
+//! - No bytes, registers or memory make a call panic or loop forever. Of the methods of an [`Image`] only [`Image::parse`] and
+//!   a clone, both for the section headers and an index of them, [`Image::attach`] and [`Image::detach`] allocate.
 //! - An `offset` counts bytes from the start of the image's bytes: a file offset, or in a module in memory an RVA.
 //! - The docs of a call list its errors in the order in which they are tested.
 //!
@@ -72,9 +75,10 @@
 //! # Ok::<(), pe_c::Error>(())
 //! ```
 //!
-//! The library is `libpe_c.a`, for Linux on x86-64 (or on ARM64, or for Windows on x64): for every such processor if `make` or `rt lib --cpu x86-64` built it, by
-//! `rt lib` alone for those with SSE4.2 and POPCNT. `build.rs` takes it from the folder that `PE_C_FOLDER` names; without
-//! that variable from `crates/pe_c/out` of the repository, else from where pkg-config finds `pe_c`.
+//! The library is `libpe_c.a`, for Linux on x86-64 (or on ARM64, or for Windows on x64): for every such processor if `make`
+//! or `rt lib --cpu x86-64` built it, by `rt lib` alone for those with SSE4.2 and POPCNT. `build.rs` takes it from the folder
+//! that `PE_C_FOLDER` names; without that variable from `crates/pe_c/out` of the repository, else from where pkg-config finds
+//! `pe_c`.
 #![no_std]
 #![deny(missing_docs)]
 #![warn(unsafe_op_in_unsafe_fn)]
@@ -88,6 +92,7 @@ mod clr;
 mod coff;
 mod debug;
 mod delay_imports;
+mod dump;
 mod exports;
 mod failure;
 mod frames;
@@ -99,8 +104,10 @@ mod resource_edit;
 mod resources;
 mod rich_header;
 mod section_names;
+mod signatures;
 mod signing;
 mod stack_walk;
+mod stacks;
 mod symbol_server;
 pub mod sys;
 mod te;
@@ -121,6 +128,7 @@ pub use clr::{Clr, Metadata, MetadataStream, MetadataStreams};
 pub use coff::{Coff, Symbol, Symbols};
 pub use debug::{DebugEntries, EmbeddedPdb, Pdb20, PdbChecksum, Pogo, PogoEntries, PogoEntry, Repro, SymbolKey};
 pub use delay_imports::{DelayImport, DelayImports, DelayedFunction, DelayedFunctions};
+pub use dump::{Dump, DumpContext, DumpMemory64, DumpRecords, DumpRegisters};
 pub use exports::{AddressTable, Export, Exported, Exports};
 pub use failure::Failure;
 pub use frames::{MemoryList, Stack, StepError};
@@ -131,12 +139,20 @@ pub use relocations::{Relocation, RelocationBlock, RelocationBlocks, Relocations
 pub use resource_edit::{ResourceContent, ResourceEditor, ResourceKey, ResourcePlace};
 pub use resources::{ResourceLeaf, ResourceLeaves, ResourceName};
 pub use rich_header::{RichEntries, RichEntry, RichHeader};
+pub use signatures::{
+    Algorithm, Algorithms, Attribute, Attributes, Extension, Extensions, IndirectData, KnownOid, Name, NameAttribute,
+    NameAttributes, Oid, OpusInfo, Signature, SignatureError, Signer, Signers, Time, TimeStamp, X509s, X509,
+};
 pub use signing::{Checksum, DigestRanges, Placement};
 pub use stack_walk::{End, Frame, Frames, MachineRegisters, Module, Way};
+pub use stacks::{DumpImage, DumpImages, DumpMemory, DumpStack, ImageSource, Stacks};
 pub use symbol_server::{Guid, SymbolPath};
 pub use sys::{
-    Arm64Function, Arm64Packed, Arm64Registers, Arm64Scope, CoffHeader, DebugEntry, Directory, DosHeader, Function,
-    Headers, ImageInfo, MemoryPiece, OptionalHeader, Registers, Scope, Section, SymbolEntry, TeHeader, VcFeatures,
+    Arm64Context, Arm64Function, Arm64Packed, Arm64Registers, Arm64Scope, CoffHeader, Context, DebugEntry, Directory,
+    DosHeader, DumpEntry, DumpException, DumpHandle, DumpInfo, DumpLocation, DumpModule, DumpPiece, DumpPower,
+    DumpProcess, DumpRegion, DumpSystem, DumpThread, DumpThreadInfo, DumpThreadName, DumpThreadStack, DumpTimes,
+    DumpUnloaded, DumpVersion, Function, Headers, ImageInfo, MemoryPiece, OptionalHeader, Registers, Scope, Section,
+    SymbolEntry, TeHeader, VcFeatures,
 };
 pub use te::{Te, TeDebugEntries};
 pub use tls::{Tls, TlsCallbacks};

@@ -1,7 +1,8 @@
-//! The resources of an image changed in place. See
+//! The resources of an image changed. See
 //! <https://learn.microsoft.com/windows/win32/debug/pe-format#the-rsrc-section>. A caller reads what is there, changes the list, and
-//! writes the image anew: the new resources go over the data of the old ones' section, and all other bytes of the file stay, but
-//! for the sizes of that section and of its directory, and the checksum.
+//! writes the image anew: the new resources go over the data of the old ones' section if they fit there, or else to the end of the
+//! image, into a new section. All other bytes of the file stay, but for the headers' sizes and the checksum; what follows the data
+//! of the sections, such as an installer's data, moves.
 
 use crate::image::{Error, Image};
 use crate::resources::{ResourceLeaf, ResourceName};
@@ -196,15 +197,15 @@ impl<'a> ResourceEditor<'a> {
 
     /// The records, and the array with their names and contents.
     fn records(&self) -> Result<(Vec<sys::Resource>, Vec<u8>), Error> {
-        let (mut records, mut data, mut contents) = (Vec::new(), Vec::new(), 0_usize);
+        let (mut records, mut data) = (Vec::new(), Vec::new());
+        // Resources of a hostile image may share one content: they are not copied where no section has room for them.
+        let contents =
+            self.resources.values().try_fold(0u32, |sum, it| sum.checked_add(it.bytes.len().try_into().ok()?));
+        contents.ok_or(Error::EDIT_TOO_LARGE)?;
         for ((resource_type, name, language), content) in &self.resources {
-            contents = contents.saturating_add(content.bytes.len());
-            // What is longer than the file does not fit into a section of it.
-            if contents > self.bytes.len() {
-                return Err(Error::EDIT_NO_ROOM);
-            }
             let (resource_type, name) = (resource_type.record(&mut data), name.record(&mut data));
             let offset = data.len() as u64;
+            data.try_reserve(content.bytes.len()).map_err(|_| Error::MEMORY)?;
             data.extend_from_slice(&content.bytes);
             let (language, content_range) =
                 (u32::from(*language), sys::Range { offset, length: content.bytes.len() as u64 });
@@ -219,8 +220,8 @@ impl<'a> ResourceEditor<'a> {
         Ok((records, data))
     }
 
-    /// The file of the image with these resources in the place of those that it has. Its checksum is made good, or stays 0 where
-    /// it was 0.
+    /// The file of the image with these resources in the place of those that it has: in their section, or at the end of the image
+    /// if they do not fit there. Its checksum is made good, or stays 0 where it was 0.
     ///
     /// # Errors
     ///
@@ -228,14 +229,29 @@ impl<'a> ResourceEditor<'a> {
     /// [`Error::NO_OPTIONAL_HEADER`], [`Error::EDIT_NO_DIRECTORY`] where there is no resource directory; [`Error::EDIT_SIGNED`]
     /// where the image has certificates, which [`Image::detach`] takes off; [`Error::EDIT_TOO_MANY`], [`Error::EDIT_NAME`],
     /// [`Error::EDIT_TABLES_TOO_LARGE`], [`Error::EDIT_TOO_LARGE`] of too many or too large resources; [`Error::EDIT_HEADERS`],
-    /// [`Error::SHORT`], [`Error::EDIT_ALIGNMENT`] of the headers; [`Error::EDIT_NO_SECTION`], [`Error::EDIT_SECTION`],
-    /// [`Error::EDIT_SHARED_SECTION`], [`Error::EDIT_SYMBOLS`], [`Error::EDIT_OVERLAP`] where the resources have no section of
-    /// their own; [`Error::EDIT_NO_ROOM`] where they do not fit into its data; [`Error::MEMORY`].
+    /// [`Error::SHORT`], [`Error::EDIT_ALIGNMENT`] of the headers; where the resources do not fit into their section,
+    /// [`Error::EDIT_IMAGE_TOO_LARGE`] where the image ends after 4 GB, [`Error::EDIT_NO_HEADER_ROOM`] where the headers have no
+    /// room for a section header, [`Error::EDIT_SECTION`], [`Error::EDIT_SHARED_SECTION`], [`Error::EDIT_SYMBOLS`],
+    /// [`Error::EDIT_OVERLAP`], [`Error::EDIT_DEBUG_DATA`] where the data of the sections have no end; [`Error::MEMORY`].
     pub fn write(&self) -> Result<Vec<u8>, Error> {
         let (records, data) = self.records()?;
         let (bytes, info) = (self.bytes, &self.info);
         let (first, count) = (records.as_ptr(), records.len());
-        file_of(bytes.len() as u64, |room, written| {
+        let mut length = 0;
+        // SAFETY: each pointer and length are those of one slice; `info` and `length` are lent for the call.
+        Error::of(unsafe {
+            sys::pe_c_edited_length(
+                bytes.as_ptr(),
+                bytes.len(),
+                info,
+                first,
+                count,
+                data.as_ptr(),
+                data.len(),
+                &mut length,
+            )
+        })?;
+        file_of(length, |room, written| {
             // SAFETY: each pointer and length are those of one slice; `info` and `written` are lent for the call; the room is
             // apart from the others.
             unsafe {

@@ -5,7 +5,7 @@
 use crate::image::{bytes_of, Error, Image};
 use crate::sys;
 use crate::version::{FixedVersion, Text, VersionName};
-use crate::walk::{ask_of_bytes, look, ImageWalk};
+use crate::walk::{ask_of_bytes, look, ImageList};
 use core::iter::FusedIterator;
 
 /// `RT_VERSION`, the type of version information.
@@ -141,14 +141,14 @@ impl<'a> ResourceLeaf<'a> {
 /// # Ok::<(), pe_c::Error>(())
 /// ```
 #[derive(Clone, Debug)]
-pub struct ResourceLeaves<'i, 'a>(ImageWalk<'i, 'a, sys::ResourceWalk>);
+pub struct ResourceLeaves<'i, 'a>(ImageList<'i, 'a, sys::ResourceWalk, sys::ResourceLeaf>);
 
 impl<'a> Iterator for ResourceLeaves<'_, 'a> {
     type Item = Result<ResourceLeaf<'a>, Error>;
 
     fn next(&mut self) -> Option<Self::Item> {
         let bytes = self.0.image.bytes();
-        Some(self.0.step(sys::pe_c_next_resource_leaf)?.and_then(|found| ResourceLeaf::of(found, bytes)))
+        Some(self.0.step(sys::pe_c_list_resource_leaves)?.and_then(|found| ResourceLeaf::of(found, bytes)))
     }
 }
 
@@ -164,6 +164,6 @@ impl<'a> Image<'a> {
     /// directory names ends past the end of the file, and in strict mode where the root or its entries are not all inside the
     /// data.
     pub fn resource_leaves(&self) -> Result<Option<ResourceLeaves<'_, 'a>>, Error> {
-        Ok(self.ask(sys::pe_c_resource_leaves)?.map(|walk| ResourceLeaves(ImageWalk::new(self, walk))))
+        Ok(self.ask(sys::pe_c_resource_leaves)?.map(|walk| ResourceLeaves(ImageList::new(self, walk))))
     }
 }

@@ -1,8 +1,6 @@
 //! Stack walks on x64 and ARM64: step after step, through all modules of a process, from the innermost frame outwards.
 //!
-//! On x64 a walk is `pe_c_next_frame`, the walk of the library, which is proved. On ARM64 it is made here, of the library's steps:
-//! a return address may be the end of its function, and of its module, if the call before it is the last instruction, so a walk
-//! looks up that call. The top frame alone can be in a prolog or an epilog, or in a leaf function, which has no unwind data.
+//! A walk is `pe_c_next_frames` or `pe_c_next_arm64_frames`, the walks of the library, which are proved.
 
 use crate::frames::{stepped, MemoryList, StepError};
 use crate::image::{Error, Image};
@@ -14,7 +12,9 @@ use alloc::vec::Vec;
 pub struct Module<'m> {
     image: &'m Image<'m>,
     base: u64,
+    /// Its function table, if it is an image of a machine whose stacks are walked, and whether that is ARM64.
     table: sys::Range,
+    is_arm64: bool,
 }
 
 impl<'m> Module<'m> {
@@ -22,21 +22,20 @@ impl<'m> Module<'m> {
     ///
     /// # Errors
     ///
-    /// Those of its function table on x64: [`Error::EXCEPTION_SIZE`], [`Error::UNMAPPED`], [`Error::EXCEPTION_OFFSET`],
+    /// Those of its function table: [`Error::EXCEPTION_SIZE`], [`Error::UNMAPPED`], [`Error::EXCEPTION_OFFSET`],
     /// [`Error::EXCEPTION_BOUNDS`].
     pub fn new(image: &'m Image<'m>, base: u64) -> Result<Self, Error> {
-        let table = image.ask(sys::pe_c_function_table)?.unwrap_or_default();
-        Ok(Module { image, base, table })
+        let (table, is_arm64) = match image.ask(sys::pe_c_arm64_table)? {
+            Some(table) => (table, true),
+            None => (image.ask(sys::pe_c_function_table)?.unwrap_or_default(), false),
+        };
+        Ok(Module { image, base, table, is_arm64 })
     }
 
-    /// Whether it has an address.
-    fn has(&self, address: u64) -> bool {
-        address.checked_sub(self.base).is_some_and(|rva| rva < u64::from(self.image.info().size_of_image))
-    }
-
-    /// The module as the library takes it.
-    fn view(&self) -> sys::Module {
-        sys::Module { image: self.image.view(), table: self.table, base: self.base }
+    /// The module as the library takes it. An image of another machine has no functions.
+    fn view(&self, is_arm64: bool) -> sys::Module {
+        let table = if self.is_arm64 == is_arm64 { self.table } else { sys::Range::default() };
+        sys::Module { image: self.image.view(), table, base: self.base }
     }
 }
 
@@ -54,7 +53,7 @@ pub enum Way {
     /// operating system saved.
     Interrupt,
     /// By a scan of the stack, where no records led on: it is the first word that is after a call in executable code. It may
-    /// be a return address that was left there, so this frame and those after it may be wrong. On x64 alone.
+    /// be a return address that was left there, so this frame and those after it may be wrong.
     Scanned,
 }
 
@@ -66,8 +65,7 @@ pub struct Frame<R = Registers> {
     /// How they were found.
     pub way: Way,
     /// Whether its function has called. If not, `rip` or `pc` is that of the instruction that is about to run: in the top frame,
-    /// in one that an interrupt stopped and, on x64, in one that records lead to where no call ends at `rip`, which was
-    /// interrupted too.
+    /// in one that an interrupt stopped, and in one that records lead to where no call ends there, which was interrupted too.
     pub has_called: bool,
 }
 
@@ -83,7 +81,7 @@ pub enum End {
     NoModule,
     /// No function covers the call in the last frame. A leaf function calls nothing.
     NoFunction,
-    /// An unwind record of the function in the last frame cannot be read. On x64 alone.
+    /// An unwind record of the function in the last frame cannot be read.
     Records(Error),
     /// More than 32 records are chained, or a chain of them never ends. On x64 alone.
     LongChain,
@@ -91,71 +89,44 @@ pub enum End {
     Step(StepError),
 }
 
+/// `pe_c_next_frames` or `pe_c_next_arm64_frames`.
+type NextFrames<W> = unsafe extern "C" fn(
+    *const sys::Module,
+    usize,
+    *const u8,
+    usize,
+    *const sys::MemoryPiece,
+    usize,
+    *mut W,
+    *mut W,
+    usize,
+    *mut u64,
+) -> u32;
+
 mod sealed {
-    use super::{End, Frame, MemoryList, Module};
+    use super::{End, Frame, NextFrames};
 
     pub trait Machine: Copy {
-        /// Where a walk is.
-        type Walk: Clone + core::fmt::Debug;
+        /// The record of a walk.
+        type Walk: Copy + Default + core::fmt::Debug;
+
+        const NEXT_FRAMES: NextFrames<Self::Walk>;
+
+        const IS_ARM64: bool;
 
         /// A walk of at most `most` frames.
-        fn walk(self, most: usize, modules: &[Module<'_>]) -> Self::Walk;
+        fn walk(self, most: u64) -> Self::Walk;
 
-        /// The next frame of a walk, or why there is none.
-        fn next(walk: &mut Self::Walk, modules: &[Module<'_>], memory: MemoryList<'_>) -> Result<Frame<Self>, End>;
+        /// The frame that was returned last.
+        fn frame(walk: &Self::Walk) -> Frame<Self>;
+
+        /// Why a walk that is over is.
+        fn end(walk: &Self::Walk) -> End;
     }
 }
 
 /// The registers of a machine whose stacks [`Frames`] walks: [`Registers`] of x64 and [`Arm64Registers`].
 pub trait MachineRegisters: sealed::Machine {}
-
-// ---- x64
-
-impl MachineRegisters for Registers {}
-
-/// How many frames are asked for at most in one call, which tests all pieces of memory.
-const MOST_AT_ONCE: usize = 1024;
-
-/// A walk of the library, and its modules as the library takes them; the frames that the last call returned, and which of them is
-/// next.
-#[derive(Clone, Debug)]
-pub struct X64Walk {
-    walk: sys::StackWalk,
-    modules: Vec<sys::Module>,
-    found: Vec<sys::StackWalk>,
-    index: usize,
-}
-
-impl X64Walk {
-    /// Asks for the next frames, twice as many as the last time.
-    fn advance(&mut self, memory: MemoryList<'_>) -> Result<(), Error> {
-        let (bytes, pieces, modules) = (memory.bytes(), memory.pieces(), &self.modules);
-        let mut count = 0;
-        self.index = 0;
-        self.found.resize((2 * self.found.len()).clamp(1, MOST_AT_ONCE), sys::StackWalk::default());
-        // SAFETY: the pointers and the lengths are those of slices, also those in the modules, whose images the walk borrows;
-        // the walk and the room for frames are lent for the call.
-        let number = unsafe {
-            sys::pe_c_next_frames(
-                modules.as_ptr(),
-                modules.len(),
-                bytes.as_ptr(),
-                bytes.len(),
-                pieces.as_ptr(),
-                pieces.len(),
-                &mut self.walk,
-                self.found.as_mut_ptr(),
-                self.found.len(),
-                &mut count,
-            )
-        };
-        self.found.truncate(count as usize);
-        match number {
-            sys::DONE | sys::NOTHING => Ok(()),
-            error => Err(Error::with_number(error)),
-        }
-    }
-}
 
 fn way_of(number: u32) -> Way {
     match number {
@@ -167,111 +138,54 @@ fn way_of(number: u32) -> Way {
     }
 }
 
-/// Why the walk is over.
-fn end_of(walk: &sys::StackWalk) -> End {
-    match walk.end {
+/// Why a walk is over, by its numbers.
+fn end_of(end: u32, error: u32, address: u64) -> End {
+    match end {
         0 => End::Bound,
         1 => End::Bottom,
         2 => End::NoModule,
         3 => End::NoFunction,
-        4 => End::Records(Error::with_number(walk.error)),
+        4 => End::Records(Error::with_number(error)),
         5 => End::LongChain,
-        _ => match stepped(walk.error, (), walk.address) {
+        _ => match stepped(error, (), address) {
             Ok(()) => End::NoModule,
             Err(error) => End::Step(error),
         },
     }
 }
 
-impl sealed::Machine for Registers {
-    type Walk = X64Walk;
+macro_rules! machine {
+    ($registers:ty, $walk:ident, $next_frames:ident, $is_arm64:literal) => {
+        impl MachineRegisters for $registers {}
 
-    fn walk(self, most: usize, modules: &[Module<'_>]) -> X64Walk {
-        let walk = sys::StackWalk { registers: self, remaining: most as u64, ..Default::default() };
-        X64Walk { walk, modules: modules.iter().map(Module::view).collect(), found: Vec::new(), index: 0 }
-    }
+        impl sealed::Machine for $registers {
+            type Walk = sys::$walk;
 
-    fn next(it: &mut X64Walk, _modules: &[Module<'_>], memory: MemoryList<'_>) -> Result<Frame, End> {
-        if it.index == it.found.len() {
-            it.advance(memory).map_err(End::Records)?;
+            const NEXT_FRAMES: NextFrames<Self::Walk> = sys::$next_frames;
+
+            const IS_ARM64: bool = $is_arm64;
+
+            fn walk(self, most: u64) -> Self::Walk {
+                sys::$walk { registers: self, remaining: most, ..Default::default() }
+            }
+
+            fn frame(walk: &Self::Walk) -> Frame<Self> {
+                let sys::$walk { registers, way, has_called, .. } = *walk;
+                Frame { registers, way: way_of(way), has_called: has_called != 0 }
+            }
+
+            fn end(walk: &Self::Walk) -> End {
+                end_of(walk.end, walk.error, walk.address)
+            }
         }
-        let sys::StackWalk { registers, way, has_called, .. } =
-            *it.found.get(it.index).ok_or_else(|| end_of(&it.walk))?;
-        it.index += 1;
-        Ok(Frame { registers, way: way_of(way), has_called: has_called != 0 })
-    }
-}
-
-// ---- ARM64
-
-impl MachineRegisters for Arm64Registers {}
-
-/// A walk on ARM64: its last frame, or the registers that it starts with; and how many frames follow at most.
-#[derive(Clone, Debug)]
-pub struct Arm64Walk {
-    last: Option<Frame<Arm64Registers>>,
-    top: Arm64Registers,
-    left: usize,
-}
-
-/// The frame of a caller on ARM64, unless it is the bottom.
-fn called(registers: Arm64Registers, way: Way) -> Result<Frame<Arm64Registers>, End> {
-    if registers.pc == 0 {
-        return Err(End::Bottom);
-    }
-    Ok(Frame { registers, way, has_called: true })
-}
-
-/// The frame of the caller of a frame on ARM64, or why there is none.
-fn arm64_caller(
-    frame: &Frame<Arm64Registers>,
-    modules: &[Module<'_>],
-    memory: MemoryList<'_>,
-) -> Result<Frame<Arm64Registers>, End> {
-    let refused = |error| End::Step(StepError::Records(error));
-    let Frame { registers, has_called, .. } = frame;
-    let inside = registers.pc.saturating_sub(if *has_called { 4 } else { 0 });
-    let module = modules.iter().find(|module| module.has(inside)).ok_or(End::NoModule)?;
-    let rva = |address: u64| address.wrapping_sub(module.base) as u32;
-    let functions = module.image.arm64_functions().map_err(refused)?;
-    let found = match &functions {
-        Some(functions) => functions.find(rva(inside)).map_err(refused)?.map(|function| (functions, function)),
-        None => None,
     };
-    let Some((functions, function)) = found else {
-        return if *has_called { Err(End::NoFunction) } else { called(registers.leaf(), Way::Leaf) };
-    };
-    let caller = functions.step_pieces(function, rva(registers.pc), registers, memory).map_err(End::Step)?;
-    if caller.way == Way::Interrupt {
-        return Ok(caller);
-    }
-    // A function that calls has stored the link register, so a walk in which the stack pointer stays may have no end.
-    if *has_called && caller.registers.sp == registers.sp {
-        return Err(End::Step(StepError::NotRising(caller.registers.sp)));
-    }
-    called(caller.registers, Way::Records)
 }
 
-impl sealed::Machine for Arm64Registers {
-    type Walk = Arm64Walk;
+machine!(Registers, StackWalk, pe_c_next_frames, false);
+machine!(Arm64Registers, Arm64StackWalk, pe_c_next_arm64_frames, true);
 
-    fn walk(self, most: usize, _modules: &[Module<'_>]) -> Arm64Walk {
-        Arm64Walk { last: None, top: self, left: most }
-    }
-
-    fn next(walk: &mut Arm64Walk, modules: &[Module<'_>], memory: MemoryList<'_>) -> Result<Frame<Self>, End> {
-        if walk.left == 0 {
-            return Err(End::Bound);
-        }
-        let frame = match walk.last {
-            None => Frame { registers: walk.top, way: Way::Top, has_called: false },
-            Some(last) => arm64_caller(&last, modules, memory)?,
-        };
-        walk.last = Some(frame);
-        walk.left -= 1;
-        Ok(frame)
-    }
-}
+/// How many frames are asked for at most in one call, which tests all pieces of memory.
+const MOST_AT_ONCE: usize = 1024;
 
 /// A stack walk: the frames of a thread, from the top frame outwards, through all modules of a process. The registers that it
 /// starts with say on which machine: [`Registers`] on x64, [`Arm64Registers`] on ARM64.
@@ -281,12 +195,12 @@ impl sealed::Machine for Arm64Registers {
 ///
 /// The walk is over at the bottom of the stack, where a frame returns to 0; at a frame that is in no function of a module, at
 /// memory that is missing, where the stack pointer does not rise, at any other error, and after `most` frames. [`Frames::end`]
-/// says which. Past an interrupt the stack pointer may be anywhere, and past the top frame on ARM64 it may stay; in any other frame
-/// it has to rise.
+/// says which. Past an interrupt the stack pointer may be anywhere, and on ARM64 it may stay where a frame has not called; in any
+/// other frame it has to rise.
 ///
-/// On x64 the top frame, and one that was interrupted, may be in no function, as after a call of a null pointer. The return
-/// address is then at its stack pointer, if a call ends at it. If none does, it is the first of the 128 words from there on
-/// that is after a call in an executable section: [`Way::Scanned`] says so.
+/// The top frame, and one that was interrupted, may be in no function, as after a call of a null pointer. The return address is
+/// then at its stack pointer, on ARM64 in its link register, if a call ends at it. If none does, it is the first of the 128 words
+/// from the stack pointer on that is after a call in an executable section: [`Way::Scanned`] says so.
 ///
 /// On x64:
 ///
@@ -333,21 +247,72 @@ impl sealed::Machine for Arm64Registers {
 /// ```
 #[derive(Clone, Debug)]
 pub struct Frames<'m, R: MachineRegisters = Registers> {
-    modules: &'m [Module<'m>],
+    modules: Vec<sys::Module>,
     memory: MemoryList<'m>,
+    /// Where the walk is, the frames that the last call returned, and which of them is next.
     walk: R::Walk,
+    found: Vec<R::Walk>,
+    index: usize,
     end: Option<End>,
+    images: core::marker::PhantomData<&'m Image<'m>>,
 }
 
 impl<'m, R: MachineRegisters> Frames<'m, R> {
     /// A walk of at most `most` frames, from the registers of a thread.
     pub fn new(registers: R, most: usize, modules: &'m [Module<'m>], memory: MemoryList<'m>) -> Self {
-        Frames { modules, memory, walk: registers.walk(most, modules), end: None }
+        Frames {
+            modules: modules.iter().map(|module| module.view(R::IS_ARM64)).collect(),
+            memory,
+            walk: registers.walk(most as u64),
+            found: Vec::new(),
+            index: 0,
+            end: None,
+            images: core::marker::PhantomData,
+        }
     }
 
     /// Why the walk is over, or `None` before its end.
     pub fn end(&self) -> Option<End> {
         self.end
+    }
+
+    /// Asks for the next frames, twice as many as the last time.
+    fn advance(&mut self) -> Result<(), Error> {
+        let (bytes, pieces, modules) = (self.memory.bytes(), self.memory.pieces(), &self.modules);
+        let mut count = 0;
+        self.index = 0;
+        self.found.resize((2 * self.found.len()).clamp(1, MOST_AT_ONCE), R::Walk::default());
+        // SAFETY: the pointers and the lengths are those of slices, also those in the modules, whose images the walk borrows;
+        // the walk and the room for frames are lent for the call.
+        let number = unsafe {
+            (R::NEXT_FRAMES)(
+                modules.as_ptr(),
+                modules.len(),
+                bytes.as_ptr(),
+                bytes.len(),
+                pieces.as_ptr(),
+                pieces.len(),
+                &mut self.walk,
+                self.found.as_mut_ptr(),
+                self.found.len(),
+                &mut count,
+            )
+        };
+        self.found.truncate(count as usize);
+        match number {
+            sys::DONE | sys::NOTHING => Ok(()),
+            error => Err(Error::with_number(error)),
+        }
+    }
+
+    /// The next frame, or why there is none.
+    fn following(&mut self) -> Result<Frame<R>, End> {
+        if self.index == self.found.len() {
+            self.advance().map_err(End::Records)?;
+        }
+        let frame = self.found.get(self.index).map(R::frame).ok_or_else(|| R::end(&self.walk))?;
+        self.index += 1;
+        Ok(frame)
     }
 }
 
@@ -358,7 +323,7 @@ impl<R: MachineRegisters> Iterator for Frames<'_, R> {
         if self.end.is_some() {
             return None;
         }
-        match R::next(&mut self.walk, self.modules, self.memory) {
+        match self.following() {
             Ok(frame) => Some(frame),
             Err(end) => {
                 self.end = Some(end);

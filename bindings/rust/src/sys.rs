@@ -17,6 +17,35 @@ pub const PERMISSIVE: u32 = 1;
 /// Added to a mode: as [`Layout::Mapped`](crate::Layout::Mapped).
 pub const MAPPED: u32 = 2;
 
+// Kinds of streams of a minidump, `MINIDUMP_STREAM_TYPE`.
+
+/// Threads.
+pub const THREAD_LIST_STREAM: u32 = 3;
+/// Modules.
+pub const MODULE_LIST_STREAM: u32 = 4;
+/// Pieces of memory.
+pub const MEMORY_LIST_STREAM: u32 = 5;
+/// The exception.
+pub const EXCEPTION_STREAM: u32 = 6;
+/// The system.
+pub const SYSTEM_INFO_STREAM: u32 = 7;
+/// Pieces of memory of a full dump.
+pub const MEMORY64_LIST_STREAM: u32 = 9;
+/// Handles.
+pub const HANDLE_DATA_STREAM: u32 = 12;
+/// Function tables of code that was made as the process ran, as bytes.
+pub const FUNCTION_TABLE_STREAM: u32 = 13;
+/// Modules that were unloaded.
+pub const UNLOADED_MODULE_LIST_STREAM: u32 = 14;
+/// The process.
+pub const MISC_INFO_STREAM: u32 = 15;
+/// Regions of memory.
+pub const MEMORY_INFO_LIST_STREAM: u32 = 16;
+/// More on threads.
+pub const THREAD_INFO_LIST_STREAM: u32 = 17;
+/// Names of threads.
+pub const THREAD_NAMES_STREAM: u32 = 24;
+
 macro_rules! record {
     ($(#[$doc:meta])* $name:ident, $size:literal { $($(#[$field_doc:meta])* $field:ident: $type:ty),* $(,)? }) => {
         $(#[$doc])*
@@ -111,6 +140,14 @@ Section, 40 {
     /// `IMAGE_SCN_` flags.
     characteristics: u32,
 });
+record!(
+/// An entry of an index of the sections: the RVAs from `start` up to the start of the next entry.
+IndexEntry, 16 {
+    /// The first RVA.
+    start: u64,
+    /// The index of the section that maps them, plus 1; 0 where none does.
+    section: u64,
+});
 /// An image as newer calls take it, in place of its parts.
 #[repr(C)]
 #[derive(Clone, Copy, Debug)]
@@ -125,6 +162,10 @@ pub struct View {
     pub sections: *const Section,
     /// Their number.
     pub count: usize,
+    /// What [`pe_c_index`] made of these sections.
+    pub index: *const IndexEntry,
+    /// The entries of the index; 0 without one.
+    pub entries: usize,
 }
 
 record!(
@@ -531,8 +572,8 @@ Frame, 424 {
     /// `rip` less the address where the image is loaded; [`pe_c_leaf`] does not read it.
     rva: u32,
 });
-/// A module of a process on x64: its image, which has as many bytes where it is loaded as `size_of_image` says. What the view leads
-/// to stays readable as long as the record is passed.
+/// A module of a process: its image, which has as many bytes where it is loaded as `size_of_image` says. What the view leads to
+/// stays readable as long as the record is passed.
 #[repr(C)]
 #[derive(Clone, Copy, Debug)]
 pub struct Module {
@@ -689,6 +730,28 @@ Arm64Frame, 360 {
     rva: u32,
     /// After a step 1 where no call left the caller, else 0.
     interrupted: u32,
+});
+record!(
+/// A walk of a stack on ARM64, and the frame that was returned last.
+Arm64StackWalk, 368 {
+    /// Inside the function of the frame; before the first call those of the thread.
+    registers: Arm64Registers,
+    /// How many frames follow at most; 0 once the walk is over.
+    remaining: u64,
+    /// Of a walk that is over the address that its error speaks of, or 0.
+    address: u64,
+    /// 0 before the first call, else 1.
+    has_returned: u32,
+    /// How the frame was found, by the numbers of [`Way`](crate::Way) from 0 on.
+    way: u32,
+    /// 1 where the function of the frame has called, else 0.
+    has_called: u32,
+    /// Why the walk is over, by the numbers of [`End`](crate::End) from 0 on.
+    end: u32,
+    /// Of a walk that is over the number of its error, or 0.
+    error: u32,
+    /// 0.
+    spare: u32,
 });
 record!(
 /// A walk over exports.
@@ -1200,6 +1263,236 @@ BoundForwarder, 24 {
     spare: u32,
 });
 record!(
+/// Why an element of a signature is refused.
+SignatureFailure, 32 {
+    /// Of the element, or of the range that is not inside the bytes.
+    offset: u64,
+    /// The tag that is there, how many octets a length has after its first, the length of a content, or that of the range; else 0.
+    value: u64,
+    /// How many bytes the parent has left, or follow the last field; else 0.
+    left: u64,
+    /// The tag that the grammar has there; else 0.
+    expected: u32,
+    /// The number of the error.
+    result: u32,
+});
+record!(
+/// An object identifier.
+Oid, 24 {
+    /// Its content.
+    octets: Range,
+    /// Its number, of the group that the field has; 0 without one.
+    id: u32,
+    /// 0.
+    spare: u32,
+});
+record!(
+/// An algorithm, `AlgorithmIdentifier`.
+Algorithm, 40 {
+    /// Of algorithms.
+    oid: Oid,
+    /// All octets of the parameters; empty without them.
+    parameters: Range,
+});
+record!(
+/// An element of DER.
+DerElement, 40 {
+    /// All octets: tag, length and content.
+    whole: Range,
+    /// The content.
+    content: Range,
+    /// The identifier octet.
+    tag: u32,
+    /// 0.
+    spare: u32,
+});
+record!(
+/// A signature: `ContentInfo`, `SignedData`, `EncapsulatedContentInfo`. Ranges are of contents, but for `content`.
+SignedData, 144 {
+    /// The type of what is signed.
+    content_type: Oid,
+    /// An `INTEGER`.
+    version: Range,
+    /// A walk over the digest algorithms of all signers.
+    digest_algorithms: Range,
+    /// All octets of what is signed.
+    content: Range,
+    /// What `messageDigest` is the digest of.
+    digested: Range,
+    /// A walk over the certificates.
+    certificates: Range,
+    /// A walk over the certificate revocation lists.
+    crls: Range,
+    /// A walk over the signers.
+    signers: Range,
+    /// 1 where what is signed is there, 0 where it is detached.
+    has_content: u32,
+    /// 0.
+    spare: u32,
+});
+record!(
+/// What Authenticode signs, `SpcIndirectDataContent`.
+SpcIndirectData, 96 {
+    /// The type of what is signed.
+    value_type: Oid,
+    /// All octets of its value.
+    value: Range,
+    /// Of the digest.
+    digest_algorithm: Algorithm,
+    /// The digest.
+    digest: Range,
+});
+record!(
+/// What a signature says of an image as a file, `SpcPeImageData`.
+SpcPeImageData, 32 {
+    /// The content of a `BIT STRING`.
+    flags: Range,
+    /// All octets of the link.
+    file: Range,
+});
+record!(
+/// A signer, `SignerInfo`. Ranges are of contents, but for `issuer` and `signed_rest`.
+SignerInfo, 216 {
+    /// An `INTEGER`.
+    version: Range,
+    /// All octets of the name of the certificate's issuer.
+    issuer: Range,
+    /// The serial number of the certificate.
+    serial: Range,
+    /// The subject key identifier of the certificate, where there is no issuer.
+    key_identifier: Range,
+    /// Of `messageDigest`, and of what is signed.
+    digest_algorithm: Algorithm,
+    /// A walk over the signed attributes.
+    signed_attributes: Range,
+    /// The octets of the signed attributes after their tag.
+    signed_rest: Range,
+    /// Of the signature.
+    signature_algorithm: Algorithm,
+    /// The signature.
+    signature: Range,
+    /// A walk over the unsigned attributes.
+    unsigned_attributes: Range,
+    /// 1 where there are signed attributes, else 0.
+    has_signed_attributes: u32,
+    /// The octet that is signed before `signed_rest`; 0 without signed attributes.
+    signed_first: u32,
+});
+record!(
+/// An attribute of a signer.
+SignerAttribute, 40 {
+    /// Which it is.
+    kind: Oid,
+    /// A walk over its values.
+    values: Range,
+});
+record!(
+/// What a signer says of the program, `SpcSpOpusInfo`.
+SpcOpusInfo, 40 {
+    /// The name of the program.
+    program_name: Range,
+    /// Where more is said.
+    more_info: Range,
+    /// The tag of the name; 0 without one.
+    program_name_tag: u32,
+    /// The tag of what says more; 0 without it.
+    more_info_tag: u32,
+});
+record!(
+/// A certificate of X.509. Ranges are of whole elements, but for `serial`, `extensions` and `signature`.
+X509Certificate, 184 {
+    /// What the issuer's signature is over.
+    to_be_signed: Range,
+    /// The content of the serial number.
+    serial: Range,
+    /// The name of the issuer.
+    issuer: Range,
+    /// The name of the subject.
+    subject: Range,
+    /// The first time when it is valid.
+    not_before: Range,
+    /// The last one.
+    not_after: Range,
+    /// The key with its algorithm.
+    public_key: Range,
+    /// A walk over the extensions.
+    extensions: Range,
+    /// Of the signature.
+    signature_algorithm: Algorithm,
+    /// The signature, without the octet before its bits.
+    signature: Range,
+});
+record!(
+/// An extension of a certificate.
+X509Extension, 48 {
+    /// Which it is.
+    kind: Oid,
+    /// The content of its `OCTET STRING`.
+    value: Range,
+    /// 1 where it is critical, else 0.
+    critical: u32,
+    /// 0.
+    spare: u32,
+});
+record!(
+/// A walk over the attributes of a name.
+NameWalk, 24 {
+    /// The bytes of the name that are left.
+    left: Range,
+    /// Where the relative distinguished name ends that is read.
+    rdn_end: u64,
+});
+record!(
+/// An attribute of a name.
+NameAttribute, 48 {
+    /// Which it is.
+    kind: Oid,
+    /// The content of the value.
+    value: Range,
+    /// The tag of the value.
+    tag: u32,
+    /// 1 where it is the first of its relative distinguished name, else 0.
+    starts_rdn: u32,
+});
+record!(
+/// A time in UTC.
+UtcTime, 24 {
+    /// 0 to 9999.
+    year: u32,
+    /// 1 to 12.
+    month: u32,
+    /// 1 to 31; that a month has fewer days is not tested.
+    day: u32,
+    /// 0 to 23.
+    hour: u32,
+    /// 0 to 59.
+    minute: u32,
+    /// 0 to 59.
+    second: u32,
+});
+record!(
+/// What a time-stamp token says, `TSTInfo`. Ranges are of contents, but for `time` and `accuracy`.
+TstInfo, 168 {
+    /// An `INTEGER`.
+    version: Range,
+    /// The object identifier of the policy.
+    policy: Range,
+    /// Of the digest.
+    digest_algorithm: Algorithm,
+    /// The digest of what is stamped.
+    digest: Range,
+    /// The serial number of the token.
+    serial: Range,
+    /// All octets of the time.
+    time: Range,
+    /// All octets of how exact it is.
+    accuracy: Range,
+    /// The number of who asked.
+    nonce: Range,
+    /// The name of who stamps.
+    authority: Range,
+});
+record!(
 /// A COFF symbol, `IMAGE_SYMBOL`, with what its entry says of others.
 SymbolEntry, 48 {
     /// Its auxiliary records, 18 bytes each, up to the end of the table.
@@ -1273,6 +1566,324 @@ Failure, 32 {
     /// 0.
     spare: u32,
 });
+record!(
+/// The header, MINIDUMP_HEADER.
+DumpInfo, 40 {
+    /// Entries of 12 bytes.
+    directory: Range,
+    /// What the writer was asked for, MINIDUMP_TYPE.
+    flags: u64,
+    /// A793h in the low 16 bits; the others are the writer's own.
+    version: u32,
+    /// The number of entries of the directory.
+    number_of_streams: u32,
+    /// Mostly 0.
+    check_sum: u32,
+    /// When the dump was written, in seconds since 1970.
+    time_date_stamp: u32,
+});
+record!(
+/// Where bytes are, MINIDUMP_LOCATION_DESCRIPTOR. One of no bytes says that there are none.
+DumpLocation, 8 {
+    /// In bytes.
+    size: u32,
+    /// Offset in the dump.
+    rva: u32,
+});
+record!(
+/// An entry of the directory, MINIDUMP_DIRECTORY.
+DumpEntry, 12 {
+    /// A `*_STREAM`; 0 is none.
+    stream_type: u32,
+    /// Where the stream is.
+    location: DumpLocation,
+});
+record!(
+/// The memory of a stack, MINIDUMP_MEMORY_DESCRIPTOR. It may be empty: the pieces of memory have what there is of it.
+DumpThreadStack, 16 {
+    /// Address of the first byte.
+    start_of_memory_range: u64,
+    /// Where its bytes are.
+    memory: DumpLocation,
+});
+record!(
+/// A thread, MINIDUMP_THREAD.
+DumpThread, 48 {
+    /// The ID of the thread.
+    thread_id: u32,
+    /// 0 if it runs.
+    suspend_count: u32,
+    /// The priority class of the process.
+    priority_class: u32,
+    /// The priority of the thread.
+    priority: u32,
+    /// Address of its environment block.
+    teb: u64,
+    /// The memory of its stack.
+    stack: DumpThreadStack,
+    /// No bytes where it has none.
+    thread_context: DumpLocation,
+});
+record!(
+/// The version of a module, VS_FIXEDFILEINFO. A signature of 0 says that there is none.
+DumpVersion, 52 {
+    /// FEEF04BDh.
+    signature: u32,
+    /// The version of this structure.
+    struc_version: u32,
+    /// Major part in the upper 16 bits, minor part in the lower.
+    file_version_ms: u32,
+    /// Build and revision.
+    file_version_ls: u32,
+    /// Of the product: major and minor part.
+    product_version_ms: u32,
+    /// Build and revision.
+    product_version_ls: u32,
+    /// Which bits of the flags are valid.
+    file_flags_mask: u32,
+    /// `VS_FF_*`.
+    file_flags: u32,
+    /// `VOS_*`.
+    file_os: u32,
+    /// `VFT_*`.
+    file_type: u32,
+    /// `VFT2_*`.
+    file_subtype: u32,
+    /// The date of the file, upper half.
+    file_date_ms: u32,
+    /// Lower half.
+    file_date_ls: u32,
+});
+record!(
+/// A module, MINIDUMP_MODULE.
+DumpModule, 96 {
+    /// Address where it is loaded.
+    base_of_image: u64,
+    /// SizeOfImage of its image.
+    size_of_image: u32,
+    /// CheckSum of its image.
+    check_sum: u32,
+    /// TimeDateStamp of its image.
+    time_date_stamp: u32,
+    /// Its path, for [`Dump::text`](crate::Dump::text).
+    module_name_rva: u32,
+    /// Its version.
+    version_info: DumpVersion,
+    /// Its CodeView record: pe_c_dump_range, then pe_c_codeview. No bytes where there is none.
+    cv_record: DumpLocation,
+    /// Its IMAGE_DEBUG_MISC.
+    misc_record: DumpLocation,
+    /// 0.
+    spare: u32,
+});
+record!(
+/// The name of a thread, MINIDUMP_THREAD_NAME.
+DumpThreadName, 16 {
+    /// For [`Dump::text`](crate::Dump::text).
+    rva_of_thread_name: u64,
+    /// The ID of the thread.
+    thread_id: u32,
+    /// 0.
+    spare: u32,
+});
+record!(
+/// A module that was unloaded, MINIDUMP_UNLOADED_MODULE.
+DumpUnloaded, 24 {
+    /// Address where it was loaded.
+    base_of_image: u64,
+    /// In bytes.
+    size_of_image: u32,
+    /// `CheckSum` of its image.
+    check_sum: u32,
+    /// `TimeDateStamp` of its image.
+    time_date_stamp: u32,
+    /// For [`Dump::text`](crate::Dump::text).
+    module_name_rva: u32,
+});
+record!(
+/// More on a thread, MINIDUMP_THREAD_INFO.
+DumpThreadInfo, 64 {
+    /// The ID of the thread.
+    thread_id: u32,
+    /// MINIDUMP_THREAD_INFO_*: 2 is the thread that wrote the dump.
+    dump_flags: u32,
+    /// An HRESULT of the writer.
+    dump_error: u32,
+    /// 259 while it runs.
+    exit_status: u32,
+    /// In 100 ns since 1601.
+    create_time: u64,
+    /// When it ended, likewise.
+    exit_time: u64,
+    /// In 100 ns.
+    kernel_time: u64,
+    /// Likewise.
+    user_time: u64,
+    /// Of its function.
+    start_address: u64,
+    /// The processors on which it may run.
+    affinity: u64,
+});
+record!(
+/// A handle, MINIDUMP_HANDLE_DESCRIPTOR.
+DumpHandle, 32 {
+    /// The value of the handle.
+    handle: u64,
+    /// For [`Dump::text`](crate::Dump::text); 0 if there is none.
+    type_name_rva: u32,
+    /// Likewise.
+    object_name_rva: u32,
+    /// Its attributes.
+    attributes: u32,
+    /// What its holder may do.
+    granted_access: u32,
+    /// How many handles its object has.
+    handle_count: u32,
+    /// How many references its object has.
+    pointer_count: u32,
+});
+record!(
+/// A region of memory, MINIDUMP_MEMORY_INFO.
+DumpRegion, 40 {
+    /// Address of the first byte.
+    base_address: u64,
+    /// Address of the allocation that it is part of.
+    allocation_base: u64,
+    /// In bytes.
+    region_size: u64,
+    /// PAGE_*.
+    allocation_protect: u32,
+    /// MEM_COMMIT, MEM_RESERVE or MEM_FREE.
+    state: u32,
+    /// PAGE_*.
+    protect: u32,
+    /// MEM_IMAGE, MEM_MAPPED or MEM_PRIVATE.
+    memory_type: u32,
+});
+record!(
+/// The exception that a dump was written for, MINIDUMP_EXCEPTION_STREAM.
+DumpException, 160 {
+    /// The ID of the thread.
+    thread_id: u32,
+    /// The code, as C0000005h.
+    exception_code: u32,
+    /// 1 if the thread cannot go on, or 0.
+    exception_flags: u32,
+    /// As the file says, so it may be above 15.
+    number_parameters: u32,
+    /// Address, in the process, of another exception that it belongs to, or 0.
+    exception_record: u64,
+    /// Of the instruction.
+    exception_address: u64,
+    /// Parameters: of an access violation 0 for a read, 1 for a write, 8 for execution, and the address.
+    exception_information: [u64; 15],
+    /// Of the thread as it crashed.
+    thread_context: DumpLocation,
+});
+record!(
+/// The system, MINIDUMP_SYSTEM_INFO.
+DumpSystem, 32 {
+    /// 9 x64, 12 ARM64, 0 x86: of which machine the contexts are.
+    processor_architecture: u16,
+    /// The family of the processor.
+    processor_level: u16,
+    /// Its model and stepping.
+    processor_revision: u16,
+    /// The number of processors.
+    number_of_processors: u8,
+    /// VER_NT_*.
+    product_type: u8,
+    /// The version of the system, major part.
+    major_version: u32,
+    /// Minor part.
+    minor_version: u32,
+    /// The build of the system.
+    build_number: u32,
+    /// VER_PLATFORM_*.
+    platform_id: u32,
+    /// The name of the service pack, for [`Dump::text`](crate::Dump::text).
+    csd_version_rva: u32,
+    /// VER_SUITE_*.
+    suite_mask: u16,
+    /// 0.
+    spare: u16,
+});
+record!(
+/// How long a process ran.
+DumpTimes, 12 {
+    /// In seconds since 1970.
+    process_create_time: u32,
+    /// In seconds.
+    process_user_time: u32,
+    /// In seconds, in the kernel.
+    process_kernel_time: u32,
+});
+record!(
+/// The speed of the processor.
+DumpPower, 20 {
+    /// The most that it may have, in MHz.
+    processor_max_mhz: u32,
+    /// What it had, in MHz.
+    processor_current_mhz: u32,
+    /// The limit that was set, in MHz.
+    processor_mhz_limit: u32,
+    /// The deepest idle state that it may have.
+    processor_max_idle_state: u32,
+    /// The idle state that it had.
+    processor_current_idle_state: u32,
+});
+record!(
+/// What is known of a process, MINIDUMP_MISC_INFO and _2. What is not there is 0.
+DumpProcess, 48 {
+    /// As the writer says it.
+    size_of_info: u32,
+    /// MINIDUMP_MISC1_*.
+    flags1: u32,
+    /// With bit 0 of the flags.
+    process_id: u32,
+    /// With bit 1.
+    process_times: DumpTimes,
+    /// 1 with bit 2 in a stream of 44 bytes or more, else 0.
+    has_processor_power: u32,
+    /// The speed of the processor.
+    processor_power: DumpPower,
+});
+record!(
+/// A piece of memory, as pe_c_next_frame takes it with the bytes of the dump as its memory.
+DumpPiece, 32 {
+    /// Where its bytes are.
+    memory: MemoryPiece,
+    /// How many more bytes the dump says it has, which a truncated file does not have.
+    lost: u64,
+});
+record!(
+/// A walk over the pieces of a full dump.
+Memory64Walk, 24 {
+    /// Those that are left, 16 bytes each.
+    entries: Range,
+    /// Offset of the bytes of the next piece.
+    next: u64,
+});
+record!(
+/// The registers of a thread on x64, CONTEXT.
+Context, 400 {
+    /// Xmm is 0 where it was not saved.
+    registers: Registers,
+    /// CONTEXT_*: bit 3 says that xmm was saved.
+    context_flags: u32,
+    /// The flags of the processor.
+    eflags: u32,
+});
+record!(
+/// The registers of a thread on ARM64, ARM64_NT_CONTEXT.
+Arm64Context, 336 {
+    /// D8 to d15 are 0 where they were not saved.
+    registers: Arm64Registers,
+    /// CONTEXT_ARM64_*: bit 2 says that they were.
+    context_flags: u32,
+    /// The flags of the processor.
+    cpsr: u32,
+});
 
 /// Declares calls that take an image first, after their names more parameters, and then `out`.
 macro_rules! calls_of_an_image {
@@ -1297,7 +1908,7 @@ macro_rules! calls_of_bytes {
 
 extern "C" {
     /// Returns the number of the archive's ABI, which its name has too: a program does not link with an archive of another.
-    pub fn pe_c_abi_3() -> u32;
+    pub fn pe_c_abi_4() -> u32;
     /// Writes the text of a result to the start of the array, truncated at its end. Returns the length of the whole text.
     pub fn pe_c_text(number: u32, room: *mut u8, length: usize) -> usize;
     /// Writes the section headers of a COFF object to the start of an array.
@@ -1329,6 +1940,8 @@ extern "C" {
         -> u32;
     /// Returns the first entry of a type in the debug directory.
     pub fn pe_c_first_debug_entry(view: *const View, data_type: u32, out: *mut DebugEntry) -> u32;
+    /// Makes an index of the sections of a view.
+    pub fn pe_c_index(view: *const View, room: *mut IndexEntry, entries: usize, written: *mut u64) -> u32;
     /// Returns the index of the section that maps an RVA.
     pub fn pe_c_section_at(view: *const View, rva: u32, out: *mut u64) -> u32;
     /// Returns the bytes that the RVAs of a section are mapped to.
@@ -1348,6 +1961,16 @@ extern "C" {
         walk: *mut Walk,
         entries: *mut Code,
         number_of_entries: usize,
+        written: *mut u64,
+    ) -> u32;
+    /// Returns the unwind record of an unwind RVA, and lists its codes.
+    pub fn pe_c_record_codes(
+        view: *const View,
+        table: *const Range,
+        unwind: u32,
+        out: *mut Record,
+        codes: *mut Code,
+        number_of_codes: usize,
         written: *mut u64,
     ) -> u32;
     /// Lists the next functions of an ARM64 table, from an index on.
@@ -1413,6 +2036,30 @@ extern "C" {
         view: *const View,
         walk: *mut Range,
         entries: *mut VersionBlock,
+        number_of_entries: usize,
+        written: *mut u64,
+    ) -> u32;
+    /// Lists the next DLLs of a delay import directory.
+    pub fn pe_c_list_delay_imports(
+        view: *const View,
+        walk: *mut Range,
+        entries: *mut DelayImport,
+        number_of_entries: usize,
+        written: *mut u64,
+    ) -> u32;
+    /// Lists the next functions of a DLL that is loaded later.
+    pub fn pe_c_list_delayed_functions(
+        view: *const View,
+        walk: *mut DelayedFunctions,
+        entries: *mut DelayedFunction,
+        number_of_entries: usize,
+        written: *mut u64,
+    ) -> u32;
+    /// Lists the next entries of a POGO record.
+    pub fn pe_c_list_pogo_entries(
+        view: *const View,
+        walk: *mut Range,
+        entries: *mut PogoEntry,
         number_of_entries: usize,
         written: *mut u64,
     ) -> u32;
@@ -1488,6 +2135,29 @@ extern "C" {
         piece_count: usize,
         walk: *mut StackWalk,
         frames: *mut StackWalk,
+        frame_count: usize,
+        count: *mut u64,
+    ) -> u32;
+    /// Returns the next frame of a stack walk on ARM64, in the walk.
+    pub fn pe_c_next_arm64_frame(
+        modules: *const Module,
+        module_count: usize,
+        memory: *const u8,
+        memory_length: usize,
+        pieces: *const MemoryPiece,
+        piece_count: usize,
+        walk: *mut Arm64StackWalk,
+    ) -> u32;
+    /// Fills `frames` with the next frames of a stack walk on ARM64, each the walk as it is after that frame.
+    pub fn pe_c_next_arm64_frames(
+        modules: *const Module,
+        module_count: usize,
+        memory: *const u8,
+        memory_length: usize,
+        pieces: *const MemoryPiece,
+        piece_count: usize,
+        walk: *mut Arm64StackWalk,
+        frames: *mut Arm64StackWalk,
         frame_count: usize,
         count: *mut u64,
     ) -> u32;
@@ -1621,6 +2291,36 @@ calls_of_bytes! {
     pe_c_next_pogo_entry(walk: *mut Range) -> PogoEntry;
     /// Returns the next certificate of the certificate table.
     pe_c_next_certificate(walk: *mut Range) -> Certificate;
+    /// Reads a signature.
+    pe_c_signature(range: *const Range, failure: *mut SignatureFailure) -> SignedData;
+    /// Returns the next element of a list in a signature.
+    pe_c_next_element(walk: *mut Range, failure: *mut SignatureFailure) -> DerElement;
+    /// Reads an algorithm.
+    pe_c_algorithm_identifier(range: *const Range, failure: *mut SignatureFailure) -> Algorithm;
+    /// Reads what Authenticode signs.
+    pe_c_indirect_data(range: *const Range, failure: *mut SignatureFailure) -> SpcIndirectData;
+    /// Reads what a signature says of an image as a file.
+    pe_c_image_data(range: *const Range, failure: *mut SignatureFailure) -> SpcPeImageData;
+    /// Reads a signer.
+    pe_c_signer(range: *const Range, failure: *mut SignatureFailure) -> SignerInfo;
+    /// Reads an attribute of a signer.
+    pe_c_attribute(range: *const Range, failure: *mut SignatureFailure) -> SignerAttribute;
+    /// Reads what a signer says of the program.
+    pe_c_opus_info(range: *const Range, failure: *mut SignatureFailure) -> SpcOpusInfo;
+    /// Reads a certificate of X.509.
+    pe_c_x509(range: *const Range, failure: *mut SignatureFailure) -> X509Certificate;
+    /// Reads an extension of a certificate.
+    pe_c_extension(range: *const Range, failure: *mut SignatureFailure) -> X509Extension;
+    /// Returns what a key is for, of an extension.
+    pe_c_key_usage(range: *const Range, failure: *mut SignatureFailure) -> u32;
+    /// Returns a walk over the attributes of a name.
+    pe_c_name(range: *const Range, failure: *mut SignatureFailure) -> NameWalk;
+    /// Returns the next attribute of a name.
+    pe_c_next_name_attribute(walk: *mut NameWalk, failure: *mut SignatureFailure) -> NameAttribute;
+    /// Reads a time.
+    pe_c_time(range: *const Range, failure: *mut SignatureFailure) -> UtcTime;
+    /// Reads what a time stamp says.
+    pe_c_time_stamp(range: *const Range, failure: *mut SignatureFailure) -> TstInfo;
     /// Returns what the Authenticode digest of an image covers.
     pe_c_digest_ranges(image: *const ImageInfo) -> Digest;
     /// Returns the checksum that an image should have, and the file offset of its field.
@@ -1701,6 +2401,46 @@ calls_of_bytes! {
     pe_c_next_relocation_block(walk: *mut Range) -> RelocationBlock;
     /// Returns the next relocation of a block.
     pe_c_next_relocation(page_rva: u32, walk: *mut Range) -> Relocation;
+    /// Reads the header of a minidump, and tests that its directory is inside the bytes.
+    pe_c_dump() -> DumpInfo;
+    /// Returns the entry of the directory with an index, or [`NOTHING`].
+    pe_c_dump_entry_at(directory: *const Range, index: u64) -> DumpEntry;
+    /// Returns the range of the stream of a kind, that of the first entry of the kind, or [`NOTHING`].
+    pe_c_dump_stream(directory: *const Range, stream_type: u32) -> Range;
+    /// Returns the range of a location.
+    pe_c_dump_range(location: *const DumpLocation) -> Range;
+    /// Returns the range of a string, in UTF-16LE without its final zero. `rva` is what a record says.
+    pe_c_dump_text(rva: u64) -> Range;
+    /// Returns the thread with an index in the stream of threads, or [`NOTHING`].
+    pe_c_dump_thread_at(stream: *const Range, index: u64) -> DumpThread;
+    /// The same of modules, which stand in no order.
+    pe_c_dump_module_at(stream: *const Range, index: u64) -> DumpModule;
+    /// The same of names of threads.
+    pe_c_dump_thread_name_at(stream: *const Range, index: u64) -> DumpThreadName;
+    /// Returns the unloaded module with an index in their stream, or [`NOTHING`].
+    pe_c_dump_unloaded_at(stream: *const Range, index: u64) -> DumpUnloaded;
+    /// The same of thread information.
+    pe_c_dump_thread_info_at(stream: *const Range, index: u64) -> DumpThreadInfo;
+    /// The same of handles.
+    pe_c_dump_handle_at(stream: *const Range, index: u64) -> DumpHandle;
+    /// The same of regions of memory.
+    pe_c_dump_region_at(stream: *const Range, index: u64) -> DumpRegion;
+    /// Reads the exception, by its stream.
+    pe_c_dump_exception(stream: *const Range) -> DumpException;
+    /// Reads the system, by its stream.
+    pe_c_dump_system(stream: *const Range) -> DumpSystem;
+    /// Reads what is known of the process, by its stream.
+    pe_c_dump_process(stream: *const Range) -> DumpProcess;
+    /// Returns the piece of memory with an index in the list of pieces, or [`NOTHING`].
+    pe_c_dump_memory_at(stream: *const Range, index: u64) -> DumpPiece;
+    /// Returns a walk over the pieces of memory of a full dump, by their stream. It reads each size once.
+    pe_c_dump_memory64(stream: *const Range) -> Memory64Walk;
+    /// Returns the next piece of memory of a full dump.
+    pe_c_next_memory64(walk: *mut Memory64Walk) -> DumpPiece;
+    /// Reads a context of x64: that of the exception, or of a thread.
+    pe_c_dump_context(location: *const DumpLocation) -> Context;
+    /// The same of ARM64, whose contexts have 912 bytes.
+    pe_c_dump_context_arm64(location: *const DumpLocation) -> Arm64Context;
 }
 
 calls_of_an_image! {

@@ -106,25 +106,9 @@ pub(crate) struct ImageWalk<'i, 'a, W> {
     is_over: bool,
 }
 
-/// A call that moves a walk over an image.
-pub(crate) type ImageStep<W, T> = unsafe extern "C" fn(
-    *const u8,
-    usize,
-    *const crate::sys::ImageInfo,
-    *const crate::sys::Section,
-    usize,
-    *mut W,
-    *mut T,
-) -> u32;
-
 impl<'i, 'a, W> ImageWalk<'i, 'a, W> {
     pub fn new(image: &'i Image<'a>, walk: W) -> Self {
         ImageWalk { image, walk, is_over: false }
-    }
-
-    /// The next item.
-    pub fn step<T: Default>(&mut self, call: ImageStep<W, T>) -> Option<Result<T, Error>> {
-        unless_over(&mut self.is_over, || self.image.step(call, &mut self.walk))
     }
 
     /// The next item, by a call that takes a record too.

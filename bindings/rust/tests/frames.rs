@@ -229,7 +229,8 @@ fn frames_that_lie() {
 /// An ARM64 image of three functions and one whose packed unwind data have no canonical prolog. The first has the packed data
 /// of which llvm-readobj prints `str x19,[sp,#-16]!`; the records of the others are those that clang makes of
 /// `stp x29,x30,[sp,#-256]!; stp d8,d9,[sp,#224]; stp x19,x20,[sp,#240]; mov x29,sp; sub sp,sp,#512`, and of
-/// `str x19,[sp,#-32]!; str x30,[sp,#16]; sub sp,sp,#1024`, with three instructions, and the same backwards and `ret`.
+/// `str x19,[sp,#-32]!; str x30,[sp,#16]; sub sp,sp,#1024`, with three instructions, and the same backwards and `ret`. In the second
+/// a call ends at 0x5118.
 fn arm64_bytes() -> Vec<u8> {
     let mut made = made::Made::new(made::ARM64);
     let table = made.next();
@@ -241,6 +242,8 @@ fn arm64_bytes() -> Vec<u8> {
     let entries: Vec<u8> = entries.iter().flat_map(|word: &u32| word.to_le_bytes()).collect();
     made.content[..32].copy_from_slice(&entries);
     made.directory(made::EXCEPTIONS, table, 32);
+    made.content.resize((0x5114 - made::ADDRESS) as usize, 0);
+    made.content.extend_from_slice(&made::ARM64_CALL);
     made.image()
 }
 

@@ -65,10 +65,13 @@ fn edits_are_refused() {
     let bytes = made::editable();
     let image = strict(&bytes);
     let mut editor = ResourceEditor::of(&image).unwrap();
-    // As long as the section's data: with the directories it is too long for them. Longer than the file.
+    // As long as the section's data: with the directories it is too long for them, and they grow. Longer than the file.
     for length in [0x400, bytes.len() + 1] {
         editor.set(24.into(), 1.into(), 0x407, vec![b'x'; length]);
-        assert_eq!(editor.write(), Err(Error::EDIT_NO_ROOM));
+        let written = editor.write().unwrap();
+        assert!(written.len() > bytes.len());
+        let leaves = leaves_of(&strict(&written));
+        assert_eq!(leaves.len(), 1);
     }
     let signed = made::with_certificates();
     let editor = ResourceEditor::of(&strict(&signed)).unwrap();
@@ -76,7 +79,7 @@ fn edits_are_refused() {
     assert_eq!(editor.write(), Err(Error::EDIT_SIGNED));
     // The directory does not start its section.
     let elsewhere = made::with_resources();
-    assert_eq!(ResourceEditor::of(&strict(&elsewhere)).unwrap().write(), Err(Error::EDIT_NO_SECTION));
+    assert_eq!(ResourceEditor::of(&strict(&elsewhere)).unwrap().write(), Err(Error::EDIT_NO_HEADER_ROOM));
 }
 
 #[test]

@@ -150,13 +150,13 @@ class Kind(enum.IntEnum):
     EDIT_NO_SECTION = 460
     """no section starts at the RVA of the resource directory"""
     EDIT_SECTION = 461
-    """data of the resource section are in the headers, truncated or not aligned"""
+    """data of the sections are in the headers, truncated or not aligned"""
     EDIT_SHARED_SECTION = 462
     """the entry point or another directory lies in the resource section"""
     EDIT_SYMBOLS = 463
-    """COFF symbols lie in the data of the resource section"""
+    """COFF symbols lie in the data of the resource section or at its end"""
     EDIT_OVERLAP = 464
-    """another section shares bytes or pages with the resource section or the headers"""
+    """section shares bytes or pages with the resource section or headers, or is after it"""
     EDIT_NO_ROOM = 465
     """resources do not fit into the data of their section or into the image in memory"""
     EDIT_RECORD = 466
@@ -169,6 +169,54 @@ class Kind(enum.IntEnum):
     """text of a version block has an odd number of bytes"""
     BLOCK_TOO_LONG = 470
     """version block has more than 65,535 bytes"""
+    EDIT_NO_HEADER_ROOM = 471
+    """headers have no room for another section header"""
+    EDIT_IMAGE_TOO_LARGE = 472
+    """image with the resources ends after 4 GB"""
+    EDIT_DEBUG_DATA = 473
+    """data of a debug entry start after the data of the sections"""
+    SIGNATURE_TRUNCATED = 501
+    """element of a signature truncated before its content"""
+    SIGNATURE_TAG_NUMBER = 502
+    """element of a signature has a tag number above 30"""
+    SIGNATURE_INDEFINITE_LENGTH = 503
+    """element of a signature has an indefinite length"""
+    SIGNATURE_LENGTH_OCTETS = 504
+    """length of an element of a signature has more than 4 octets after its first"""
+    SIGNATURE_LENGTH_FORM = 505
+    """length of an element of a signature is not in its shortest form"""
+    SIGNATURE_PAST_PARENT = 506
+    """element of a signature ends after its parent"""
+    SIGNATURE_MISSING = 507
+    """element of a signature is missing"""
+    SIGNATURE_TAG = 508
+    """element of a signature has another tag"""
+    SIGNATURE_TRAILING = 509
+    """bytes follow the last field of an element of a signature"""
+    SIGNATURE_CONTENT_TYPE = 510
+    """content of a signature has another type"""
+    SIGNATURE_BAD_TIME = 511
+    """time of a signature is not in the form of RFC 5280"""
+    DUMP_SIGNATURE = 551
+    """invalid signature of a minidump"""
+    DUMP_VERSION = 552
+    """invalid version of a minidump"""
+    DUMP_DIRECTORY = 553
+    """directory of the streams ends past the end of the file"""
+    DUMP_LOCATION = 554
+    """location in a minidump ends past the end of the file"""
+    DUMP_LIST_SIZE = 555
+    """number of entries of a list and the size of its stream do not agree"""
+    DUMP_ENTRY_SIZE = 556
+    """entries of a list smaller than their fields"""
+    DUMP_TEXT = 557
+    """string has an odd number of bytes"""
+    DUMP_CONTEXT_SIZE = 558
+    """context smaller than its fields"""
+    DUMP_CONTEXT_FLAGS = 559
+    """context without control or integer registers"""
+    DUMP_MACHINE = 560
+    """context of another machine"""
     OTHER = -1
     """a number that this version does not know"""
 

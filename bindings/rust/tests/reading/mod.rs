@@ -2,9 +2,10 @@
 #![allow(dead_code)]
 
 use pe_c::{
-    Arm64Function, Arm64Functions, Arm64Record, Arm64Registers, Arm64Unwinding, Coff, Error, Frames, Function,
-    Functions, Handler, Image, Layout, MemoryList, MemoryPiece, Mode, Module, Placement, Registers, ResourceName, Stack,
-    StepError, Symbols, Te, UnwindRecord, VersionBlocks, VersionName,
+    Arm64Function, Arm64Functions, Arm64Record, Arm64Registers, Arm64Unwinding, Coff, Dump, DumpImages, Error, Frames,
+    Function, Functions, Handler, Image, Layout, MemoryList, MemoryPiece, Mode, Module, Placement, Registers,
+    ResourceName, Signature, SignatureError, Stack, Stacks, StepError, Symbols, Te, UnwindRecord, VersionBlocks,
+    VersionName, X509,
 };
 
 /// What was read.
@@ -154,11 +155,116 @@ pub fn read_others(bytes: &[u8], seen: &mut Seen) {
     }
 }
 
+/// Reads the bytes as a minidump, whatever they are: all of its streams, and the stacks of its threads.
+pub fn read_dump(bytes: &[u8], seen: &mut Seen) {
+    let Some(dump) = seen.item(Dump::parse(bytes)) else {
+        return;
+    };
+    for entry in dump.streams().take(seen.most) {
+        if let Some(bytes) = seen.keep(dump.stream(entry.stream_type)) {
+            seen.touch(bytes);
+        }
+    }
+    for module in seen.keep(dump.modules()).into_iter().flatten().take(seen.most) {
+        if let Some(text) = seen.item(dump.text(module.module_name_rva.into())) {
+            seen.touch(text);
+        }
+        if let Some(record) = seen.item(dump.located(&module.cv_record)) {
+            seen.touch(record);
+        }
+    }
+    let most = seen.most;
+    let count = seen.keep(dump.thread_names()).into_iter().flatten().take(most).count()
+        + seen.keep(dump.thread_infos()).into_iter().flatten().take(most).count()
+        + seen.keep(dump.unloaded_modules()).into_iter().flatten().take(most).count()
+        + seen.keep(dump.handles()).into_iter().flatten().take(most).count()
+        + seen.keep(dump.memory_regions()).into_iter().flatten().take(most).count();
+    assert!(count <= 5 * most);
+    seen.keep(dump.exception());
+    seen.keep(dump.system());
+    seen.keep(dump.process());
+    let Some(images) = seen.item(DumpImages::new(&dump, |_| None)) else {
+        return;
+    };
+    let pieces = images.memory().pieces();
+    assert!(pieces.windows(2).all(|it| it[0].start + it[0].length <= it[1].start));
+    let mut stacks = Stacks::with_bound(&images, 64);
+    for thread in seen.keep(dump.threads()).into_iter().flatten().take(most) {
+        if let Some(stack) = seen.item(stacks.walk(&dump, &thread, most)) {
+            assert!(stack.frames.len() <= most);
+        }
+    }
+}
+
 fn read_certificates(image: &Image, seen: &mut Seen) {
     for certificate in image.certificates().take(seen.most) {
         if let Some(certificate) = seen.item(certificate) {
             assert_eq!(certificate.body.len() as u64, u64::from(certificate.length).saturating_sub(8));
             seen.touch(certificate.body);
+            if let Ok(Some(signature)) = certificate.signature() {
+                read_signature(&signature, 2, seen);
+            }
+        }
+    }
+}
+
+/// An item of a list in a signature.
+fn part<T>(item: Result<T, SignatureError>, seen: &mut Seen) -> Option<T> {
+    seen.refusals += u64::from(item.is_err());
+    item.ok()
+}
+
+fn read_x509(certificate: &X509, seen: &mut Seen) {
+    seen.touch(certificate.der());
+    seen.touch(certificate.to_be_signed());
+    seen.touch(certificate.signature());
+    seen.touch(certificate.subject().to_string().as_bytes());
+    seen.touch(certificate.issuer().to_string().as_bytes());
+    for time in [certificate.not_before(), certificate.not_after()] {
+        if let Some(time) = part(time, seen) {
+            seen.touch(time.to_string().as_bytes());
+        }
+    }
+    part(certificate.key_usage(), seen);
+    for extension in certificate.extensions().take(seen.most) {
+        if let Some(extension) = part(extension, seen) {
+            seen.touch(extension.value());
+        }
+    }
+}
+
+/// Reads a signature, and those in it so deep.
+fn read_signature(signature: &Signature, depth: usize, seen: &mut Seen) {
+    seen.touch(signature.digested().unwrap_or_default());
+    if let Some(Some(data)) = part(signature.indirect_data(), seen) {
+        seen.touch(data.digest());
+    }
+    if let Some(Some(stamp)) = part(signature.time_stamp(), seen) {
+        part(stamp.time(), seen);
+        seen.touch(stamp.digest());
+    }
+    for certificate in signature.certificates().take(seen.most) {
+        if let Some(certificate) = part(certificate, seen) {
+            read_x509(&certificate, seen);
+        }
+    }
+    for signer in signature.signers().take(seen.most) {
+        let Some(signer) = part(signer, seen) else { continue };
+        seen.touch(signer.signature());
+        seen.touch(signer.signed_bytes().unwrap_or_default().1);
+        part(signer.message_digest(), seen);
+        part(signer.signing_time(), seen);
+        if let Some(Some(opus)) = part(signer.opus_info(), seen) {
+            seen.touch(opus.program_name().unwrap_or_default().as_bytes());
+        }
+        for other in signer.counter_signatures().take(seen.most) {
+            part(other, seen);
+        }
+        for inner in signer.time_stamps().chain(signer.nested_signatures()).take(seen.most) {
+            match part(inner, seen) {
+                Some(inner) if depth > 0 => read_signature(&inner, depth - 1, seen),
+                _ => {}
+            }
         }
     }
 }

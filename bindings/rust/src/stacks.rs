@@ -1,0 +1,416 @@
+//! The stacks of a minidump: its memory and its modules by their addresses, the images of the modules, and the frames of each
+//! thread.
+//!
+//! A process is read in two steps. [`DumpImages`] has the memory, the modules and their images, each of which comes from the dump's
+//! memory or from the caller. [`Stacks`] walks the stacks over them, thread by thread, by the walk of [`Frames`].
+//!
+//! A dump may be hostile. Ranges overlap in any way, many modules may share one image, and many threads one deep stack. So
+//! indexes are made in n log n, images are borrowed from the dump, and [`Stacks`] has a bound on what all walks cost together.
+
+use crate::dump::{Dump, DumpContext, DumpRegisters};
+use crate::frames::MemoryList;
+use crate::image::{number_of, Error, Image, Layout, Mode};
+use crate::stack_walk::{End, Frame, Frames, MachineRegisters, Module};
+use crate::sys::{self, DumpModule, DumpThread, ImageInfo, MemoryPiece};
+use alloc::collections::BinaryHeap;
+use alloc::vec::Vec;
+use core::cmp::Reverse;
+
+/// How many section headers all images of a dump may have together.
+const MOST_SECTIONS: usize = 1 << 20;
+/// How many modules and pieces of memory cost as much as a frame: each call that walks a stack tests all of them.
+const RANGES_A_FRAME: usize = 1000;
+/// How many section headers cost as much as a frame: a scan asks them for each word.
+const SECTIONS_A_FRAME: usize = 100;
+
+/// Addresses that belong to the range with an index in a list.
+#[derive(Clone, Copy, Debug, PartialEq, Eq)]
+struct Owned {
+    start: u64,
+    length: u64,
+    owner: usize,
+}
+
+/// The addresses of ranges, each a start and a length, in ascending order: an address belongs to the first range that has it.
+/// It has at most two pieces for each range, and is made in n log n steps.
+fn first_wins(ranges: &[(u64, u64)]) -> Vec<Owned> {
+    let end = |index: usize| u128::from(ranges[index].0) + u128::from(ranges[index].1);
+    let start = |index: usize| u128::from(ranges[index].0);
+    let mut order: Vec<usize> = (0..ranges.len()).filter(|&index| ranges[index].1 > 0).collect();
+    order.sort_by_key(|&index| ranges[index].0);
+    let mut order = order.into_iter().peekable();
+    // Those that have the address, of which the first in the list is the greatest; ones that have ended may be among them.
+    let mut having: BinaryHeap<Reverse<usize>> = BinaryHeap::new();
+    let (mut found, mut at): (Vec<Owned>, u128) = (Vec::new(), 0);
+    loop {
+        while having.peek().is_some_and(|&Reverse(index)| end(index) <= at) {
+            having.pop();
+        }
+        if having.is_empty() {
+            let Some(&next) = order.peek() else { return found };
+            at = start(next);
+        }
+        while let Some(index) = order.next_if(|&index| start(index) <= at) {
+            having.push(Reverse(index));
+        }
+        let Some(&Reverse(owner)) = having.peek() else { return found };
+        if end(owner) <= at {
+            continue;
+        }
+        let stop = order.peek().map_or(end(owner), |&next| end(owner).min(start(next))).min(1 << 64);
+        if at >= stop {
+            return found;
+        }
+        match found.last_mut() {
+            Some(last) if last.owner == owner && u128::from(last.start) + u128::from(last.length) == at => {
+                last.length += (stop - at) as u64;
+            }
+            _ => found.push(Owned { start: at as u64, length: (stop - at) as u64, owner }),
+        }
+        at = stop;
+    }
+}
+
+/// The last of ascending ranges that starts at or before an address, if it has the address.
+fn owner_of(owned: &[Owned], address: u64) -> Option<&Owned> {
+    let after = owned.partition_point(|it| it.start <= address);
+    owned.get(after.checked_sub(1)?).filter(|it| address - it.start < it.length)
+}
+
+/// The memory of a minidump: its pieces in ascending order, apart. The byte at an address is that of the first piece that has it,
+/// those of the memory list before those of a full dump's.
+#[derive(Clone, Debug)]
+pub struct DumpMemory<'a> {
+    bytes: &'a [u8],
+    pieces: Vec<MemoryPiece>,
+    lost: u64,
+    refused: Vec<(u32, Error)>,
+}
+
+impl<'a> DumpMemory<'a> {
+    /// The memory of a dump. A list that is refused has no pieces: [`DumpMemory::refused`] says which.
+    pub fn new(dump: &Dump<'a>) -> Self {
+        let (mut listed, mut lost, mut refused) = (Vec::new(), 0u64, Vec::new());
+        let mut add = |piece: sys::DumpPiece| {
+            lost = lost.saturating_add(piece.lost);
+            listed.push(piece.memory);
+        };
+        match dump.memory_list() {
+            Ok(list) => list.into_iter().flatten().for_each(&mut add),
+            Err(error) => refused.push((sys::MEMORY_LIST_STREAM, error)),
+        }
+        match dump.memory64() {
+            Ok(list) => list.into_iter().flatten().flatten().for_each(&mut add),
+            Err(error) => refused.push((sys::MEMORY64_LIST_STREAM, error)),
+        }
+        let ranges: Vec<_> = listed.iter().map(|piece| (piece.start, piece.length)).collect();
+        let piece_of = |it: &Owned| {
+            let offset = listed[it.owner].offset + (it.start - listed[it.owner].start);
+            MemoryPiece { start: it.start, offset, length: it.length }
+        };
+        let mut pieces: Vec<MemoryPiece> = Vec::new();
+        for piece in first_wins(&ranges).iter().map(piece_of) {
+            match pieces.last_mut() {
+                Some(last)
+                    if last.start.checked_add(last.length) == Some(piece.start)
+                        && last.offset + last.length == piece.offset =>
+                {
+                    last.length += piece.length;
+                }
+                _ => pieces.push(piece),
+            }
+        }
+        DumpMemory { bytes: dump.bytes(), pieces, lost, refused }
+    }
+
+    /// The pieces, of the bytes of the dump. Two that follow one another, in the file too, are one.
+    pub fn pieces(&self) -> &[MemoryPiece] {
+        &self.pieces
+    }
+
+    /// The memory as steps and walks take it.
+    pub fn list(&self) -> MemoryList<'_> {
+        // The library returns pieces that lie in the bytes.
+        MemoryList::new(self.bytes, &self.pieces).unwrap_or_else(|_| MemoryList::empty())
+    }
+
+    /// How many bytes the dump says it has, which its file, which was truncated, does not have.
+    pub fn lost(&self) -> u64 {
+        self.lost
+    }
+
+    /// The lists that are refused: their kind of stream, and why.
+    pub fn refused(&self) -> &[(u32, Error)] {
+        &self.refused
+    }
+
+    /// The bytes from an address on that follow one another in the file too, at most so many. They end at the first gap, also
+    /// one that the file alone has: empty where the address has none.
+    pub fn bytes_from(&self, address: u64, most: u64) -> &'a [u8] {
+        let after = self.pieces.partition_point(|piece| piece.start <= address);
+        let Some(piece) = after.checked_sub(1).and_then(|index| self.pieces.get(index)) else { return &[] };
+        let inside = (address - piece.start).min(piece.length);
+        let length = most.min(piece.length - inside);
+        sys::Range { offset: piece.offset + inside, length }.of(self.bytes).unwrap_or_default()
+    }
+}
+
+/// Where the image of a module comes from.
+#[derive(Clone, Copy, Debug, PartialEq, Eq)]
+#[non_exhaustive]
+pub enum ImageSource {
+    /// From the dump's memory, all of it.
+    Memory,
+    /// From the caller.
+    Found,
+    /// From the dump's memory, which ends before the image does.
+    MemoryPart,
+}
+
+/// The image of a module.
+#[derive(Clone, Debug)]
+pub struct DumpImage<'a> {
+    /// The image: a file, or as loaded.
+    pub image: Image<'a>,
+    /// Where it comes from.
+    pub source: ImageSource,
+}
+
+/// The modules of a minidump by their addresses, their images, and the memory.
+///
+/// An image is that of a module if its time stamp and its size are those of the module; the checksum is not asked. One that the
+/// dump's memory has whole comes first, since hooks change code in memory; then one that the caller finds; then as much as the
+/// memory has from the module's address up to the first gap.
+#[derive(Clone, Debug)]
+pub struct DumpImages<'a> {
+    memory: DumpMemory<'a>,
+    modules: Vec<DumpModule>,
+    images: Vec<Option<DumpImage<'a>>>,
+    owned: Vec<Owned>,
+}
+
+/// What is known of images as they are found.
+struct Search<'s, 'a> {
+    memory: &'s DumpMemory<'a>,
+    sections: usize,
+}
+
+impl<'a> Search<'_, 'a> {
+    /// The image of a module in these bytes, if it is the module's, and all images have not too many sections with it.
+    fn image_in(&mut self, module: &DumpModule, bytes: &'a [u8], layout: Layout) -> Option<Image<'a>> {
+        let mut info = ImageInfo::default();
+        let way = number_of(Mode::Permissive, layout);
+        // SAFETY: the pointer and the length are those of one slice; the record is lent for the call.
+        let number = unsafe { sys::pe_c_image(bytes.as_ptr(), bytes.len(), way, &mut info) };
+        let is_its_own = number == sys::DONE
+            && info.time_date_stamp == module.time_date_stamp
+            && info.size_of_image == module.size_of_image;
+        let sections = self.sections.checked_sub(info.number_of_sections.into())?;
+        let image = if is_its_own { Image::parse_as(bytes, Mode::Permissive, layout).ok()? } else { return None };
+        self.sections = sections;
+        Some(image)
+    }
+
+    fn image_of(
+        &mut self,
+        module: &DumpModule,
+        look_up: &mut impl FnMut(&DumpModule) -> Option<&'a [u8]>,
+    ) -> Option<DumpImage<'a>> {
+        let size = u64::from(module.size_of_image);
+        let loaded = self.memory.bytes_from(module.base_of_image, size);
+        let is_whole = size > 0 && loaded.len() as u64 == size;
+        if is_whole {
+            if let Some(image) = self.image_in(module, loaded, Layout::Mapped) {
+                return Some(DumpImage { image, source: ImageSource::Memory });
+            }
+        }
+        if let Some(image) = look_up(module).and_then(|file| self.image_in(module, file, Layout::File)) {
+            return Some(DumpImage { image, source: ImageSource::Found });
+        }
+        let image = if is_whole { None } else { self.image_in(module, loaded, Layout::Mapped) }?;
+        Some(DumpImage { image, source: ImageSource::MemoryPart })
+    }
+}
+
+impl<'a> DumpImages<'a> {
+    /// The images of a dump. The caller is asked for the file of each module whose image the memory has not whole, and may return
+    /// any: one of another image is not taken. It is never handed a path to open: [`DumpModule::module_name_rva`] leads to a
+    /// string that may say anything.
+    ///
+    /// # Errors
+    ///
+    /// Those of [`Dump::modules`].
+    pub fn new(dump: &Dump<'a>, mut look_up: impl FnMut(&DumpModule) -> Option<&'a [u8]>) -> Result<Self, Error> {
+        let memory = DumpMemory::new(dump);
+        let modules: Vec<DumpModule> = dump.modules()?.into_iter().flatten().collect();
+        let ranges: Vec<_> = modules.iter().map(|it| (it.base_of_image, it.size_of_image.into())).collect();
+        let mut search = Search { memory: &memory, sections: MOST_SECTIONS };
+        let images = modules.iter().map(|module| search.image_of(module, &mut look_up)).collect();
+        Ok(DumpImages { memory, modules, images, owned: first_wins(&ranges) })
+    }
+
+    /// The memory.
+    pub fn memory(&self) -> &DumpMemory<'a> {
+        &self.memory
+    }
+
+    /// The modules, in the order of the dump.
+    pub fn modules(&self) -> &[DumpModule] {
+        &self.modules
+    }
+
+    /// The image of the module with an index. `None` where none is found.
+    pub fn image(&self, index: usize) -> Option<&DumpImage<'a>> {
+        self.images.get(index)?.as_ref()
+    }
+
+    /// The index of the module that has an address: the first that does.
+    pub fn module_at(&self, address: u64) -> Option<usize> {
+        owner_of(&self.owned, address).map(|it| it.owner)
+    }
+
+    /// The modules with an image, as walks take them: in ascending order, apart. One that another one overlaps which stands before
+    /// it in the list is left out, as is one whose function table is damaged.
+    fn loaded(&self) -> Vec<Module<'_>> {
+        let whole = self.owned.iter().filter(|it| {
+            let module = &self.modules[it.owner];
+            it.start == module.base_of_image && it.length == u64::from(module.size_of_image)
+        });
+        whole.filter_map(|it| Module::new(&self.images[it.owner].as_ref()?.image, it.start).ok()).collect()
+    }
+}
+
+/// The frames of a thread, from the top frame outwards.
+#[derive(Clone, Debug)]
+pub struct DumpStack {
+    /// The frames.
+    pub frames: Vec<Frame<DumpRegisters>>,
+    /// Why the walk is over. [`End::Bound`] also where all walks together have cost as much as they may.
+    pub end: End,
+}
+
+/// The stacks of the threads of a minidump.
+///
+/// ```
+/// # #[path = "../tests/made/mod.rs"] mod made;
+/// # let (bytes, file) = (made::dump(), made::with_functions());
+/// use pe_c::{Dump, DumpImages, End, Stacks};
+///
+/// let dump = Dump::parse(&bytes)?;
+/// let images = DumpImages::new(&dump, |_module| Some(file.as_slice()))?;
+/// let mut stacks = Stacks::new(&images);
+/// for thread in dump.threads()?.into_iter().flatten() {
+///     let stack = stacks.walk(&dump, &thread, 1000)?;
+///     assert_eq!((stack.frames.len(), stack.end), (1, End::Bottom));
+/// }
+/// # Ok::<(), pe_c::Error>(())
+/// ```
+#[derive(Clone, Debug)]
+pub struct Stacks<'i> {
+    memory: MemoryList<'i>,
+    modules: Vec<Module<'i>>,
+    left: usize,
+    cost_of_test: usize,
+    cost_of_frame: usize,
+}
+
+impl<'i> Stacks<'i> {
+    /// How many frames all walks return at most together.
+    pub const MOST_FRAMES: usize = 1_000_000;
+
+    /// The stacks over these images, with at most [`Stacks::MOST_FRAMES`] frames in all.
+    pub fn new(images: &'i DumpImages<'_>) -> Self {
+        Stacks::with_bound(images, Self::MOST_FRAMES)
+    }
+
+    /// The same with another bound. It counts a frame for each that is returned; and what else costs as much: a frame for each
+    /// thousand modules and pieces of memory where a walk tests them, once for 1, 2, 4 and so on of its frames; and one for each
+    /// hundred sections of an image in each frame.
+    pub fn with_bound(images: &'i DumpImages<'_>, most: usize) -> Self {
+        let (memory, modules) = (images.memory.list(), images.loaded());
+        let sections = images.images.iter().flatten().map(|it| it.image.sections().len()).max().unwrap_or(0);
+        Stacks {
+            cost_of_test: (modules.len() + images.memory.pieces.len()) / RANGES_A_FRAME,
+            cost_of_frame: 1 + sections / SECTIONS_A_FRAME,
+            memory,
+            modules,
+            left: most,
+        }
+    }
+
+    /// The frames of a thread, at most so many, from the registers that [`Dump::thread_context`] says.
+    ///
+    /// # Errors
+    ///
+    /// Those of [`Dump::thread_context`].
+    pub fn walk(&mut self, dump: &Dump<'_>, thread: &DumpThread, most: usize) -> Result<DumpStack, Error> {
+        Ok(self.walk_from(&dump.thread_context(thread)?, most))
+    }
+
+    /// The frames from these registers on, at most so many.
+    pub fn walk_from(&mut self, context: &DumpContext, most: usize) -> DumpStack {
+        let cost = self.cost_of_frame;
+        match context.registers() {
+            DumpRegisters::X64(registers) => self.frames(registers, most, cost, DumpRegisters::X64),
+            // On ARM64 a walk looks for the module of each frame in turn.
+            DumpRegisters::Arm64(registers) => {
+                self.frames(registers, most, cost + self.modules.len() / RANGES_A_FRAME, DumpRegisters::Arm64)
+            }
+        }
+    }
+
+    fn frames<R: MachineRegisters>(
+        &mut self,
+        top: R,
+        most: usize,
+        cost_of_frame: usize,
+        of: fn(R) -> DumpRegisters,
+    ) -> DumpStack {
+        self.left = self.left.saturating_sub(self.cost_of_test);
+        let most = most.min(self.left / cost_of_frame);
+        if most == 0 {
+            // A walk of no frames would test all modules and pieces too.
+            return DumpStack { frames: Vec::new(), end: End::Bound };
+        }
+        let mut walk = Frames::new(top, most, &self.modules, self.memory);
+        let frames: Vec<_> = walk
+            .by_ref()
+            .map(|frame| Frame { registers: of(frame.registers), way: frame.way, has_called: frame.has_called })
+            .collect();
+        let tests = frames.len().checked_ilog2().map_or(0, |it| it as usize + 1) + frames.len() / 1024;
+        self.left = self.left.saturating_sub(frames.len() * cost_of_frame + tests * self.cost_of_test);
+        DumpStack { frames, end: walk.end().unwrap_or(End::Bound) }
+    }
+}
+
+#[cfg(test)]
+mod tests {
+    use super::*;
+    extern crate std;
+
+    /// The owner of each address below 12, by each range in turn.
+    fn one_by_one(ranges: &[(u64, u64)]) -> Vec<Option<usize>> {
+        let has =
+            |address: u64| ranges.iter().position(|&(start, length)| address >= start && address - start < length);
+        (0..12).map(has).collect()
+    }
+
+    #[test]
+    fn first_range_of_the_list_has_an_address() {
+        let mut number = 1u64;
+        let mut random = |below: u64| {
+            number = number.wrapping_mul(6_364_136_223_846_793_005).wrapping_add(1_442_695_040_888_963_407);
+            (number >> 33) % below
+        };
+        for _ in 0..2000 {
+            let ranges: Vec<_> = (0..random(7)).map(|_| (random(8), random(5))).collect();
+            let owned = first_wins(&ranges);
+            let found: Vec<_> = (0..12).map(|it| owner_of(&owned, it).map(|it| it.owner)).collect();
+            assert_eq!(found, one_by_one(&ranges), "{ranges:?}");
+            assert!(owned.len() <= 2 * ranges.len(), "{ranges:?}");
+            assert!(owned.windows(2).all(|it| it[0].start + it[0].length <= it[1].start), "{ranges:?}");
+        }
+        let last = [(u64::MAX - 1, 8), (u64::MAX, u64::MAX)];
+        assert_eq!(first_wins(&last), [Owned { start: u64::MAX - 1, length: 2, owner: 0 }]);
+    }
+}
