@@ -14,8 +14,10 @@ pub const EXAMPLES: &str = "  pe program.exe                        what it is, 
   pe find VirtualProtect -r C:/Windows  which images import or export it
   pe diff old.dll new.dll               what came, went and changed
   pe unwind program.exe 1a2b            how the function at an RVA is unwound
+  pe stack crash.dmp --images C:/App    why a process crashed, and the stacks of its threads
   pe key program.exe                    where a symbol server has its PDB and itself
   pe digest program.exe                 what its signature signs, as SHA-256
+  pe verify program.exe                 by whom and when it was signed, and whether the digests fit
   pe extract program.exe manifest -     its manifest, on standard output
   pe detach program.exe unsigned.exe    the same without its certificates
   pe set-manifest a.exe b.exe app.xml   an image with another manifest
@@ -238,6 +240,31 @@ pub enum Command {
         #[command(flatten)]
         output: Output,
     },
+    /// Show what the signatures of images say, and whether it fits: the digests, and with OpenSSL the signatures.
+    Verify {
+        #[command(flatten)]
+        files: Files,
+        /// The certificates, in PEM, that chains have to lead to. It needs a program that is built with the feature openssl.
+        #[arg(long, value_name = "FILE")]
+        roots: Option<PathBuf>,
+        #[command(flatten)]
+        reading: Reading,
+        #[command(flatten)]
+        output: Output,
+    },
+    /// Show why a process crashed, and the stacks of its threads, of a minidump.
+    Stack {
+        /// The minidump, or - for standard input.
+        dump: PathBuf,
+        /// A folder below which the images of modules are, or a file. An image is taken if its time stamp and its size are those
+        /// of a module. No path that stands in the dump is opened.
+        #[arg(long, value_name = "FOLDER")]
+        images: Vec<PathBuf>,
+        #[command(flatten)]
+        stacks: Stacks,
+        #[command(flatten)]
+        output: Output,
+    },
     /// Write the bytes of a part of an image to a file, which must not exist.
     Extract {
         /// The image.
@@ -362,6 +389,27 @@ pub enum Command {
     },
     /// Write the man page to standard output.
     Man,
+}
+
+/// Which stacks are shown, and how much of them.
+#[derive(Args, Clone, Copy, Debug)]
+pub struct Stacks {
+    /// The stack of this thread alone.
+    #[arg(long, value_name = "ID")]
+    pub thread: Option<u32>,
+    /// At most so many frames of each thread.
+    #[arg(long, value_name = "N", default_value_t = 100)]
+    pub frames: usize,
+    /// The registers of each frame.
+    #[arg(long)]
+    pub registers: bool,
+}
+
+impl Stacks {
+    pub fn asked(self, is_json: bool) -> crate::stack::Asked {
+        let Stacks { thread, frames, registers: has_registers } = self;
+        crate::stack::Asked { thread, frames, has_registers, is_json }
+    }
 }
 
 /// A resource.

@@ -24,6 +24,7 @@ pub mod relocations;
 pub mod resources;
 pub mod rich;
 pub mod sections;
+pub mod signatures;
 pub mod symbols;
 pub mod tls;
 pub mod version;

@@ -139,6 +139,19 @@ fn found<'a>(named: &'a Files, skipped: &'a Skipped) -> impl Iterator<Item = Fou
     })
 }
 
+/// All files below a folder, or the file that is named, in the order of their names.
+pub fn below(folder: &Path) -> Vec<PathBuf> {
+    let skipped = Skipped { count: Cell::new(0), is_verbose: false };
+    Below { waiting: vec![folder.to_path_buf()], skipped: &skipped }.collect()
+}
+
+/// The first bytes of a file, where its headers are.
+pub fn start_of(path: &Path) -> io::Result<Vec<u8>> {
+    let mut start = Vec::new();
+    File::open(path)?.take(START).read_to_end(&mut start)?;
+    Ok(start)
+}
+
 /// A sign that work goes on, where standard error is a terminal and standard output is none.
 fn progress(is_recursive: bool) -> Progress {
     if !is_recursive || io::stdout().is_terminal() {
@@ -170,8 +183,7 @@ pub fn whole(path: &Path) -> io::Result<Vec<u8>> {
 /// is not read on.
 fn content(found: &Found) -> io::Result<Option<Vec<u8>>> {
     if found.is_below {
-        let mut start = Vec::new();
-        File::open(&found.path)?.take(START).read_to_end(&mut start)?;
+        let start = start_of(&found.path)?;
         if Image::parse(&start, Mode::Permissive).is_err_and(|error| error == Error::BAD_MAGIC) {
             return Ok(None);
         }

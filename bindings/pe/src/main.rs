@@ -18,10 +18,12 @@ mod names;
 mod page;
 mod show;
 mod sign;
+mod stack;
 mod summary;
 mod system;
 mod tables;
 mod unwind;
+mod verify;
 
 use arguments::{Arguments, Command, Files, Hashing, Output, Reading, Walk};
 use clap::error::ErrorKind;
@@ -35,6 +37,7 @@ use serde::Serialize;
 use std::io::{self, BufWriter, Write};
 use std::path::{Path, PathBuf};
 use std::process::ExitCode;
+use verify::checked::Roots;
 
 /// What a run came to: the exit status. The worst of several files counts.
 #[derive(Clone, Copy, Debug, PartialEq, Eq, PartialOrd, Ord)]
@@ -131,6 +134,13 @@ fn run_command(command: &Command, out: &mut dyn Write) -> io::Result<Status> {
                 of_image(bytes, reading, |image| digest::report(path, image, output.json))
             })
         }
+        Command::Verify { files, roots, reading, output } => {
+            verify_signatures(files, roots.as_deref(), (reading, output), out)
+        }
+        Command::Stack { dump, images, stacks, output } => {
+            let (known, asked) = (stack::Known::below(images), stacks.asked(output.json));
+            files::each(&Files::one(dump), out, |path, bytes| stack::report(path, bytes, &known, asked))
+        }
         Command::Unwind { words, all, walk, reading, output } => {
             unwind_functions((words, *walk), *all, How::without_hashes(reading, output), out)
         }
@@ -166,6 +176,27 @@ fn unwind_functions(words: (&[PathBuf], Walk), is_all: bool, how: How, out: &mut
     };
     let asked = unwind::Asked { rva, is_json: how.is_json, is_named: files.is_several() };
     files::each(&files, out, |path, bytes| of_image(bytes, how.reading, |image| unwind::report(path, image, asked)))
+}
+
+/// `pe verify`: the roots are read once.
+fn verify_signatures(
+    files: &Files,
+    roots: Option<&Path>,
+    (reading, output): (&Reading, &Output),
+    out: &mut dyn Write,
+) -> io::Result<Status> {
+    refuse_mapped(reading, "a signature");
+    let roots = match roots.map(|path| (path, Roots::read(path))) {
+        Some((path, Err(why))) => {
+            eprintln!("pe: {}: {why}", escape::escaped(&path.to_string_lossy()));
+            return Ok(Status::FileError);
+        }
+        Some((_, Ok(roots))) => Some(roots),
+        None => None,
+    };
+    files::each(files, out, |path, bytes| {
+        of_image(bytes, reading, |image| verify::report(path, image, roots.as_ref(), output.json))
+    })
 }
 
 /// Ends where the last of the files is none, and its name is nearly that of a part.

@@ -70,7 +70,7 @@ pub fn page() -> String {
     let usage = usage_of(&mut command);
     text += &usage.lines().map(|line| format!("{}\n.br\n", line.trim())).collect::<String>();
     text += &format!(
-        ".SH DESCRIPTION\n{about}.\nWhat is said of an image comes from calls of the library for C, which was proved if `pe \\-\\-version` says so; hashes, entropy and what a file or an overlay is are the program\'s own. Signatures are not verified.\n"
+        ".SH DESCRIPTION\n{about}.\nWhat is said of an image comes from calls of the library for C, which was proved if `pe \\-\\-version` says so; hashes, entropy and what a file or an overlay is are the program\'s own. `pe verify` alone says whether signatures fit.\n"
     );
     text += &format!(".SH OPTIONS\n{}.SH COMMANDS\n", arguments_of(&command, &[]));
     let options: Vec<String> = command.get_arguments().filter_map(|it| it.get_long().map(str::to_string)).collect();

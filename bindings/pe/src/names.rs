@@ -247,3 +247,58 @@ pub fn flags_of(flags: u32, names: &'static Names) -> Vec<&'static str> {
 pub fn permissions(flags: u32) -> String {
     PERMISSIONS.iter().map(|(flag, letter)| if flags & flag != 0 { *letter } else { '-' }).collect()
 }
+
+/// Codes of exceptions: `STATUS_` of ntstatus.h, and those that languages raise.
+pub const EXCEPTIONS: &Names = &[
+    (0x406D_1388, "the name of a thread, as Visual C++ sets it"),
+    (0x8000_0001, "STATUS_GUARD_PAGE_VIOLATION"),
+    (0x8000_0002, "STATUS_DATATYPE_MISALIGNMENT"),
+    (0x8000_0003, "STATUS_BREAKPOINT"),
+    (0x8000_0004, "STATUS_SINGLE_STEP"),
+    (0xC000_0005, "STATUS_ACCESS_VIOLATION"),
+    (0xC000_0006, "STATUS_IN_PAGE_ERROR"),
+    (0xC000_0008, "STATUS_INVALID_HANDLE"),
+    (0xC000_000D, "STATUS_INVALID_PARAMETER"),
+    (0xC000_0017, "STATUS_NO_MEMORY"),
+    (0xC000_001D, "STATUS_ILLEGAL_INSTRUCTION"),
+    (0xC000_0025, "STATUS_NONCONTINUABLE_EXCEPTION"),
+    (0xC000_0026, "STATUS_INVALID_DISPOSITION"),
+    (0xC000_008C, "STATUS_ARRAY_BOUNDS_EXCEEDED"),
+    (0xC000_008D, "STATUS_FLOAT_DENORMAL_OPERAND"),
+    (0xC000_008E, "STATUS_FLOAT_DIVIDE_BY_ZERO"),
+    (0xC000_008F, "STATUS_FLOAT_INEXACT_RESULT"),
+    (0xC000_0090, "STATUS_FLOAT_INVALID_OPERATION"),
+    (0xC000_0091, "STATUS_FLOAT_OVERFLOW"),
+    (0xC000_0092, "STATUS_FLOAT_STACK_CHECK"),
+    (0xC000_0093, "STATUS_FLOAT_UNDERFLOW"),
+    (0xC000_0094, "STATUS_INTEGER_DIVIDE_BY_ZERO"),
+    (0xC000_0095, "STATUS_INTEGER_OVERFLOW"),
+    (0xC000_0096, "STATUS_PRIVILEGED_INSTRUCTION"),
+    (0xC000_00FD, "STATUS_STACK_OVERFLOW"),
+    (0xC000_0135, "STATUS_DLL_NOT_FOUND"),
+    (0xC000_0139, "STATUS_ENTRYPOINT_NOT_FOUND"),
+    (0xC000_013A, "STATUS_CONTROL_C_EXIT"),
+    (0xC000_0142, "STATUS_DLL_INIT_FAILED"),
+    (0xC000_02B4, "STATUS_FLOAT_MULTIPLE_FAULTS"),
+    (0xC000_02B5, "STATUS_FLOAT_MULTIPLE_TRAPS"),
+    (0xC000_0374, "STATUS_HEAP_CORRUPTION"),
+    (0xC000_0409, "STATUS_STACK_BUFFER_OVERRUN"),
+    (0xC000_0417, "STATUS_INVALID_CRUNTIME_PARAMETER"),
+    (0xC000_0420, "STATUS_ASSERTION_FAILURE"),
+    (0xE043_4352, "an exception of .NET"),
+    (0xE06D_7363, "an exception of Visual C++"),
+];
+
+/// `PROCESSOR_ARCHITECTURE_`
+pub const PROCESSORS: &Names = &[(0, "x86"), (5, "ARM"), (6, "Itanium"), (9, "x64"), (12, "ARM64")];
+
+/// `VER_PLATFORM_`, and those of Breakpad.
+pub const PLATFORMS: &Names = &[
+    (1, "Windows 9x"),
+    (2, "Windows"),
+    (0x8101, "macOS"),
+    (0x8102, "iOS"),
+    (0x8201, "Linux"),
+    (0x8202, "Solaris"),
+    (0x8203, "Android"),
+];

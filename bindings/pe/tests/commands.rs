@@ -295,13 +295,13 @@ fn manifests_and_resources_are_changed() {
     assert_eq!(run(&["remove-resource", &more, &less, "10", "DATA", "--language", "0x407"]).2, 1);
     assert_eq!(run(&["remove-resource", &more, &less, "10", "DATA"]).2, 0);
     assert_eq!(fs::read(&less).unwrap(), fs::read(&out).unwrap());
-    // What does not fit, and what is signed.
+    // What does not fit goes to the end; what is signed is refused.
     let long = folder.file("long", &[b'x'; 0x400]);
-    let (_, said, status) = run(&["set-manifest", &file, &path("e.exe"), &long]);
-    assert_eq!((said.contains("do not fit"), status), (true, 1), "{said}");
+    assert_eq!(run(&["set-manifest", &file, &path("e.exe"), &long]).2, 0);
+    assert_eq!(run(&["extract", &path("e.exe"), "manifest", "-"]).0, "x".repeat(0x400));
     let signed = folder.file("signed.exe", &made::with_certificates());
-    assert_eq!(run(&["set-manifest", &signed, &path("e.exe"), &manifest]).2, 1);
-    assert!(!folder.0.join("e.exe").exists());
+    assert_eq!(run(&["set-manifest", &signed, &path("f.exe"), &manifest]).2, 1);
+    assert!(!folder.0.join("f.exe").exists());
 }
 
 #[test]

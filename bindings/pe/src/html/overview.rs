@@ -28,10 +28,12 @@ fn version_of(facts: &Facts) -> Vec<Row> {
 
 fn signed_of(facts: &Facts) -> Option<Row> {
     let is_signed = facts.hardening.as_ref()?.signed;
-    let count = facts.certificates.as_ref().and_then(Part::present).map_or(0, |it| it.entries.len());
-    Some(match (is_signed, count) {
-        (true, 1) => ("signed", "yes, not verified".to_string(), ""),
-        (true, _) => ("signed", format!("yes, {count} certificates, not verified"), ""),
+    let entries = facts.certificates.as_ref().map_or(&[][..], Part::entries);
+    let signer =
+        entries.iter().find_map(|it| it.signer.as_deref()).map_or(String::new(), |it| format!(" by {}", escaped(it)));
+    Some(match (is_signed, entries.len()) {
+        (true, 1) => ("signed", format!("yes{signer}, not verified"), ""),
+        (true, count) => ("signed", format!("yes{signer}, {count} certificates, not verified"), ""),
         (false, _) => ("signed", "no".to_string(), ""),
     })
 }

@@ -1,0 +1,59 @@
+//! The modules of a dump.
+
+use super::files::Images;
+use super::told::Module;
+use super::{name_of, Loaded, PDB_RECORD};
+use crate::facts::{List, Stamp};
+use pe_c::sys::{DumpModule, DumpVersion, ImageInfo};
+use pe_c::{Dump, ImageSource, SymbolKey};
+
+/// `VS_FFI_SIGNATURE`: a module has a version.
+const FIXED_VERSION: u32 = 0xFEEF_04BD;
+
+pub fn of(dump: &Dump<'_>, loaded: &Loaded<'_>, files: &Images<'_>) -> List<Module> {
+    let modules = loaded.images.modules().iter().zip(loaded.paths).enumerate();
+    let told = modules.map(|(index, (module, path))| {
+        let source = loaded.images.image(index).map(|it| it.source);
+        let is_file = source == Some(ImageSource::Found);
+        Module {
+            name: path.as_deref().map(|it| name_of(it).to_string()),
+            path: path.clone(),
+            base_va: module.base_of_image,
+            size: module.size_of_image,
+            checksum: module.check_sum,
+            time: Stamp::of(module.time_date_stamp),
+            version: version_of(&module.version_info),
+            pdb_symbol_server_path: pdb_of(dump, module),
+            symbol_server_path: path.as_deref().and_then(|it| own_path_of(module, it)),
+            image: source.map(source_of),
+            image_file: files.path_of(module).filter(|_| is_file).map(|it| it.to_string_lossy().into_owned()),
+        }
+    });
+    List { entries: told.collect(), error: None, is_limited: false }
+}
+
+fn version_of(version: &DumpVersion) -> Option<String> {
+    let (ms, ls) = (version.file_version_ms, version.file_version_ls);
+    (version.signature == FIXED_VERSION).then(|| format!("{}.{}.{}.{}", ms >> 16, ms & 0xFFFF, ls >> 16, ls & 0xFFFF))
+}
+
+fn pdb_of(dump: &Dump<'_>, module: &DumpModule) -> Option<String> {
+    let record = dump.located(&module.cv_record).ok().filter(|it| !it.is_empty() && it.len() <= PDB_RECORD)?;
+    SymbolKey::of_record(record).ok()??.path().map(|it| it.to_string())
+}
+
+/// The image has no headers here, but those that a symbol server asks for.
+fn own_path_of(module: &DumpModule, path: &str) -> Option<String> {
+    let (time_date_stamp, size_of_image) = (module.time_date_stamp, module.size_of_image);
+    let info = ImageInfo { width: 64, time_date_stamp, size_of_image, ..ImageInfo::default() };
+    info.symbol_path(path).map(|it| it.to_string())
+}
+
+fn source_of(source: ImageSource) -> &'static str {
+    match source {
+        ImageSource::Memory => "memory",
+        ImageSource::MemoryPart => "memory in part",
+        ImageSource::Found => "file",
+        _ => "elsewhere",
+    }
+}

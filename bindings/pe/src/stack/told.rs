@@ -1,0 +1,186 @@
+//! What is said of a minidump, as records: JSON is made of them as they are, and text by `text`.
+
+use crate::facts::{entry, field, List, Named, Origin, Part, Refusal, Stamp};
+use pe_c::Error;
+use serde::Serialize;
+use std::collections::BTreeMap;
+use std::path::Path;
+
+/// What is said of a dump.
+#[derive(Debug, Serialize)]
+pub struct Told {
+    #[serde(flatten)]
+    pub origin: Origin,
+    /// When it was written.
+    #[serde(flatten)]
+    pub written: Option<Stamp>,
+    /// `MINIDUMP_TYPE`.
+    pub flags: Option<u64>,
+    #[serde(flatten)]
+    pub system: Part<System>,
+    #[serde(flatten)]
+    pub process: Part<Process>,
+    #[serde(flatten)]
+    pub exception: Part<Exception>,
+    /// The crashed one first.
+    #[serde(flatten)]
+    pub threads: Part<List<Thread>>,
+    #[serde(flatten)]
+    pub modules: Part<List<Module>>,
+    #[serde(flatten)]
+    pub unloaded_modules: Part<List<Unloaded>>,
+    pub memory: Option<Memory>,
+    /// Why it is refused whole.
+    pub error: Option<Refusal>,
+}
+
+#[derive(Debug, Serialize)]
+pub struct System {
+    pub machine: Named,
+    pub number_of_processors: u8,
+    pub major_version: u32,
+    pub minor_version: u32,
+    pub build_number: u32,
+    pub platform: Named,
+    /// Null where it is empty, or cannot be read.
+    pub service_pack: Option<String>,
+}
+field!(System, "system");
+
+#[derive(Debug, Serialize)]
+pub struct Process {
+    /// Null where the dump does not say it.
+    pub id: Option<u32>,
+    /// When it was made, in seconds since 1970.
+    pub create_time: Option<u32>,
+}
+field!(Process, "process");
+
+/// Why the process crashed.
+#[derive(Debug, Serialize)]
+pub struct Exception {
+    pub code: Named,
+    /// What was done, of an access violation, in words.
+    pub access: Option<&'static str>,
+    /// Of the memory that was asked for.
+    pub access_va: Option<u64>,
+    pub thread_id: u32,
+    pub address_va: u64,
+    /// The module that has the address, and how far into it.
+    pub module: Option<String>,
+    pub offset: Option<u64>,
+    pub parameters: Vec<u64>,
+    /// Why the registers of the thread as it crashed cannot be read: its frames then start at its own, which may be of the code that
+    /// wrote the dump.
+    pub registers_error: Option<Refusal>,
+}
+field!(Exception, "exception");
+
+#[derive(Debug, Serialize)]
+pub struct Thread {
+    pub id: u32,
+    pub name: Option<String>,
+    pub is_crashed: bool,
+    /// From the top frame outwards.
+    pub frames: Vec<Frame>,
+    /// Why there are no more: `bottom` where the stack is whole.
+    pub end: Option<&'static str>,
+    /// More on it; or why the registers of the thread cannot be read.
+    pub end_error: Option<Refusal>,
+}
+entry!(Thread, "threads");
+
+#[derive(Debug, Serialize)]
+pub struct Frame {
+    pub ip_va: u64,
+    pub sp_va: u64,
+    pub module: Option<String>,
+    pub offset: Option<u64>,
+    /// How it was found: `top`, `records`, `leaf`, `interrupt`, `scanned`.
+    pub way: &'static str,
+    /// Whether its function has called: then `ip_va` is the return address.
+    pub has_called: bool,
+    /// By name; null unless they are asked for.
+    pub registers: Option<BTreeMap<String, u64>>,
+}
+
+#[derive(Debug, Serialize)]
+pub struct Module {
+    /// The last part of its path, and the path as the dump has it. Null where it cannot be read.
+    pub name: Option<String>,
+    pub path: Option<String>,
+    pub base_va: u64,
+    pub size: u32,
+    pub checksum: u32,
+    #[serde(flatten)]
+    pub time: Stamp,
+    pub version: Option<String>,
+    /// Where symbol servers have the PDB and the image.
+    pub pdb_symbol_server_path: Option<String>,
+    pub symbol_server_path: Option<String>,
+    /// Where its image comes from: `memory`, `memory in part`, `file`, or null where there is none.
+    pub image: Option<&'static str>,
+    pub image_file: Option<String>,
+}
+entry!(Module, "modules");
+
+#[derive(Debug, Serialize)]
+pub struct Unloaded {
+    pub name: Option<String>,
+    pub base_va: u64,
+    pub size: u32,
+    #[serde(flatten)]
+    pub time: Stamp,
+}
+entry!(Unloaded, "unloaded_modules");
+
+#[derive(Debug, Serialize)]
+pub struct Memory {
+    pub pieces: usize,
+    pub bytes: u64,
+    /// How many the dump says it has, and its file does not.
+    pub lost_bytes: u64,
+    /// Why a list of pieces is refused.
+    pub errors: Vec<Refusal>,
+}
+
+impl Told {
+    /// A dump that is refused whole.
+    pub fn refused(path: &Path, error: Error) -> Told {
+        Told {
+            origin: Origin::of(path),
+            written: None,
+            flags: None,
+            system: Part::Absent,
+            process: Part::Absent,
+            exception: Part::Absent,
+            threads: Part::Absent,
+            modules: Part::Absent,
+            unloaded_modules: Part::Absent,
+            memory: None,
+            error: Some(error.into()),
+        }
+    }
+
+    /// All that is refused, each with the part that it is of. A stack that cannot be walked to its end is none.
+    pub fn refusals(&self) -> Vec<(&'static str, &Refusal)> {
+        let threads = self.threads.entries().iter().filter(|it| it.end.is_none());
+        let mut found: Vec<(&'static str, &Refusal)> = Vec::new();
+        found.extend(self.error.iter().map(|it| ("dump", it)));
+        found.extend(self.system.refusal().map(|it| ("system", it)));
+        found.extend(self.process.refusal().map(|it| ("process", it)));
+        found.extend(self.exception.refusal().map(|it| ("exception", it)));
+        let registers = self.exception.present().and_then(|it| it.registers_error.as_ref());
+        found.extend(registers.map(|it| ("registers of the crash", it)));
+        found.extend(self.threads.list_refusal().map(|it| ("threads", it)));
+        found.extend(threads.filter_map(|it| it.end_error.as_ref()).map(|it| ("registers of a thread", it)));
+        found.extend(self.modules.list_refusal().map(|it| ("modules", it)));
+        found.extend(self.unloaded_modules.list_refusal().map(|it| ("unloaded modules", it)));
+        found.extend(self.memory.iter().flat_map(|it| &it.errors).map(|it| ("memory", it)));
+        found
+    }
+
+    pub fn is_refused(&self) -> bool {
+        !self.refusals().is_empty()
+    }
+}

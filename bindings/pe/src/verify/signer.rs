@@ -1,0 +1,252 @@
+//! A signer, and what of it fits: the digest of what is signed, the signature, the chain of its certificates, its time stamps.
+
+use super::checked::{self, Checked, Roots, NO_CERTIFICATE, NO_ISSUER, NO_ROOTS};
+use super::hashing::{Compared, Digests, Hash};
+use super::or_refused;
+use crate::facts::hex_of;
+use crate::facts::signatures::{algorithm_of, is_self_issued, text_of, Certificate, Certificates, SignatureRefusal};
+use pe_c::{Signature, SignatureError, Signer, Time, X509};
+use serde::Serialize;
+
+/// How many time stamps of a signer are told. Signers have one.
+const STAMPS: usize = 4;
+/// How many characters of a program's name and URL are told.
+const CHARACTERS: usize = 1024;
+
+/// What is said of a signer.
+#[derive(Debug, Serialize)]
+pub struct Told {
+    /// Null where it is not in the file.
+    pub certificate: Option<Certificate>,
+    pub issuer: String,
+    pub serial_hex: String,
+    pub program_name: Option<String>,
+    pub program_url: Option<String>,
+    /// When the signer says to have signed, by RFC 3339.
+    pub signing_time: Option<String>,
+    pub digest_algorithm: String,
+    /// Of what is signed, as the signer has it.
+    pub message_digest: Compared,
+    pub signature_algorithm: String,
+    pub signature: Checked,
+    /// The subjects of the certificates from that of the signer on.
+    pub chain: Vec<String>,
+    /// Whether the last of them is by its own word.
+    pub is_chain_whole: bool,
+    /// Whether each certificate is signed by the next.
+    pub chain_signatures: Checked,
+    /// Whether the chain leads to one of the roots that were given.
+    pub trust: Checked,
+    pub time_stamps: Vec<Stamp>,
+    /// Whether there are more time stamps.
+    #[serde(skip)]
+    pub is_limited: bool,
+    pub error: Option<SignatureRefusal>,
+}
+
+/// What is said of a time stamp.
+#[derive(Debug, Serialize)]
+pub struct Stamp {
+    /// `RFC 3161` or `PKCS #9`.
+    pub kind: &'static str,
+    pub time: Option<String>,
+    /// By whom.
+    pub subject: Option<String>,
+    /// Of the signature that is stamped.
+    pub digest: Compared,
+    /// Of what the stamp signs.
+    pub message_digest: Compared,
+    pub signature: Checked,
+    /// Whether the chain of its certificate leads to one of the roots that were given, at the time of the stamp.
+    pub trust: Checked,
+    pub error: Option<SignatureRefusal>,
+    #[serde(skip)]
+    stamped: Option<Time>,
+}
+
+impl Stamp {
+    /// When it was stamped, where all of the stamp fits.
+    fn good_time(&self) -> Option<Time> {
+        let digests = [&self.digest, &self.message_digest];
+        let is_good = self.signature == Checked::Good
+            && self.trust == Checked::Good
+            && digests.iter().all(|it| **it == Compared::Equal);
+        self.stamped.filter(|_| is_good && self.error.is_none())
+    }
+}
+
+/// A signature as its signers are compared with it.
+pub struct Signed<'a> {
+    certificates: Certificates<'a>,
+    content: Digests<'a>,
+    digested: Option<&'a [u8]>,
+}
+
+impl<'a> Signed<'a> {
+    pub fn of(signature: &Signature<'a>) -> Signed<'a> {
+        let digested = signature.digested();
+        let content = Digests::of(digested.into_iter().collect());
+        Signed { certificates: Certificates::of(signature), content, digested }
+    }
+
+    /// The digest of what is signed, as a signer of it has it.
+    fn message_digest(&mut self, signer: &Signer<'_>, error: &mut Option<SignatureRefusal>) -> Compared {
+        match (or_refused(signer.message_digest(), error), self.digested) {
+            (Some(said), Some(_)) => self.content.compared(signer.digest_algorithm().oid(), said),
+            _ => Compared::Absent,
+        }
+    }
+
+    /// Whether the signature of a signer is by the key of its certificate.
+    fn signature(&self, signer: &Signer<'_>, certificate: Option<X509<'_>>) -> Checked {
+        let Some(certificate) = certificate else { return NO_CERTIFICATE };
+        let (algorithm, hash) = (signer.signature_algorithm().oid(), Hash::of(signer.digest_algorithm().oid()));
+        let check = |message: &[&[u8]]| checked::check(certificate, algorithm, hash, message, signer.signature());
+        match (signer.signed_bytes(), self.digested) {
+            (Some((first, rest)), _) => check(&[&[first], rest]),
+            (None, Some(content)) => check(&[content]),
+            (None, None) => Checked::Not("what is signed is not in the file"),
+        }
+    }
+
+    /// What a signer says, and what of it fits.
+    pub fn tell(&mut self, signer: &Signer<'a>, roots: Option<&Roots>) -> Told {
+        let mut error = None;
+        let certificate = self.certificates.of_signer(signer);
+        let chain = certificate.map(|it| self.certificates.chain(it)).unwrap_or_default();
+        let opus = or_refused(signer.opus_info(), &mut error);
+        let message_digest = self.message_digest(signer, &mut error);
+        let mut stamps = self.time_stamps(signer, roots);
+        let time_stamps: Vec<Stamp> = stamps.by_ref().take(STAMPS).collect();
+        let is_limited = stamps.next().is_some();
+        let time = time_stamps.iter().find_map(Stamp::good_time);
+        Told {
+            certificate: certificate.as_ref().map(Certificate::of),
+            issuer: text_of(signer.issuer()),
+            serial_hex: hex_of(signer.serial()),
+            program_name: opus.as_ref().and_then(|it| it.program_name()).map(shortened),
+            program_url: opus.as_ref().and_then(|it| it.url()).map(shortened),
+            signing_time: or_refused(signer.signing_time(), &mut error).map(|it| it.to_string()),
+            digest_algorithm: algorithm_of(signer.digest_algorithm().oid()),
+            message_digest,
+            signature_algorithm: algorithm_of(signer.signature_algorithm().oid()),
+            signature: self.signature(signer, certificate),
+            is_chain_whole: chain.last().is_some_and(is_self_issued),
+            chain_signatures: signatures_of(&chain),
+            trust: self.trust(certificate, roots, time),
+            chain: chain.iter().map(|it| text_of(it.subject())).collect(),
+            time_stamps,
+            is_limited,
+            error,
+        }
+    }
+
+    /// Whether a certificate leads to a root, at the time of a stamp, or now.
+    fn trust(&self, certificate: Option<X509<'_>>, roots: Option<&Roots>, time: Option<Time>) -> Checked {
+        match (certificate, roots) {
+            (_, None) => NO_ROOTS,
+            (None, _) => NO_CERTIFICATE,
+            (Some(certificate), Some(roots)) => roots.lead_to(certificate, &mut self.certificates.all(), time),
+        }
+    }
+
+    /// The time stamps of a signer, of both kinds.
+    fn time_stamps<'s>(&'s self, signer: &Signer<'a>, roots: Option<&'s Roots>) -> impl Iterator<Item = Stamp> + 's {
+        let stamped = signer.signature();
+        let older = signer.counter_signatures().map(move |it| self.counter_signature(it, stamped, roots));
+        let newer = signer.time_stamps().map(move |it| self.time_stamp(it, stamped, roots));
+        older.chain(newer)
+    }
+
+    /// A counter-signature signs the signature that it stamps.
+    fn counter_signature(
+        &self,
+        stamp: Result<Signer<'a>, SignatureError>,
+        stamped: &[u8],
+        roots: Option<&Roots>,
+    ) -> Stamp {
+        let stamp = match stamp {
+            Ok(stamp) => stamp,
+            Err(refused) => return refused_stamp("PKCS #9", refused),
+        };
+        let mut error = None;
+        let certificate = self.certificates.of_signer(&stamp);
+        let time = or_refused(stamp.signing_time(), &mut error);
+        let said = or_refused(stamp.message_digest(), &mut error);
+        let algorithm = stamp.digest_algorithm().oid();
+        let digest = said.map_or(Compared::Absent, |said| Digests::of(vec![stamped]).compared(algorithm, said));
+        Stamp {
+            kind: "PKCS #9",
+            time: time.map(|it| it.to_string()),
+            subject: certificate.map(|it| text_of(it.subject())),
+            message_digest: digest.clone(),
+            digest,
+            signature: self.signature(&stamp, certificate),
+            trust: self.trust(certificate, roots, time),
+            error,
+            stamped: time,
+        }
+    }
+
+    /// A time-stamp token is a signature, whose content has the digest of the signature that it stamps.
+    fn time_stamp(&self, token: Result<Signature<'a>, SignatureError>, stamped: &[u8], roots: Option<&Roots>) -> Stamp {
+        let token = match token {
+            Ok(token) => token,
+            Err(refused) => return refused_stamp("RFC 3161", refused),
+        };
+        let mut error = None;
+        let (mut signed, said) = (Signed::of(&token), or_refused(token.time_stamp(), &mut error));
+        let time = said.and_then(|it| or_refused(it.time().map(Some), &mut error));
+        let digest = said.map_or(Compared::Absent, |it| {
+            Digests::of(vec![stamped]).compared(it.digest_algorithm().oid(), it.digest())
+        });
+        let signer = or_refused(token.signers().next().transpose(), &mut error);
+        let certificate = signer.and_then(|it| signed.certificates.of_signer(&it).or(self.certificates.of_signer(&it)));
+        Stamp {
+            kind: "RFC 3161",
+            time: time.map(|it| it.to_string()),
+            subject: certificate.map(|it| text_of(it.subject())),
+            digest,
+            message_digest: signer.map_or(Compared::Absent, |it| signed.message_digest(&it, &mut error)),
+            signature: signer.map_or(NO_CERTIFICATE, |it| signed.signature(&it, certificate)),
+            trust: signed.trust(certificate, roots, time),
+            error,
+            stamped: time,
+        }
+    }
+}
+
+fn shortened(text: String) -> String {
+    text.chars().take(CHARACTERS).collect()
+}
+
+fn refused_stamp(kind: &'static str, refused: SignatureError) -> Stamp {
+    Stamp {
+        kind,
+        time: None,
+        subject: None,
+        digest: Compared::Absent,
+        message_digest: Compared::Absent,
+        signature: NO_CERTIFICATE,
+        trust: NO_CERTIFICATE,
+        error: Some(refused.into()),
+        stamped: None,
+    }
+}
+
+/// Whether each certificate of a chain is signed by the next, and the last by itself where it is by its own word.
+fn signatures_of(chain: &[X509<'_>]) -> Checked {
+    let last = chain.last().filter(|it| is_self_issued(it));
+    let issuers = chain.iter().skip(1).chain(last);
+    let check = |it: (&X509<'_>, &X509<'_>)| {
+        let (algorithm, message) = (it.0.signature_algorithm().oid(), it.0.to_be_signed());
+        checked::check(*it.1, algorithm, None, &[message], it.0.signature())
+    };
+    let mut links = chain.iter().zip(issuers).map(check);
+    match (chain.len(), links.find(|it| *it != Checked::Good)) {
+        (0, _) => NO_CERTIFICATE,
+        (_, Some(bad)) => bad,
+        (1, None) if last.is_none() => NO_ISSUER,
+        (_, None) => Checked::Good,
+    }
+}

@@ -1,0 +1,114 @@
+//! What is said of the signatures of an image, as text.
+
+use super::hashing::Compared;
+use super::signer::{Stamp, Told};
+use super::{Signature, State, Verified};
+use crate::escape::escaped;
+use crate::page::{Page, Style};
+
+/// What all of it comes to, in words that say no more than was checked.
+fn words_of(state: State) -> &'static str {
+    match state {
+        State::Refused => "damaged: see the errors",
+        State::NotSigned => "not signed",
+        State::Wrong => "WRONG: see what is different or wrong",
+        State::Open => "open: see what was not compared or checked",
+        State::DigestsEqual => "all digests are equal; no signature was checked, nor any certificate",
+        State::SignaturesGood => "all digests are equal and all signatures good; whom to trust was not checked",
+        State::Trusted => {
+            "all digests are equal, all signatures good, and the chains lead to the roots that were given"
+        }
+    }
+}
+
+fn words_of_digest(digest: &Compared) -> String {
+    match digest {
+        Compared::Different { worked_out_hex } => format!("DIFFERENT: {worked_out_hex} is right"),
+        _ => digest.word().to_string(),
+    }
+}
+
+pub fn of(verified: &Verified, style: Style) -> String {
+    let mut page = Page::new(style);
+    page.heading(&escaped(&verified.origin.file));
+    for signature in &verified.signatures {
+        signature_of(signature, &mut page);
+    }
+    if let Some(error) = &verified.error {
+        page.warning(error);
+    }
+    if verified.is_limited {
+        page.warning("there are more signers, time stamps or nested signatures");
+    }
+    page.row("result", words_of(verified.state));
+    page.into_text()
+}
+
+fn signature_of(signature: &Signature, page: &mut Page) {
+    let nested = if signature.depth == 0 { "" } else { ", nested" };
+    page.row("signature", format_args!("entry {} of the certificate table{nested}", signature.entry));
+    if let (Some(algorithm), Some(digest)) = (&signature.digest_algorithm, &signature.digest_hex) {
+        let compared = signature.digest.as_ref().map(words_of_digest).unwrap_or_default();
+        page.row("  file digest", format_args!("{algorithm} {digest}, {compared}"));
+    }
+    signature.signers.iter().for_each(|it| signer_of(it, page));
+    if let Some(error) = &signature.error {
+        page.warning(error);
+    }
+}
+
+fn signer_of(signer: &Told, page: &mut Page) {
+    match &signer.certificate {
+        Some(certificate) => {
+            let time = |it: &Option<String>| it.clone().unwrap_or_else(|| "a time that is none".to_string());
+            page.row("  signer", escaped(&certificate.subject));
+            page.row("  valid", format_args!("{} to {}", time(&certificate.not_before), time(&certificate.not_after)));
+        }
+        None => page.row("  signer", "its certificate is not in the file"),
+    }
+    page.row("  issuer", escaped(&signer.issuer));
+    page.row("  serial", &signer.serial_hex);
+    for (label, text) in [("  program", &signer.program_name), ("  more at", &signer.program_url)] {
+        text.iter().for_each(|it| page.row(label, escaped(it)));
+    }
+    signer.signing_time.iter().for_each(|it| page.row("  says signed", it));
+    page.row("  digest", format_args!("{}, {}", signer.digest_algorithm, words_of_digest(&signer.message_digest)));
+    page.row("  by", format_args!("{}, {}", signer.signature_algorithm, signer.signature.text()));
+    chain_of(signer, page);
+    signer.time_stamps.iter().for_each(|it| stamp_of(it, page));
+    if let Some(error) = &signer.error {
+        page.warning(error);
+    }
+}
+
+fn chain_of(signer: &Told, page: &mut Page) {
+    let end = match signer.is_chain_whole {
+        true => "up to one that is by its own word",
+        false => "whose issuer is not in the file",
+    };
+    match signer.chain.get(1..).unwrap_or_default() {
+        [] if signer.is_chain_whole => {
+            let checked = signer.chain_signatures.text();
+            page.row("  chain", format_args!("the certificate is by its own word; its signature {checked}"));
+        }
+        [] => page.row("  chain", "the certificate of the issuer is not in the file"),
+        issuers => {
+            let through: Vec<String> = issuers.iter().map(|it| escaped(it)).collect();
+            let checked = signer.chain_signatures.text();
+            page.row("  chain", format_args!("{}, {end}; signatures {checked}", through.join("; ")));
+        }
+    }
+    page.row("  trust", signer.trust.text());
+}
+
+fn stamp_of(stamp: &Stamp, page: &mut Page) {
+    let time = stamp.time.as_deref().unwrap_or("a time that is none");
+    let subject = stamp.subject.as_deref().map_or("a certificate that is not in the file".to_string(), escaped);
+    page.row("  time stamp", format_args!("{time}, {}, by {subject}", stamp.kind));
+    page.row("", format_args!("digest of the signature {}", words_of_digest(&stamp.digest)));
+    page.row("", format_args!("digest of the stamp {}", words_of_digest(&stamp.message_digest)));
+    page.row("", format_args!("signature {}; trust {}", stamp.signature.text(), stamp.trust.text()));
+    if let Some(error) = &stamp.error {
+        page.warning(error);
+    }
+}
