@@ -3,16 +3,16 @@
 import { strict as assert } from 'node:assert';
 import { readFileSync, readdirSync } from 'node:fs';
 import { join } from 'node:path';
-import { Image, Library, PeError, abi, calls, constants, load, results, version } from 'pe-c';
+import { File, Image, Library, PeError, abi, calls, constants, load, results, version } from 'pe-c';
 
 const folder = process.argv[2], library = await load(), done = new Set();
 const file = (name) => readFileSync(join(folder, `${name}.bin`));
 const opened = (name, mode = constants.PE_C_PERMISSIVE) => library.open(file(name), { mode });
 let passed = 0, failed = 0;
 
-// Which calls succeed.
-const { call } = Image.prototype;
-Image.prototype.call = function (name, given) {
+// Which calls succeed, of what makes calls.
+const { prototype: caller } = Object.getPrototypeOf(File), { call } = caller;
+caller.call = function (name, given) {
   const found = call.call(this, name, given);
   if (found !== null) done.add(name);
   return found;
@@ -163,6 +163,29 @@ test('parameters that are missing or unknown', () => {
   assert.throws(() => image.call('pe_c_find_function', { table, rva: 1, rvo: 1 }), TypeError);
   assert.throws(() => image.call('pe_c_nothing'), TypeError);
   assert.throws(() => image.call('pe_c_image', {}), TypeError);
+  // a call that needs more than there is
+  const bytes = library.file(file('functions'));
+  assert.throws(() => bytes.call('pe_c_function_table'), /needs image/);
+  assert.throws(() => library.call('pe_c_coff'), /needs bytes/);
+  assert.throws(() => image.call('pe_c_next_frame', { walk: {} }), /needs modules/);
+  assert.throws(() => image.call('pe_c_next_library', {}), /needs walk/);
+});
+
+test('numbers that do not fit are no other numbers', () => {
+  const image = opened('functions'), table = image.call('pe_c_function_table');
+  for (const rva of [2 ** 32, -1, 1.5, 'x']) assert.throws(() => image.call('pe_c_offset', { rva }), RangeError);
+  for (const index of [1n << 64n, -1]) assert.throws(() => image.call('pe_c_function_at', { table, index }), RangeError);
+  assert.throws(() => image.call('pe_c_next_code', { walk: { version: 256 } }), RangeError);
+  assert.throws(() => image.call('pe_c_function_at', { table: { offset: -1 }, index: 0 }), RangeError);
+});
+
+test('a walk is over after an error', () => {
+  const bytes = Uint8Array.from(file('relocations')), view = new DataView(bytes.buffer);
+  // the size of the first block, at the start of the base relocations
+  view.setUint32(view.getUint32(0xC8 + 8 * 5, true) - 0xC00 + 4, 7, true);
+  const image = library.open(bytes), walk = image.call('pe_c_relocation_blocks');
+  assert.equal(refused(() => image.call('pe_c_next_relocation_block', { walk })).constant, 'PE_C_DIRECTORY_BLOCK_SIZE');
+  assert.equal(image.call('pe_c_next_relocation_block', { walk }), null);
 });
 
 test('certificates are attached, listed and detached', () => {
@@ -182,6 +205,209 @@ test('certificates are attached, listed and detached', () => {
   assert.equal(image.call('pe_c_digest_ranges').ranges.length, 4);
 });
 
+// The rows of a signature, attached and detached again, as the calls above have them.
+test('files with and without a certificate', () => {
+  const image = opened('debug'), certificate = Uint8Array.of(16, 0, 0, 0, 0, 2, 2, 0, 1, 2, 3, 4, 5, 6, 7, 8);
+  const attached = library.open(image.attach(certificate)), bodies = (it) => [...it.certificates()].map((one) => one.body.length);
+  assert.deepEqual(bodies(attached), [8n]);
+  assert.deepEqual(bodies(library.open(attached.attach(certificate))), [8n, 8n]);
+  assert.deepEqual(bodies(library.open(attached.attach(certificate, { placement: constants.PE_C_IN_PLACE }))), [8n]);
+  assert.deepEqual(attached.detach(), image.detach());
+  assert.equal(refused(() => image.attach(certificate.slice(0, 7))).constant, 'PE_C_SHORT');
+});
+
+const words32 = (words) => new Uint8Array(Uint32Array.from(words, (it) => it >>> 0).buffer);
+const words64 = (words) => new Uint8Array(BigUint64Array.from(words, BigInt).buffer);
+
+/** An image of x64 with one section, at RVA 0x1000 and offset 0x400, with these bytes and directories. */
+function madeImage(content, directories) {
+  const size = Math.ceil(content.length / 0x200) * 0x200, bytes = new Uint8Array(0x400 + size), view = new DataView(bytes.buffer);
+  bytes.set(file('functions').subarray(0, 0x400));
+  bytes.set(content, 0x400);
+  bytes.fill(0, 0xC8, 0x148);
+  directories.forEach((it) => bytes.set(words32(it.slice(1)), 0xC8 + 8 * it[0]));
+  for (const at of [0x150, 0x158]) view.setUint32(at, size, true);
+  return bytes;
+}
+
+/** An image whose resources, a manifest in the language 0x407, have a section of 0x400 bytes. */
+function editable() {
+  const content = new Uint8Array(0x400), directory = 0x80000000;
+  content.set(words32([0, 0, 0, 1 << 16, 24, directory | 24, 0, 0, 0, 1 << 16, 1, directory | 48, 0, 0, 0, 1 << 16, 0x407, 72,
+    0x1000 + 88, 6, 0, 0]));
+  content.set(new TextEncoder().encode('<old/>'), 88);
+  const bytes = madeImage(content, [[2, 0x1000, 94]]);
+  bytes.fill(0, 0x68, 0x6C);
+  bytes.set(words32([0x2000]), 0x90);
+  return bytes;
+}
+
+test('resources are changed, and read back', () => {
+  const bytes = editable(), image = library.open(bytes), ascii = (text) => new TextEncoder().encode(text);
+  const [manifest, ...others] = image.resources();
+  assert.deepEqual(manifest, { type: 24, name: 1, language: 0x407, codePage: 0, content: ascii('<old/>') });
+  assert.deepEqual(others, []);
+  const wanted = [
+    { type: 'B\uD800', name: 1, language: 0, codePage: 1252, content: ascii('x') },
+    { type: 10, name: 'Z', language: 0x409, codePage: 0, content: Uint8Array.of(1, 2) },
+    { type: 10, name: 7, language: 0x409, codePage: 0, content: new Uint8Array(0) },
+    { type: 24, name: 1, language: 0x407, codePage: 0, content: ascii('<new/>') },
+    { type: 24, name: 1, language: 0x40C, codePage: 0, content: ascii('<fr/>') },
+  ];
+  const given = [4, 2, 0, 3, 1].map((it) => wanted[it]), kept = [...given], written = image.edit(given);
+  assert.deepEqual(given, kept);
+  assert.deepEqual(library.open(written).resources(), wanted);
+  assert.equal(written.length, bytes.length);
+  assert.deepEqual(library.open(written).edit(wanted), written);
+  // what is refused, by the library and here
+  const constant = (resources) => refused(() => image.edit(resources)).constant;
+  assert.equal(constant([wanted[1], wanted[1]]), 'PE_C_EDIT_ORDER');
+  assert.equal(constant([{ ...manifest, language: 0x10000 }]), 'PE_C_EDIT_RECORD');
+  // what does not fit into the section goes to the end of the image
+  const larger = image.edit([{ ...manifest, content: new Uint8Array(0x400) }]);
+  assert.equal(larger.length, 0xA00);
+  assert.equal(library.open(larger).resources()[0].content.length, 0x400);
+  for (const name of [1.5, undefined, 2 ** 32]) assert.throws(() => image.edit([{ ...manifest, name }]), RangeError);
+  assert.equal(refused(() => opened('certificates').edit([])).constant, 'PE_C_EDIT_SIGNED');
+});
+
+test('resources that cannot be written are refused as they are read', () => {
+  const refusal = (offset, ...words) => {
+    const bytes = editable();
+    // the size of the directory
+    bytes.set(words32([0x200]), 0xDC);
+    bytes.set(words32(words), 0x400 + offset);
+    return refused(() => library.open(bytes).resources()).constant;
+  };
+  assert.equal(refusal(64, 0x80000000), 'PE_C_EDIT_RECORD');
+  assert.equal(refusal(72, 0x9000), 'PE_C_UNMAPPED');
+  // one content of 0x400 bytes in three languages, of a file of 0x800
+  assert.equal(refusal(60, 3 << 16, 0x407, 88, 0x409, 88, 0x40C, 88, 0x1000, 0x400, 0, 0), 'PE_C_EDIT_NO_ROOM');
+});
+
+test('version information is written, block by block', () => {
+  const text = Uint8Array.of(16, 0, 2, 0, 1, 0, 97, 0, 0, 0, 0, 0, 98, 0, 0, 0), binary = Uint8Array.of(15, 0, 3, 0, 0, 0, 97, 0, 0, 0, 0, 0, 7, 8, 9, 0);
+  assert.deepEqual(library.versionBlock({ key: 'a', text: 'b' }), text);
+  assert.deepEqual(library.versionBlock({ key: 'a', value: Uint8Array.of(7, 8, 9) }), binary);
+  assert.equal(refused(() => library.versionBlock({ key: 'a\0' })).constant, 'PE_C_BLOCK_KEY');
+  assert.equal(refused(() => library.versionBlock({ key: 'a', text: 'b\0c' })).constant, 'PE_C_BLOCK_TEXT');
+  assert.throws(() => library.versionInfo({ fileVersion: [1, 65536, 0, 0] }), RangeError);
+  assert.throws(() => library.versionInfo({ language: -1 }), RangeError);
+  assert.equal(refused(() => library.versionBlock({ key: 'a', text: 'b'.repeat(40000) })).constant, 'PE_C_BLOCK_TOO_LONG');
+  const parts = { fileVersion: [1, 2, 3, 65535], language: 0x409, strings: { CompanyName: 'Example', Größe: '名' } };
+  const [manifest] = library.open(editable()).resources(), content = library.versionInfo(parts);
+  const image = library.open(library.open(editable()).edit([{ type: 16, name: 1, language: 0x409, content }, manifest]));
+  const fixed = image.call('pe_c_fixed_version');
+  assert.deepEqual([fixed.signature, fixed.file_version_ms, fixed.file_version_ls, fixed.product_version_ls],
+    [0xFEEF04BD, 0x10002, 0x3FFFF, 0x3FFFF]);
+  assert.equal(image.utf16(image.call('pe_c_version_text', { name: constants.PE_C_COMPANY_NAME })), 'Example');
+  const [all] = image.list('versionBlocks'), inner = (block) => [...image.items('pe_c_next_version_block', block.children)];
+  const [strings, others] = inner(all), [table] = inner(strings), [pair] = inner(others);
+  assert.deepEqual([table.language, table.code_page, ...image.slice(pair.value)], [0x409, 1200, 9, 4, 0xB0, 4]);
+  assert.deepEqual(inner(table).map((it) => [image.utf16(it.key), image.utf16(it.value)]), Object.entries(parts.strings));
+});
+
+// A function at 0x5000, push rbp; lea rbp,[rsp+32]; sub rsp,32, which was called at the end of the part at 0x5010. That saved rbx
+// at rbp+40, and is chained to the first. Its return address is 0.
+const BASE = 0x180000000n, ENTRY = 0x20008n, OUTER = ENTRY + 40n;
+const frameRegisters = () => ({ rip: BASE + 0x500Cn, general: [0n, 0n, 0n, 0n, ENTRY - 40n, ENTRY + 24n] });
+const stackBytes = () => words64([OUTER + 24n, BASE + 0x5020n, 1, 2, 3, 0x55, 0, 4, 5, 6, 7, 8, 9, 10, 0xBB]);
+
+function imageOfCalls() {
+  const content = new Uint8Array(0x4020);
+  content.set(file('functions').subarray(0x400));
+  content[0x401B] = 0xE8;
+  return madeImage(content, [[3, 0x1000, 48]]);
+}
+
+/** The frames of a walk: rip, rsp, way; and the walk as it is in the end. */
+function walked(memory, remaining = 100) {
+  const process = library.process({ modules: [{ bytes: imageOfCalls(), base: BASE }], memory,
+    pieces: [{ start: ENTRY - 8n, offset: 0, length: memory.length }] });
+  const walk = { registers: frameRegisters(), remaining }, frames = [...process.frames(walk)];
+  assert.equal(process.call('pe_c_next_frame', { walk }), null);
+  return [frames.map((it) => [it.registers.rip, it.registers.general[4], it.way, it.has_called]), walk];
+}
+
+test('a stack walk comes to its end, and says which', () => {
+  const both = [[BASE + 0x500Cn, ENTRY - 40n, constants.PE_C_WAY_TOP, 0], [BASE + 0x5020n, ENTRY + 8n, constants.PE_C_WAY_RECORDS, 1]];
+  const [frames, walk] = walked(stackBytes());
+  assert.deepEqual([frames, walk.end, walk.has_returned], [both, constants.PE_C_END_BOTTOM, 1]);
+  assert.deepEqual(walked(stackBytes(), 1).map((it) => it.end ?? it), [both.slice(0, 1), constants.PE_C_END_BOUND]);
+  const [some, lost] = walked(stackBytes().subarray(0, 48));
+  assert.deepEqual([some, lost.end, results[lost.error], lost.address], [both, constants.PE_C_END_STEP, 'PE_C_MISSING', OUTER + 64n]);
+  const several = library.process({ memory: stackBytes(), pieces: [{ start: ENTRY - 8n, offset: 0n, length: 120n }],
+    modules: [{ bytes: file('imports'), base: 0x10000 }, { bytes: imageOfCalls(), base: BASE, mode: constants.PE_C_PERMISSIVE }] });
+  assert.equal([...several.frames({ registers: frameRegisters(), remaining: 9n })].length, 2);
+  assert.deepEqual(several.images.map((it) => it.sections.length), [1, 1]);
+  const outside = { modules: [], memory: new Uint8Array(8), pieces: [{ start: 0, offset: 1, length: 8 }] };
+  assert.equal(refused(() => [...library.process(outside).frames({ remaining: 1 })]).constant, 'PE_C_SHORT');
+  assert.equal(refused(() => library.process({ ...outside, modules: [{ bytes: new Uint8Array(9), base: 0n }] })).constant, 'PE_C_SHORT');
+});
+
+test('a step returns the registers of the caller', () => {
+  const image = opened('functions'), table = image.call('pe_c_function_table'), stack = stackBytes();
+  const found = image.call('pe_c_find_function', { table, rva: 0x500C });
+  const frame = { registers: frameRegisters(), stack_start: ENTRY - 8n, function: found, rva: 0x500C };
+  assert.equal(image.call('pe_c_step', { stack, frame }), true);
+  const { rip, general } = frame.registers;
+  assert.deepEqual([rip, general[4], general[5]], [BASE + 0x5020n, ENTRY + 8n, OUTER + 24n]);
+});
+
+test('objects, their sections and their symbols', () => {
+  const bytes = readFileSync(join(folder, 'object.obj')), object = library.openObject(bytes), symbols = object.symbols();
+  assert.deepEqual([object.header.machine, object.sections.map((it) => object.sectionName(it))], [0x8664, ['.text', '.data', '.bss']]);
+  assert.deepEqual([...symbols].map((it) => [it.index, symbols.name(it), it.section_number, it.value]), [[0n, '.file', -2, 0],
+    [2n, 'longer_than_eight', 1, 1], [4n, '.text', 1, 0], [6n, '.data', 2, 0], [8n, '.bss', 3, 0], [10n, 'five', -1, 5],
+    [11n, 'outside', 0, 0]]);
+  assert.deepEqual([symbols.strings(), symbols.table], [{ offset: 0x17En, length: 22n }, { offset: 0xA6n, length: 216n }]);
+  assert.equal(object.utf8(symbols.at(0).auxiliary).replaceAll('\0', ''), 'b.s');
+  assert.equal(symbols.at(12), null);
+  const constant = (length, read) => refused(() => read(library.openObject(bytes.subarray(0, length)).symbols())).constant;
+  assert.deepEqual([19, 139, 0x17D].map((it) => constant(it, () => null)), ['PE_C_SHORT', 'PE_C_SHORT', 'PE_C_SHORT']);
+  assert.equal(constant(0x193, (it) => it.name(it.at(2))), 'PE_C_STRING_TABLE');
+  assert.equal(constant(0x17E, (it) => it.name(it.at(2))), 'PE_C_STRING_TABLE');
+  const short = library.openObject(bytes.subarray(0, 0x193)).symbols();
+  assert.equal(short.name(short.at(10)), 'five');
+  assert.equal(library.openObject(new Uint8Array(20)).symbols(), null);
+});
+
+test('symbols of images', () => {
+  const bytes = Uint8Array.from(file('long_section_name'));
+  bytes.set([0, 0, 0, 0, 0x10, 0, 0, 0, 0x34, 0x12, 0, 0, 1, 0, 0x20, 0, 2, 0], 0x600);
+  const symbols = library.open(bytes).symbols(), [symbol] = symbols;
+  assert.deepEqual([symbols.name(symbol), symbol.value, symbol.type], ['.debug_line', 0x1234, 0x20]);
+  assert.equal(opened('small').symbols(), null);
+  assert.equal(library.open(bytes, { mode: constants.PE_C_MAPPED }).symbols(), null);
+});
+
+test('TE images', () => {
+  const bytes = readFileSync(join(folder, 'te_image.te')), te = library.openTe(bytes), [entry] = te.debugEntries();
+  assert.deepEqual([te.header.machine, te.header.subsystem, te.header.rva_offset, te.header.entry_point], [0x8664, 10, 0x100, 0x1000]);
+  assert.deepEqual(te.sections.map((it) => [te.sectionName(it), it.virtual_address]), [['.text', 0x1000]]);
+  assert.deepEqual([entry.address_of_raw_data, te.debugEntry(2), te.debugEntry(13)], [0x70, entry, null]);
+  const key = te.call('pe_c_symbol_key_of', { mode: constants.PE_C_MAPPED, entry });
+  assert.deepEqual([te.utf8(key.name), key.age], ['a.pdb\0', 9]);
+  assert.equal(refused(() => library.openTe(bytes.subarray(0, 79))).constant, 'PE_C_SHORT');
+  assert.equal(refused(() => [...library.openTe(bytes.subarray(0, 0x6B)).debugEntries()]).constant, 'PE_C_DEBUG_BOUNDS');
+});
+
+test('why headers are refused', () => {
+  const { offset, needed, value, result } = library.failure(file('small').subarray(0, 70));
+  assert.deepEqual([offset, needed, value, results[result]], [0x44n, 20n, 0n, 'PE_C_SHORT']);
+  assert.equal(library.failure(file('small')), null);
+  const te = Uint8Array.from(readFileSync(join(folder, 'te_image.te')));
+  assert.equal(library.teFailure(te), null);
+  te[6] = 0x27;
+  te[7] = 0;
+  const failure = library.teFailure(te);
+  assert.deepEqual([failure.offset, failure.value, results[failure.result]], [6n, 39n, 'PE_C_TE_SIZE']);
+});
+
+test('calls that take no file', () => {
+  assert.deepEqual(library.call('pe_c_plan_from', { unwind: 7 }), { unwind: 7, is_over: 0, saved: 7, spare: 0, steps: 0n, limit: 1n });
+});
+
 test('the caller of a leaf function, by its return address', () => {
   const image = opened('functions'), stack = new Uint8Array(32), view = new DataView(stack.buffer);
   view.setBigUint64(8, 0x1122334455667788n, true);
@@ -195,6 +421,7 @@ test('the caller of a leaf function, by its return address', () => {
   registers.general[4] = 0x5000n;
   const outside = { registers, stack_start: 0x1000n };
   assert.equal(refused(() => image.call('pe_c_leaf', { stack, frame: outside })).constant, 'PE_C_MISSING');
+  assert.equal(outside.address, 0x5000n);
   const arm64 = { registers: { general: Array.from({ length: 31 }, (_, i) => BigInt(i)) } };
   image.call('pe_c_leaf_arm64', { frame: arm64 });
   assert.equal(arm64.registers.pc, 30n);

@@ -142,7 +142,7 @@ static void step_x64(const struct file *file, const pe_c_function *function, int
 
 static void walk_stack(const struct file *file, const pe_c_range *table, const pe_c_function *function, int way)
 {
-    const pe_c_module modules[] = {{{BYTES, &file->image, sections, file->count}, *table, file->image.base}};
+    const pe_c_module modules[] = {{{BYTES, &file->image, sections, file->count, NULL, 0}, *table, file->image.base}};
     pe_c_stack_walk walk = PE_C_EMPTY, other, frames[6];
     uint64_t filled = 0;
     walk.registers = made_frame(file, function, way).registers;
@@ -181,6 +181,11 @@ static void walk_x64(const struct file *file)
         CALL(pe_c_plan_from, plan, function.unwind, &plan);
         WALK(RECORDS, pe_c_next_record, record, IMAGE, &table, &plan, &record)
             record_x64(file, &record);
+        pe_c_code codes[8] = PE_C_EMPTY;
+        uint64_t coded = 0;
+        const pe_c_view view = {BYTES, &file->image, sections, file->count, NULL, 0};
+        CALL(pe_c_record_codes, codes, &view, &table, function.unwind, &record, codes, 8, &coded);
+        add(coded);
         CALL(pe_c_unwind_record, record, IMAGE, &table, function.unwind, &record);
         for (int way = 0; way < 4; way++) {
             step_x64(file, &function, way);
@@ -191,7 +196,8 @@ static void walk_x64(const struct file *file)
 
 /* ---- ARM64 */
 
-static void step_arm64(const struct file *file, const pe_c_arm64_function *function, uint32_t size, int way)
+/* A frame inside a function of so many bytes. */
+static pe_c_arm64_frame made_arm64_frame(const struct file *file, const pe_c_arm64_function *function, uint32_t size, int way)
 {
     pe_c_arm64_frame frame = PE_C_EMPTY;
     for (int i = 0; i < 31; i++)
@@ -201,10 +207,26 @@ static void step_arm64(const struct file *file, const pe_c_arm64_function *funct
     frame.function = *function;
     frame.rva = function->begin + (size ? (uint32_t)(next_random() % size) & ~3u : 0);
     frame.registers.pc = file->image.base + frame.rva;
+    return frame;
+}
+
+static void step_arm64(const struct file *file, const pe_c_range *table, pe_c_arm64_frame frame, int way)
+{
+    const pe_c_module modules[] = {{{BYTES, &file->image, sections, file->count, NULL, 0}, *table, file->image.base}};
     pe_c_arm64_frame other = frame;
+    pe_c_arm64_stack_walk walk = PE_C_EMPTY, same, frames[6];
+    uint64_t filled = 0;
+    walk.registers = frame.registers;
+    walk.remaining = INNER;
+    same = walk;
+    for (int i = 0; i < 6; i++)
+        frames[i] = walk;
     CALL(pe_c_step_arm64, frame, IMAGE, stack, sizeof stack, &frame);
     CALL(pe_c_step_arm64_pieces, other, IMAGE, stack, sizeof stack, pieces, 3, &other);
     CALL(pe_c_leaf_arm64, frame, &frame);
+    WALK(INNER + 1, pe_c_next_arm64_frame, walk, modules, 1, stack, sizeof stack, pieces, 3, &walk) {}
+    CALL(pe_c_next_arm64_frames, frames, modules, 1, stack, sizeof stack, pieces, 3, &same, frames, way % 2 ? 6 : 1, &filled);
+    add(filled);
 }
 
 /* Returns the length of the function. */
@@ -237,7 +259,7 @@ static void walk_arm64(const struct file *file)
         CALL(pe_c_find_arm64_function, found, IMAGE, &table, function.begin + 4, &found);
         uint32_t size = record_arm64(file, &function);
         for (int way = 0; way < 4; way++)
-            step_arm64(file, &function, size, way);
+            step_arm64(file, &table, made_arm64_frame(file, &function, size, way), way);
     }
 }
 
@@ -270,7 +292,7 @@ static void debug_record(const struct file *file, const pe_c_debug_entry *entry)
 static void first_entries(const struct file *file)
 {
     static const uint32_t types[] = {2, 12, 13, 16, 17, 19, 20, 0xFFFF};
-    const pe_c_view view = {BYTES, &file->image, sections, file->count};
+    const pe_c_view view = {BYTES, &file->image, sections, file->count, NULL, 0};
     pe_c_debug_entry entry = PE_C_EMPTY;
     for (size_t i = 0; i < sizeof types / sizeof *types; i++)
         CALL(pe_c_first_debug_entry, entry, &view, types[i], &entry);
@@ -296,8 +318,112 @@ static void debug_data(const struct file *file)
     CALL(pe_c_debug_vc_features, features, IMAGE, &features);
     CALL(pe_c_debug_characteristics, flags, IMAGE, &flags);
     CALL(pe_c_debug_repro, repro, IMAGE, &repro);
-    if (IS_DONE(pe_c_debug_pogo, pogo, IMAGE, &pogo))
+    if (IS_DONE(pe_c_debug_pogo, pogo, IMAGE, &pogo)) {
+        const pe_c_view view = {BYTES, &file->image, sections, file->count, NULL, 0};
+        pe_c_range entries_walk = pogo.entries;
+        LIST(pe_c_list_pogo_entries, pe_c_pogo_entry, &view, &entries_walk);
         WALK(ITEMS, pe_c_next_pogo_entry, pogo_entry, BYTES, &pogo.entries, &pogo_entry) {}
+    }
+}
+
+/* ---- signatures */
+
+static void name(const struct file *file, const pe_c_range *range)
+{
+    pe_c_signature_failure failure = PE_C_EMPTY;
+    pe_c_name_walk walk = PE_C_EMPTY;
+    pe_c_name_attribute attribute = PE_C_EMPTY;
+    CALL(pe_c_name, walk, BYTES, range, &failure, &walk);
+    WALK(INNER, pe_c_next_name_attribute, attribute, BYTES, &walk, &failure, &attribute) {}
+    add_bytes(&failure, sizeof failure);
+}
+
+static void time_of(const struct file *file, const pe_c_range *range)
+{
+    pe_c_signature_failure failure = PE_C_EMPTY;
+    pe_c_utc_time time = PE_C_EMPTY;
+    CALL(pe_c_time, time, BYTES, range, &failure, &time);
+    add_bytes(&failure, sizeof failure);
+}
+
+static void x509(const struct file *file, const pe_c_range *range)
+{
+    pe_c_signature_failure failure = PE_C_EMPTY;
+    pe_c_x509_certificate certificate = PE_C_EMPTY;
+    pe_c_der_element element = {*range, *range, 0, 0};
+    pe_c_x509_extension extension = PE_C_EMPTY;
+    uint32_t usage = 0;
+    CALL(pe_c_x509, certificate, BYTES, range, &failure, &certificate);
+    name(file, &certificate.issuer);
+    name(file, &certificate.subject);
+    time_of(file, &certificate.not_before);
+    time_of(file, &certificate.not_after);
+    do {
+        CALL(pe_c_extension, extension, BYTES, &element.whole, &failure, &extension);
+        CALL(pe_c_key_usage, usage, BYTES, &element.whole, &failure, &usage);
+    } while (IS_DONE(pe_c_next_element, element, BYTES, &certificate.extensions, &failure, &element));
+    add_bytes(&failure, sizeof failure);
+}
+
+static void signature(const struct file *file, const pe_c_range *range, int depth);
+
+/* An attribute, and its values by every call that reads one. */
+static void attribute(const struct file *file, const pe_c_range *range, int depth)
+{
+    pe_c_signature_failure failure = PE_C_EMPTY;
+    pe_c_signer_attribute found = PE_C_EMPTY;
+    pe_c_der_element value = {*range, *range, 0, 0};
+    pe_c_spc_opus_info opus = PE_C_EMPTY;
+    CALL(pe_c_attribute, found, BYTES, range, &failure, &found);
+    do {
+        time_of(file, &value.whole);
+        CALL(pe_c_opus_info, opus, BYTES, &value.whole, &failure, &opus);
+        if (depth > 0)
+            signature(file, &value.whole, depth - 1);
+    } while (IS_DONE(pe_c_next_element, value, BYTES, &found.values, &failure, &value));
+    add_bytes(&failure, sizeof failure);
+}
+
+static void signer(const struct file *file, const pe_c_range *range, int depth)
+{
+    pe_c_signature_failure failure = PE_C_EMPTY;
+    pe_c_signer_info found = PE_C_EMPTY;
+    pe_c_der_element element = {*range, *range, 0, 0};
+    CALL(pe_c_signer, found, BYTES, range, &failure, &found);
+    name(file, &found.issuer);
+    attribute(file, range, depth);
+    WALK(INNER, pe_c_next_element, element, BYTES, &found.signed_attributes, &failure, &element)
+        attribute(file, &element.whole, depth);
+    while (IS_DONE(pe_c_next_element, element, BYTES, &found.unsigned_attributes, &failure, &element))
+        attribute(file, &element.whole, depth);
+    add_bytes(&failure, sizeof failure);
+}
+
+/* What a range starts with, by every call of signatures, whatever it is. */
+static void signature(const struct file *file, const pe_c_range *range, int depth)
+{
+    pe_c_signature_failure failure = PE_C_EMPTY;
+    pe_c_signed_data signed_data = PE_C_EMPTY;
+    pe_c_spc_indirect_data indirect = PE_C_EMPTY;
+    pe_c_spc_pe_image_data data = PE_C_EMPTY;
+    pe_c_tst_info stamp = PE_C_EMPTY;
+    pe_c_algorithm algorithm = PE_C_EMPTY;
+    pe_c_der_element element = {*range, *range, 0, 0};
+    CALL(pe_c_signature, signed_data, BYTES, range, &failure, &signed_data);
+    CALL(pe_c_indirect_data, indirect, BYTES, &signed_data.content, &failure, &indirect);
+    CALL(pe_c_image_data, data, BYTES, &indirect.value, &failure, &data);
+    if (IS_DONE(pe_c_time_stamp, stamp, BYTES, &signed_data.content, &failure, &stamp))
+        time_of(file, &stamp.time);
+    WALK(INNER, pe_c_next_element, element, BYTES, &signed_data.digest_algorithms, &failure, &element)
+        CALL(pe_c_algorithm_identifier, algorithm, BYTES, &element.whole, &failure, &algorithm);
+    CALL(pe_c_algorithm_identifier, algorithm, BYTES, range, &failure, &algorithm);
+    x509(file, range);
+    while (IS_DONE(pe_c_next_element, element, BYTES, &signed_data.certificates, &failure, &element))
+        x509(file, &element.whole);
+    signer(file, range, 0);
+    while (IS_DONE(pe_c_next_element, element, BYTES, &signed_data.signers, &failure, &element))
+        signer(file, &element.whole, depth);
+    add_bytes(&failure, sizeof failure);
 }
 
 static void certificates(const struct file *file)
@@ -309,7 +435,9 @@ static void certificates(const struct file *file)
     pe_c_digest digest = PE_C_EMPTY;
     pe_c_checksum_field checksum = PE_C_EMPTY;
     uint64_t length = 0;
-    WALK(ITEMS, pe_c_next_certificate, entry, BYTES, &walk, &entry) {}
+    signature(file, &walk, 0);
+    WALK(ITEMS, pe_c_next_certificate, entry, BYTES, &walk, &entry)
+        signature(file, &entry.body, 2);
     CALL(pe_c_digest_ranges, digest, BYTES, &file->image, &digest);
     CALL(pe_c_checksum, checksum, BYTES, &file->image, &checksum);
     for (uint32_t placement = 0; placement < 2; placement++) {
@@ -350,9 +478,16 @@ static void imports(const struct file *file)
     if (IS_DONE(pe_c_import_libraries, libraries, IMAGE, &libraries))
         WALK(LISTS, pe_c_next_library, library, IMAGE, &libraries, &library)
             WALK(ITEMS, pe_c_next_import, import, IMAGE, &library.imports, &import) {}
-    if (IS_DONE(pe_c_delay_imports, walk, IMAGE, &walk))
-        WALK(LISTS, pe_c_next_delay_import, delayed, IMAGE, &walk, &delayed)
+    if (IS_DONE(pe_c_delay_imports, walk, IMAGE, &walk)) {
+        const pe_c_view view = {BYTES, &file->image, sections, file->count, NULL, 0};
+        pe_c_range dlls = walk;
+        LIST(pe_c_list_delay_imports, pe_c_delay_import, &view, &dlls);
+        WALK(LISTS, pe_c_next_delay_import, delayed, IMAGE, &walk, &delayed) {
+            pe_c_delayed_functions functions = delayed.functions;
+            LIST(pe_c_list_delayed_functions, pe_c_delayed_function, &view, &functions);
             WALK(ITEMS, pe_c_next_delayed_function, function, IMAGE, &delayed.functions, &function) {}
+        }
+    }
     if (!IS_DONE(pe_c_bound_imports, table, BYTES, &file->image, &table))
         return;
     walk = table;
@@ -493,7 +628,7 @@ static void lists_of_functions(const struct file *file, const pe_c_view *view)
 
 static void lists(const struct file *file)
 {
-    const pe_c_view view = {BYTES, &file->image, sections, file->count};
+    const pe_c_view view = {BYTES, &file->image, sections, file->count, NULL, 0};
     pe_c_resource_walk leaves = PE_C_EMPTY;
     pe_c_range walk = PE_C_EMPTY;
     pe_c_relocation_block block = PE_C_EMPTY;
@@ -518,9 +653,18 @@ static void headers(const struct file *file)
     uint32_t rva = 0;
     pe_c_rich_header_info rich = PE_C_EMPTY;
     pe_c_rich_entry entry = PE_C_EMPTY;
-    const pe_c_view view = {BYTES, &file->image, sections, file->count};
+    const pe_c_view view = {BYTES, &file->image, sections, file->count, NULL, 0};
     CALL(pe_c_offset, offset, &file->image, sections, file->count, file->image.entry, &offset);
     CALL(pe_c_section_at, offset, &view, file->image.entry, &offset);
+    pe_c_index_entry room[64] = PE_C_EMPTY;
+    uint64_t made = 0;
+    pe_c_view indexed = view;
+    if (IS_DONE(pe_c_index, made, &view, room, 64, &made)) {
+        indexed.index = room;
+        indexed.entries = (size_t)made;
+    }
+    add(made);
+    CALL(pe_c_section_at, offset, &indexed, file->image.entry, &offset);
     CALL(pe_c_range_at, range, &view, file->image.entry, &range);
     CALL(pe_c_rva, rva, &view, range.offset, &rva);
     for (size_t i = 0; i < file->count; i++)
@@ -593,6 +737,66 @@ static void in_mode(struct file *file, uint32_t mode)
     lists(file);
 }
 
+/* ---- the file as a minidump, whatever it is */
+
+static void dump_lists(const struct file *file, const pe_c_range *stream)
+{
+    pe_c_dump_thread thread = PE_C_EMPTY;
+    pe_c_dump_module module = PE_C_EMPTY;
+    pe_c_dump_thread_name name = PE_C_EMPTY;
+    pe_c_dump_unloaded unloaded = PE_C_EMPTY;
+    pe_c_dump_thread_info more = PE_C_EMPTY;
+    pe_c_dump_handle handle = PE_C_EMPTY;
+    pe_c_dump_region region = PE_C_EMPTY;
+    pe_c_dump_piece piece = PE_C_EMPTY;
+    pe_c_range range = PE_C_EMPTY;
+    for (uint64_t i = 0; i < 4; i++) {
+        CALL(pe_c_dump_thread_at, thread, BYTES, stream, i, &thread);
+        CALL(pe_c_dump_module_at, module, BYTES, stream, i, &module);
+        CALL(pe_c_dump_range, range, BYTES, &module.cv_record, &range);
+        CALL(pe_c_dump_text, range, BYTES, module.module_name_rva, &range);
+        CALL(pe_c_dump_thread_name_at, name, BYTES, stream, i, &name);
+        CALL(pe_c_dump_unloaded_at, unloaded, BYTES, stream, i, &unloaded);
+        CALL(pe_c_dump_thread_info_at, more, BYTES, stream, i, &more);
+        CALL(pe_c_dump_handle_at, handle, BYTES, stream, i, &handle);
+        CALL(pe_c_dump_region_at, region, BYTES, stream, i, &region);
+        CALL(pe_c_dump_memory_at, piece, BYTES, stream, i, &piece);
+    }
+}
+
+static void dump_stream(const struct file *file, const pe_c_range *stream)
+{
+    pe_c_dump_raised raised = PE_C_EMPTY;
+    pe_c_dump_system_info system = PE_C_EMPTY;
+    pe_c_dump_process_info process = PE_C_EMPTY;
+    pe_c_memory64_walk walk = PE_C_EMPTY;
+    pe_c_dump_piece piece = PE_C_EMPTY;
+    pe_c_context context = PE_C_EMPTY;
+    pe_c_arm64_context arm64_context = PE_C_EMPTY;
+    dump_lists(file, stream);
+    if (IS_DONE(pe_c_dump_exception, raised, BYTES, stream, &raised)) {
+        CALL(pe_c_dump_context, context, BYTES, &raised.thread_context, &context);
+        CALL(pe_c_dump_context_arm64, arm64_context, BYTES, &raised.thread_context, &arm64_context);
+    }
+    CALL(pe_c_dump_system, system, BYTES, stream, &system);
+    CALL(pe_c_dump_process, process, BYTES, stream, &process);
+    if (IS_DONE(pe_c_dump_memory64, walk, BYTES, stream, &walk))
+        WALK(ITEMS, pe_c_next_memory64, piece, BYTES, &walk, &piece) {}
+}
+
+static void dump(const struct file *file)
+{
+    pe_c_dump_info info = PE_C_EMPTY;
+    pe_c_dump_entry entry = PE_C_EMPTY;
+    pe_c_range stream = PE_C_EMPTY;
+    if (!IS_DONE(pe_c_dump, info, BYTES, &info))
+        return;
+    CALL(pe_c_dump_entry_at, entry, BYTES, &info.directory, 1, &entry);
+    for (uint32_t kind = 0; kind <= PE_C_THREAD_NAMES_STREAM; kind++)
+        if (IS_DONE(pe_c_dump_stream, stream, BYTES, &info.directory, kind, &stream))
+            dump_stream(file, &stream);
+}
+
 /* ---- all of it */
 
 static void make_stack(void)
@@ -611,7 +815,7 @@ static void make_stack(void)
 /* The texts of all results that there may be, and the number of the ABI. */
 static void texts(void)
 {
-    for (uint32_t number = 0; number < 420; number++) {
+    for (uint32_t number = 0; number < 570; number++) {
         uint8_t text[128] = {0};
         size_t length = TARGET_CALL(pe_c_text)(number, text, sizeof text);
         count(number_of_pe_c_text, length > 0);
@@ -635,6 +839,7 @@ void all_calls(const uint8_t *bytes, size_t length, uint8_t *room, size_t room_l
     make_stack();
     texts();
     others(&file);
+    dump(&file);
     for (uint32_t mode = 0; mode < 4; mode++)
         in_mode(&file, mode);
 }

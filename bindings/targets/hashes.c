@@ -5,6 +5,9 @@
 #include <string.h>
 #include "all_calls.h"
 #include "names.h"
+#ifdef LENT
+#include "pe_portable.h"
+#endif
 
 #ifdef PROLOGUE
 int PROLOGUE(void);
@@ -37,7 +40,14 @@ static void hash(const char *path)
     const char *slash = strrchr(path, '/');
     if (!room)
         exit(3);
+#ifdef LENT
+    if (pe_portable_lend(bytes, length) != PE_C_DONE)
+        exit(5);
+#endif
     all_calls(bytes, length, room, length + 64, &totals);
+#ifdef LENT
+    pe_portable_end();
+#endif
     printf("%016llx %s\n", (unsigned long long)totals.hash, slash ? slash + 1 : path);
     free(bytes);
     free(room);

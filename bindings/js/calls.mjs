@@ -1,0 +1,140 @@
+// How a call of pe.h is made: what is given goes into the memory of the instance, and what the call writes comes back.
+import { calls } from './layouts.mjs';
+import { whole, width } from './memory.mjs';
+
+const utf8 = new TextDecoder('utf-8'), utf16 = new TextDecoder('utf-16le');
+
+/** The parameters of a call, if those that are given are its own, and none is missing but arrays. */
+function expected(name, given, own) {
+  if (!Object.hasOwn(calls, name)) throw new TypeError(`${name} is no call of pe.h that is made by its name`);
+  const parameters = calls[name], taken = new Set();
+  for (const [it, , way, array] of parameters) {
+    if (way === 'own' && !Object.hasOwn(own, it)) throw new TypeError(`${name} needs ${it}, which there is not`);
+    if (way === 'own' || way === 'length' || (way === 'out' && !array)) continue;
+    taken.add(it);
+    if (!array && given[it] === undefined) throw new TypeError(`${name} needs ${it}`);
+  }
+  for (const it of Object.keys(given)) if (!taken.has(it)) throw new TypeError(`${name} has no parameter ${it}`);
+  return parameters;
+}
+
+let memoryIn, ownIn;
+/** The memory of what makes calls, and the arguments that it passes itself, for the files of this package. */
+export const memoryOf = (caller) => memoryIn(caller), ownOf = (caller) => ownIn(caller);
+
+/** An instance, and what stands in its memory for each call: `own` has these arguments, addresses and lengths, by the names
+ * of their parameters. */
+export class Caller {
+  #memory;
+  #own;
+
+  static {
+    memoryIn = (it) => it.#memory;
+    ownIn = (it) => it.#own;
+  }
+
+  constructor(memory, own) {
+    this.#memory = memory;
+    this.#own = own;
+  }
+
+  /** Makes a call of pe.h: see index.d.ts. */
+  call(name, given = {}) {
+    const kept = this.#memory.free;
+    try {
+      return this.#called(name, given);
+    } finally {
+      this.#memory.free = kept;
+    }
+  }
+
+  #called(name, given) {
+    const words = [], changed = [], filled = [], made = {}, memory = this.#memory;
+    for (const parameter of expected(name, given, this.#own)) {
+      const [own, type, way, array] = parameter;
+      if (way === 'own') words.push(this.#own[own]);
+      else if (way === 'length') words.push(BigInt(given[array]?.length ?? 0));
+      else if (array) words.push(this.#array(filled, parameter, given));
+      else if (way === 'out') words.push(this.#made(filled, made, parameter));
+      else if (way) words.push(this.#given(changed, parameter, given[own]));
+      else words.push(whole(type, given[own]));
+    }
+    const result = memory.make(name, words);
+    // A walk or a frame may say more of an error, or of an end.
+    changed.forEach((read) => read());
+    if (!memory.isDone(name, result)) return null;
+    filled.forEach((read) => read());
+    const outs = Object.keys(made);
+    return outs.length === 1 ? made[outs[0]] : outs.length ? made : true;
+  }
+
+  #array(filled, [own, type, way], given) {
+    const values = given[own] ?? [], memory = this.#memory, size = width(type);
+    const at = memory.reserve(values.length * size);
+    if (type === 'uint8_t') new Uint8Array(memory.exports.memory.buffer, at, values.length).set(values);
+    else values.forEach((it, i) => memory.write(type, at + i * size, it));
+    if (way === 'out' && type === 'uint8_t') filled.push(() => values.set(memory.bytes(at, values.length)));
+    else if (way === 'out') filled.push(() => values.forEach((_, i) => { values[i] = memory.read(type, at + i * size); }));
+    return BigInt(at);
+  }
+
+  #given(changed, [, type, way], value) {
+    const memory = this.#memory, at = memory.reserve(width(type));
+    memory.write(type, at, value);
+    if (way === 'moved') changed.push(() => Object.assign(value, memory.read(type, at)));
+    return BigInt(at);
+  }
+
+  #made(filled, made, [own, type]) {
+    const memory = this.#memory, at = memory.reserve(width(type));
+    filled.push(() => { made[own] = memory.read(type, at); });
+    return BigInt(at);
+  }
+
+  /** The items of a walk, from where it is. */
+  *items(name, walk, given = {}) {
+    for (;;) {
+      const item = this.call(name, { ...given, walk });
+      if (item === null) return;
+      yield item;
+    }
+  }
+}
+
+/** Puts a file into the memory of an instance: the arguments that it is for calls. */
+export const placed = (memory, bytes) => ({ bytes: BigInt(memory.put(bytes)), length: BigInt(bytes.length) });
+
+/** The bytes of a file in an instance of their own, and the calls of pe.h that take bytes alone. */
+export class File extends Caller {
+  #memory;
+  #start;
+
+  constructor(memory, own) {
+    super(memory, own);
+    this.#memory = memory;
+    this.#start = Number(own.bytes);
+    this.length = Number(own.length);
+  }
+
+  /** A copy of a range of the bytes. */
+  slice(range) {
+    return this.#memory.bytes(this.#start + Number(range.offset), Number(range.length));
+  }
+
+  /** The text of a range, in UTF-8 or ASCII. */
+  utf8(range) {
+    return utf8.decode(this.slice(range));
+  }
+
+  /** The text of a range, in UTF-16, up to the first zero unless it is whole. */
+  utf16(range, { isWhole = false } = {}) {
+    const text = utf16.decode(this.slice(range));
+    return isWhole ? text : text.replace(/\0.*$/s, '');
+  }
+
+  /** The name of a section in its header. */
+  sectionName(section) {
+    const end = section.name.indexOf(0);
+    return utf8.decode(Uint8Array.from(end < 0 ? section.name : section.name.slice(0, end)));
+  }
+}

@@ -1,0 +1,177 @@
+// An image: its headers and sections, all calls of pe.h over it, and its lists as iterators.
+import { File, placed } from './calls.mjs';
+import { constants } from './layouts.mjs';
+import { width } from './memory.mjs';
+import { recordsOf, resourcesOf } from './resources.mjs';
+import { symbolsOf } from './symbols.mjs';
+
+const ARM64 = 0xAA64;
+
+// The lists of an image: the call that starts each, and the one that returns its next item.
+const LISTS = {
+  debugEntries: ['pe_c_debug_entries', 'pe_c_next_debug_entry'],
+  exports: ['pe_c_export_tables', 'pe_c_next_export'],
+  libraries: ['pe_c_import_libraries', 'pe_c_next_library'],
+  delayImports: ['pe_c_delay_imports', 'pe_c_next_delay_import'],
+  versionBlocks: ['pe_c_version_blocks', 'pe_c_next_version_block'],
+  resourceLeaves: ['pe_c_resource_leaves', 'pe_c_next_resource_leaf'],
+  relocationBlocks: ['pe_c_relocation_blocks', 'pe_c_next_relocation_block'],
+};
+
+/** Reads the headers and the section headers: the arguments that the image is for calls, and both as objects. */
+function opened(memory, bytes, mode) {
+  const own = placed(memory, bytes), info = memory.reserve(width('pe_c_image_info')), size = width('pe_c_section');
+  memory.isDone('pe_c_image', memory.make('pe_c_image', [own.bytes, own.length, mode, BigInt(info)]));
+  const found = memory.read('pe_c_image_info', info), count = found.number_of_sections, table = memory.reserve(count * size);
+  Object.assign(own, { image: BigInt(info), sections: BigInt(table), count: BigInt(count) });
+  memory.isDone('pe_c_sections', memory.make('pe_c_sections', [own.bytes, own.length, own.image, own.sections, own.count]));
+  const view = memory.reserve(width('pe_c_view'));
+  memory.write('pe_c_view', view, own);
+  const sections = Array.from({ length: count }, (_, i) => memory.read('pe_c_section', table + i * size));
+  return { own: { ...own, view: BigInt(view) }, info: found, sections };
+}
+
+export class Image extends File {
+  constructor(memory, bytes, mode) {
+    const { own, info, sections } = opened(memory, bytes, mode);
+    super(memory, own);
+    /** pe_c_image_info */
+    this.info = info;
+    /** pe_c_section, one for each section. */
+    this.sections = sections;
+  }
+
+  /** The items of a list of the image, none where it is absent: see index.d.ts for the names. */
+  *list(name) {
+    const [start, next] = LISTS[name], walk = this.call(start);
+    if (walk) yield* this.items(next, walk);
+  }
+
+  /** All numbers of the headers: pe_c_headers_info. */
+  headers() {
+    return this.call('pe_c_headers', { mode: this.info.mode });
+  }
+
+  /** The first entry of the debug directory of a type, IMAGE_DEBUG_TYPE_ of winnt.h, or null. */
+  debugEntry(type) {
+    return this.call('pe_c_first_debug_entry', { data_type: type });
+  }
+
+  /** The COFF symbols, as images of mingw-w64 have them, or null. An image as loaded has none. */
+  symbols() {
+    return this.info.mode & constants.PE_C_MAPPED ? null : symbolsOf(this, this.headers().coff);
+  }
+
+  // ---- walks whose start or whose next item needs more
+
+  /** The imports of a library. */
+  imports(library) {
+    return this.items('pe_c_next_import', structuredClone(library.imports));
+  }
+
+  /** The functions of a DLL that is loaded when it is needed. */
+  delayedFunctions(delayImport) {
+    return this.items('pe_c_next_delayed_function', structuredClone(delayImport.functions));
+  }
+
+  /** All exports by their index, with those that have no name. */
+  *exportAddresses() {
+    const table = this.call('pe_c_export_addresses');
+    for (let index = 0; table; index++) {
+      const found = this.call('pe_c_export_at', { table, index });
+      if (found === null) return;
+      yield found;
+    }
+  }
+
+  /** The bound imports, each with its forwarders. */
+  *boundImports() {
+    const table = this.call('pe_c_bound_imports');
+    if (!table) return;
+    for (const found of this.items('pe_c_next_bound_import', { ...table }, { table })) {
+      yield { ...found, forwarders: [...this.items('pe_c_next_bound_forwarder', structuredClone(found.forwarders), { table })] };
+    }
+  }
+
+  /** The certificates of the certificate table. */
+  *certificates() {
+    const { virtual_address: offset, size: length } = this.info.directories[constants.PE_C_DIRECTORY_SECURITY];
+    yield* this.items('pe_c_next_certificate', { offset: BigInt(offset), length: BigInt(length) });
+  }
+
+  /** The entries of the Rich header. */
+  *richEntries() {
+    const header = this.call('pe_c_rich_header');
+    if (header) yield* this.items('pe_c_next_rich_entry', header.entries, { key: header.key });
+  }
+
+  /** The relocations of a block. */
+  relocations(block) {
+    return this.items('pe_c_next_relocation', structuredClone(block.entries), { page_rva: block.page_rva });
+  }
+
+  /** The functions of an x64 or ARM64 image, in the order of their table. */
+  *functions() {
+    const isArm64 = this.info.machine === ARM64;
+    const table = this.call(isArm64 ? 'pe_c_arm64_table' : 'pe_c_function_table');
+    for (let index = 0n; table && index < table.length / (isArm64 ? 8n : 12n); index++) {
+      yield this.call(isArm64 ? 'pe_c_arm64_function_at' : 'pe_c_function_at', { table, index });
+    }
+  }
+
+  /** The unwind records of an x64 function, up to the root of its chain. */
+  *records(found) {
+    const table = this.call('pe_c_function_table'), plan = this.call('pe_c_plan_from', { unwind: found.unwind });
+    for (;;) {
+      const record = table && this.call('pe_c_next_record', { table, plan });
+      if (!record) return;
+      yield record;
+    }
+  }
+
+  /** The unwind codes of an x64 record. */
+  codes(record) {
+    return this.items('pe_c_next_code', structuredClone(record.codes));
+  }
+
+  /** The callbacks that run when a thread starts or ends, virtual addresses. */
+  *tlsCallbacks() {
+    const tls = this.call('pe_c_tls'), walk = tls && this.call('pe_c_tls_callbacks', { tls });
+    if (walk) yield* this.items('pe_c_next_tls_callback', walk);
+  }
+
+  /** The streams of .NET metadata. */
+  *metadataStreams() {
+    const header = this.call('pe_c_clr_header'), metadata = header && this.call('pe_c_clr_metadata', { header });
+    if (metadata) yield* this.items('pe_c_next_metadata_stream', metadata.streams);
+  }
+
+  // ---- what is written: a new file each, and the image stays
+
+  /** A file that a call writes, after a call that says how long it is. */
+  #written(lengthCall, call, given) {
+    const room = new Uint8Array(Number(this.call(lengthCall, given)));
+    this.call(call, { ...given, room });
+    return room;
+  }
+
+  /** The file with a certificate, or several: entries of a certificate table. */
+  attach(certificate, { placement = constants.PE_C_AFTER } = {}) {
+    return this.#written('pe_c_attached_length', 'pe_c_attach', { certificate, placement });
+  }
+
+  /** The file without its certificates. */
+  detach() {
+    return this.#written('pe_c_detached_length', 'pe_c_detach', {});
+  }
+
+  /** All resources in each language, as `edit` takes them. */
+  resources() {
+    return resourcesOf(this);
+  }
+
+  /** The file with these resources, in any order, in place of those that it has. */
+  edit(resources) {
+    return this.#written('pe_c_edited_length', 'pe_c_edit', recordsOf(resources));
+  }
+}

@@ -1,0 +1,150 @@
+// The memory of an instance of the module: records of pe.h as objects, and errors as PeError.
+import { abi, constants, records, results } from './layouts.mjs';
+
+const PAGE = 65536;
+const WIDTHS = { uint8_t: 1, uint16_t: 2, uint32_t: 4, uint64_t: 8, size_t: 8, int16_t: 2 };
+const LEAST = { int16_t: -0x8000 }, MOST = { uint8_t: 0xFF, uint16_t: 0xFFFF, int16_t: 0x7FFF, uint32_t: 0xFFFFFFFF };
+const MOST_64 = 0xFFFFFFFFFFFFFFFFn;
+const utf8 = new TextDecoder('utf-8');
+const aligned = (at) => Math.ceil(at / 16) * 16;
+const isAddress = (type) => type.endsWith('*');
+
+/** How many bytes a number, an address or a record has. */
+export const width = (type) => (isAddress(type) ? 8 : WIDTHS[type] ?? records[type][0]);
+
+/** A number as a call or a field of this type takes it: one of 64 bits as BigInt. What does not fit is an error, and not another
+ * number. */
+export function whole(type, value) {
+  const most = MOST[type], number = most ? Number(value) : BigInt(value);
+  const fits = most ? Number.isInteger(number) && number >= (LEAST[type] ?? 0) && number <= most : number >= 0n && number <= MOST_64;
+  if (!fits) throw new RangeError(`${value} is no ${type}`);
+  return number;
+}
+
+/** Why a call refused its arguments: `number` and `constant` are those of pe.h, such as 2 and PE_C_SHORT, and `message` is
+ * its text. */
+export class PeError extends Error {
+  constructor(call, number, text) {
+    super(text);
+    this.name = 'PeError';
+    this.call = call;
+    this.number = number;
+    this.constant = results[number] ?? 'PE_C_UNKNOWN';
+  }
+}
+
+/** An instance and its memory. Addresses never leave the package: in the module with a memory of 32 bits one above 4 GiB
+ * would be taken for another. */
+export class Memory {
+  #exports;
+
+  constructor(module) {
+    this.#exports = new WebAssembly.Instance(module).exports;
+    if (this.exports[`pe_c_abi_${abi}`]?.() !== abi) throw new TypeError('the module is of another ABI than this library');
+    this.free = aligned(Number(this.exports.__heap_base.value));
+  }
+
+  get exports() {
+    if (!this.#exports) throw new Error('the instance has ended');
+    return this.#exports;
+  }
+
+  /** Room for so many bytes, zeros. A view of the memory ends where the memory grows, so each is made anew. */
+  reserve(length) {
+    const at = this.free, end = aligned(at + length), { memory } = this.exports;
+    const pages = Math.ceil((end - memory.buffer.byteLength) / PAGE);
+    if (pages > 0) this.grow(pages);
+    this.free = end;
+    new Uint8Array(memory.buffer, at, end - at).fill(0);
+    return at;
+  }
+
+  grow(pages) {
+    const { memory } = this.exports;
+    try {
+      memory.grow(pages);
+    } catch (error) {
+      // A memory of 64 bits counts its pages by BigInt.
+      if (!(error instanceof TypeError)) throw new RangeError(`the module's memory has no room for ${pages * PAGE} bytes more`);
+      memory.grow(BigInt(pages));
+    }
+  }
+
+  put(bytes) {
+    const at = this.reserve(bytes.length);
+    new Uint8Array(this.exports.memory.buffer, at, bytes.length).set(bytes);
+    return at;
+  }
+
+  bytes(at, length) {
+    return new Uint8Array(this.exports.memory.buffer, at, length).slice();
+  }
+
+  view(at, length) {
+    return new DataView(this.exports.memory.buffer, at, length);
+  }
+
+  read(type, at) {
+    const view = this.view(at, width(type));
+    switch (type) {
+      case 'uint8_t': return view.getUint8(0);
+      case 'uint16_t': return view.getUint16(0, true);
+      case 'int16_t': return view.getInt16(0, true);
+      case 'uint32_t': return view.getUint32(0, true);
+      case 'uint64_t': case 'size_t': return view.getBigUint64(0, true);
+    }
+    const found = {};
+    for (const [name, kind, offset, count] of records[type][1]) {
+      const size = width(kind);
+      const one = (i) => this.read(kind, at + offset + i * size);
+      found[name] = count ? Array.from({ length: count }, (_, i) => one(i)) : one(0);
+    }
+    return found;
+  }
+
+  /** Writes a number, an address or a record. A field that the record lacks is 0. */
+  write(type, at, value) {
+    const view = this.view(at, width(type));
+    if (isAddress(type)) return view.setBigUint64(0, value, true);
+    switch (type) {
+      case 'uint8_t': return view.setUint8(0, whole(type, value));
+      case 'uint16_t': return view.setUint16(0, whole(type, value), true);
+      case 'int16_t': return view.setInt16(0, whole(type, value), true);
+      case 'uint32_t': return view.setUint32(0, whole(type, value), true);
+      case 'uint64_t': case 'size_t': return view.setBigUint64(0, whole(type, value), true);
+    }
+    for (const [name, kind, offset, count] of records[type][1]) {
+      const size = width(kind), own = value[name];
+      const values = own === undefined ? [] : count ? own.slice(0, count) : [own];
+      values.forEach((it, i) => this.write(kind, at + offset + i * size, it));
+    }
+  }
+
+  /** Makes a call. After a trap, as of a stack that is used up, the instance ends and each later call throws. */
+  make(name, words) {
+    try {
+      return this.exports[name](...words);
+    } catch (error) {
+      if (error instanceof WebAssembly.RuntimeError) this.#exports = null;
+      throw error;
+    }
+  }
+
+  /** Whether a call found something, of its result; throws where it refused. */
+  isDone(call, result) {
+    if (result === constants.PE_C_NOTHING) return false;
+    if (result !== constants.PE_C_DONE) throw this.error(call, result);
+    return true;
+  }
+
+  error(call, result) {
+    return new PeError(call, result, this.text(result));
+  }
+
+  text(number) {
+    const kept = this.free, room = this.reserve(128);
+    const length = Number(this.make('pe_c_text', [number, BigInt(room), 128n]));
+    this.free = kept;
+    return utf8.decode(this.bytes(room, length));
+  }
+}
