@@ -15,7 +15,8 @@ int main(int argc, char **argv)
 {
     if (argc != 4)
         return 2;
-    const char *kind = argv[1];
+    /* read here, so that no call pays for it */
+    int is_leaf = !strcmp(argv[1], "leaf"), is_pieces = !strcmp(argv[1], "pieces"), is_epilog = !strcmp(argv[1], "epilog");
     uint32_t records = (uint32_t)atoi(argv[2]);
     unsigned long calls = strtoul(argv[3], NULL, 10);
     pe_c_section sections[5];
@@ -64,12 +65,12 @@ int main(int argc, char **argv)
         frame.function.end = 0x1100;
         frame.function.unwind = 0x5000;
         uint32_t result;
-        if (!strcmp(kind, "leaf"))
+        if (is_leaf)
             result = pe_c_leaf(stack, sizeof stack, &frame);
-        else if (!strcmp(kind, "pieces"))
+        else if (is_pieces)
             result = pe_c_step_pieces(bytes, sizeof bytes, &image, sections, 5, NULL, 0, stack, sizeof stack, &piece, 1,
                                       &frame, &interrupted);
-        else if (!strcmp(kind, "epilog"))
+        else if (is_epilog)
             result = pe_c_step(bytes, sizeof bytes, &image, sections, 5, bytes + 0x1020, 0xE0, stack, sizeof stack, &frame);
         else
             result = pe_c_step(bytes, sizeof bytes, &image, sections, 5, NULL, 0, stack, sizeof stack, &frame);

@@ -2,7 +2,8 @@
 //! is expected is what each of them was entered with.
 
 use crate::frames::bytes_of;
-use pe_core::{DataDirectory, ParseOptions};
+use crate::sections;
+use pe_core::{DataDirectory, ParseOptions, SectionTable};
 use pe_frame::{
     Arm64Registers, Arm64StackFrames, Memory, Module, Modules, Stack, StackPieces, Way,
 };
@@ -103,12 +104,17 @@ fn exceptions(bytes: &[u8], functions: u32) -> Result<ExceptionData<'_>, pe_core
     ExceptionData::parse_arm64_with_opts(bytes, table, &[], 0x200, &flat())
 }
 
-fn module<'a>(base: u64, bytes: &'a [u8], exceptions: &'a ExceptionData<'a>) -> Module<'a> {
+fn module<'a>(
+    base: u64,
+    bytes: &'a [u8],
+    exceptions: &'a ExceptionData<'a>,
+    sections: &'a [SectionTable],
+) -> Module<'a> {
     Module {
         base,
         size: SIZE,
         bytes,
-        sections: &[],
+        sections,
         exceptions: Some(exceptions),
         opts: flat(),
     }
@@ -129,8 +135,22 @@ fn registers(pc: u64, sp: u64, lr: u64) -> Arm64Registers {
 /// What is expected of a frame: `pc`, `sp`, `x29`, the way, and whether it has called.
 type Expected = (u64, u64, u64, Way, bool);
 
-/// The walk from these registers comes to these frames, of which the first is the top frame, and then ends as said.
+/// The walk from these registers comes to these frames, of which the first is the top frame, and then ends as said. No section is
+/// executable, so no stack is scanned.
 fn expect_walk<M: Memory>(
+    rt: &impl Abort,
+    alloc: Global,
+    top: Arm64Registers,
+    memory: &M,
+    frames: &[Expected],
+    end: &str,
+) -> Result<(), Fail> {
+    expect_walk_in(&[], rt, alloc, top, memory, frames, end)
+}
+
+/// The same where each module has these sections.
+fn expect_walk_in<M: Memory>(
+    sections: &[SectionTable],
     rt: &impl Abort,
     alloc: Global,
     top: Arm64Registers,
@@ -140,7 +160,10 @@ fn expect_walk<M: Memory>(
 ) -> Result<(), Fail> {
     let (app, nt) = (app(alloc)?, nt(alloc)?);
     let (app_data, nt_data) = (exceptions(&app, 7)?, exceptions(&nt, 1)?);
-    let modules = [module(APP, &app, &app_data), module(NT, &nt, &nt_data)];
+    let modules = [
+        module(APP, &app, &app_data, sections),
+        module(NT, &nt, &nt_data, sections),
+    ];
     let modules = Modules::new(&modules).map_err(|_| "the modules ascend")?;
     let mut walk = Arm64StackFrames::new(modules, memory, top, 100);
     for (index, frame) in frames.iter().enumerate() {
@@ -326,6 +349,53 @@ fn wild_calls_return_to_the_link_register(rt: HostRuntime) -> Result<(), Fail> {
             &frames,
             NO_MODULE,
         )?;
+    }
+    Ok(())
+}
+
+/// Where the link register is no return address, the first word of the stack that is one into executable code leads on, of 128; here
+/// with a signature. From a frame that has called no stack is scanned.
+#[test]
+fn stacks_are_scanned(rt: HostRuntime) -> Result<(), Fail> {
+    let signed = (APP + 0x190) | 0xAB5A << 48;
+    let stack = stack_of(
+        rt.alloc(),
+        &[
+            (0x2008, 3),
+            (0x2010, APP + 0x18C),
+            (0x2018, signed),
+            (0x2020, 0x3000),
+        ],
+    )?;
+    let memory = Stack {
+        start: 0x2000,
+        bytes: &stack,
+    };
+    let code = [SectionTable {
+        characteristics: 0x6000_0020,
+        ..sections::section(0x100, 0x100, 0x100, 0x100)
+    }];
+    for pc in [APP + 0x1F0, 0x1234] {
+        let mut top = registers(pc, 0x2004, 7);
+        top.general[FP] = 0x2020;
+        let found = [
+            (pc, 0x2004, 0x2020, Way::Top, false),
+            (APP + 0x190, 0x2020, 0x2020, Way::Scanned, true),
+        ];
+        expect_walk_in(&code, &rt, rt.alloc(), top, &memory, &found, BOTTOM)?;
+        // The last of 128 words, and the one after it.
+        top.sp = 0x2018 - 127 * 8;
+        let far = [(pc, top.sp, 0x2020, Way::Top, false), found[1]];
+        expect_walk_in(&code, &rt, rt.alloc(), top, &memory, &far, BOTTOM)?;
+        top.sp -= 8;
+        let (lost, end) = if pc == 0x1234 {
+            ([(pc, top.sp, 0x2020, Way::Top, false); 2], NO_MODULE)
+        } else {
+            let wild = (7, top.sp, 0x2020, Way::Leaf, true);
+            ([(pc, top.sp, 0x2020, Way::Top, false), wild], NO_MODULE)
+        };
+        let count = if pc == 0x1234 { 1 } else { 2 };
+        expect_walk_in(&code, &rt, rt.alloc(), top, &memory, &lost[..count], end)?;
     }
     Ok(())
 }

@@ -167,18 +167,18 @@ fn numbers_in_refusals(rt: HostRuntime) -> Result<(), Fail> {
         (0xB1, &[8][..], "Alignment(2048)"),
         (0xB5, &[1][..], "Alignment(256)"),
         (0xB5, &[6][..], "Alignment(1536)"),
-        (0x111, &[0x30][..], "NoSection(12288)"),
-        (0x1BC, &[0x80, 3][..], "Section(1)"),
-        (0x1BD, &[6][..], "Section(1)"),
-        (0x1BD, &[0][..], "Section(1)"),
-        (0xA1, &[0x21][..], "SharedSection(8480)"),
-        (0x100, &[0, 0x21][..], "SharedSection(8448)"),
-        (0x84, &[0, 5][..], "Symbols(1280)"),
-        (0x84, &[0, 3, 0, 0, 15][..], "Symbols(768)"),
-        (0x191, &[4][..], "Overlap(0)"),
-        (0x18D, &[0x20][..], "Overlap(1)"),
-        (0x195, &[0][..], "Overlap(0)"),
-        (0xC8, &[0x57, 0x21][..], "NoRoom { needed: 344, room: 512 }"),
+        // Not in place, and by its size of 0 the headers have no room for another section header.
+        (0x111, &[0x30][..], "NoHeaderRoom(464)"),
+        (0x1BC, &[0x80, 3][..], "NoHeaderRoom(464)"),
+        (0x1BD, &[6][..], "NoHeaderRoom(464)"),
+        (0x1BD, &[0][..], "NoHeaderRoom(464)"),
+        (0xA1, &[0x21][..], "NoHeaderRoom(464)"),
+        (0x100, &[0, 0x21][..], "NoHeaderRoom(464)"),
+        (0x84, &[0, 5][..], "NoHeaderRoom(464)"),
+        (0x84, &[0, 3, 0, 0, 15][..], "NoHeaderRoom(464)"),
+        (0x191, &[4][..], "NoHeaderRoom(464)"),
+        (0x18D, &[0x20][..], "NoHeaderRoom(464)"),
+        (0x195, &[0][..], "NoHeaderRoom(464)"),
     ] {
         let bytes = with_part(old_image(rt.alloc())?, offset, part);
         let shown = refused(rt.alloc(), &bytes, &leaves)?;
@@ -188,9 +188,103 @@ fn numbers_in_refusals(rt: HostRuntime) -> Result<(), Fail> {
     let unsorted = [resource(2, b""), resource(1, b"")];
     let shown = refused(rt.alloc(), &bytes, &unsorted)?;
     assert_eq!(rt; shown.as_str(), "Leaves(Order(1))");
-    let two = [resource(1, &CONTENT), resource(2, &CONTENT)];
-    let shown = refused(rt.alloc(), &bytes, &two)?;
-    assert_eq!(rt; shown.as_str(), "NoRoom { needed: 648, room: 512 }");
+    Ok(())
+}
+
+/// The image without resources, whose headers have room for another section header.
+fn without_resources(alloc: Global) -> Result<Vec<u8>, Fail> {
+    let mut bytes = old_image(alloc)?;
+    put(&mut bytes, &[(0xCC, &[0, 2]), (0x110, &[0; 8])]);
+    Ok(bytes)
+}
+
+#[test]
+fn numbers_in_refusals_at_the_end(rt: HostRuntime) -> Result<(), Fail> {
+    let leaves = [resource(1, &CONTENT)];
+    for (offset, part, text) in [
+        (0x1D0, &[1][..], "NoHeaderRoom(464)"),
+        (0x1F7, &[1][..], "NoHeaderRoom(464)"),
+        (0xCC, &[0xF7, 1][..], "NoHeaderRoom(464)"),
+        (0xC8, &[1, 0xF0, 0xFF, 0xFF][..], "ImageTooLarge"),
+        (0x98, &[0, 0xFE, 0xFF, 0xFF][..], "ImageTooLarge"),
+        (0x1B8, &[1, 2][..], "Section(2)"),
+        (0x1B9, &[4][..], "Section(2)"),
+        (0xA1, &[0x30][..], "SharedSection(12320)"),
+        (0x100, &[0, 0x30][..], "SharedSection(12288)"),
+        (0x84, &[0, 5, 0, 0, 15][..], "Symbols(1280)"),
+        (0x1B4, &[0, 0x40][..], "Overlap(1)"),
+        (0x18A, &[1][..], "Overlap(0)"),
+        (0x130, &[0, 0x10, 0, 0, 28][..], "DebugData(512)"),
+    ] {
+        let bytes = with_part(without_resources(rt.alloc())?, offset, part);
+        let shown = refused(rt.alloc(), &bytes, &leaves)?;
+        assert_eq!(rt; shown.as_str(), text);
+    }
+    Ok(())
+}
+
+/// A new section after the two, and what follows the sections after it.
+#[test]
+fn bytes_of_a_new_section(rt: HostRuntime) -> Result<(), Fail> {
+    let bytes = with_part(without_resources(rt.alloc())?, 0x84, &[0, 6]);
+    let leaves = [resource(1, &CONTENT)];
+    let header = header_of(&bytes)?;
+    let mut out = vec![in rt.alloc(); OLD; LENGTH + 0x201]?;
+    assert_eq!(rt;
+        edited_len(&bytes, &header, &list(&leaves))?,
+        LENGTH + 0x200
+    );
+    assert_eq!(rt;
+        write_edited(&bytes, &header, &list(&leaves), &mut out)?,
+        LENGTH + 0x200
+    );
+    let mut wanted = vec![in rt.alloc(); 0; 0x600]?;
+    put(&mut wanted, &[(0, &bytes[..0x600])]);
+    put(
+        &mut wanted,
+        &[
+            (0x7E, &[3, 0]),
+            (0x84, &[0, 8]),
+            (0x98, &[0, 2]),
+            (0xC8, &[0, 0x40]),
+            (0x110, &[0, 0x30, 0, 0, 0x58, 1, 0, 0]),
+            (
+                0x1D0,
+                b".rsrc\0\0\0\x58\x01\0\0\0\x30\0\0\0\x02\0\0\0\x06\0\0",
+            ),
+            (0x1F4, &[0x40, 0, 0, 0x40]),
+        ],
+    );
+    assert_eq!(rt; &out[..0x600], wanted.as_slice());
+    assert_eq!(rt; &out[0x658..0x758], CONTENT.as_slice());
+    assert!(rt; out[0x758..0x800].iter().all(|byte| *byte == 0));
+    assert_eq!(rt; &out[0x800..], b"after\xEE".as_slice());
+    Ok(())
+}
+
+/// The resources that have no room in the last section get some there, and no section more.
+#[test]
+fn the_last_section_grows(rt: HostRuntime) -> Result<(), Fail> {
+    let bytes = old_image(rt.alloc())?;
+    let leaves = [resource(1, &CONTENT), resource(2, &CONTENT)];
+    let mut out = vec![in rt.alloc(); OLD; LENGTH + 0x200]?;
+    let header = header_of(&bytes)?;
+    assert_eq!(rt;
+        write_edited(&bytes, &header, &list(&leaves), &mut out)?,
+        LENGTH + 0x200
+    );
+    assert_eq!(rt; &out[0x7E..0x80], [2, 0].as_slice());
+    assert_eq!(rt;
+        &out[0x1B0..0x1C0],
+        b"\x88\x02\0\0\0\x20\0\0\0\x04\0\0\0\x04\0\0".as_slice()
+    );
+    assert_eq!(rt; &out[0x588..0x688], CONTENT.as_slice());
+    assert_eq!(rt; &out[0x800..], b"after".as_slice());
+    // With room in its data, but none in the image in memory, no byte is added.
+    let short = with_part(old_image(rt.alloc())?, 0xC8, &[0x57, 0x21]);
+    let length = write_edited(&short, &header_of(&short)?, &list(&leaves[..1]), &mut out)?;
+    assert_eq!(rt; length, LENGTH);
+    assert_eq!(rt; &out[0xC8..0xCC], [0, 0x30, 0, 0].as_slice());
     Ok(())
 }
 
@@ -208,6 +302,18 @@ fn texts_of_refusals(rt: HostRuntime) -> Result<(), Fail> {
         (
             RewriteError::Section(1),
             "data of section 1 start in the headers, end after the end of the file, or are not aligned to 512",
+        ),
+        (
+            RewriteError::NoHeaderRoom(0x1D0),
+            "no room for another section header at file offset 0x1d0",
+        ),
+        (
+            RewriteError::ImageTooLarge,
+            "image with the resources ends after 4 GB",
+        ),
+        (
+            RewriteError::DebugData(0x200),
+            "data of the debug entry at file offset 0x200 start after the data of the sections",
         ),
         (
             RewriteError::NoRoom {

@@ -507,6 +507,7 @@ fn first_entry(bytes: &[u8], image: &Image, data_type: u32) -> (u32, ImageDebugD
         bytes,
         image,
         sections,
+        index: &[],
     };
     let mut out = NO_ENTRY;
     (pe_c_first_debug_entry(&view, data_type, &mut out), out)

@@ -9,7 +9,9 @@ use crate::delay_imports::{
     pe_c_next_delayed_function,
 };
 use crate::image::Image;
-use crate::results::{DONE, NOTHING};
+use crate::lists::delay_imports::{pe_c_list_delay_imports, pe_c_list_delayed_functions};
+use crate::results::{DONE, NOTHING, ROOM};
+use crate::view::View;
 use pe_directories::DelayImport;
 use std::alloc::{AllocError, Global};
 use std::test::Fail;
@@ -297,5 +299,52 @@ fn names_of_functions(rt: HostRuntime) -> Result<(), Fail> {
         step(&bytes, &low, [84, 44], 0),
         (DONE, [78, 2], [0x201, 1], [92, 36])
     );
+    Ok(())
+}
+
+/// Lists of the DLLs and of what is imported of them: the entries, then none; an error where no entry comes before it.
+#[test]
+fn lists_of_both(rt: HostRuntime) -> Result<(), Fail> {
+    let bytes = bytes_of(rt.alloc())?;
+    let (image, sections) = (image(X64), sections());
+    let view = View {
+        bytes: &bytes,
+        image: &image,
+        sections: &sections,
+        index: &[],
+    };
+    let none = DelayLibrary {
+        name: untouched(),
+        functions: functions(UNTOUCHED, 7),
+        descriptor: NO_ENTRY,
+    };
+    let (mut walk, mut entries, mut written) = (range(4, 64), [none; 2], 77);
+    let answer = pe_c_list_delay_imports(&view, &mut walk, &mut entries[..0], &mut written);
+    assert_eq!(rt; (answer, written, of_range(walk)), (ROOM, 77, [4, 64]));
+    for (count, name) in [(1, [68, 5]), (0, [68, 5])] {
+        let answer = pe_c_list_delay_imports(&view, &mut walk, &mut entries, &mut written);
+        assert_eq!(rt; (answer, written, of_range(walk)), (DONE, count, [36, 32]));
+        assert_eq!(rt; of_range(entries[0].name), name);
+        assert_eq!(rt; of_range(entries[1].name), UNTOUCHED);
+    }
+    let mut cut = range(4, 31);
+    let answer = pe_c_list_delay_imports(&view, &mut cut, &mut entries, &mut written);
+    assert_eq!(rt; (answer, written, of_range(cut)), (SHORT, 0, OVER));
+    let none = DelayedFunction {
+        name: untouched(),
+        ordinal: 5,
+        has_name: 6,
+    };
+    let (mut walk, mut found) = (functions([84, 44], 1), [none; 3]);
+    for (count, left) in [(2, [100, 28]), (0, [100, 28])] {
+        let answer = pe_c_list_delayed_functions(&view, &mut walk, &mut found, &mut written);
+        assert_eq!(rt; (answer, written, of_range(walk.left)), (DONE, count, left));
+        assert_eq!(rt;
+            (of_range(found[0].name), found[0].ordinal),
+            ([78, 2], 0x201)
+        );
+        assert_eq!(rt; (found[1].has_name, found[1].ordinal), (0, 9));
+        assert_eq!(rt; (found[2].has_name, found[2].ordinal), (6, 5));
+    }
     Ok(())
 }

@@ -1,7 +1,8 @@
 //! Headers, sections, and the file offsets of RVAs.
 
 use super::made::{
-    BAD_MAGIC, HEADER_POINTER, MAPPED, PERMISSIVE, SHORT, STRICT, directory, in_mode, sections,
+    BAD_MAGIC, HEADER_POINTER, MAPPED, PERMISSIVE, SHORT, STRICT, directory, in_mode, section,
+    sections,
 };
 use crate::image::{Image, pe_c_image, pe_c_offset, pe_c_sections};
 use crate::results::{DONE, NOTHING, ROOM};
@@ -404,23 +405,12 @@ fn offset(sections: &[SectionTable], file_alignment: u32, rva: u32) -> (u32, u64
     offset_in(PERMISSIVE, sections, file_alignment, rva)
 }
 
-fn section(virtual_address: u32, virtual_size: u32, raw_size: u32, raw: u32) -> SectionTable {
-    let [other] = sections();
-    SectionTable {
-        virtual_size,
-        virtual_address,
-        size_of_raw_data: raw_size,
-        pointer_to_raw_data: raw,
-        ..other
-    }
-}
-
 /// Raw pointers are rounded down to 512, and of two sections that cover an address the first counts.
 #[test]
 fn offsets_of_addresses(rt: HostRuntime) {
     let sections = [
-        section(0x1000, 0x100, 0x200, 0x210),
-        section(0x1100, 0x100, 0x200, 0x600),
+        section(0x1000, 0x100, 0x210, 0x200),
+        section(0x1100, 0x100, 0x600, 0x200),
     ];
     for (rva, want) in [
         (0x1000, (DONE, 0x200)),
@@ -443,7 +433,7 @@ fn offsets_of_addresses(rt: HostRuntime) {
 /// An offset may have more than 32 bits.
 #[test]
 fn offsets_far_after(rt: HostRuntime) {
-    let last = [section(0xFFFF_F000, 0x1000, 0x1000, 0xFFFF_FE00)];
+    let last = [section(0xFFFF_F000, 0x1000, 0xFFFF_FE00, 0x1000)];
     assert_eq!(rt; offset(&last, 0x200, 0xFFFF_FFFF), (DONE, 0x1_0000_0DFF));
 }
 

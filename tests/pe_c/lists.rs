@@ -47,6 +47,7 @@ fn view<'a>(bytes: &'a [u8], image: &'a Image, sections: &'a [SectionTable]) -> 
         bytes,
         image,
         sections,
+        index: &[],
     }
 }
 

@@ -208,6 +208,23 @@ pub(crate) fn sections() -> [SectionTable; 1] {
     }]
 }
 
+/// A section by its RVA and its virtual size, its raw pointer and its raw size.
+pub(crate) fn section(
+    virtual_address: u32,
+    virtual_size: u32,
+    pointer_to_raw_data: u32,
+    size_of_raw_data: u32,
+) -> SectionTable {
+    let [other] = sections();
+    SectionTable {
+        virtual_size,
+        virtual_address,
+        size_of_raw_data,
+        pointer_to_raw_data,
+        ..other
+    }
+}
+
 /// Numbers of four bytes, one after the other.
 pub(crate) fn words(alloc: Global, numbers: &[u32]) -> Result<Vec<u8>, AllocError> {
     let mut bytes = bytes_of(alloc, 4 * numbers.len(), &[])?;

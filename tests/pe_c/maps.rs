@@ -1,7 +1,7 @@
 //! Which section maps an RVA, and the bytes to which a section maps its RVAs.
 
 use super::made::{
-    MAPPED, PERMISSIVE, STRICT, UNTOUCHED, X64, image, in_mode, of_range, untouched,
+    MAPPED, PERMISSIVE, STRICT, UNTOUCHED, X64, image, in_mode, of_range, section, untouched,
 };
 use crate::image::Image;
 use crate::map_ranges::{pe_c_range_at, pe_c_rva};
@@ -9,22 +9,6 @@ use crate::maps::{pe_c_section_at, pe_c_section_range};
 use crate::results::{DONE, NOTHING};
 use crate::view::View;
 use pe_core::SectionTable;
-
-/// A section of so many bytes in memory and in the file.
-fn section(rva: u32, virtual_size: u32, offset: u32, raw_size: u32) -> SectionTable {
-    SectionTable {
-        name: [0; 8],
-        virtual_size,
-        virtual_address: rva,
-        size_of_raw_data: raw_size,
-        pointer_to_raw_data: offset,
-        pointer_to_relocations: 0,
-        pointer_to_linenumbers: 0,
-        number_of_relocations: 0,
-        number_of_linenumbers: 0,
-        characteristics: 0,
-    }
-}
 
 fn aligned(file_alignment: u32, mode: u32) -> Image {
     Image {
@@ -38,6 +22,7 @@ fn index_at(image: &Image, sections: &[SectionTable], rva: u32) -> (u32, u64) {
         bytes: &[],
         image,
         sections,
+        index: &[],
     };
     let mut out = 9;
     (pe_c_section_at(&view, rva, &mut out), out)
@@ -94,6 +79,7 @@ fn range_of(image: &Image, length: usize, section: &SectionTable) -> (u32, [u64;
         bytes: &bytes[..length],
         image,
         sections: &[],
+        index: &[],
     };
     let mut out = untouched();
     let number = pe_c_section_range(&view, section, &mut out);
@@ -152,6 +138,7 @@ fn range_at(bytes: &[u8], image: &Image, sections: &[SectionTable], rva: u32) ->
         bytes,
         image,
         sections,
+        index: &[],
     };
     let mut out = untouched();
     (pe_c_range_at(&view, rva, &mut out), of_range(out))
@@ -217,6 +204,7 @@ fn rvas_of_offsets(rt: HostRuntime) {
             bytes: &[],
             image,
             sections: &sections,
+            index: &[],
         };
         let mut out = 9;
         (pe_c_rva(&view, offset, &mut out), out)

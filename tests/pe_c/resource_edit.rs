@@ -236,12 +236,8 @@ fn images_are_refused(rt: HostRuntime) -> Result<(), Fail> {
         (458, 0x8C, &[0x60][..]),
         (SHORT, 0x7E, &[255][..]),
         (459, 0xB1, &[8][..]),
-        (460, 0x111, &[0x30][..]),
-        (461, 0x1BD, &[6][..]),
-        (462, 0xA1, &[0x21][..]),
-        (463, 0x84, &[0, 5][..]),
-        (464, 0x18D, &[0x20][..]),
-        (465, 0xC8, &[0x57, 0x20][..]),
+        (471, 0x111, &[0x30][..]),
+        (471, 0x1BD, &[6][..]),
     ] {
         let bytes = old_image(rt.alloc(), offset, part)?;
         assert_eq!(rt; refused(rt.alloc(), &bytes, &record, &DATA)?, number);

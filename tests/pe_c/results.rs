@@ -1,7 +1,7 @@
 //! The numbers of results, and their texts.
 
 use crate::results::{
-    number_of, number_of_directory, number_of_signing, number_of_tree, pe_c_abi_3,
+    number_of, number_of_directory, number_of_signing, number_of_tree, pe_c_abi_4,
 };
 use crate::texts::pe_c_text;
 use pe_core::{Error, Reason};
@@ -187,6 +187,21 @@ fn results_have_texts(rt: HostRuntime) {
     check_text(&rt, 465, "resources do not fit into the data of their");
     check_text(&rt, 467, "names of the resources have more than 16 MiB");
     check_text(&rt, 470, "version block has more than 65,535 bytes");
+    check_text(&rt, 471, "headers have no room for another section");
+    check_text(&rt, 473, "data of a debug entry start after the data");
+    check_text(&rt, 501, "element of a signature truncated before its");
+    check_text(&rt, 508, "element of a signature has another tag");
+    check_text(&rt, 511, "time of a signature is not in the form of RFC");
+    check_text(&rt, 551, "invalid signature of a minidump");
+    check_text(&rt, 552, "invalid version of a minidump");
+    check_text(&rt, 553, "directory of the streams ends past the end");
+    check_text(&rt, 554, "location in a minidump ends past the end");
+    check_text(&rt, 555, "number of entries of a list and the size of");
+    check_text(&rt, 556, "entries of a list smaller than their fields");
+    check_text(&rt, 557, "string has an odd number of bytes");
+    check_text(&rt, 558, "context smaller than its fields");
+    check_text(&rt, 559, "context without control or integer registers");
+    check_text(&rt, 560, "context of another machine");
     for unknown in [
         39,
         99,
@@ -198,7 +213,11 @@ fn results_have_texts(rt: HostRuntime) {
         400,
         404,
         450,
-        471,
+        474,
+        500,
+        512,
+        550,
+        561,
         u32::MAX,
     ] {
         check_text(&rt, unknown, "unknown result");
@@ -214,8 +233,10 @@ fn texts_differ(rt: HostRuntime) {
             || 206 < number && number < 301
             || 308 < number && number < 401
             || 403 < number && number < 451
+            || 473 < number && number < 501
+            || 511 < number && number < 551
     };
-    for one in 0..=470 {
+    for one in 0..=560 {
         for other in 0..one {
             if is_other(one) || is_other(other) {
                 continue;
@@ -241,5 +262,5 @@ fn a_text_is_cut_at_the_end_of_its_room(rt: HostRuntime) {
 /// The number of the ABI is that of its name.
 #[test]
 fn number_of_the_abi(rt: HostRuntime) {
-    assert_eq!(rt; pe_c_abi_3(), 3);
+    assert_eq!(rt; pe_c_abi_4(), 4);
 }

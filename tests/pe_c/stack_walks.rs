@@ -72,6 +72,7 @@ fn module<'a>(bytes: &'a [u8], image: &'a Image, sections: &'a [SectionTable]) -
         bytes,
         image,
         sections,
+        index: &[],
     };
     ModuleView {
         image,

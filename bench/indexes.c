@@ -1,0 +1,75 @@
+/* Lists exports of an image by pe_c_list_exports, with an index of its sections or without: indexes FILE index|none MOST
+ *
+ * Of the exports that have a name MOST are read, and their number is printed. The text `index` makes the index alone where MOST is
+ * 0. */
+#include "pe.h"
+
+#include <stdio.h>
+#include <stdlib.h>
+#include <string.h>
+
+enum { ENTRIES = 64 };
+
+static uint8_t *read_all(const char *name, size_t *length)
+{
+    FILE *file = fopen(name, "rb");
+    if (file == NULL || fseek(file, 0, SEEK_END) != 0)
+        return NULL;
+    *length = (size_t)ftell(file);
+    rewind(file);
+    uint8_t *bytes = malloc(*length + 1);
+    if (bytes != NULL && fread(bytes, 1, *length, file) != *length)
+        return NULL;
+    fclose(file);
+    return bytes;
+}
+
+/* The exports of a view that have a name, MOST at most. */
+static uint64_t count_exports(const pe_c_view *view, uint64_t most)
+{
+    pe_c_exports walk = PE_C_EMPTY;
+    if (pe_c_export_tables(view->bytes, view->length, view->image, view->sections, view->count, &walk) != PE_C_DONE)
+        return 0;
+    uint64_t count = 0, written = 1;
+    while (count < most && written > 0) {
+        pe_c_export entries[ENTRIES] = PE_C_EMPTY;
+        const uint64_t left = most - count;
+        written = 0;
+        if (pe_c_list_exports(view, &walk, entries, left < ENTRIES ? left : ENTRIES, &written) != PE_C_DONE)
+            return 0;
+        count += written;
+    }
+    return count;
+}
+
+int main(int argc, char **argv)
+{
+    if (argc != 4)
+        return 2;
+    pe_c_view view = PE_C_EMPTY;
+    pe_c_image_info image = PE_C_EMPTY;
+    uint8_t *bytes = read_all(argv[1], &view.length);
+    if (bytes == NULL || pe_c_image(bytes, view.length, PE_C_PERMISSIVE, &image) != PE_C_DONE)
+        return 1;
+    pe_c_section *sections = calloc(image.number_of_sections, sizeof *sections);
+    pe_c_index_entry *index = calloc(4 * (size_t)image.number_of_sections, sizeof *index);
+    if (sections == NULL || index == NULL ||
+        pe_c_sections(bytes, view.length, &image, sections, image.number_of_sections) != PE_C_DONE)
+        return 1;
+    view.bytes = bytes;
+    view.image = &image;
+    view.sections = sections;
+    view.count = image.number_of_sections;
+    if (strcmp(argv[2], "index") == 0) {
+        uint64_t entries = 0;
+        if (pe_c_index(&view, index, 4 * view.count, &entries) != PE_C_DONE)
+            return 1;
+        view.index = index;
+        view.entries = (size_t)entries;
+    }
+    printf("%llu\n", (unsigned long long)count_exports(&view, strtoull(argv[3], NULL, 10)));
+    free(bytes);
+    free(sections);
+    free(index);
+    return 0;
+}

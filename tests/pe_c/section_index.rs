@@ -1,0 +1,169 @@
+//! An index of the sections, and what calls return by it.
+
+use super::made::{MAPPED, STRICT, UNTOUCHED, X64, image, in_mode, of_range, untouched};
+use crate::image::Image;
+use crate::map_ranges::pe_c_range_at;
+use crate::maps::pe_c_section_at;
+use crate::results::{DONE, NOTHING, ROOM};
+use crate::section_index::{IndexEntry, pe_c_index};
+use crate::view::View;
+use pe_core::SectionTable;
+
+/// What is in the room before a call.
+const LEFT: IndexEntry = IndexEntry {
+    start: 77,
+    section: 78,
+};
+
+/// A section of so many bytes in memory and in the file.
+fn section(rva: u32, offset: u32, size: u32) -> SectionTable {
+    SectionTable {
+        name: [0; 8],
+        virtual_size: size,
+        virtual_address: rva,
+        size_of_raw_data: size,
+        pointer_to_raw_data: offset,
+        pointer_to_relocations: 0,
+        pointer_to_linenumbers: 0,
+        number_of_relocations: 0,
+        number_of_linenumbers: 0,
+        characteristics: 0,
+    }
+}
+
+/// The second lies over the end of the first and the start of the third, the fourth over all; the fifth is alone.
+fn five_sections() -> [SectionTable; 5] {
+    [
+        section(0x2000, 0x400, 0x2000),
+        section(0x3000, 0x2400, 0x3000),
+        section(0x5000, 0x5400, 0x2000),
+        section(0x1000, 0x7400, 0x8000),
+        section(0x20000, 0xF400, 0x1000),
+    ]
+}
+
+fn aligned(file_alignment: u32, mode: u32) -> Image {
+    Image {
+        file_alignment,
+        ..in_mode(&image(X64), mode)
+    }
+}
+
+fn view_of<'a>(
+    bytes: &'a [u8],
+    image: &'a Image,
+    sections: &'a [SectionTable],
+    index: &'a [IndexEntry],
+) -> View<'a> {
+    View {
+        bytes,
+        image,
+        sections,
+        index,
+    }
+}
+
+/// The RVAs of each piece: its first, one inside, its last.
+const RVAS: [u32; 16] = [
+    0, 0xFFF, 0x1000, 0x1FFF, 0x2000, 0x3000, 0x3FFF, 0x4000, 0x5FFF, 0x6000, 0x6FFF, 0x7000,
+    0x8FFF, 0x9000, 0x20000, 0x20FFF,
+];
+
+/// For each of them the index of the first section that covers it; 9 without one.
+const OWNERS: [u64; 16] = [9, 9, 3, 3, 0, 0, 0, 1, 1, 2, 2, 3, 3, 9, 4, 4];
+
+/// Two entries for each section, and RVAs are mapped by them as without: by the first section that covers each.
+#[test]
+fn rvas_by_an_index(rt: HostRuntime) {
+    let (bytes, image, sections) = ([0; 0x10400], aligned(0x200, STRICT), five_sections());
+    let without = view_of(&bytes, &image, &sections, &[]);
+    let mut room = [LEFT; 23];
+    let mut written = 0;
+    assert_eq!(rt; pe_c_index(&without, &mut room, &mut written), DONE);
+    assert_eq!(rt; written, 10);
+    for entry in &room[20..] {
+        assert_eq!(rt; (entry.start, entry.section), (77, 78));
+    }
+    let with = view_of(&bytes, &image, &sections, &room[..10]);
+    for i in 0..16 {
+        let number = if OWNERS[i] == 9 { NOTHING } else { DONE };
+        for view in [&without, &with] {
+            let mut out = 9;
+            assert_eq!(rt;
+                (pe_c_section_at(view, RVAS[i], &mut out), out),
+                (number, OWNERS[i])
+            );
+        }
+        let (mut first, mut second) = (untouched(), untouched());
+        assert_eq!(rt; pe_c_range_at(&without, RVAS[i], &mut first), number);
+        assert_eq!(rt; pe_c_range_at(&with, RVAS[i], &mut second), number);
+        assert_eq!(rt; of_range(first), of_range(second));
+    }
+}
+
+/// Four entries are needed for each section: with fewer nothing is written but how many.
+#[test]
+fn rooms_of_an_index(rt: HostRuntime) {
+    let (image, sections) = (aligned(0x200, STRICT), five_sections());
+    let view = view_of(&[], &image, &sections, &[]);
+    let mut room = [LEFT; 20];
+    let mut written = 0;
+    assert_eq!(rt; pe_c_index(&view, &mut room[..19], &mut written), ROOM);
+    assert_eq!(rt; (written, room[0].start, room[18].section), (20, 77, 78));
+    assert_eq!(rt; pe_c_index(&view, &mut room, &mut written), DONE);
+    assert_eq!(rt; written, 10);
+}
+
+/// No section is searched in an image as loaded, nor where the file alignment is not a power of two; and there may be none.
+#[test]
+fn no_index(rt: HostRuntime) {
+    let sections = five_sections();
+    for (image, count) in [
+        (aligned(0x200, MAPPED), 5),
+        (aligned(0x300, STRICT), 5),
+        (aligned(0x200, STRICT), 0),
+    ] {
+        let view = view_of(&[], &image, &sections[..count], &[]);
+        let mut written = 9;
+        assert_eq!(rt; pe_c_index(&view, &mut [], &mut written), DONE);
+        assert_eq!(rt; written, 0);
+    }
+}
+
+/// Entries that no call made: a section is tested before it maps an RVA, and one that there is not maps none.
+#[test]
+fn indices_that_lie(rt: HostRuntime) {
+    let (bytes, image, sections) = ([0; 0x10400], aligned(0x200, STRICT), five_sections());
+    for (number, result, owner) in [
+        (4, DONE, 3),
+        (5, NOTHING, 9),
+        (6, NOTHING, 9),
+        (0, NOTHING, 9),
+        (u64::MAX, NOTHING, 9),
+    ] {
+        let entry = IndexEntry {
+            start: 0x2000,
+            section: number,
+        };
+        let index = [entry];
+        let view = view_of(&bytes, &image, &sections, &index);
+        let (mut out, mut range) = (9, untouched());
+        assert_eq!(rt;
+            (pe_c_section_at(&view, 0x2004, &mut out), out),
+            (result, owner)
+        );
+        assert_eq!(rt; pe_c_range_at(&view, 0x2004, &mut range), result);
+        let expected = if owner == 3 {
+            [0x8404, 0x6FFC]
+        } else {
+            UNTOUCHED
+        };
+        assert_eq!(rt; of_range(range), expected);
+        // before the first entry
+        let mut out = 9;
+        assert_eq!(rt;
+            (pe_c_section_at(&view, 0x1FFF, &mut out), out),
+            (NOTHING, 9)
+        );
+    }
+}

@@ -1,0 +1,589 @@
+//! Signatures: one that osslsigncode made, field by field at the offsets that `openssl asn1parse` prints, after some bytes that are
+//! no part of it; what is refused, and where.
+
+use super::signature_bytes::signature;
+use crate::ranges::Range;
+use crate::results::{DONE, NOTHING};
+use crate::signatures::elements::{
+    Algorithm, DerElement, Oid, pe_c_algorithm_identifier, pe_c_next_element,
+};
+use crate::signatures::name::{NamePart, NameWalk, pe_c_name, pe_c_next_name_attribute};
+use crate::signatures::refused::SignatureFailure;
+use crate::signatures::signature::{
+    SignedData, SpcIndirectDataContent, SpcPeImageDataContent, pe_c_image_data, pe_c_indirect_data,
+    pe_c_signature,
+};
+use crate::signatures::signer::{
+    OpusInfo, Signer, SignerAttribute, pe_c_attribute, pe_c_opus_info, pe_c_signer,
+};
+use crate::signatures::time::{TimeStamp, UtcTime, pe_c_time, pe_c_time_stamp};
+use crate::signatures::x509::{X509, X509Extension, pe_c_extension, pe_c_key_usage, pe_c_x509};
+use std::alloc::{AllocError, Global};
+use std::test::Fail;
+
+/// How many bytes stand before the signature.
+const BEFORE: u64 = 10;
+
+/// A range that no call returns.
+const NO: Range = Range {
+    offset: 77,
+    length: 78,
+};
+
+/// What `failure` is before each call.
+const UNTOUCHED: SignatureFailure = SignatureFailure {
+    offset: 1,
+    value: 2,
+    left: 3,
+    expected: 4,
+    result: 5,
+};
+
+const NO_OID: Oid = Oid {
+    octets: NO,
+    id: 79,
+    spare: 80,
+};
+
+const NO_ALGORITHM: Algorithm = Algorithm {
+    oid: NO_OID,
+    parameters: NO,
+};
+
+/// The signature after other bytes.
+fn file(alloc: Global) -> Result<Vec<u8>, AllocError> {
+    let mut bytes = Vec::new(alloc);
+    for _ in 0..BEFORE {
+        bytes.push(0x30)?;
+    }
+    for byte in &signature(alloc)? {
+        bytes.push(*byte)?;
+    }
+    Ok(bytes)
+}
+
+/// A range by what `openssl asn1parse` prints of an element of the signature, its offset and the lengths of its header and its
+/// content.
+fn whole(offset: u64, header: u64, length: u64) -> Range {
+    Range {
+        offset: BEFORE + offset,
+        length: header + length,
+    }
+}
+
+/// The range of its content.
+fn content(offset: u64, header: u64, length: u64) -> Range {
+    Range {
+        offset: BEFORE + offset + header,
+        length,
+    }
+}
+
+fn same(one: Range, other: Range) -> bool {
+    one.offset == other.offset && one.length == other.length
+}
+
+fn is_oid(oid: Oid, octets: Range, id: u32) -> bool {
+    same(oid.octets, octets) && oid.id == id && oid.spare == 0
+}
+
+fn is_untouched(failure: &SignatureFailure) -> bool {
+    is_failure(failure, 5, 1, 2, (3, 4))
+}
+
+/// Whether these are its numbers; the last are how many bytes are left and the tag that is expected.
+fn is_failure(
+    failure: &SignatureFailure,
+    number: u32,
+    offset: u64,
+    value: u64,
+    others: (u64, u32),
+) -> bool {
+    (failure.result, failure.offset, failure.value) == (number, offset, value)
+        && (failure.left, failure.expected) == others
+}
+
+fn no_signed_data() -> SignedData {
+    SignedData {
+        content_type: NO_OID,
+        version: NO,
+        digest_algorithms: NO,
+        content: NO,
+        digested: NO,
+        certificates: NO,
+        crls: NO,
+        signers: NO,
+        has_content: 8,
+        spare: 9,
+    }
+}
+
+#[test]
+fn signed_data(rt: HostRuntime) -> Result<(), Fail> {
+    let bytes = file(rt.alloc())?;
+    let (mut failure, mut out) = (UNTOUCHED, no_signed_data());
+    let all = Range {
+        offset: BEFORE,
+        length: bytes.len() as u64 - BEFORE,
+    };
+    assert_eq!(rt; pe_c_signature(&bytes, &all, &mut failure, &mut out), DONE);
+    assert!(rt; is_untouched(&failure));
+    assert!(rt; is_oid(out.content_type, content(45, 2, 10), 4));
+    assert!(rt; same(out.version, content(23, 2, 1)));
+    assert!(rt; same(out.digest_algorithms, content(26, 2, 15)));
+    assert!(rt; same(out.content, whole(59, 2, 105)));
+    assert!(rt; same(out.digested, content(59, 2, 105)));
+    assert!(rt; same(out.certificates, content(166, 4, 350)));
+    assert!(rt;
+        same(
+            out.crls,
+            Range {
+                offset: 0,
+                length: 0
+            }
+        )
+    );
+    assert!(rt; same(out.signers, content(520, 4, 1393)));
+    assert_eq!(rt; (out.has_content, out.spare), (1, 0));
+    Ok(())
+}
+
+#[test]
+fn indirect_data(rt: HostRuntime) -> Result<(), Fail> {
+    let bytes = file(rt.alloc())?;
+    let (mut failure, mut out) = (
+        UNTOUCHED,
+        SpcIndirectDataContent {
+            value_type: NO_OID,
+            value: NO,
+            digest_algorithm: NO_ALGORITHM,
+            digest: NO,
+        },
+    );
+    let result = pe_c_indirect_data(&bytes, &whole(59, 2, 105), &mut failure, &mut out);
+    assert_eq!(rt; result, DONE);
+    assert!(rt; is_oid(out.value_type, content(63, 2, 10), 5));
+    assert!(rt; same(out.value, whole(75, 2, 38)));
+    assert!(rt; is_oid(out.digest_algorithm.oid, content(119, 2, 9), 203));
+    assert!(rt; same(out.digest_algorithm.parameters, whole(130, 2, 0)));
+    assert!(rt; same(out.digest, content(132, 2, 32)));
+    let mut data = SpcPeImageDataContent {
+        flags: NO,
+        file: NO,
+    };
+    let result = pe_c_image_data(&bytes, &out.value, &mut failure, &mut data);
+    assert_eq!(rt; result, DONE);
+    assert!(rt; same(data.flags, content(77, 2, 2)));
+    assert!(rt; same(data.file, whole(83, 2, 30)));
+    let mut algorithm = NO_ALGORITHM;
+    let one = whole(187, 2, 10);
+    let result = pe_c_algorithm_identifier(&bytes, &one, &mut failure, &mut algorithm);
+    assert_eq!(rt; result, DONE);
+    assert!(rt; is_oid(algorithm.oid, content(189, 2, 8), 215));
+    assert!(rt;
+        same(
+            algorithm.parameters,
+            Range {
+                offset: 0,
+                length: 0
+            }
+        )
+    );
+    assert!(rt; is_untouched(&failure));
+    Ok(())
+}
+
+fn no_element() -> DerElement {
+    DerElement {
+        whole: NO,
+        content: NO,
+        tag: 6,
+        spare: 7,
+    }
+}
+
+/// The next element of a walk that has one.
+fn next(bytes: &[u8], walk: &mut Range) -> Result<DerElement, Fail> {
+    let (mut failure, mut out) = (UNTOUCHED, no_element());
+    match pe_c_next_element(bytes, walk, &mut failure, &mut out) {
+        DONE => Ok(out),
+        _ => Err(Fail::from("no element")),
+    }
+}
+
+fn no_signer() -> Signer {
+    Signer {
+        version: NO,
+        issuer: NO,
+        serial: NO,
+        key_identifier: NO,
+        digest_algorithm: NO_ALGORITHM,
+        signed_attributes: NO,
+        signed_rest: NO,
+        signature_algorithm: NO_ALGORITHM,
+        signature: NO,
+        unsigned_attributes: NO,
+        has_signed_attributes: 6,
+        signed_first: 7,
+    }
+}
+
+#[test]
+fn signers(rt: HostRuntime) -> Result<(), Fail> {
+    let bytes = file(rt.alloc())?;
+    let mut walk = content(520, 4, 1393);
+    let element = next(&bytes, &mut walk)?;
+    assert!(rt; same(element.whole, whole(524, 4, 1389)));
+    assert!(rt; same(element.content, content(524, 4, 1389)));
+    assert_eq!(rt; (element.tag, element.spare), (0x30, 0));
+    let (mut failure, mut out) = (UNTOUCHED, no_element());
+    // The walk is over, and stays so.
+    for _ in 0..2 {
+        let result = pe_c_next_element(&bytes, &mut walk, &mut failure, &mut out);
+        assert_eq!(rt; result, NOTHING);
+        assert_eq!(rt; (walk.offset, walk.length), (BEFORE + 1917, 0));
+    }
+    assert!(rt; same(out.whole, NO));
+    let mut signer = no_signer();
+    let result = pe_c_signer(&bytes, &element.whole, &mut failure, &mut signer);
+    assert_eq!(rt; result, DONE);
+    assert!(rt; same(signer.version, content(528, 2, 1)));
+    assert!(rt; same(signer.issuer, whole(533, 2, 12)));
+    assert!(rt; same(signer.serial, content(547, 2, 2)));
+    assert!(rt;
+        same(
+            signer.key_identifier,
+            Range {
+                offset: 0,
+                length: 0
+            }
+        )
+    );
+    assert!(rt; is_oid(signer.digest_algorithm.oid, content(553, 2, 9), 203));
+    assert!(rt; same(signer.signed_attributes, content(566, 3, 187)));
+    // The octets after the tag, from the length on.
+    let rest = Range {
+        offset: BEFORE + 567,
+        length: 189,
+    };
+    assert!(rt; same(signer.signed_rest, rest));
+    assert!(rt; is_oid(signer.signature_algorithm.oid, content(758, 2, 8), 215));
+    assert!(rt; same(signer.signature, content(768, 2, 71)));
+    assert!(rt; same(signer.unsigned_attributes, content(841, 4, 1072)));
+    assert_eq!(rt;
+        (signer.has_signed_attributes, signer.signed_first),
+        (1, 0x31)
+    );
+    assert!(rt; is_untouched(&failure));
+    Ok(())
+}
+
+/// The attribute with this number in a walk over attributes.
+fn attribute(bytes: &[u8], mut walk: Range, id: u32) -> Result<SignerAttribute, Fail> {
+    while walk.length > 0 {
+        let element = next(bytes, &mut walk)?;
+        let (mut failure, mut out) = (
+            UNTOUCHED,
+            SignerAttribute {
+                kind: NO_OID,
+                values: NO,
+            },
+        );
+        if pe_c_attribute(bytes, &element.whole, &mut failure, &mut out) == DONE
+            && out.kind.id == id
+        {
+            return Ok(out);
+        }
+    }
+    Err(Fail::from("no attribute"))
+}
+
+const NO_TIME: UtcTime = UtcTime {
+    year: 1,
+    month: 2,
+    day: 3,
+    hour: 4,
+    minute: 5,
+    second: 6,
+};
+
+#[test]
+fn attributes(rt: HostRuntime) -> Result<(), Fail> {
+    let bytes = file(rt.alloc())?;
+    let signed = content(566, 3, 187);
+    let digest = attribute(&bytes, signed, 102)?;
+    assert!(rt; is_oid(digest.kind, content(658, 2, 9), 102));
+    assert!(rt; same(digest.values, content(669, 2, 34)));
+    let mut times = attribute(&bytes, signed, 103)?.values;
+    let value = next(&bytes, &mut times)?.whole;
+    let (mut failure, mut time) = (UNTOUCHED, NO_TIME);
+    assert_eq!(rt; pe_c_time(&bytes, &value, &mut failure, &mut time), DONE);
+    assert_eq!(rt; (time.year, time.month, time.day), (2026, 11, 27));
+    let mut values = attribute(&bytes, signed, 109)?.values;
+    let value = next(&bytes, &mut values)?.whole;
+    let mut opus = OpusInfo {
+        program_name: NO,
+        more_info: NO,
+        program_name_tag: 1,
+        more_info_tag: 2,
+    };
+    assert_eq!(rt;
+        pe_c_opus_info(&bytes, &value, &mut failure, &mut opus),
+        DONE
+    );
+    assert!(rt; same(opus.program_name, content(725, 2, 5)));
+    assert!(rt; same(opus.more_info, content(734, 2, 20)));
+    assert_eq!(rt; (opus.program_name_tag, opus.more_info_tag), (0x81, 0x80));
+    assert!(rt; is_untouched(&failure));
+    Ok(())
+}
+
+#[test]
+fn time_stamps(rt: HostRuntime) -> Result<(), Fail> {
+    let bytes = file(rt.alloc())?;
+    let mut values = attribute(&bytes, content(841, 4, 1072), 111)?.values;
+    let token = next(&bytes, &mut values)?.whole;
+    let (mut failure, mut signed) = (UNTOUCHED, no_signed_data());
+    assert_eq!(rt;
+        pe_c_signature(&bytes, &token, &mut failure, &mut signed),
+        DONE
+    );
+    assert_eq!(rt; signed.content_type.id, 3);
+    assert!(rt; same(signed.content, whole(926, 2, 113)));
+    let mut stamp = TimeStamp {
+        version: NO,
+        policy: NO,
+        digest_algorithm: NO_ALGORITHM,
+        digest: NO,
+        serial: NO,
+        time: NO,
+        accuracy: NO,
+        nonce: NO,
+        authority: NO,
+    };
+    let result = pe_c_time_stamp(&bytes, &signed.content, &mut failure, &mut stamp);
+    assert_eq!(rt; result, DONE);
+    assert!(rt; same(stamp.version, content(930, 2, 1)));
+    assert!(rt; same(stamp.policy, content(933, 2, 4)));
+    assert!(rt; is_oid(stamp.digest_algorithm.oid, content(943, 2, 9), 203));
+    assert!(rt; same(stamp.digest, content(956, 2, 32)));
+    assert!(rt; same(stamp.serial, content(990, 2, 9)));
+    assert!(rt; same(stamp.time, whole(1001, 2, 15)));
+    assert!(rt; same(stamp.accuracy, whole(1018, 2, 10)));
+    assert!(rt; same(stamp.nonce, content(1030, 2, 9)));
+    assert!(rt;
+        same(
+            stamp.authority,
+            Range {
+                offset: 0,
+                length: 0
+            }
+        )
+    );
+    let mut time = NO_TIME;
+    assert_eq!(rt;
+        pe_c_time(&bytes, &stamp.time, &mut failure, &mut time),
+        DONE
+    );
+    assert_eq!(rt; (time.year, time.month, time.day), (2023, 11, 14));
+    assert_eq!(rt; (time.hour, time.minute, time.second), (22, 13, 20));
+    assert!(rt; is_untouched(&failure));
+    Ok(())
+}
+
+#[test]
+fn certificates(rt: HostRuntime) -> Result<(), Fail> {
+    let bytes = file(rt.alloc())?;
+    let mut walk = content(166, 4, 350);
+    let element = next(&bytes, &mut walk)?;
+    let (mut failure, mut out) = (
+        UNTOUCHED,
+        X509 {
+            to_be_signed: NO,
+            serial: NO,
+            issuer: NO,
+            subject: NO,
+            not_before: NO,
+            not_after: NO,
+            public_key: NO,
+            extensions: NO,
+            signature_algorithm: NO_ALGORITHM,
+            signature: NO,
+        },
+    );
+    assert_eq!(rt;
+        pe_c_x509(&bytes, &element.whole, &mut failure, &mut out),
+        DONE
+    );
+    assert!(rt; same(out.to_be_signed, whole(174, 4, 256)));
+    assert!(rt; same(out.serial, content(183, 2, 2)));
+    assert!(rt; same(out.issuer, whole(199, 2, 12)));
+    assert!(rt; same(out.subject, whole(247, 2, 53)));
+    assert!(rt; same(out.not_before, whole(215, 2, 13)));
+    assert!(rt; same(out.not_after, whole(230, 2, 15)));
+    assert!(rt; same(out.public_key, whole(302, 2, 89)));
+    assert!(rt; same(out.extensions, content(395, 2, 37)));
+    assert!(rt; is_oid(out.signature_algorithm.oid, content(436, 2, 8), 215));
+    // The BIT STRING without the octet before its bits.
+    assert!(rt; same(out.signature, content(447, 2, 71)));
+    let mut extensions = out.extensions;
+    for (kind, id, value, critical) in [
+        (content(399, 2, 3), 402, content(407, 2, 4), 1),
+        (content(415, 2, 3), 407, content(420, 2, 12), 0),
+    ] {
+        let element = next(&bytes, &mut extensions)?.whole;
+        let mut found = X509Extension {
+            kind: NO_OID,
+            value: NO,
+            critical: 4,
+            spare: 5,
+        };
+        assert_eq!(rt;
+            pe_c_extension(&bytes, &element, &mut failure, &mut found),
+            DONE
+        );
+        assert!(rt; is_oid(found.kind, kind, id));
+        assert!(rt; same(found.value, value));
+        assert_eq!(rt; (found.critical, found.spare), (critical, 0));
+    }
+    let mut usage = 9;
+    let extension = whole(397, 2, 14);
+    assert_eq!(rt;
+        pe_c_key_usage(&bytes, &extension, &mut failure, &mut usage),
+        DONE
+    );
+    assert_eq!(rt; usage, 0x80);
+    assert!(rt; is_untouched(&failure));
+    Ok(())
+}
+
+const NO_PART: NamePart = NamePart {
+    kind: NO_OID,
+    value: NO,
+    tag: 6,
+    starts_rdn: 7,
+};
+
+#[test]
+fn names(rt: HostRuntime) -> Result<(), Fail> {
+    let bytes = file(rt.alloc())?;
+    let mut walk = NameWalk {
+        left: NO,
+        rdn_end: 9,
+    };
+    let mut failure = UNTOUCHED;
+    let subject = whole(247, 2, 53);
+    assert_eq!(rt; pe_c_name(&bytes, &subject, &mut failure, &mut walk), DONE);
+    assert!(rt; same(walk.left, content(247, 2, 53)));
+    assert_eq!(rt; walk.rdn_end, 0);
+    // The second relative distinguished name has two attributes.
+    for (kind, id, value, tag, starts_rdn) in [
+        (content(253, 2, 3), 303, content(258, 2, 2), 0x13, 1),
+        (content(266, 2, 3), 308, content(271, 2, 3), 0x0C, 1),
+        (content(278, 2, 3), 307, content(283, 2, 5), 0x0C, 0),
+        (content(294, 2, 3), 301, content(299, 2, 1), 0x0C, 1),
+    ] {
+        let mut part = NO_PART;
+        let result = pe_c_next_name_attribute(&bytes, &mut walk, &mut failure, &mut part);
+        assert_eq!(rt; result, DONE);
+        assert!(rt; is_oid(part.kind, kind, id));
+        assert!(rt; same(part.value, value));
+        assert_eq!(rt; (part.tag, part.starts_rdn), (tag, starts_rdn));
+    }
+    let mut part = NO_PART;
+    for _ in 0..2 {
+        let result = pe_c_next_name_attribute(&bytes, &mut walk, &mut failure, &mut part);
+        assert_eq!(rt; result, NOTHING);
+    }
+    assert_eq!(rt; part.tag, 6);
+    assert!(rt; is_untouched(&failure));
+    Ok(())
+}
+
+/// The result of a walk over elements of all bytes from offset 3 on, and the failure.
+fn refused(bytes: &[u8]) -> (u32, SignatureFailure) {
+    let mut walk = Range {
+        offset: 3,
+        length: (bytes.len() as u64).saturating_sub(3),
+    };
+    let (mut failure, mut out) = (UNTOUCHED, no_element());
+    let result = pe_c_next_element(bytes, &mut walk, &mut failure, &mut out);
+    (result, failure)
+}
+
+#[test]
+fn refused_elements(rt: HostRuntime) {
+    let (result, failure) = refused(b"\0\0\0\x04");
+    assert!(rt; result == 501 && is_failure(&failure, 501, 3, 0, (1, 0)));
+    let (result, failure) = refused(b"\0\0\0\x1F\x01\0");
+    assert!(rt; result == 502 && is_failure(&failure, 502, 3, 0, (0, 0)));
+    let (result, failure) = refused(b"\0\0\0\x30\x80\0\0");
+    assert!(rt; result == 503 && is_failure(&failure, 503, 3, 0, (0, 0)));
+    let (result, failure) = refused(b"\0\0\0\x04\x88\x80\0\0\0\0\0\0\0");
+    assert!(rt; result == 504 && is_failure(&failure, 504, 3, 8, (0, 0)));
+    let (result, failure) = refused(b"\0\0\0\x04\x81\x01\0");
+    assert!(rt; result == 505 && is_failure(&failure, 505, 3, 0, (0, 0)));
+    let (result, failure) = refused(b"\0\0\0\x04\x84\x12\x34\x56\x78\0\0");
+    assert!(rt; result == 506 && is_failure(&failure, 506, 3, 0x12345678, (2, 0)));
+    // A walk that is not inside the bytes is over after that.
+    let mut walk = Range {
+        offset: 2,
+        length: 3,
+    };
+    let (mut failure, mut out) = (UNTOUCHED, no_element());
+    let result = pe_c_next_element(b"\x05\0\x05\0", &mut walk, &mut failure, &mut out);
+    assert!(rt; result == 2 && is_failure(&failure, 2, 2, 3, (0, 0)));
+    assert_eq!(rt; (walk.offset, walk.length), (0, 0));
+    assert!(rt; same(out.whole, NO));
+}
+
+/// The result of reading an attribute, and the failure.
+fn refused_attribute(bytes: &[u8]) -> (u32, SignatureFailure) {
+    let range = Range {
+        offset: 0,
+        length: bytes.len() as u64,
+    };
+    let (mut failure, mut out) = (
+        UNTOUCHED,
+        SignerAttribute {
+            kind: NO_OID,
+            values: NO,
+        },
+    );
+    let result = pe_c_attribute(bytes, &range, &mut failure, &mut out);
+    (result, failure)
+}
+
+#[test]
+fn refused_fields(rt: HostRuntime) {
+    let (result, failure) = refused_attribute(b"\x30\x05\x06\x03\x55\x04\x03");
+    assert!(rt; result == 507 && is_failure(&failure, 507, 7, 0, (0, 0)));
+    let (result, failure) = refused_attribute(b"\x30\x08\x06\x03\x55\x04\x03\x02\x01\x05");
+    assert!(rt; result == 508 && is_failure(&failure, 508, 7, 2, (0, 0x31)));
+    let (result, failure) = refused_attribute(b"\x30\x09\x06\x03\x55\x04\x03\x31\x00\x05\x00");
+    assert!(rt; result == 509 && is_failure(&failure, 509, 9, 0, (2, 0)));
+}
+
+#[test]
+fn other_contents(rt: HostRuntime) {
+    // Data in place of signed data.
+    let data = b"\x30\x0F\x06\x09\x2A\x86\x48\x86\xF7\x0D\x01\x07\x01\xA0\x02\x05\x00";
+    let range = Range {
+        offset: 0,
+        length: data.len() as u64,
+    };
+    let (mut failure, mut out) = (UNTOUCHED, no_signed_data());
+    let result = pe_c_signature(data, &range, &mut failure, &mut out);
+    assert!(rt; result == 510 && is_failure(&failure, 510, 2, 0, (0, 0)));
+    assert!(rt; same(out.content, NO));
+    // The month 13.
+    let time = b"\0\x17\x0D261327010004Z";
+    let range = Range {
+        offset: 1,
+        length: 15,
+    };
+    let mut out = NO_TIME;
+    let result = pe_c_time(time, &range, &mut failure, &mut out);
+    assert!(rt; result == 511 && is_failure(&failure, 511, 1, 0, (0, 0)));
+    assert_eq!(rt; out.year, 1);
+}
