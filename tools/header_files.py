@@ -87,43 +87,94 @@ def checked_c(header):
     return "\n".join(parts)
 
 
+# ---- plain C
+
+
+def length_of(call, parameter):
+    """How many bytes an argument has that is a pointer: those of an array, if the parameter after it is its length, or of one
+    record."""
+    after = call.parameters[call.parameters.index(parameter) + 1:][:1]
+    is_array = bool(after) and after[0].type == "size_t" and not after[0].is_pointer
+    size = "" if parameter.type == "uint8_t" else f" * sizeof *{parameter.name}"
+    return f"{after[0].name}{size}" if is_array else f"sizeof *{parameter.name}"
+
+
+def put_text(call, it, header):
+    """How an argument gets into the memory of the module, with what its pointers lead to."""
+    length = length_of(call, it)
+    if it.type == "pe_c_view":
+        return f"put_view(&its, {it.name})"
+    if it.type == "pe_c_module":
+        return f"put_modules(&its, {it.name}, {length.split(' ')[0]})"
+    if it.type in header.records and header.records[it.type].has_pointers():
+        raise Unknown(f"{call.name}: the parameter {it.name}, a record with pointers that bindings/targets/portable does not copy")
+    is_lent = it.type == "uint8_t" and it.is_const
+    return f"{'put_bytes' if is_lent else 'put'}(&its, {it.name}, {length})"
+
+
+def portable_c(header):
+    """The calls of pe.h over the module that wasm2c translated to C."""
+    parts = [f'{MADE}#include "room.h"\n']
+    for name, call in header.calls.items():
+        pointers = [it for it in call.parameters if it.is_pointer]
+        lines = [f"uint64_t at_{it.name} = {put_text(call, it, header)};" for it in pointers]
+        words = "".join(f", {'at_' if it.is_pointer else ''}{it.name}" for it in call.parameters)
+        full = "0" if call.result == "size_t" else "PE_C_MEMORY"
+        lines += [f"{call.result} result = its.is_full ? {full} : Z_pe_cZ_{name}(its.instance{words});"]
+        lines += [f"take(&its, {it.name}, at_{it.name}, {length_of(call, it)});" for it in pointers if not it.is_const]
+        body = "".join(f"    {it}\n" for it in ["struct room its = room_of_call();", *lines, "return result;"])
+        parts.append(f"{call.declaration()}\n{{\n{body}}}\n")
+    return "\n".join(parts)
+
+
 # ---- JavaScript
 
 
-# What the JavaScript passes itself, and calls that it makes in ways of its own.
-PASSED = {"image", "sections", "count", "view"}
+# What the JavaScript passes itself: of a file, of an image, and of a process.
+FILE, OF_IMAGE, OF_PROCESS = IMAGE[:2], (*IMAGE[2:], "view"), ("modules", "module_count", "memory", "memory_length", "pieces",
+                                                               "piece_count")
+# Calls that it makes in ways of its own.
 OWN_WAYS = re.compile(r"pe_c_(image|sections|text|abi_\d+)")
-# Calls that it does not have: a walk of a stack is over several images; objects and TE images are no images, nor are those that
-# are refused; it has iterators in place of lists, and writes no images.
-NOT_IN_JS = re.compile(r"pe_c_(next_frames?|coff|coff_\w+|symbol|next_symbol|symbol_name|te|te_\w+|next_te_debug_entry|image_failure"
-                       r"|list_\w+|edited_length|edit|block_length|write_block)")
+# Calls that it does not have: it has iterators in place of those that fill an array with what a walk returns, walks stacks on x64
+# alone, has no index of sections, and reads no signatures and no minidumps.
+NOT_IN_JS = re.compile(r"pe_c_(next_(?:arm64_)?frames|next_arm64_frame|index|record_codes|list_\w+|signature|next_element"
+                       r"|algorithm_identifier|indirect_data|image_data|signer|attribute|opus_info|x509|extension|key_usage|name|next_name_attribute"
+                       r"|time|time_stamp|dump|dump_\w+|next_memory64)")
+
+
+# What a call reads and changes, of what it does not fill alone.
+MOVED = {"walk", "plan", "frame"}
 
 
 def is_in_js(name):
     return not OWN_WAYS.fullmatch(name) and not NOT_IN_JS.fullmatch(name)
 
 
-def js_parameters(call):
-    """The parameters after the file, or the file and the image: their number, and of each its name, its type and its
-    way: "in" or "out" for a pointer, "" for a number. An array has true after that, and its length the way "length"
-    and the array's name."""
+def own_parameters(call):
+    """The names of the parameters that the JavaScript passes itself."""
     names = call.names()
-    first = 5 if names[:5] == IMAGE else 2 if names[:2] == IMAGE[:2] else 0
-    rest = []
-    for it in call.parameters[first:]:
-        way = ("in" if it.is_const else "out") if it.is_pointer else ""
-        if it.type == "size_t" and not it.is_pointer and it.name not in PASSED:
-            rest[-1].append(True)
-            rest.append([it.name, it.type, "length", rest[-1][0]])
+    return {*FILE, *OF_IMAGE, *(OF_PROCESS if OF_PROCESS[0] in names else ())} & set(names)
+
+
+def js_parameters(call):
+    """The parameters of a call: of each its name, its type and its way: "own" for what the JavaScript passes itself, "in", "moved"
+    or "out" for another pointer, "" for a number. An array has true after that, and its length the way "length" and the array's
+    name."""
+    rows, own = [], own_parameters(call)
+    for it in call.parameters:
+        pointer = "in" if it.is_const else "moved" if it.name in MOVED else "out"
+        way = "own" if it.name in own else pointer if it.is_pointer else ""
+        if it.type == "size_t" and not way:
+            rows[-1].append(True)
+            rows.append([it.name, it.type, "length", rows[-1][0]])
         else:
-            rest.append([it.name, it.type, way])
-    return first, rest
+            rows.append([it.name, it.type, way])
+    return rows
 
 
 def layouts_mjs(header):
     records = {name: [it.size, fields_of(it)] for name, it in header.records.items()}
-    calls = {name: [first, *rest] for name, (first, rest) in
-             ((name, js_parameters(it)) for name, it in header.calls.items() if is_in_js(name))}
+    calls = {name: js_parameters(it) for name, it in header.calls.items() if is_in_js(name)}
     results = {str(number): name for name, number in header.results.items()}
     lines = [f"// tools/make_targets makes this file of bindings/pe.h.\nexport const version = {json.dumps(header.version)};",
              f"export const abi = {header.abi};"]
@@ -160,24 +211,51 @@ def kind_of(parameter):
 
 
 def call_type(call, header):
-    """What a call of Image.call is given, and what it returns. Addresses are neither."""
-    first, rest = js_parameters(call)
+    """What a call of pe.h is given, and what it returns. Addresses are neither."""
     own = {it.name: it for it in call.parameters}
     given, made = [], []
-    for name, _, way, *array in rest:
-        if name in PASSED or way == "length":
+    for name, _, way, *array in js_parameters(call):
+        if way in ("own", "length"):
             continue
         if own[name].type in header.records and header.records[own[name].type].has_pointers():
             raise Unknown(f"{call.name}: the parameter {name}, a record with pointers that bindings/js does not make itself")
-        optional = "?" if array or way == "out" else ""
-        if way == "out" and not array and own[name].type in WIDTHS:
+        if way == "out" and not array:
             made.append(own[name])
             continue
-        given.append(f"{name}{optional}: {kind_of(own[name])}{'[]' if array and own[name].type != 'uint8_t' else ''}")
-        made += [own[name]] if way == "out" and not array else []
+        kind = kind_of(own[name])
+        kind = f"Given<{kind}>" if own[name].is_pointer and own[name].type not in WIDTHS else kind
+        given.append(f"{name}{'?' if array else ''}: {kind}{'[]' if array and own[name].type != 'uint8_t' else ''}")
     several = f"{{ {'; '.join(f'{it.name}: {kind_of(it)}' for it in made)} }}"
     result = several if len(made) > 1 else kind_of(made[0]) if made else "true"
     return f"  {call.name}: {{ given: {{ {'; '.join(given)} }}; made: {result} }};\n"
+
+
+# The types of calls by what they need, and what each has beside its own.
+KINDS = {
+    "PlainCalls": ("", "that take no file"),
+    "FileCalls": ("PlainCalls", "on a file"),
+    "Calls": ("FileCalls", "on an image"),
+    "ProcessCalls": ("PlainCalls", "on a process"),
+}
+
+
+def kind_of_call(call):
+    """Which of these types has a call."""
+    own = own_parameters(call)
+    for kind, names in (("ProcessCalls", OF_PROCESS[:1]), ("Calls", OF_IMAGE), ("FileCalls", FILE)):
+        if own & set(names):
+            return kind
+    return "PlainCalls"
+
+
+def calls_d_ts(header):
+    """The types of all calls."""
+    parts = []
+    for kind, (above, about) in KINDS.items():
+        lines = [call_type(it, header) for name, it in header.calls.items() if is_in_js(name) and kind_of_call(it) == kind]
+        parts.append(f"/** The calls of pe.h {about}: what each is given, and what it returns. */\nexport interface {kind}"
+                     f"{f' extends {above}' if above else ''} {{\n{''.join(lines)}}}")
+    return parts
 
 
 def index_d_ts(header):
@@ -194,13 +272,11 @@ def index_d_ts(header):
     parts.append(f"/** The records of pe.h by their names, but for those with addresses. */\nexport interface Records {{\n{names}}}")
     numbers = "".join(f"  readonly {name}: {number};\n" for name, number in header.constants.items())
     parts.append(f"/** The constants of pe.h. */\nexport declare const constants: {{\n{numbers}}};")
-    parts.append("/** The calls of pe.h on an image: what each is given, and what it returns. */\nexport interface Calls {\n"
-                 + "".join(call_type(it, header) for name, it in header.calls.items() if is_in_js(name)) + "}")
-    return "\n\n".join(parts) + "\n"
+    return "\n\n".join(parts + calls_d_ts(header)) + "\n"
 
 
 FILES = {"calls.h": calls_h, "names.h": names_h, "layouts.c": layouts_c, "pe_c.def": pe_c_def, "thunks.c": thunks_c,
-         "checked.h": checked_h, "checked.c": checked_c,
+         "pe_portable.c": portable_c, "checked.h": checked_h, "checked.c": checked_c,
          "renames": lambda header: "".join(f"{name} sysv_{name}\n" for name in header.calls),
          "pe.json": lambda header: json.dumps(json_of(header), indent=1) + "\n",
          "layouts.mjs": layouts_mjs, "names.mjs": names_mjs, "index.d.ts": index_d_ts}

@@ -1,7 +1,7 @@
 """The packages of the library for other targets, which tools/make_packages makes of what tools/build_target built:
 
     linux-arm64     libpe-c-dev_VERSION_arm64.deb
-    wasm            pe-c-NUMBER.tgz, for npm, and pe.html, the page
+    wasm            pe-c-NUMBER.tgz, for npm; pe.html, the page; and lovandezh-VERSION-portable.tar.gz, plain C
     windows-x64     lovandezh-VERSION-windows-x64.zip
 
 Each says in BUILD of which proof it is, what is trusted beside that of the library for Linux on x86-64, and the
@@ -16,7 +16,7 @@ import zipfile
 
 import npm
 from header import Header, TOP
-from targets import BINDINGS, MINGW, SOURCES, Failed, run
+from targets import BINDINGS, MINGW, SOURCES, Failed, make_portable, run
 
 # What was built for a target is tried as it is; these are the files that count.
 FILES = {"linux-arm64": ["libpe_c.a"], "wasm": ["pe_c.wasm", "pe_c64.wasm"]}
@@ -27,6 +27,11 @@ TRUSTED = {
     "windows-x64": "no target of the kit: the code that the kit made for Linux on x86-64, whose triple, data layout and attributes"
                    " tools/retarget.py changed; LLVM's compiler for Windows; mingw's linker; chkstk.S, dll.c",
 }
+
+
+# What is trusted of plain C, beside the module that it is made of.
+PORTABLE = ("trusted of this C, beside that of pe_c.wasm: wasm2c of Debian's wabt; its run-time; pe_portable.c and room.c, which copy"
+            " arguments in and out; your C compiler\n")
 
 
 def files_of(target):
@@ -79,7 +84,17 @@ def make_npm(folder, build, room, to):
 
 
 def make_page(folder, to):
-    run([os.path.join(TOP, "tools", "make_page"), folder, os.path.join(to, "pe.html")])
+    page = os.path.join(to, "pe.html")
+    run([os.path.join(TOP, "tools", "make_page"), folder, page])
+    return page
+
+
+def portable_tree(folder, build, tree):
+    """Plain C of the module. wasm2c and its run-time have a license of their own."""
+    make_portable(folder, tree)
+    write(build + PORTABLE, tree, "BUILD")
+    copy("/usr/share/common-licenses/Apache-2.0", tree, "LICENSE-wasm2c")
+    copy(os.path.join(TOP, "LICENSE"), tree, "LICENSE")
 
 
 # ---- Windows
@@ -91,7 +106,9 @@ def windows_tree(folder, build, tree):
     for name in files_of("windows-x64"):
         copy(os.path.join(folder, name), tree, "bin" if name.endswith(".dll") else "lib", name)
     copy(os.path.join(BINDINGS, "pe.h"), tree, "include", "pe.h")
-    copy(os.path.join(BINDINGS, "sample.c"), tree, "sample.c")
+    copy(os.path.join(BINDINGS, "pe_list.c"), tree, "pe_list.c")
+    with open(os.path.join(SOURCES, "windows", "README.txt.in"), encoding="utf-8") as file:
+        write(file.read().replace("@VERSION@", header.version).replace("@ABI@", str(header.abi)), tree, "README.txt")
     with open(os.path.join(SOURCES, "windows", "pe_cConfig.cmake.in"), encoding="utf-8") as file:
         write(file.read().replace("@ABI@", str(header.abi)), tree, "lib", "cmake", "pe_c", "pe_cConfig.cmake")
     with open(os.path.join(BINDINGS, "pe_cConfigVersion.cmake.in"), encoding="utf-8") as file:
@@ -119,22 +136,21 @@ def make_zip(tree, name, date, to):
 
 
 def try_zip(path, wine):
-    """Unpacks the zip into an empty folder, compiles the program pe_list.c against it by mingw, with the DLL and with
-    the archive, and compares what both print by Wine with what the program prints on Linux, which `linux` is."""
+    """Unpacks the zip into an empty folder, compiles the program that is in it by mingw, as its README says, with the archive and with
+    the DLL, and returns what both print under Wine."""
     with tempfile.TemporaryDirectory() as room:
         with zipfile.ZipFile(path) as packed:
             packed.extractall(room)
         (top,) = os.listdir(room)
-        at = lambda *names: os.path.join(room, top, *names)
-        image = os.path.join(TOP, "crates", "peinfo", "data", "i.bin")
-        said = {}
-        for library in ("libpe_c.dll.a", "libpe_c.a"):
-            program = at("bin", f"pe_list_{'dll' if 'dll' in library else 'archive'}.exe")
-            run([f"{MINGW}-gcc", "-std=c11", "-Wall", "-Wextra", "-Werror", f"-I{at('include')}",
-                 os.path.join(BINDINGS, "pe_list.c"), at("lib", library), "-o", program])
+        place, said = os.path.join(room, top), {}
+        with open(os.path.join(place, "README.txt"), encoding="utf-8") as file:
+            commands = [line.split() for line in file if line.startswith(f"    {MINGW}-gcc ")]
+        for command in commands:
+            library, program = command[-3], os.path.join(place, command[-1])
+            run(command, cwd=place)
             environment = {**os.environ, "WINEPREFIX": os.path.join(room, "wine"), "WINEDEBUG": "-all",
                            "WINEDLLOVERRIDES": "mscoree,mshtml="}
-            done = subprocess.run([wine, program, "list", image], env=environment, stdin=subprocess.DEVNULL, capture_output=True)
+            done = subprocess.run([wine, program, "list", IMAGE], env=environment, stdin=subprocess.DEVNULL, capture_output=True)
             said[library] = done.stdout.replace(b"\r\n", b"\n")
             if done.returncode != 0:
                 raise Failed(f"{library}: status {done.returncode}: {done.stderr.decode(errors='replace')[-300:]}")
@@ -142,12 +158,43 @@ def try_zip(path, wine):
         return said
 
 
-def check_zip(path, wine, archive):
-    """Fails where a program over the unpacked zip prints another text than over the archive on Linux."""
+# What the program pe_list.c is asked.
+IMAGE = os.path.join(TOP, "crates", "peinfo", "data", "i.bin")
+
+
+def said_on_linux(archive):
+    """What the program says over the archive for Linux on x86-64."""
     with tempfile.TemporaryDirectory() as room:
         program = os.path.join(room, "pe_list")
         run(["gcc", "-std=c11", f"-I{BINDINGS}", os.path.join(BINDINGS, "pe_list.c"), archive, "-o", program])
-        wanted = run([program, "list", os.path.join(TOP, "crates", "peinfo", "data", "i.bin")]).encode()
-    for library, text in try_zip(path, wine).items():
+        return run([program, "list", IMAGE]).encode()
+
+
+def check(path, said, wanted):
+    """Fails where a program over an unpacked package prints another text than over the archive for Linux on x86-64."""
+    for library, text in said.items():
         if text != wanted or not wanted:
             raise Failed(f"{path}: a program with {library} prints {text[:200]!r}")
+
+
+def check_zip(path, wine, archive):
+    check(path, try_zip(path, wine), said_on_linux(archive))
+
+
+def try_deb(path):
+    """Unpacks a Debian package for ARM64 into an empty folder, compiles the program pe_list.c against it with the archive and with the
+    shared library, and returns what both print under qemu."""
+    with tempfile.TemporaryDirectory() as room:
+        run(["dpkg-deb", "-x", path, room])
+        libraries = os.path.join(room, "usr", "lib", "aarch64-linux-gnu")
+        said = {}
+        for library in ("libpe_c.a", "libpe_c.so"):
+            program = os.path.join(room, library + ".program")
+            run(["aarch64-linux-gnu-gcc", "-std=c11", "-Wall", "-Wextra", "-Werror", f"-I{room}/usr/include/pe_c",
+                 os.path.join(BINDINGS, "pe_list.c"), os.path.join(libraries, library), f"-Wl,-rpath,{libraries}", "-o", program])
+            said[library] = run(["qemu-aarch64", "-L", "/usr/aarch64-linux-gnu", program, "list", IMAGE]).encode()
+        return said
+
+
+def check_deb(path, archive):
+    check(path, try_deb(path), said_on_linux(archive))

@@ -233,31 +233,36 @@ def build(target, folder, code=None, words=()):
 
 # ---- plain C
 
-WASM2C = ["/usr/include/wasm-rt.h", "/usr/share/wabt/wasm2c/wasm-rt-impl.c", "/usr/share/wabt/wasm2c/wasm-rt-impl.h"]
-PORTABLE = """The library pe_c, compiled to WebAssembly and translated to C by wasm2c: for systems that it is not compiled for.
+# What the module's C needs of wasm2c. Its header stands in a folder, since portable/wasm-rt.h comes before it.
+WASM2C = {"wasm2c/wasm-rt.h": "/usr/include/wasm-rt.h", "wasm-rt-impl.c": "/usr/share/wabt/wasm2c/wasm-rt-impl.c",
+          "wasm-rt-impl.h": "/usr/share/wabt/wasm2c/wasm-rt-impl.h"}
+PORTABLE = """The library pe_c, compiled to WebAssembly and translated to C by wasm2c: for systems that it is not compiled for, 64-bit
+little-endian ones with a compiler of GNU C11. Its calls are those of pe.h; pe_portable.h says what is different.
 
 The code of the library is proved. No proof covers the compilation to WebAssembly, binaryen's lowering of the module's memory to
-32 bits, the translation by wasm2c, its run-time (wasm-rt-impl.c) or the C compiler.
+32 bits, the translation by wasm2c, its run-time (wasm-rt-impl.c), what copies arguments in and out (pe_portable.c, room.c) or the C
+compiler.
 
-    cc -std=gnu11 -O2 -DWASM_RT_MEMCHECK_SIGNAL_HANDLER=0 -c pe_c.c wasm-rt-impl.c
+    cc -std=gnu11 -O2 -c module.c pe_portable.c room.c wasm-rt-impl.c
+    ar rcs libpe_portable.a module.o pe_portable.o room.o wasm-rt-impl.o
 
-It is not the interface of pe.h. A call NAME of pe.h is Z_pe_cZ_NAME. Its first parameter is an instance, which
-Z_pe_c_instantiate makes after wasm_rt_init and Z_pe_c_init_module. Pointers are offsets in the memory of the instance, as numbers
-of 64 bits: what a call reads is copied into that memory first, after the offset that Z_pe_cZ___heap_base points to where the
-module has one, and what it writes is copied out. The memory has less than 4 GiB, and wasm_rt_grow_memory makes it larger. What a
-call does wrong there reaches no other memory: an access beyond it ends in wasm_rt_trap. An instance is for one thread at a time.
+A program includes pe_portable.h, or pe.h, and links with -lpe_portable -lm. Each access to the module's memory is tested, and one beyond
+it ends the program: what the library does wrong there reaches no other memory. Any thread may call at any time.
 """
 
 
 def make_portable(wasm, folder):
-    """Writes the C that wasm2c makes of the module of a folder, with its run-time, into another folder."""
+    """Writes the C that wasm2c makes of the module of a folder, the calls of pe.h over it, and what both need, into another folder."""
     lacking = missing({"wasm2c": "wabt"})
     if lacking:
         raise Failed(f"a program of the Debian package {lacking[0]} is missing")
     os.makedirs(folder, exist_ok=True)
-    run(["wasm2c", os.path.realpath(os.path.join(wasm, "pe_c.wasm")), "-n", "pe_c", "-o", "pe_c.c"], cwd=folder)
-    for path in WASM2C:
-        shutil.copy(path, folder)
+    run(["wasm2c", os.path.realpath(os.path.join(wasm, "pe_c.wasm")), "-n", "pe_c", "-o", "module.c"], cwd=folder)
+    own = {it: os.path.join(SOURCES, "portable", it) for it in os.listdir(os.path.join(SOURCES, "portable"))}
+    for name, path in {**WASM2C, **own, "pe.h": os.path.join(BINDINGS, "pe.h")}.items():
+        os.makedirs(os.path.dirname(os.path.join(folder, name)), exist_ok=True)
+        shutil.copy(path, os.path.join(folder, name))
+    header_files.make(folder, Header(), ["pe_portable.c"])
     with open(os.path.join(folder, "README"), "w", encoding="utf-8") as file:
         file.write(PORTABLE)
 

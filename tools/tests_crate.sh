@@ -34,14 +34,16 @@ crates_with_tests() {
 }
 
 # Puts tests/CRATE into a copy of the crates, as the module tests of that crate. Beside its own files lib.rs may name
-# tests/refusing.rs. The crate uses pe_images then.
+# tests/refusing.rs and tests/signature_bytes.rs. The crate uses pe_images then.
 add_tests_of() {
-  local folder=$1 crate=$2 test sources root
+  local folder=$1 crate=$2 test sources root shared
   sources=$folder/crates/$crate/src
   mkdir -p "$sources/tests"
-  if grep -qx 'mod refusing;' "tests/$crate/lib.rs"; then
-    cp tests/refusing.rs "$sources/tests/refusing.rt"
-  fi
+  for shared in refusing signature_bytes; do
+    if grep -qx "mod $shared;" "tests/$crate/lib.rs"; then
+      cp "tests/$shared.rs" "$sources/tests/$shared.rt"
+    fi
+  done
   for test in tests/"$crate"/*.rs; do
     cp "$test" "$(copy_of_test "$folder" "$test")"
   done
