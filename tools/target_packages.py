@@ -10,13 +10,13 @@ SHA-256 of what was tried: the hashes of tools/try_targets are of these very fil
 import hashlib
 import os
 import shutil
-import subprocess
 import tempfile
 import zipfile
 
 import npm
 from header import Header, TOP
 from targets import BINDINGS, MINGW, SOURCES, Failed, make_portable, run
+from wine import Wine
 
 # What was built for a target is tried as it is; these are the files that count.
 FILES = {"linux-arm64": ["libpe_c.a"], "wasm": ["pe_c.wasm", "pe_c64.wasm"]}
@@ -135,10 +135,10 @@ def make_zip(tree, name, date, to):
     return path
 
 
-def try_zip(path, wine):
+def try_zip(path):
     """Unpacks the zip into an empty folder, compiles the program that is in it by mingw, as its README says, with the archive and with
     the DLL, and returns what both print under Wine."""
-    with tempfile.TemporaryDirectory() as room:
+    with tempfile.TemporaryDirectory() as room, Wine(room) as wine:
         with zipfile.ZipFile(path) as packed:
             packed.extractall(room)
         (top,) = os.listdir(room)
@@ -148,13 +148,7 @@ def try_zip(path, wine):
         for command in commands:
             library, program = command[-3], os.path.join(place, command[-1])
             run(command, cwd=place)
-            environment = {**os.environ, "WINEPREFIX": os.path.join(room, "wine"), "WINEDEBUG": "-all",
-                           "WINEDLLOVERRIDES": "mscoree,mshtml="}
-            done = subprocess.run([wine, program, "list", IMAGE], env=environment, stdin=subprocess.DEVNULL, capture_output=True)
-            said[library] = done.stdout.replace(b"\r\n", b"\n")
-            if done.returncode != 0:
-                raise Failed(f"{library}: status {done.returncode}: {done.stderr.decode(errors='replace')[-300:]}")
-        subprocess.run(["wineserver", "-k"], env=environment, capture_output=True)
+            said[library] = wine.run(program, "list", IMAGE).replace("\r\n", "\n").encode()
         return said
 
 
@@ -177,8 +171,8 @@ def check(path, said, wanted):
             raise Failed(f"{path}: a program with {library} prints {text[:200]!r}")
 
 
-def check_zip(path, wine, archive):
-    check(path, try_zip(path, wine), said_on_linux(archive))
+def check_zip(path, archive):
+    check(path, try_zip(path), said_on_linux(archive))
 
 
 def try_deb(path):

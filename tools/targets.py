@@ -19,12 +19,12 @@ import os
 import re
 import resource
 import shutil
-import subprocess
 import tempfile
 import time
 
 import header_files
 from header import TOP, Header
+from limits import SECONDS, Failed, limited
 from retarget import Compiler, Unlike, compiled, edited
 
 BINDINGS = os.path.join(TOP, "bindings")
@@ -36,10 +36,10 @@ TRIPLES = {"linux-x64": "x86_64-unknown-linux-gnu", "linux-arm64": "aarch64-unkn
 # Those that have a folder beside the archive for Linux on x86-64.
 OTHERS = [it for it in TRIPLES if it != "linux-x64"]
 MINGW = "x86_64-w64-mingw32"
-# The program wine speaks of what is missing of 32 bits.
-WINE = shutil.which("wine64") or "/usr/lib/wine/wine64"
 # For every x86-64 processor.
 CPU = ["--cpu", "x86-64"]
+# From nothing, on a busy machine.
+SECONDS_TO_PROVE = 6 * 3600
 # What each target needs to be built, and in which of Debian's packages that is.
 NEEDS = {
     "linux-x64": {},
@@ -52,18 +52,14 @@ NEEDS = {
 FEATURES = ["--enable-bulk-memory", "--enable-sign-ext", "--enable-mutable-globals", "--enable-nontrapping-float-to-int"]
 
 
-class Failed(Exception):
-    """Why something was not built, or not tried."""
-
-
 def missing(needs):
     """The Debian packages of the programs that are not there."""
     return sorted({package for program, package in needs.items() if not shutil.which(program)})
 
 
-def run(words, **more):
-    """The standard output of a command, or Failed."""
-    done = subprocess.run(words, stdin=subprocess.DEVNULL, stdout=subprocess.PIPE, stderr=subprocess.STDOUT, **more)
+def run(words, seconds=SECONDS, **more):
+    """The output of a command, or Failed, also where it does not end in these seconds."""
+    done = limited(words, seconds, merged=True, **more)
     said = done.stdout.decode("utf-8", "replace")
     if done.returncode != 0:
         raise Failed(f"{' '.join(words)}: status {done.returncode}: {said.strip()[-2000:]}")
@@ -110,7 +106,7 @@ def archive_of_kit(rt, out, words):
     if os.path.exists(BUILT):
         os.replace(BUILT, kept)
     try:
-        said = run([rt, "lib", *words], cwd=CRATE)
+        said = run([rt, "lib", *words], SECONDS_TO_PROVE, cwd=CRATE)
         proofs = re.findall(r"^logic=proved .*", said, re.M)
         if not proofs:
             raise Failed(f"no proof of pe_c: {said[-2000:]}")

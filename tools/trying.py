@@ -31,8 +31,14 @@ class Counts:
         self.expect(name, True)
         return result
 
-    def take(self, name, done):
-        """Takes the counts of a program whose last line is 'N passed, M failed', and prints its other lines."""
+    def take(self, name, action):
+        """Takes the counts of a program that the action runs, whose last line is 'N passed, M failed', and prints its other
+        lines."""
+        try:
+            done = action()
+        except Failed as why:
+            self.expect(name, False, str(why))
+            return
         *lines, last = [it for it in done.stdout.split("\n") if it] or [""]
         found = re.fullmatch(r"(\d+) passed, (\d+) failed", last)
         print("".join(f"{it}\n" for it in (lines if found else [*lines, last, done.stderr]) if it), end="", flush=True)

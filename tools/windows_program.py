@@ -76,5 +76,6 @@ def build(library, archive_text, room, debian, target_dir):
         environment["RUSTC_BOOTSTRAP"] = "1"
         # the crates are chosen before those of Rust's library are there too
         run([cargo, "generate-lockfile", *debian], cwd=place, env=environment)
-    run([cargo, "build", *words_of(room, sources, debian)], cwd=place, env=environment)
+    # Rust's library too
+    run([cargo, "build", *words_of(room, sources, debian)], 3600, cwd=place, env=environment)
     return os.path.join(target_dir, TARGET, "release", "pe.exe")

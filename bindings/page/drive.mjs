@@ -3,72 +3,167 @@
 // of what the page may not do: { requests, refused, faults, elements }. The second file of a pair is chosen, dropped, or
 // comes with the first, in turn; both of the first pair come by the keyboard alone. By the pipe of the debugging
 // protocol: no port, no package. PICTURES is a folder for pictures at two widths, light and dark, or - for none.
+//
+// The browser has SECONDS for each answer, 120 where the environment has no PAGE_SECONDS. Where it does not answer, ends, or its page
+// crashes, it is started anew once, which is a line of standard error, and the file, or pair, that it was at is given to it
+// again. The second time that is a failure, which says what was awaited.
 import { spawn } from 'node:child_process';
 import { mkdtempSync, rmSync, writeFileSync } from 'node:fs';
 import { tmpdir } from 'node:os';
 import { join, resolve } from 'node:path';
 
-const [page, pictures, ...words] = process.argv.slice(2), SECONDS = 120;
+const [page, pictures, ...words] = process.argv.slice(2), SECONDS = Number(process.env.PAGE_SECONDS ?? 120);
 const end = words.includes('--') ? words.indexOf('--') : words.length, files = words.slice(0, end), paired = words.slice(end + 1);
-const profile = mkdtempSync(join(tmpdir(), 'chromium-')), address = `file://${resolve(page)}`;
-const options = ['--headless=new', '--no-sandbox', '--disable-gpu', '--remote-debugging-pipe', `--user-data-dir=${profile}`];
-const browser = spawn('chromium', [...options, '--window-size=1200,900', 'about:blank'], { stdio: ['ignore', 'ignore', 'ignore', 'pipe', 'pipe'] });
-const waiting = new Map(), requests = [], faults = [], elements = new Set(), choosers = [];
+const address = `file://${resolve(page)}`, requests = [], faults = [], elements = new Set(), choosers = [];
+// /dev/shm is small in some containers, and a page whose memory does not fit into it crashes.
+const OPTIONS = ['--headless=new', '--no-sandbox', '--disable-gpu', '--disable-dev-shm-usage', '--window-size=1200,900'];
+const CRASHES = ['Inspector.targetCrashed', 'Target.targetCrashed', 'Inspector.detached'];
+// How long the browser has to end once it is told to.
+const SECONDS_TO_END = 5;
 // What the page makes of a file.
 const OWN = 'ARTICLE H2 H3 P DIV TABLE THEAD TBODY TR TH TD UL LI DETAILS SUMMARY BUTTON'.split(' ');
-let sent = 0, rest = '';
+const pause = (seconds) => new Promise((next) => { setTimeout(next, seconds * 1000); });
 
-browser.stdio[4].on('data', (data) => {
-  const parts = (rest + data).split('\0');
-  rest = parts.pop();
-  for (const message of parts.map((it) => JSON.parse(it))) {
-    if (message.method === 'Network.requestWillBeSent') requests.push(message.params.request.url.slice(0, 100));
-    if (message.method === 'Page.fileChooserOpened') choosers.push(message.params.backendNodeId);
-    if (message.method === 'Runtime.exceptionThrown') faults.push(message.params.exceptionDetails.exception?.description);
-    const wanted = waiting.get(message.id);
-    waiting.delete(message.id);
-    if (wanted) message.error ? wanted.refuse(new Error(message.error.message)) : wanted.take(message.result);
+/** What the browser, and not the page, is to blame for, as far as can be seen. */
+class Unanswered extends Error {}
+
+/** A browser with the page. What is awaited of it comes within a time, or is refused. */
+class Browser {
+  constructor() {
+    this.profile = mkdtempSync(join(tmpdir(), 'chromium-'));
+    this.waiting = new Map();
+    this.sent = 0;
+    this.rest = '';
+    this.over = null;
+    const options = [...OPTIONS, '--remote-debugging-pipe', `--user-data-dir=${this.profile}`, 'about:blank'];
+    this.program = spawn('chromium', options, { stdio: ['ignore', 'ignore', 'ignore', 'pipe', 'pipe'] });
+    this.ended = new Promise((take) => {
+      const end = (why) => { this.refuseAll(why); take(); };
+      this.program.on('exit', (status, signal) => end(`chromium ended with ${signal ?? `status ${status}`}`));
+      this.program.on('error', (error) => end(`chromium did not start: ${error.message}`));
+    });
+    // that it has ended is said by its end
+    this.program.stdio[3].on('error', () => {});
+    this.program.stdio[4].on('error', () => {});
+    this.program.stdio[4].on('data', (data) => this.hear(data));
   }
-});
-const send = (method, params = {}, sessionId = undefined) => new Promise((take, refuse) => {
-  waiting.set(++sent, { take, refuse });
-  browser.stdio[3].write(`${JSON.stringify({ id: sent, method, params, sessionId })}\0`);
-});
+
+  hear(data) {
+    const parts = (this.rest + data).split('\0');
+    this.rest = parts.pop();
+    for (const message of parts.map((it) => JSON.parse(it))) {
+      if (message.method === 'Network.requestWillBeSent') requests.push(message.params.request.url.slice(0, 100));
+      if (message.method === 'Page.fileChooserOpened') choosers.push(message.params.backendNodeId);
+      if (message.method === 'Runtime.exceptionThrown') faults.push(message.params.exceptionDetails.exception?.description);
+      if (CRASHES.includes(message.method)) this.refuseAll(`${message.method}: ${JSON.stringify(message.params)}`);
+      const wanted = this.waiting.get(message.id);
+      if (wanted) message.error ? wanted.refuse(new Error(message.error.message)) : wanted.take(message.result);
+    }
+  }
+
+  /** Refuses what is awaited, and whatever will be. */
+  refuseAll(why) {
+    this.over ??= why;
+    for (const it of this.waiting.values()) it.refuse(new Unanswered(`${it.what}: ${this.over}`));
+  }
+
+  send(method, params = {}, sessionId = undefined) {
+    const id = ++this.sent, what = `${method} ${JSON.stringify(params).slice(0, 200)}`;
+    if (this.over !== null) return Promise.reject(new Unanswered(`${what}: ${this.over}`));
+    let limit;
+    return new Promise((take, refuse) => {
+      limit = setTimeout(() => refuse(new Unanswered(`${what}: no answer in ${SECONDS} seconds`)), SECONDS * 1000);
+      this.waiting.set(id, { take, refuse, what });
+      this.program.stdio[3].write(`${JSON.stringify({ id, method, params, sessionId })}\0`);
+    }).finally(() => { clearTimeout(limit); this.waiting.delete(id); });
+  }
+
+  /** Opens the page. */
+  async open() {
+    await this.send('Target.setDiscoverTargets', { discover: true });
+    const { targetInfos } = await this.send('Target.getTargets');
+    const { targetId } = targetInfos.find((it) => it.type === 'page');
+    const { sessionId } = await this.send('Target.attachToTarget', { targetId, flatten: true });
+    this.own = (method, params) => this.send(method, params, sessionId);
+    this.value = async (expression) => {
+      const { result } = await this.own('Runtime.evaluate', { expression, returnByValue: true, awaitPromise: true });
+      return result.value;
+    };
+    for (const it of ['Inspector', 'Network', 'Runtime', 'Page', 'DOM']) await this.own(`${it}.enable`);
+    await this.own('Page.navigate', { url: address });
+    await until('the page', () => this.value(`document.readyState === 'complete' && document.getElementById('files') !== null`));
+    if (faults.length) throw new Error(faults.join('; '));
+  }
+
+  async endsIn(seconds) {
+    let limit;
+    const late = new Promise((take) => { limit = setTimeout(() => take(false), seconds * 1000); });
+    const hasEnded = await Promise.race([this.ended.then(() => true), late]);
+    clearTimeout(limit);
+    return hasEnded;
+  }
+
+  /** Ends the browser, which is given some seconds for it, and removes its profile. */
+  async end() {
+    for (const signal of ['SIGTERM', 'SIGKILL']) {
+      this.program.kill(signal);
+      if (await this.endsIn(SECONDS_TO_END)) break;
+    }
+    rmSync(this.profile, { recursive: true, force: true, maxRetries: 5, retryDelay: 200 });
+  }
+}
 
 async function until(what, holds) {
   for (const end = Date.now() + SECONDS * 1000; Date.now() < end;) {
     if (await holds()) return;
-    await new Promise((next) => { setTimeout(next, 50); });
+    await pause(0.05);
   }
-  throw new Error(`${what}: not in ${SECONDS} seconds; ${faults.join('; ')}`);
+  throw new Unanswered(`${what}: not in ${SECONDS} seconds; ${faults.join('; ')}`);
 }
 
-async function main() {
-  const { targetInfos } = await send('Target.getTargets');
-  const { targetId } = targetInfos.find((it) => it.type === 'page');
-  const { sessionId: session } = await send('Target.attachToTarget', { targetId, flatten: true });
-  const own = (method, params) => send(method, params, session);
-  const value = async (expression) => {
-    const { result } = await own('Runtime.evaluate', { expression, returnByValue: true, awaitPromise: true });
-    return result.value;
-  };
-  await own('Network.enable');
-  await own('Runtime.enable');
-  await own('Page.enable');
-  await own('DOM.enable');
-  await own('Page.navigate', { url: address });
-  await until('the page', () => value(`document.readyState === 'complete' && document.getElementById('files') !== null`));
-  if (faults.length) throw new Error(faults.join('; '));
-  for (const file of files) console.log(await factsOf(own, value, file));
-  for (let i = 0; i + 1 < paired.length; i += 2) console.log(await differencesOf(own, value, paired.slice(i, i + 2), i / 2));
-  if (pictures !== '-') await takePictures(own, value);
-  // A request fails without a network too: it has to be the policy that refuses it.
+/** What the page is asked, in turn: what returns the line that is printed of it, or nothing. */
+function steps() {
+  const all = files.map((file) => ({ own, value }) => factsOf(own, value, file));
+  for (let i = 0; i + 1 < paired.length; i += 2) {
+    all.push(({ own, value }) => differencesOf(own, value, paired.slice(i, i + 2), i / 2));
+  }
+  if (pictures !== '-') all.push(({ own, value }) => takePictures(own, value));
+  return [...all, ({ value }) => whatMayNotBe(value)];
+}
+
+/** What the page may not do. A request fails without a network too: it has to be the policy that refuses it. */
+async function whatMayNotBe(value) {
   const refused = await value(`new Promise((take) => {
     addEventListener('securitypolicyviolation', (event) => take(event.effectiveDirective), { once: true });
     fetch('https://example.com/').catch(() => setTimeout(() => take('none'), 1000));
   })`);
   const others = requests.filter((it) => it !== address && it !== 'https://example.com/');
-  console.log(JSON.stringify({ requests: others, refused, faults, elements: [...elements] }));
+  return JSON.stringify({ requests: others, refused, faults, elements: [...elements] });
+}
+
+async function main() {
+  let browser = new Browser(), isOpen = false, isAnew = false;
+  const step = async (action) => {
+    if (!isOpen) await browser.open();
+    isOpen = true;
+    return action(browser);
+  };
+  try {
+    for (const action of steps()) {
+      const line = await step(action).catch(async (why) => {
+        if (!(why instanceof Unanswered) || isAnew) throw why;
+        console.error(`page: the browser is started anew: ${why.message}`);
+        await browser.end();
+        choosers.length = 0;
+        browser = new Browser();
+        [isOpen, isAnew] = [false, true];
+        return step(action);
+      });
+      if (line !== undefined) console.log(line);
+    }
+  } finally {
+    await browser.end();
+  }
 }
 
 /** Does what gives the page files, and waits until it has shown them. */
@@ -175,10 +270,8 @@ async function takePictures(own, value) {
   }
 }
 
-try {
-  await main();
-} finally {
-  browser.kill();
-  await new Promise((end) => { browser.on('exit', end); });
-  rmSync(profile, { recursive: true, force: true });
-}
+await main().catch((why) => {
+  console.error(`page: ${why.message}`);
+  process.exitCode = 1;
+});
+process.exit();
