@@ -135,34 +135,31 @@ FILE, OF_IMAGE, OF_PROCESS = IMAGE[:2], (*IMAGE[2:], "view"), ("modules", "modul
                                                                "piece_count")
 # Calls that it makes in ways of its own.
 OWN_WAYS = re.compile(r"pe_c_(image|sections|text|abi_\d+)")
-# Calls that it does not have: it has iterators in place of those that fill an array with what a walk returns, walks stacks on x64
-# alone, has no index of sections, and reads no signatures and no minidumps.
-NOT_IN_JS = re.compile(r"pe_c_(next_(?:arm64_)?frames|next_arm64_frame|index|record_codes|list_\w+|signature|next_element"
-                       r"|algorithm_identifier|indirect_data|image_data|signer|attribute|opus_info|x509|extension|key_usage|name|next_name_attribute"
-                       r"|time|time_stamp|dump|dump_\w+|next_memory64)")
-
-
 # What a call reads and changes, of what it does not fill alone.
 MOVED = {"walk", "plan", "frame"}
+# What a call fills that refuses, which comes with the error.
+REFUSAL = "failure"
+# A number that a call reads and writes, and one that it writes too where it returns PE_C_NOTHING.
+NEXT, COUNT = "next", "count"
 
 
 def is_in_js(name):
-    return not OWN_WAYS.fullmatch(name) and not NOT_IN_JS.fullmatch(name)
+    return not OWN_WAYS.fullmatch(name)
 
 
 def own_parameters(call):
-    """The names of the parameters that the JavaScript passes itself."""
-    names = call.names()
+    """The names of the parameters that the JavaScript passes itself, none of which a call writes."""
+    names = [it.name for it in call.parameters if it.is_const or not it.is_pointer]
     return {*FILE, *OF_IMAGE, *(OF_PROCESS if OF_PROCESS[0] in names else ())} & set(names)
 
 
 def js_parameters(call):
     """The parameters of a call: of each its name, its type and its way: "own" for what the JavaScript passes itself, "in", "moved"
-    or "out" for another pointer, "" for a number. An array has true after that, and its length the way "length" and the array's
-    name."""
-    rows, own = [], own_parameters(call)
+    or "out" for another pointer, "" for a number; "refusal" for what is filled where the call refuses, and "next" for a number
+    that is read and written, and "count" for one that is written too where nothing follows. An array has true after that, and its length the way "length" and the array's name."""
+    rows, own, special = [], own_parameters(call), {REFUSAL: "refusal", NEXT: "next", COUNT: "count"}
     for it in call.parameters:
-        pointer = "in" if it.is_const else "moved" if it.name in MOVED else "out"
+        pointer = "in" if it.is_const else "moved" if it.name in MOVED else special.get(it.name, "out")
         way = "own" if it.name in own else pointer if it.is_pointer else ""
         if it.type == "size_t" and not way:
             rows[-1].append(True)
@@ -215,14 +212,15 @@ def call_type(call, header):
     own = {it.name: it for it in call.parameters}
     given, made = [], []
     for name, _, way, *array in js_parameters(call):
-        if way in ("own", "length"):
+        if way in ("own", "length", "refusal"):
             continue
         if own[name].type in header.records and header.records[own[name].type].has_pointers():
             raise Unknown(f"{call.name}: the parameter {name}, a record with pointers that bindings/js does not make itself")
-        if way == "out" and not array:
+        if way in ("out", "count", "next") and not array:
             made.append(own[name])
+        if way in ("out", "count") and not array:
             continue
-        kind = kind_of(own[name])
+        kind = "bigint | number" if way == "next" else kind_of(own[name])
         kind = f"Given<{kind}>" if own[name].is_pointer and own[name].type not in WIDTHS else kind
         given.append(f"{name}{'?' if array else ''}: {kind}{'[]' if array and own[name].type != 'uint8_t' else ''}")
     several = f"{{ {'; '.join(f'{it.name}: {kind_of(it)}' for it in made)} }}"

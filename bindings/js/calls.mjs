@@ -1,6 +1,6 @@
 // How a call of pe.h is made: what is given goes into the memory of the instance, and what the call writes comes back.
 import { calls } from './layouts.mjs';
-import { whole, width } from './memory.mjs';
+import { PeError, whole, width } from './memory.mjs';
 
 const utf8 = new TextDecoder('utf-8'), utf16 = new TextDecoder('utf-16le');
 
@@ -10,7 +10,7 @@ function expected(name, given, own) {
   const parameters = calls[name], taken = new Set();
   for (const [it, , way, array] of parameters) {
     if (way === 'own' && !Object.hasOwn(own, it)) throw new TypeError(`${name} needs ${it}, which there is not`);
-    if (way === 'own' || way === 'length' || (way === 'out' && !array)) continue;
+    if (['own', 'length', 'refusal', 'count'].includes(way) || (way === 'out' && !array)) continue;
     taken.add(it);
     if (!array && given[it] === undefined) throw new TypeError(`${name} needs ${it}`);
   }
@@ -49,21 +49,31 @@ export class Caller {
   }
 
   #called(name, given) {
-    const words = [], changed = [], filled = [], made = {}, memory = this.#memory;
+    const words = [], changed = [], filled = [], made = {}, counted = {}, refusal = {}, memory = this.#memory;
     for (const parameter of expected(name, given, this.#own)) {
       const [own, type, way, array] = parameter;
       if (way === 'own') words.push(this.#own[own]);
       else if (way === 'length') words.push(BigInt(given[array]?.length ?? 0));
       else if (array) words.push(this.#array(filled, parameter, given));
       else if (way === 'out') words.push(this.#made(filled, made, parameter));
+      else if (way === 'count') words.push(this.#made(changed, counted, parameter));
+      else if (way === 'refusal') words.push(this.#made(changed, refusal, parameter));
+      else if (way === 'next') words.push(this.#made(filled, made, parameter, given[own]));
       else if (way) words.push(this.#given(changed, parameter, given[own]));
       else words.push(whole(type, given[own]));
     }
     const result = memory.make(name, words);
     // A walk or a frame may say more of an error, or of an end.
     changed.forEach((read) => read());
-    if (!memory.isDone(name, result)) return null;
+    let isDone;
+    try {
+      isDone = memory.isDone(name, result);
+    } catch (error) {
+      throw error instanceof PeError ? Object.assign(error, refusal) : error;
+    }
+    if (!isDone && !Object.values(counted).some((it) => it > 0n)) return null;
     filled.forEach((read) => read());
+    Object.assign(made, counted);
     const outs = Object.keys(made);
     return outs.length === 1 ? made[outs[0]] : outs.length ? made : true;
   }
@@ -85,8 +95,9 @@ export class Caller {
     return BigInt(at);
   }
 
-  #made(filled, made, [own, type]) {
+  #made(filled, made, [own, type], start) {
     const memory = this.#memory, at = memory.reserve(width(type));
+    if (start !== undefined) memory.write(type, at, start);
     filled.push(() => { made[own] = memory.read(type, at); });
     return BigInt(at);
   }
@@ -130,6 +141,16 @@ export class File extends Caller {
   utf16(range, { isWhole = false } = {}) {
     const text = utf16.decode(this.slice(range));
     return isWhole ? text : text.replace(/\0.*$/s, '');
+  }
+
+  /** The elements of a list in a signature, or in a certificate of one. */
+  elements(range) {
+    return this.items('pe_c_next_element', { ...range });
+  }
+
+  /** The attributes of a name in a signature. */
+  *nameAttributes(range) {
+    yield* this.items('pe_c_next_name_attribute', this.call('pe_c_name', { range }));
   }
 
   /** The name of a section in its header. */

@@ -1,5 +1,5 @@
 // An image: its headers and sections, all calls of pe.h over it, and its lists as iterators.
-import { File, placed } from './calls.mjs';
+import { File, memoryOf, ownOf, placed } from './calls.mjs';
 import { constants } from './layouts.mjs';
 import { width } from './memory.mjs';
 import { recordsOf, resourcesOf } from './resources.mjs';
@@ -45,6 +45,14 @@ export class Image extends File {
   *list(name) {
     const [start, next] = LISTS[name], walk = this.call(start);
     if (walk) yield* this.items(next, walk);
+  }
+
+  /** Makes an index of the sections, by which calls find one among many from then on: pe_c_index. */
+  index() {
+    const memory = memoryOf(this), own = ownOf(this), most = 4n * own.count;
+    const room = BigInt(memory.reserve(Number(most) * width('pe_c_index_entry'))), count = memory.reserve(8);
+    memory.isDone('pe_c_index', memory.make('pe_c_index', [own.view, room, most, BigInt(count)]));
+    memory.write('pe_c_view', Number(own.view), { ...own, index: room, entries: memory.read('uint64_t', count) });
   }
 
   /** All numbers of the headers: pe_c_headers_info. */
@@ -110,10 +118,14 @@ export class Image extends File {
     return this.items('pe_c_next_relocation', structuredClone(block.entries), { page_rva: block.page_rva });
   }
 
+  /** The range of the function table of an x64 or ARM64 image, or null. */
+  functionTable() {
+    return this.call(this.info.machine === ARM64 ? 'pe_c_arm64_table' : 'pe_c_function_table');
+  }
+
   /** The functions of an x64 or ARM64 image, in the order of their table. */
   *functions() {
-    const isArm64 = this.info.machine === ARM64;
-    const table = this.call(isArm64 ? 'pe_c_arm64_table' : 'pe_c_function_table');
+    const isArm64 = this.info.machine === ARM64, table = this.functionTable();
     for (let index = 0n; table && index < table.length / (isArm64 ? 8n : 12n); index++) {
       yield this.call(isArm64 ? 'pe_c_arm64_function_at' : 'pe_c_function_at', { table, index });
     }

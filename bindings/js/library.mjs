@@ -4,6 +4,7 @@
 // Each file has an instance of the module of its own, which has the file, its section headers and nothing else in its
 // memory. That memory never shrinks, so drop the image, and with it the instance, when the file is done.
 import { Caller, File, placed } from './calls.mjs';
+import { Dump } from './dump.mjs';
 import { Image } from './image.mjs';
 import { abi, calls, constants, records, results, version } from './layouts.mjs';
 import { Memory, PeError } from './memory.mjs';
@@ -11,7 +12,7 @@ import { Coff, TeImage } from './objects.mjs';
 import { Process } from './process.mjs';
 import { blockOf, versionInfo } from './resources.mjs';
 
-export { Coff, File, Image, PeError, Process, TeImage };
+export { Coff, Dump, File, Image, PeError, Process, TeImage };
 export { abi, calls, constants, records, results, version };
 
 /** The module, compiled once for all files. */
@@ -35,7 +36,12 @@ export class Library {
     return new TeImage(new Memory(this.module), bytes);
   }
 
-  /** Bytes for the calls that take nothing else. */
+  /** Reads the header of a minidump. */
+  openDump(bytes) {
+    return new Dump(new Memory(this.module), bytes);
+  }
+
+  /** Bytes for the calls that take nothing else, as a signature alone. */
   file(bytes) {
     const memory = new Memory(this.module);
     return new File(memory, placed(memory, bytes));
@@ -51,7 +57,7 @@ export class Library {
     return this.file(bytes).call('pe_c_te_failure');
   }
 
-  /** The modules of a process on x64 and its memory, for stack walks. */
+  /** The modules of a process and its memory, for stack walks. */
   process(parts) {
     return new Process(new Memory(this.module), parts);
   }

@@ -22,7 +22,7 @@ export function whole(type, value) {
 }
 
 /** Why a call refused its arguments: `number` and `constant` are those of pe.h, such as 2 and PE_C_SHORT, and `message` is
- * its text. */
+ * its text. Of a call for signatures `failure` is its pe_c_signature_failure. */
 export class PeError extends Error {
   constructor(call, number, text) {
     super(text);

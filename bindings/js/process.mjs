@@ -1,4 +1,4 @@
-// Stack walks on x64, through the modules of a process.
+// Stack walks on x64 and ARM64, through the modules of a process.
 import { Caller, ownOf } from './calls.mjs';
 import { Image } from './image.mjs';
 import { constants } from './layouts.mjs';
@@ -12,7 +12,7 @@ function array(memory, type, values) {
 }
 
 /** A module as calls take it: its image, its function table, and the address where it is loaded. */
-const moduleOf = (image, base) => ({ image: ownOf(image), table: image.call('pe_c_function_table') ?? {}, base });
+const moduleOf = (image, base) => ({ image: ownOf(image), table: image.functionTable() ?? {}, base });
 
 /** The modules of a process and its memory, in one instance. */
 export class Process extends Caller {
@@ -32,5 +32,10 @@ export class Process extends Caller {
    * and says in the end why no frame follows. */
   *frames(walk) {
     while (this.call('pe_c_next_frame', { walk })) yield structuredClone(walk);
+  }
+
+  /** The same on ARM64: pe_c_arm64_stack_walk. */
+  *arm64Frames(walk) {
+    while (this.call('pe_c_next_arm64_frame', { walk })) yield structuredClone(walk);
   }
 }

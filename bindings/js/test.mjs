@@ -523,6 +523,179 @@ function others(image) {
   if (table) for (const section of image.sections) attempt(() => image.call('pe_c_long_section_name', { table, section }));
 }
 
+// ---- lists in one call
+
+const concat = (...parts) => Uint8Array.from(parts.flatMap((it) => [...it]));
+
+/** All items of a walk by a call that fills two entries at a time. */
+function listed(image, call, given) {
+  const found = [], entries = [{}, {}];
+  for (;;) {
+    const made = image.call(call, { ...given, entries }), written = Number(made.written ?? made);
+    if (made.next !== undefined) given.next = made.next;
+    if (written === 0) return found;
+    found.push(...entries.slice(0, written));
+  }
+}
+
+test('a list in one call has what its walk has, and starts where that is', () => {
+  for (const [name, call, start] of [['exports', 'exports', 'export_tables'], ['imports', 'libraries', 'import_libraries'],
+    ['resources', 'resource_leaves', 'resource_leaves'], ['resources', 'version_blocks', 'version_blocks'],
+    ['relocations', 'relocation_blocks', 'relocation_blocks'], ['delay_imports', 'delay_imports', 'delay_imports']]) {
+    const image = opened(name), walk = image.call(`pe_c_${start}`), list = call.replace(/_(\w)/, (_, it) => it.toUpperCase());
+    const all = [...image.list(list)], found = listed(image, `pe_c_list_${call}`, { walk });
+    assert.deepEqual([found, found.length > 0], [all, true], call);
+    assert.equal(refused(() => image.call(`pe_c_list_${call}`, { walk, entries: [] })).constant, 'PE_C_ROOM');
+  }
+  const image = opened('imports'), [dll] = image.list('libraries'), delayed = opened('delay_imports'), [late] = delayed.list('delayImports');
+  assert.deepEqual(listed(image, 'pe_c_list_imports', { walk: structuredClone(dll.imports) }), [...image.imports(dll)]);
+  assert.deepEqual(listed(delayed, 'pe_c_list_delayed_functions', { walk: structuredClone(late.functions) }),
+    [...delayed.delayedFunctions(late)]);
+  const moved = opened('relocations'), [block] = moved.list('relocationBlocks');
+  assert.deepEqual(listed(moved, 'pe_c_list_relocations', { page_rva: block.page_rva, walk: { ...block.entries } }),
+    [...moved.relocations(block)]);
+  const exported = opened('exports'), table = exported.call('pe_c_export_addresses');
+  assert.deepEqual(listed(exported, 'pe_c_list_export_addresses', { table, next: 0n }), [...exported.exportAddresses()]);
+  // the names of parts of code, in an image made by hand
+  const pogo = madeImage(concat(words32([0, 0, 0, 13, 16, 0x1020, 0x420, 0, 0x4C544347, 0x1000, 0x10]), Uint8Array.of(97, 0, 0, 0)),
+    [[6, 0x1000, 28]]);
+  const it = library.open(pogo), parts = it.call('pe_c_debug_pogo').entries, named = [...it.items('pe_c_next_pogo_entry', { ...parts })];
+  assert.deepEqual(named.map((part) => [part.rva, part.size, it.utf8(part.name)]), [[0x1000, 0x10, 'a\0']]);
+  assert.deepEqual(listed(it, 'pe_c_list_pogo_entries', { walk: { ...parts } }), named);
+});
+
+test('functions and codes in one call', () => {
+  for (const [name, kind] of [['functions', ''], ['arm64_functions', 'arm64_']]) {
+    const image = opened(name), table = image.functionTable(), all = [...image.functions()];
+    assert.deepEqual(listed(image, `pe_c_list_${kind}functions`, { table, next: 0 }), all);
+    assert.deepEqual(listed(image, `pe_c_list_${kind}functions`, { table, next: 1n }), all.slice(1));
+    assert.throws(() => image.call(`pe_c_list_${kind}functions`, { table, next: -1, entries: [{}] }), RangeError);
+  }
+  const image = opened('functions'), table = image.functionTable(), [{ unwind }] = image.functions(), [record] = image.records({ unwind });
+  const codes = [{}, {}, {}, {}], made = image.call('pe_c_record_codes', { table, unwind, codes }), all = [...image.codes(record)];
+  assert.deepEqual([made.written, codes.slice(0, 3), all.length], [3n, all, 3]);
+  assert.deepEqual(listed(image, 'pe_c_list_codes', { walk: structuredClone(record.codes) }), all);
+  const arm64 = opened('arm64_functions'), [, { begin }] = arm64.functions(), { codes: range } = arm64.call('pe_c_arm64_unwind_record',
+    { function: [...arm64.functions()].find((it) => it.begin === begin) });
+  const walk = () => arm64.call('pe_c_arm64_codes', { codes: range, start: 0 });
+  const each = [...arm64.items('pe_c_next_arm64_code', walk())];
+  assert.deepEqual([listed(arm64, 'pe_c_list_arm64_codes', { walk: walk() }), each.length], [each, 6]);
+});
+
+test('an index of the sections changes no result', () => {
+  const image = opened('imports'), room = Array.from({ length: 4 }, () => ({}));
+  assert.equal(image.call('pe_c_index', { room }), 2n);
+  assert.deepEqual(room.map((it) => it.section), [1n, 0n, 0n, 0n]);
+  assert.equal(refused(() => image.call('pe_c_index', { room: [{}] })).constant, 'PE_C_ROOM');
+  const before = [...image.list('libraries')];
+  image.index();
+  assert.deepEqual([...image.list('libraries')], before);
+  assert.deepEqual([...image.list('libraries')].map((dll) => [...image.imports(dll)].length), [2, 1]);
+});
+
+// ---- signatures: the values are those that openssl and osslsigncode print of this one
+
+const numbers = (range) => [Number(range.offset), Number(range.offset + range.length)];
+
+/** The signature, as the body of the certificate of an image, and alone. */
+function signatures() {
+  const image = opened('signature'), [{ body }] = image.certificates(), alone = library.file(image.slice(body));
+  assert.equal(body.length, 1920n);
+  return { image, body, alone, whole: { offset: 0n, length: 1920n } };
+}
+
+test('what is signed, in an image and alone', () => {
+  const { image, body, alone, whole } = signatures(), signed = alone.call('pe_c_signature', { range: whole });
+  assert.deepEqual(numbers(signed.digested), [61, 166]);
+  assert.deepEqual([signed.content_type.id, signed.has_content], [constants.PE_C_OID_SPC_INDIRECT_DATA, 1]);
+  const { digested } = image.call('pe_c_signature', { range: body });
+  assert.deepEqual(image.slice(digested), alone.slice(signed.digested));
+  const data = alone.call('pe_c_indirect_data', { range: signed.content });
+  assert.deepEqual([numbers(data.value), numbers(data.digest), data.digest_algorithm.oid.id], [[75, 115], [134, 166], constants.PE_C_OID_SHA256]);
+  assert.equal(data.value_type.id, constants.PE_C_OID_SPC_PE_IMAGE_DATA);
+  assert.equal(alone.call('pe_c_image_data', { range: data.value }).file.length > 0n, true);
+  const algorithms = [...alone.elements(signed.digest_algorithms)].map((it) => alone.call('pe_c_algorithm_identifier', { range: it.whole }));
+  assert.deepEqual(algorithms.map((it) => it.oid.id), [constants.PE_C_OID_SHA256]);
+});
+
+const textOf = (file, name) => [...file.nameAttributes(name)].map((it) => [it.type.id, file.utf8(it.value)]);
+const timeOf = (file, range) => Object.values(file.call('pe_c_time', { range }));
+
+test('who signed, and when', () => {
+  const { alone, whole } = signatures(), signed = alone.call('pe_c_signature', { range: whole });
+  const [{ whole: certificate }] = alone.elements(signed.certificates), x509 = alone.call('pe_c_x509', { range: certificate });
+  assert.deepEqual([numbers(certificate), numbers(x509.to_be_signed), [...alone.slice(x509.serial)]], [[170, 520], [174, 434], [4, 3]]);
+  assert.deepEqual(textOf(alone, x509.issuer), [[constants.PE_C_OID_COMMON_NAME, 'R']]);
+  assert.deepEqual(textOf(alone, x509.subject).map(([, text]) => text).sort(), ['A', 'DE', 'Probe', 'Two']);
+  assert.deepEqual([timeOf(alone, x509.not_before), timeOf(alone, x509.not_after)], [[2026, 11, 27, 1, 0, 4], [2051, 7, 19, 1, 0, 4]]);
+  const extensions = [...alone.elements(x509.extensions)].map((it) => it.whole), read = (range) => alone.call('pe_c_extension', { range });
+  assert.deepEqual(extensions.map((it) => [read(it).type.id, read(it).critical]),
+    [[constants.PE_C_OID_KEY_USAGE, 1], [constants.PE_C_OID_EXTENDED_KEY_USAGE, 0]]);
+  assert.equal(alone.call('pe_c_key_usage', { range: extensions[0] }), 0x80);
+  const [{ whole: range }] = alone.elements(signed.signers), signer = alone.call('pe_c_signer', { range });
+  assert.deepEqual([textOf(alone, signer.issuer), signer.signed_first, numbers(signer.signature)],
+    [[[constants.PE_C_OID_COMMON_NAME, 'R']], 0x31, [770, 841]]);
+  const attributes = (list) => new Map([...alone.elements(list)].map((it) => alone.call('pe_c_attribute', { range: it.whole }))
+    .map((it) => [it.type.id, [...alone.elements(it.values)][0]]));
+  const ours = attributes(signer.signed_attributes), value = (name) => ours.get(constants[`PE_C_OID_${name}`]);
+  assert.deepEqual(numbers(value('MESSAGE_DIGEST').content), [673, 705]);
+  assert.deepEqual(timeOf(alone, value('SIGNING_TIME').whole), [2026, 11, 27, 1, 0, 4]);
+  const opus = alone.call('pe_c_opus_info', { range: value('SPC_SP_OPUS_INFO').whole });
+  assert.equal(alone.utf8(opus.more_info), 'https://example.org/');
+  const stamp = attributes(signer.unsigned_attributes).get(constants.PE_C_OID_TIME_STAMP_TOKEN);
+  const info = alone.call('pe_c_time_stamp', { range: alone.call('pe_c_signature', { range: stamp.whole }).content });
+  assert.deepEqual([timeOf(alone, info.time), numbers(info.digest)], [[2023, 11, 14, 22, 13, 20], [958, 990]]);
+});
+
+test('why a signature is refused', () => {
+  const { alone, whole } = signatures(), bytes = alone.slice(whole);
+  bytes[0] = 0x31;
+  const error = refused(() => library.file(bytes).call('pe_c_signature', { range: whole })), { offset, value, expected } = error.failure;
+  assert.deepEqual([error.constant, offset, value, expected], ['PE_C_SIGNATURE_TAG', 0n, 0x31n, 0x30]);
+  const short = refused(() => [...alone.elements({ offset: 0n, length: 1n })]);
+  assert.deepEqual([short.constant, short.failure.left], ['PE_C_SIGNATURE_TRUNCATED', 1n]);
+  assert.equal(refused(() => library.open(new Uint8Array(9))).failure, undefined);
+});
+
+// ---- minidumps
+
+const dump = (name) => library.openDump(readFileSync(join(folder, `${name}.dmp`)));
+
+test('each stream of a minidump', () => {
+  const x64 = dump('x64'), only = (name) => [...x64.list(name)][0];
+  assert.deepEqual([x64.info.number_of_streams, [...x64.entries()].length, x64.stream(13)], [12, 12, null]);
+  assert.deepEqual([...x64.list('threads')].map((it) => [it.thread_id, it.thread_context.rva]), [[0x24, 0x1000], [0x25, 0x1000]]);
+  const module = only('modules');
+  assert.deepEqual([module.base_of_image, module.size_of_image, x64.text(module.module_name_rva)], [BASE, 0x6000, 'a.exe']);
+  const record = x64.call('pe_c_dump_range', { location: module.cv_record });
+  assert.equal(x64.utf8(x64.call('pe_c_codeview', { record }).name), 'a.pdb\0');
+  assert.deepEqual([x64.exception().exception_code, x64.exception().number_parameters], [0xC0000005, 2]);
+  assert.deepEqual([x64.system().processor_architecture, x64.process().process_id, x64.process().processor_power.processor_max_mhz], [9, 1, 5]);
+  assert.deepEqual([only('threadNames').thread_id, x64.text(only('threadNames').rva_of_thread_name)], [0x24, 'a.exe']);
+  assert.deepEqual([only('unloadedModules').base_of_image, only('regions').region_size, only('handles').pointer_count], [0x70000000n, 0x1000n, 4]);
+  assert.deepEqual([only('threadInfos').exit_status, only('threadInfos').affinity], [259, 6n]);
+  assert.deepEqual([only('pieces').memory.start, [...x64.fullPieces()].map((it) => [it.memory.start, it.memory.length, it.lost])],
+    [0x20000n, [[0x20000n, 400n, 0x400n - 400n]]]);
+  const bytes = Uint8Array.of(77, 68, 77, 80, ...new Uint8Array(28));
+  assert.equal(refused(() => library.openDump(bytes)).constant, 'PE_C_DUMP_VERSION');
+});
+
+// On ARM64 the record's last code takes the stack pointer from the frame pointer, which is 0 on this stack.
+test('the stacks of minidumps, on x64 and on ARM64', () => {
+  for (const [name, image, rip, end, error] of [['x64', 'functions', 0x5000n, 'BOTTOM', undefined],
+    ['arm64', 'arm64_functions', 0x5020n, 'STEP', 'PE_C_NOT_RISING']]) {
+    const found = dump(name), { registers } = found.context(found.exception().thread_context), pieces = [...found.list('pieces')];
+    assert.equal(registers.rip ?? registers.pc, BASE + rip);
+    const process = library.process({ modules: [{ bytes: file(image), base: BASE }], memory: found.slice({ offset: 0n, length: BigInt(found.length) }),
+      pieces: pieces.map((it) => it.memory) });
+    const walk = () => ({ registers, remaining: 9n }), one = walk(), several = walk(), frames = Array.from({ length: 4 }, () => ({}));
+    const each = [...name === 'x64' ? process.frames(one) : process.arm64Frames(one)];
+    assert.deepEqual([each.length, one.end, results[one.error || -1]], [1, constants[`PE_C_END_${end}`], error]);
+    assert.equal(process.call(name === 'x64' ? 'pe_c_next_frames' : 'pe_c_next_arm64_frames', { walk: several, frames }), 1n);
+    assert.deepEqual([frames[0], several.end], [each[0], one.end]);
+  }
+});
+
 test('a large file, after which the memory is larger', () => {
   const bytes = new Uint8Array(24 << 20);
   bytes.set(file('imports'));

@@ -1,0 +1,87 @@
+// Minidumps: their streams, and the records of each.
+import { File, placed } from './calls.mjs';
+import { constants } from './layouts.mjs';
+
+const ARM64 = 12;
+
+// The lists of a dump: the stream of each, and the call that returns the record with an index.
+const LISTS = {
+  threads: ['THREAD_LIST', 'thread'],
+  modules: ['MODULE_LIST', 'module'],
+  pieces: ['MEMORY_LIST', 'memory'],
+  handles: ['HANDLE_DATA', 'handle'],
+  unloadedModules: ['UNLOADED_MODULE_LIST', 'unloaded'],
+  regions: ['MEMORY_INFO_LIST', 'region'],
+  threadInfos: ['THREAD_INFO_LIST', 'thread_info'],
+  threadNames: ['THREAD_NAMES', 'thread_name'],
+};
+
+/** A minidump. A stream that is damaged costs that stream alone. */
+export class Dump extends File {
+  constructor(memory, bytes) {
+    super(memory, placed(memory, bytes));
+    /** pe_c_dump_info */
+    this.info = this.call('pe_c_dump');
+  }
+
+  /** The entries of the directory. */
+  entries() {
+    return this.#records('pe_c_dump_entry_at', { directory: this.info.directory });
+  }
+
+  /** The range of the stream of a kind, PE_C_*_STREAM, or null. */
+  stream(type) {
+    return this.call('pe_c_dump_stream', { directory: this.info.directory, stream_type: type });
+  }
+
+  /** The records of a list, none where its stream is absent: see index.d.ts for the names. */
+  *list(name) {
+    const [kind, record] = LISTS[name], stream = this.stream(constants[`PE_C_${kind}_STREAM`]);
+    if (stream) yield* this.#records(`pe_c_dump_${record}_at`, { stream });
+  }
+
+  *#records(call, given) {
+    for (let index = 0n; ; index++) {
+      const found = this.call(call, { ...given, index });
+      if (found === null) return;
+      yield found;
+    }
+  }
+
+  #one(kind, call) {
+    const stream = this.stream(constants[`PE_C_${kind}_STREAM`]);
+    return stream && this.call(call, { stream });
+  }
+
+  /** The exception that the dump was written for, or null. */
+  exception() {
+    return this.#one('EXCEPTION', 'pe_c_dump_exception');
+  }
+
+  /** The system, or null. */
+  system() {
+    return this.#one('SYSTEM_INFO', 'pe_c_dump_system');
+  }
+
+  /** What is known of the process, or null. */
+  process() {
+    return this.#one('MISC_INFO', 'pe_c_dump_process');
+  }
+
+  /** The pieces of memory of a full dump, after those of the list `pieces`. */
+  *fullPieces() {
+    const walk = this.#one('MEMORY64_LIST', 'pe_c_dump_memory64');
+    if (walk) yield* this.items('pe_c_next_memory64', walk);
+  }
+
+  /** The text that a record leads to. */
+  text(rva) {
+    return this.utf16(this.call('pe_c_dump_text', { rva }), { isWhole: true });
+  }
+
+  /** The registers of a thread, or of the exception, by the location of its context: those of the machine that the dump names. */
+  context(location) {
+    const isArm64 = this.system()?.processor_architecture === ARM64;
+    return this.call(isArm64 ? 'pe_c_dump_context_arm64' : 'pe_c_dump_context', { location });
+  }
+}
