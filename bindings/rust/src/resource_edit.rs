@@ -235,39 +235,26 @@ impl<'a> ResourceEditor<'a> {
     /// [`Error::EDIT_OVERLAP`], [`Error::EDIT_DEBUG_DATA`] where the data of the sections have no end; [`Error::MEMORY`].
     pub fn write(&self) -> Result<Vec<u8>, Error> {
         let (records, data) = self.records()?;
-        let (bytes, info) = (self.bytes, &self.info);
-        let (first, count) = (records.as_ptr(), records.len());
+        /// A call of the image and these resources. Its other arguments are lent for the call; a room is apart from the others.
+        macro_rules! call {
+            ($call:ident, $($argument:expr),+) => {
+                // SAFETY: each pointer and length are those of one slice, and `info` is lent for the call.
+                unsafe {
+                    sys::$call(
+                        self.bytes.as_ptr(),
+                        self.bytes.len(),
+                        &self.info,
+                        records.as_ptr(),
+                        records.len(),
+                        data.as_ptr(),
+                        data.len(),
+                        $($argument),+
+                    )
+                }
+            };
+        }
         let mut length = 0;
-        // SAFETY: each pointer and length are those of one slice; `info` and `length` are lent for the call.
-        Error::of(unsafe {
-            sys::pe_c_edited_length(
-                bytes.as_ptr(),
-                bytes.len(),
-                info,
-                first,
-                count,
-                data.as_ptr(),
-                data.len(),
-                &mut length,
-            )
-        })?;
-        file_of(length, |room, written| {
-            // SAFETY: each pointer and length are those of one slice; `info` and `written` are lent for the call; the room is
-            // apart from the others.
-            unsafe {
-                sys::pe_c_edit(
-                    bytes.as_ptr(),
-                    bytes.len(),
-                    info,
-                    first,
-                    count,
-                    data.as_ptr(),
-                    data.len(),
-                    room.as_mut_ptr(),
-                    room.len(),
-                    written,
-                )
-            }
-        })
+        Error::of(call!(pe_c_edited_length, &mut length))?;
+        file_of(length, |room, written| call!(pe_c_edit, room.as_mut_ptr(), room.len(), written))
     }
 }

@@ -10,6 +10,7 @@ use Rattle.pe_core.specs.Rows.{each, rows}
 use Rattle.pe_core.specs.SectionMap.{raw_start, rounded_up}
 use Rattle.pe_core.specs.Sections.{raw_end, sections_offset}
 use Rattle.pe_core.specs.declared.data_directories.DataDirectory.{DataDirectory}
+use Rattle.pe_core.specs.declared.optional_header.TheConstants.{MAGIC_64}
 use Rattle.pe_core.specs.declared.section_table.SectionTable.{SectionTable}
 use Rattle.pe_edit.specs.EditRefusals as edits
 use Rattle.pe_edit.specs.Written.{Leaf}
@@ -32,7 +33,7 @@ is_absent d = d.virtual_address == 0 && d.size == 0
 -- its initialized data
 abbrev pub target_by : ℕ → OptionalHeaderView → Target
 target_by pointer o = record {
-  entry = pointer + 24 + directories_offset (o.standard_fields.magic == 0x20B) + 16;
+  entry = pointer + 24 + directories_offset (o.standard_fields.magic == MAGIC_64) + 16;
   rva = (directory_at o 2).virtual_address;
   section_alignment = o.windows_fields.section_alignment;
   file_alignment = o.windows_fields.file_alignment;

@@ -18,6 +18,7 @@ use Rattle.pe_rewrite.specs.declared.place.Target.{Target}
 use Rattle.pe_rewrite.specs.declared.room.LastSection.{LastSection}
 use Rattle.pe_rewrite.specs.declared.room.Room.{Room}
 use Rattle.pe_rewrite.specs.declared.room.Sizes.{Sizes}
+use Rattle.pe_rewrite.specs.declared.room.TheConstants.{CHARACTERISTICS}
 
 -- ---- the section
 
@@ -54,7 +55,7 @@ new_header rva offset = record {
   pointer_to_linenumbers = 0;
   number_of_relocations = 0;
   number_of_linenumbers = 0;
-  characteristics = 0x40000040;
+  characteristics = CHARACTERISTICS;
 }
 
 -- a new section after them, with room for n bytes

@@ -1,6 +1,7 @@
 -- What is parsed of an image whose resources changed. (PE format: optional header, section table, the .rsrc section.)
 use Rattle.std.specs.Prelude.{◌≡◌, ℕ, ◌+◌, ◌*◌, ◌==◌, List, [], ◌∷◌, ◌++◌, Option, Result, Ok, Err, drop, if◌then◌else◌, map, slice_set, take}
 use Rattle.std.specs.Option.{option_map}
+use Rattle.pe_core.specs.Bytes.{AreBytes}
 use Rattle.pe_core.specs.Header.{HeaderView, OptionalHeaderView}
 use Rattle.pe_core.specs.Refusals.{Refusal}
 use Rattle.pe_core.specs.Sections.{sections_offset}
@@ -16,6 +17,9 @@ use Rattle.pe_edit.specs.Reread.{LeafRefusal, Tree, leaf_with, of_image, read_ke
 use Rattle.pe_edit.specs.Written.{Leaf}
 use Rattle.pe_sign.specs.WrittenHeaders.{headers_changed}
 use Rattle.pe_core.specs.Refusals.{◌>>=◌}
+use Rattle.pe_rewrite.specs.Edited.{at_end, edited_of}
+use Rattle.pe_rewrite.specs.Places.{place_of, section_headers}
+use Rattle.pe_rewrite.specs.Rooms.{room_of}
 use Rattle.pe_rewrite.specs.declared.place.Place.{Place}
 use Rattle.pe_rewrite.specs.declared.room.Room.{Room}
 
@@ -53,6 +57,10 @@ sections_with i s ss = take i ss ++ (s ∷ drop (i + 1) ss)
 abbrev pub IsRoomRow : HeaderView → Room → ℕ → Type 0
 IsRoomRow h m i = m.place.row ≡ sections_offset h + 40 * i
 
+-- the section map of an image with these headers
+abbrev pub headers_map : ParseOptions → List ℕ → HeaderView → OptionalHeaderView → ℕ → Option ℕ
+headers_map o b h w rva = section_map o (section_headers b h) w.windows_fields.file_alignment rva
+
 -- ---- leaves, by the section map
 
 -- the content that a data entry describes, by where the map has its RVA; of no bytes, whether it is mapped or not
@@ -80,3 +88,17 @@ leaves_of_image o f directory sections alignment =
 -- i is the index of the resource section
 abbrev pub IsRow : HeaderView → Place → ℕ → Type 0
 IsRow h p i = p.row ≡ sections_offset h + 40 * i
+
+-- ---- the file of an edit
+
+-- an edit of the image b with these headers puts these leaves in this place, and writes this file
+pub record IsEditedInPlace (b : List ℕ) (h : HeaderView) (xs : List Leaf) (p : Place) (f : List ℕ) : Type 0 where
+  pub bytes : AreBytes b
+  pub place : place_of b h xs ≡ Ok p
+  pub file : edited_of b h xs ≡ Ok f
+
+-- an edit puts them in this room at the end of the image, and writes this file
+pub record IsEditedAtEnd (b : List ℕ) (h : HeaderView) (xs : List Leaf) (m : Room) (f : List ℕ) : Type 0 where
+  pub bytes : AreBytes b
+  pub room : room_of b h xs ≡ Ok m
+  pub file : at_end b h xs ≡ Ok f

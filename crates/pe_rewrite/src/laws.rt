@@ -11,7 +11,7 @@ ghost use Rattle.pe_edit.specs.Written.{Each, Leaf, Numbers, section};
 ghost use Rattle.pe_rewrite.specs.Edited.{at_end, edited_of, grown_size, in_place, is_moved_over, is_written, sum_of};
 ghost use Rattle.pe_rewrite.specs.Rooms.{room_of};
 ghost use Rattle.pe_rewrite.specs.Places.{is_outside, place_of, section_headers};
-ghost use Rattle.pe_rewrite.specs.WrittenImages.{IsRoomRow, IsRow, edited_headers, entry_of, headers_roomy, leaves_of_image, resized, sections_with};
+ghost use Rattle.pe_rewrite.specs.WrittenImages.{IsEditedAtEnd, IsEditedInPlace, IsRoomRow, IsRow, edited_headers, entry_of, headers_map, headers_roomy, leaves_of_image, resized, sections_with};
 ghost use Rattle.pe_rewrite.specs.declared.place.Place.{Place};
 ghost use Rattle.pe_rewrite.specs.declared.room.Room.{Room};
 
@@ -55,23 +55,21 @@ pub fn other_addresses_stay()
         (f : List ℕ) (w : OptionalHeaderView) (a q : ℕ) → place_of b h xs ≡ Ok p →
         edited_of b h xs ≡ Ok f → h.optional_header ≡ Some w → o.resolve_rva ≡ true →
         is_outside p.section a ≡ true →
-        section_map o (section_headers b h) w.windows_fields.file_alignment a ≡ Some q →
+        headers_map o b h w a ≡ Some q →
         slice_index f q ≡ slice_index b q }
 {}
 
 /// The data of the resource directory of such an image, as mapped, are the section with the leaves that were given, and the
 /// leaves that pe_resource's walk finds in the image, with their contents by the section map, are these leaves.
-#[tactic(auto, using(crate::proofs::WrittenImages::directory_read, crate::proofs::WrittenTrees::leaves_found))]
 pub fn edited_leaves_are_read()
-    ensures directory { (o : ParseOptions) (b : List ℕ) (h : HeaderView) (xs : List Leaf) (p : Place)
-        (f : List ℕ) (w : OptionalHeaderView) → AreBytes b → place_of b h xs ≡ Ok p →
-        edited_of b h xs ≡ Ok f → h.optional_header ≡ Some w → o.resolve_rva ≡ true →
-        file_bytes f p.length (section_map o (section_headers f h) w.windows_fields.file_alignment
+    ensures directory { (o : ParseOptions) (b : List ℕ) (h : HeaderView) (xs : List Leaf)
+        (p : Place) (f : List ℕ) (w : OptionalHeaderView) → IsEditedInPlace b h xs p f →
+        h.optional_header ≡ Some w → o.resolve_rva ≡ true →
+        file_bytes f p.length (headers_map o f h w
         p.section.virtual_address) ≡ Ok (section p.section.virtual_address xs) }
     ensures leaves { (o : ParseOptions) (b : List ℕ) (h : HeaderView) (xs : List Leaf) (p : Place)
-        (f : List ℕ) (w : OptionalHeaderView) → AreBytes b → Each Numbers xs →
-        place_of b h xs ≡ Ok p → edited_of b h xs ≡ Ok f → h.optional_header ≡ Some w →
-        o.resolve_rva ≡ true →
+        (f : List ℕ) (w : OptionalHeaderView) → Each Numbers xs → IsEditedInPlace b h xs p f →
+        h.optional_header ≡ Some w → o.resolve_rva ≡ true →
         leaves_of_image o f (entry_of p) (section_headers f h) w.windows_fields.file_alignment
         ≡ Ok (map (λ x. Ok x) xs) }
 {}
@@ -88,15 +86,15 @@ pub fn edits_are_in_place_or_at_the_end()
 /// headers change, of the section header and of what an edit in place writes.
 pub fn edits_at_the_end_change_no_more()
     ensures length { (b : List ℕ) (h : HeaderView) (xs : List Leaf) (m : Room) (f : List ℕ) →
-        AreBytes b → room_of b h xs ≡ Ok m → at_end b h xs ≡ Ok f → length f ≡ length b + m.more }
+        IsEditedAtEnd b h xs m f → length f ≡ length b + m.more }
     ensures multiple { (b : List ℕ) (h : HeaderView) (xs : List Leaf) (m : Room) (w : OptionalHeaderView) →
         room_of b h xs ≡ Ok m → h.optional_header ≡ Some w →
         m.more % w.windows_fields.file_alignment ≡ 0 }
-    ensures before { (b : List ℕ) (h : HeaderView) (xs : List Leaf) (m : Room) (f : List ℕ) (k : ℕ) →
-        AreBytes b → room_of b h xs ≡ Ok m → at_end b h xs ≡ Ok f → k < m.end →
-        is_moved_over h m k ≡ false → slice_index f k ≡ slice_index b k }
+    ensures before { (b : List ℕ) (h : HeaderView) (xs : List Leaf) (m : Room) (f : List ℕ) (k : ℕ)
+        → IsEditedAtEnd b h xs m f → k < m.end → is_moved_over h m k ≡ false →
+        slice_index f k ≡ slice_index b k }
     ensures after { (b : List ℕ) (h : HeaderView) (xs : List Leaf) (m : Room) (f : List ℕ) (k : ℕ) →
-        AreBytes b → room_of b h xs ≡ Ok m → at_end b h xs ≡ Ok f → m.end ≤ k →
+        IsEditedAtEnd b h xs m f → m.end ≤ k →
         slice_index f (k + m.more) ≡ slice_index b k }
 {}
 
@@ -104,32 +102,30 @@ pub fn edits_at_the_end_change_no_more()
 /// COFF symbols, the sizes of initialized data and of the image, the entry of the resource directory, and the checksum, which
 /// is that of the file, or 0 where it was 0.
 pub fn headers_of_edits_at_the_end_are_parsed()
-    ensures { (mode : ParseMode) (b : List ℕ) (h : HeaderView) (xs : List Leaf) (m : Room) (f : List ℕ) →
-        AreBytes b → header_at b mode ≡ Ok h → room_of b h xs ≡ Ok m → at_end b h xs ≡ Ok f →
+    ensures { (mode : ParseMode) (b : List ℕ) (h : HeaderView) (xs : List Leaf) (m : Room)
+        (f : List ℕ) → header_at b mode ≡ Ok h → IsEditedAtEnd b h xs m f →
         header_at f mode ≡ Ok (edited_headers m.place (sum_of h f) (headers_roomy m h)) }
 {}
 
 /// The section headers of such an image are those of the image, but for that of the section, which may be one more.
 pub fn sections_of_edits_at_the_end_are_parsed()
     ensures { (b : List ℕ) (h : HeaderView) (xs : List Leaf) (m : Room) (f : List ℕ) (i : ℕ) →
-        AreBytes b → room_of b h xs ≡ Ok m → at_end b h xs ≡ Ok f → IsRoomRow h m i →
-        section_headers f (headers_roomy m h)
+        IsEditedAtEnd b h xs m f → IsRoomRow h m i → section_headers f (headers_roomy m h)
         ≡ sections_with i (resized (grown_size m.place) m.place.section) (section_headers b h) }
 {}
 
 /// By the section map of such an image every RVA outside of the section leads to the file offset that it led to in the image,
 /// and with the image's file alignment to the same byte.
 pub fn other_addresses_stay_at_the_end()
-    ensures map { (o : ParseOptions) (b : List ℕ) (h : HeaderView) (xs : List Leaf) (m : Room) (f : List ℕ)
-        (alignment a : ℕ) → AreBytes b → room_of b h xs ≡ Ok m → at_end b h xs ≡ Ok f →
+    ensures map { (o : ParseOptions) (b : List ℕ) (h : HeaderView) (xs : List Leaf) (m : Room)
+        (f : List ℕ) (alignment a : ℕ) → IsEditedAtEnd b h xs m f →
         is_outside m.place.section a ≡ true →
         section_map o (section_headers f (headers_roomy m h)) alignment a
         ≡ section_map o (section_headers b h) alignment a }
-    ensures byte { (o : ParseOptions) (b : List ℕ) (h : HeaderView) (xs : List Leaf) (m : Room) (f : List ℕ)
-        (w : OptionalHeaderView) (a q : ℕ) → AreBytes b → room_of b h xs ≡ Ok m →
-        at_end b h xs ≡ Ok f → h.optional_header ≡ Some w → o.resolve_rva ≡ true →
-        is_outside m.place.section a ≡ true →
-        section_map o (section_headers b h) w.windows_fields.file_alignment a ≡ Some q →
+    ensures byte { (o : ParseOptions) (b : List ℕ) (h : HeaderView) (xs : List Leaf) (m : Room)
+        (f : List ℕ) (w : OptionalHeaderView) (a q : ℕ) → IsEditedAtEnd b h xs m f →
+        h.optional_header ≡ Some w → o.resolve_rva ≡ true → is_outside m.place.section a ≡ true →
+        headers_map o b h w a ≡ Some q →
         slice_index f q ≡ slice_index b q }
 {}
 
@@ -137,15 +133,13 @@ pub fn other_addresses_stay_at_the_end()
 /// leaves that pe_resource's walk finds in the image, with their contents by the section map, are these leaves.
 pub fn leaves_at_the_end_are_read()
     ensures directory { (o : ParseOptions) (b : List ℕ) (h : HeaderView) (xs : List Leaf) (m : Room)
-        (f : List ℕ) (w : OptionalHeaderView) → AreBytes b → room_of b h xs ≡ Ok m →
-        at_end b h xs ≡ Ok f → h.optional_header ≡ Some w → o.resolve_rva ≡ true →
-        file_bytes f m.place.length (section_map o (section_headers f (headers_roomy m h))
-        w.windows_fields.file_alignment m.place.section.virtual_address)
-        ≡ Ok (section m.place.section.virtual_address xs) }
+        (f : List ℕ) (w : OptionalHeaderView) → IsEditedAtEnd b h xs m f →
+        h.optional_header ≡ Some w → o.resolve_rva ≡ true →
+        file_bytes f m.place.length (headers_map o f (headers_roomy m h) w
+        m.place.section.virtual_address) ≡ Ok (section m.place.section.virtual_address xs) }
     ensures leaves { (o : ParseOptions) (b : List ℕ) (h : HeaderView) (xs : List Leaf) (m : Room)
-        (f : List ℕ) (w : OptionalHeaderView) → AreBytes b → Each Numbers xs →
-        room_of b h xs ≡ Ok m → at_end b h xs ≡ Ok f → h.optional_header ≡ Some w →
-        o.resolve_rva ≡ true →
+        (f : List ℕ) (w : OptionalHeaderView) → Each Numbers xs → IsEditedAtEnd b h xs m f →
+        h.optional_header ≡ Some w → o.resolve_rva ≡ true →
         leaves_of_image o f (entry_of m.place) (section_headers f (headers_roomy m h))
         w.windows_fields.file_alignment ≡ Ok (map (λ x. Ok x) xs) }
 {}

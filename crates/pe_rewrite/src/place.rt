@@ -6,6 +6,7 @@ ghost use Rattle.std.specs.Prelude.{◌≡◌, ◌+◌, ◌*◌, ◌^◌, ◌<�
 ghost use Rattle.pe_core.specs.Header.{directories_offset, header_view, optional_header_view};
 ghost use Rattle.pe_core.specs.Refusals.{outcome};
 ghost use Rattle.pe_core.specs.Sections.{raw_end};
+ghost use Rattle.pe_core.specs.declared.optional_header.TheConstants.{MAGIC_64};
 ghost use Rattle.pe_edit.specs.Views.{leaf_views};
 ghost use Rattle.pe_sign.specs.WrittenHeaders.{directories_end};
 ghost use Rattle.pe_rewrite.specs.Edited.{Lies};
@@ -67,7 +68,7 @@ pub struct Place {
 /// The file offset of the data directories in an image with this PE pointer.
 fn directories_start(pointer: u32, optional_header: &OptionalHeader) -> usize
     ensures value { result ≡ pointer + 24
-        + directories_offset (optional_header.now.standard_fields.magic == 0x20B) }
+        + directories_offset (optional_header.now.standard_fields.magic == MAGIC_64) }
     ensures small { result < 2 ^ 33 }
 {
     let fields = if optional_header.standard_fields.magic == MAGIC_64 {

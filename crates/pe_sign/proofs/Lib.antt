@@ -17,3 +17,4 @@ pub mod WrittenHeaders
 pub mod WrittenTables
 pub mod DetachedAgain
 pub mod UnsignedImages
+pub mod WrittenAgain

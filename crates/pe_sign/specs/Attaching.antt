@@ -4,7 +4,7 @@ use Rattle.std.specs.Prelude.{◌≡◌, ℕ, ◌+◌, ◌-◌, ◌*◌, ◌%◌
 use Rattle.std.specs.List.{list_all}
 use Rattle.pe_core.specs.Bytes.{le, bytes_of, splice}
 use Rattle.pe_core.specs.Directories.{absent_directory}
-use Rattle.pe_core.specs.Header.{HeaderView}
+use Rattle.pe_core.specs.Header.{HeaderView, header_at}
 use Rattle.pe_core.specs.Offsets.{empty_range}
 use Rattle.pe_core.specs.Records.{section_table}
 use Rattle.pe_core.specs.Refusals.{CertificateSize, CertificateTable, Short, WriteFit, outcome, ◌>>=◌}
@@ -12,6 +12,7 @@ use Rattle.pe_core.specs.Rows.{rows}
 use Rattle.pe_core.specs.SectionMap.{rounded_up}
 use Rattle.pe_core.specs.Sections.{raw_end, sections_offset}
 use Rattle.pe_core.specs.declared.data_directories.DataDirectory.{DataDirectory}
+use Rattle.pe_core.specs.declared.options.ParseMode.{ParseMode}
 use Rattle.pe_core.specs.declared.section_table.SectionTable.{SectionTable}
 use Rattle.pe_sign.specs.Checksum.{checksum_of}
 use Rattle.pe_sign.specs.Digest.{lacking_to_eight, left_out_of}
@@ -169,3 +170,17 @@ without_table l = record { checksum = l.checksum; directory_entry = l.directory_
 abbrev pub before_table : Placement → LeftOut → List ℕ → List ℕ
 before_table After l b = if is_signed l then unsigned_file l b else padded b
 before_table InPlace l b = padded (unsigned_file l b)
+
+-- ---- what is written of an image
+
+-- these are the headers of an image, and the parts that its digest leaves out; `attach` writes this file of it
+pub record IsAttached (mode : ParseMode) (placement : Placement) (b : List ℕ) (h : HeaderView) (certificate f : List ℕ) (l : LeftOut) : Type 0 where
+  pub parsed : header_at b mode ≡ Ok h
+  pub parts : left_out_of h ≡ Ok l
+  pub written : attached_of placement b h certificate ≡ Ok f
+
+-- the same of a file that `detach` writes
+pub record IsDetached (mode : ParseMode) (b : List ℕ) (h : HeaderView) (f : List ℕ) (l : LeftOut) : Type 0 where
+  pub parsed : header_at b mode ≡ Ok h
+  pub parts : left_out_of h ≡ Ok l
+  pub written : detached_of b h ≡ Ok f

@@ -7,6 +7,7 @@ use Rattle.pe_core.specs.Offsets.{empty_range}
 use Rattle.pe_core.specs.Refusals.{Refusal, NoOptionalHeader, ◌>>=◌}
 use Rattle.pe_core.specs.declared.byte_range.ByteRange.{ByteRange}
 use Rattle.pe_core.specs.declared.data_directories.DataDirectory.{DataDirectory}
+use Rattle.pe_core.specs.declared.optional_header.TheConstants.{MAGIC_64}
 use Rattle.pe_sign.specs.declared.digest.AuthenticodeRanges.{AuthenticodeRanges}
 use Rattle.pe_sign.specs.declared.digest.LeftOut.{LeftOut}
 use Rattle.pe_sign.specs.declared.digest.Part.{Part}
@@ -15,7 +16,7 @@ use Rattle.pe_sign.specs.declared.digest.Part.{Part}
 abbrev pub entry_range : ℕ → OptionalHeaderView → ByteRange
 entry_range pointer o =
     if nat_lt 4 (length o.data_directories)
-    then record { offset = pointer + 24 + directories_offset (o.standard_fields.magic == 0x20B) + 32; length = 8 }
+    then record { offset = pointer + 24 + directories_offset (o.standard_fields.magic == MAGIC_64) + 32; length = 8 }
     else empty_range
 
 -- where the certificates are in the file

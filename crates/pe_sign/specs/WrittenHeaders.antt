@@ -3,6 +3,7 @@ use Rattle.std.specs.Prelude.{ℕ, ◌+◌, ◌*◌, ◌==◌, length, slice_set
 use Rattle.std.specs.Option.{option_map}
 use Rattle.pe_core.specs.Header.{HeaderView, OptionalHeaderView, directories_offset}
 use Rattle.pe_core.specs.declared.data_directories.DataDirectory.{DataDirectory}
+use Rattle.pe_core.specs.declared.optional_header.TheConstants.{MAGIC_64}
 
 -- the optional header with this entry for the directory with an index, and with this checksum
 abbrev pub optional_changed : ℕ → DataDirectory → ℕ → OptionalHeaderView → OptionalHeaderView
@@ -27,7 +28,7 @@ headers_with entry sum h = headers_changed 4 entry sum h
 abbrev pub directories_end_after : ℕ → Option OptionalHeaderView → ℕ
 directories_end_after pointer None = pointer + 24
 directories_end_after pointer (Some o) =
-    pointer + 24 + directories_offset (o.standard_fields.magic == 0x20B) + 8 * length o.data_directories
+    pointer + 24 + directories_offset (o.standard_fields.magic == MAGIC_64) + 8 * length o.data_directories
 
 abbrev pub directories_end : HeaderView → ℕ
 directories_end h = directories_end_after h.dos_header.pe_pointer h.optional_header

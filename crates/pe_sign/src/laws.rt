@@ -8,7 +8,7 @@ ghost use Rattle.pe_core.specs.Offsets.{bytes_in};
 ghost use Rattle.pe_core.specs.Refusals.{Short};
 ghost use Rattle.pe_core.specs.Sections.{sections_offset};
 ghost use Rattle.pe_core.specs.declared.options.ParseMode.{ParseMode};
-ghost use Rattle.pe_sign.specs.Attaching.{is_signed, unsigned_length, kept_length, entry_to, table_start, attached_of, detached_of, with_checksum, with_both_fields, with_table, without_table, before_table};
+ghost use Rattle.pe_sign.specs.Attaching.{IsAttached, IsDetached, is_signed, unsigned_length, kept_length, entry_to, table_start, attached_of, detached_of, with_checksum, with_both_fields, with_table, without_table, before_table};
 ghost use Rattle.pe_sign.specs.Checksum.{checksum_of};
 ghost use Rattle.pe_sign.specs.Digest.{Covered, left_out_of, covered, covered_bytes, digest_of};
 ghost use Rattle.pe_sign.specs.DigestRanges.{EndBy, digest_ranges_of};
@@ -79,21 +79,20 @@ pub fn entries_name_the_table()
 /// has now and with the checksum of what was written, and nothing else changes. The data directories have to stay: they end
 /// at or before what is kept of the file, and `directories_stay` says when. Where `detach` leaves a part of them out, the
 /// parser refuses what it wrote.
-#[tactic(auto, using(crate::proofs::WrittenHeaders::attached_header, crate::proofs::WrittenHeaders::detached_header, crate::proofs::WrittenHeaders::detached_lost))]
+#[tactic(auto, using(crate::proofs::WrittenAgain::header_attached, crate::proofs::WrittenAgain::header_detached, crate::proofs::WrittenAgain::header_lost))]
 pub fn written_headers_are_parsed()
     ensures attached { (mode : ParseMode) (placement : Placement) (b : List ℕ) (h : HeaderView)
-        (certificate f : List ℕ) (l : LeftOut) → header_at b mode ≡ Ok h → left_out_of h ≡ Ok l →
-        attached_of placement b h certificate ≡ Ok f →
+        (certificate f : List ℕ) (l : LeftOut) → IsAttached mode placement b h certificate f l →
         directories_end h ≤ kept_length placement l (length b) →
         header_at f mode ≡ Ok (headers_with (entry_to (table_start placement l (length b)) (length f))
         (checksum_of f l.checksum.offset) h) }
     ensures detached { (mode : ParseMode) (b : List ℕ) (h : HeaderView) (f : List ℕ) (l : LeftOut) →
-        header_at b mode ≡ Ok h → left_out_of h ≡ Ok l → detached_of b h ≡ Ok f →
-        directories_end h ≤ unsigned_length l (length b) → header_at f mode
+        IsDetached mode b h f l → directories_end h ≤ unsigned_length l (length b) →
+        header_at f mode
         ≡ Ok (headers_with absent_directory (checksum_of f l.checksum.offset) h) }
-    ensures truncated { (mode : ParseMode) (b : List ℕ) (h : HeaderView) (f : List ℕ) (l : LeftOut) →
-        header_at b mode ≡ Ok h → left_out_of h ≡ Ok l → detached_of b h ≡ Ok f →
-        unsigned_length l (length b) < directories_end h → header_at f mode ≡ Err Short }
+    ensures truncated { (mode : ParseMode) (b : List ℕ) (h : HeaderView) (f : List ℕ) (l : LeftOut)
+        → IsDetached mode b h f l → unsigned_length l (length b) < directories_end h →
+        header_at f mode ≡ Err Short }
 {}
 
 /// By the headers that are parsed of what was written, the parts that a digest leaves out are those of the image with the
@@ -101,13 +100,12 @@ pub fn written_headers_are_parsed()
 /// asks for.
 pub fn parsed_headers_name_the_parts()
     ensures attached { (mode : ParseMode) (placement : Placement) (b : List ℕ) (h k : HeaderView)
-        (certificate f : List ℕ) (l : LeftOut) → header_at b mode ≡ Ok h → left_out_of h ≡ Ok l →
-        attached_of placement b h certificate ≡ Ok f →
+        (certificate f : List ℕ) (l : LeftOut) → IsAttached mode placement b h certificate f l →
         directories_end h ≤ kept_length placement l (length b) → header_at f mode ≡ Ok k →
         left_out_of k ≡ Ok (with_table l (table_start placement l (length b)) (length f)) }
-    ensures detached { (mode : ParseMode) (b : List ℕ) (h k : HeaderView) (f : List ℕ)
-        (l : LeftOut) → header_at b mode ≡ Ok h → left_out_of h ≡ Ok l → detached_of b h ≡ Ok f →
-        directories_end h ≤ unsigned_length l (length b) → header_at f mode ≡ Ok k →
+    ensures detached { (mode : ParseMode) (b : List ℕ) (h k : HeaderView) (f : List ℕ) (l : LeftOut)
+        → IsDetached mode b h f l → directories_end h ≤ unsigned_length l (length b) →
+        header_at f mode ≡ Ok k →
         left_out_of k ≡ Ok (without_table l) }
 {}
 
@@ -115,22 +113,20 @@ pub fn parsed_headers_name_the_parts()
 /// image, as bytes with the zeros that follow them.
 pub fn parsed_digests_stay()
     ensures attached { (mode : ParseMode) (placement : Placement) (b : List ℕ) (h k : HeaderView)
-        (certificate f : List ℕ) (l : LeftOut) (c d : Covered) → header_at b mode ≡ Ok h →
-        left_out_of h ≡ Ok l → attached_of placement b h certificate ≡ Ok f →
+        (certificate f : List ℕ) (l : LeftOut) (c d : Covered) →
+        IsAttached mode placement b h certificate f l →
         directories_end h ≤ kept_length placement l (length b) → header_at f mode ≡ Ok k →
         digest_of b h ≡ Ok c → digest_of f k ≡ Ok d → covered_bytes d ≡ covered_bytes c }
-    ensures detached { (mode : ParseMode) (b : List ℕ) (h k : HeaderView) (f : List ℕ)
-        (l : LeftOut) → header_at b mode ≡ Ok h → left_out_of h ≡ Ok l → detached_of b h ≡ Ok f →
-        directories_end h ≤ unsigned_length l (length b) → header_at f mode ≡ Ok k →
-        digest_of f k ≡ digest_of b h }
+    ensures detached { (mode : ParseMode) (b : List ℕ) (h k : HeaderView) (f : List ℕ) (l : LeftOut)
+        → IsDetached mode b h f l → directories_end h ≤ unsigned_length l (length b) →
+        header_at f mode ≡ Ok k → digest_of f k ≡ digest_of b h }
 {}
 
 /// To detach what was attached, by the headers that are parsed of it, leaves what is before the certificate table, with an
 /// entry of zeros and the checksum.
 pub fn parsed_certificates_are_detached()
     ensures { (mode : ParseMode) (placement : Placement) (b : List ℕ) (h k : HeaderView)
-        (certificate f g : List ℕ) (l : LeftOut) → header_at b mode ≡ Ok h → left_out_of h ≡ Ok l →
-        attached_of placement b h certificate ≡ Ok f →
+        (certificate f g : List ℕ) (l : LeftOut) → IsAttached mode placement b h certificate f l →
         directories_end h ≤ kept_length placement l (length b) → header_at f mode ≡ Ok k →
         detached_of f k ≡ Ok g → g ≡ with_both_fields l absent_directory (before_table placement l b) }
 {}
@@ -140,27 +136,25 @@ pub fn parsed_certificates_are_detached()
 /// without any certificate that it had.
 pub fn attached_images_can_be_detached()
     ensures { (mode : ParseMode) (placement : Placement) (b : List ℕ) (h k : HeaderView)
-        (certificate f : List ℕ) (l : LeftOut) → header_at b mode ≡ Ok h → left_out_of h ≡ Ok l →
-        attached_of placement b h certificate ≡ Ok f → directories_end h ≤ sections_offset h →
-        header_at f mode ≡ Ok k →
+        (certificate f : List ℕ) (l : LeftOut) → IsAttached mode placement b h certificate f l →
+        directories_end h ≤ sections_offset h → header_at f mode ≡ Ok k →
         detached_of f k ≡ Ok (with_both_fields l absent_directory (before_table placement l b)) }
 {}
 
 /// An unsigned image whose length is a multiple of eight comes back: what is attached to it is detached, by the headers that
 /// are parsed of it, and leaves the image byte for byte if its checksum is right, and else with its checksum, as long as the
 /// data directories end before the section table.
-#[tactic(auto, using(crate::proofs::UnsignedImages::comes_back, crate::proofs::UnsignedImages::but_for_checksum))]
+#[tactic(auto, using(crate::proofs::WrittenAgain::whole_again, crate::proofs::WrittenAgain::checked_again))]
 pub fn unsigned_images_come_back()
     ensures whole { (mode : ParseMode) (placement : Placement) (b : List ℕ) (h k : HeaderView)
-        (certificate f : List ℕ) (l : LeftOut) → AreBytes b → header_at b mode ≡ Ok h →
-        left_out_of h ≡ Ok l → is_signed l ≡ false → length b % 8 ≡ 0 →
+        (certificate f : List ℕ) (l : LeftOut) → AreBytes b →
+        IsAttached mode placement b h certificate f l → is_signed l ≡ false → length b % 8 ≡ 0 →
         le b l.checksum.offset 4 ≡ checksum_of b l.checksum.offset →
-        attached_of placement b h certificate ≡ Ok f → directories_end h ≤ sections_offset h →
-        header_at f mode ≡ Ok k → detached_of f k ≡ Ok b }
+        directories_end h ≤ sections_offset h → header_at f mode ≡ Ok k → detached_of f k ≡ Ok b }
     ensures checksum { (mode : ParseMode) (placement : Placement) (b : List ℕ) (h k : HeaderView)
-        (certificate f : List ℕ) (l : LeftOut) → AreBytes b → header_at b mode ≡ Ok h →
-        left_out_of h ≡ Ok l → is_signed l ≡ false → length b % 8 ≡ 0 →
-        attached_of placement b h certificate ≡ Ok f → directories_end h ≤ sections_offset h →
+        (certificate f : List ℕ) (l : LeftOut) → AreBytes b →
+        IsAttached mode placement b h certificate f l → is_signed l ≡ false → length b % 8 ≡ 0 →
+        directories_end h ≤ sections_offset h →
         header_at f mode ≡ Ok k → detached_of f k ≡ Ok (with_checksum l b) }
 {}
 

@@ -13,8 +13,7 @@ ghost use Rattle.pe_frame.specs.Arm64Steps.{CodesThen, AreOver, prolog_length, r
 ghost use Rattle.pe_frame.specs.Arm64Packed.{packed_frame, packed_codes, epilog_codes, packed_left, is_canonical, stepped_arm64_packed};
 ghost use Rattle.pe_frame.specs.Arm64Operations.{all_effects};
 ghost use Rattle.pe_frame.specs.Arm64Undoing.{reverted_all};
-ghost use Rattle.pe_frame.specs.Arm64Machine.{IsArm64Caller};
-ghost use Rattle.pe_frame.specs.Arm64Frames.{Arm64Part, effects_at, IsArm64Frame};
+ghost use Rattle.pe_frame.specs.Arm64Frames.{Arm64Part, IsArm64Frame, ReturnsArm64Caller};
 ghost use Rattle.pe_frame.specs.Arm64Samples.{chained_part, chained_bytes, signed_part, signed_bytes, packed_part, packed_data, stopped, arm64_registers_of, all_known_arm64};
 
 use crate::arm64::Arm64Registers;
@@ -37,23 +36,19 @@ pub fn one_result_of_arm64_steps()
 /// body did to other registers and memory does not matter.
 pub fn arm64_prologs_are_undone()
     ensures { (m : ℕ → Option ℕ) (i : Arm64InfoView) (p : Arm64Part) (place stand : ℕ)
-        (g : Arm64Registers) (x : Result Arm64Registers FrameError) →
+        (g : Arm64Registers) →
         Leaves i place (Ok (ran_arm64 stand p.codes)) →
-        IsArm64Frame p stand m g → StepsArm64 m i place g x →
-        (u : Arm64Registers) × (x ≡ Ok u) × IsArm64Caller (effects_at stand p) p.entry g u }
+        IsArm64Frame p stand m g → ReturnsArm64Caller m i p place stand g g }
 {}
 
 /// From each instruction of an epilog a step returns the caller that it returns from the epilog's start: there the whole prolog
 /// stands, and the body may have changed registers and memory. `run` instructions of the epilog have restored what they say.
 pub fn arm64_epilogs_return_to_the_caller()
     ensures { (m : ℕ → Option ℕ) (i : Arm64InfoView) (p : Arm64Part) (place run : ℕ)
-        (g now : Arm64Registers) (x : Result Arm64Registers FrameError) →
-        Leaves i place (Ok (drop run p.codes)) →
+        (g now : Arm64Registers) → Leaves i place (Ok (drop run p.codes)) →
         IsArm64Frame p (prolog_length p.codes) m g →
         reverted_all m (all_effects (take run p.operations)) g ≡ Ok now →
-        StepsArm64 m i place now x →
-        (u : Arm64Registers) × (x ≡ Ok u)
-        × IsArm64Caller (effects_at (prolog_length p.codes) p) p.entry g u }
+        ReturnsArm64Caller m i p place (prolog_length p.codes) g now }
 {}
 
 /// What a record leaves to be undone: in the prolog the codes of the instructions that have run, in an epilog and at its return

@@ -11,8 +11,8 @@ returns c =
       no_memory = c.one_record_of_addresses.ensures.no_memory;
     } in
     record {
-      left = λ e sections opts m p parts before rest i start rva code g h x at.
-          returned_in_image law e sections opts m p parts before rest i start rva code g h x at.frames at.epilog at.ready at.ran at.left;
-      entered = λ e sections opts place m p parts before rest i start rva code g h t x at.
-          returned_by_entry law e sections opts place m p parts before rest i start rva code g h t x at.frames at.epilog at.ready at.ran at.left;
+      left = λ s p parts before rest i g h at sorted to x.
+          returned_in_image law s.exceptions s.sections s.options s.memory p parts before rest i s.start s.rva s.code g h x at.frames at.epilog at.ready at.ran at.left sorted to;
+      entered = λ s p parts before rest i g h at sorted to x.
+          returned_by_entry law s.exceptions s.sections s.options to.target s.memory p parts before rest i s.start s.rva s.code g h to.last x at.frames at.epilog at.ready at.ran at.left sorted to.place to.entry to.ran to.count;
     }
