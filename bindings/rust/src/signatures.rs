@@ -15,7 +15,7 @@ pub use name::{Name, NameAttribute, NameAttributes};
 pub use object_id::{KnownOid, Oid};
 pub use signer::{Attribute, Attributes, OpusInfo, Signer, Signers};
 pub use time::{Time, TimeStamp};
-pub use x509::{Extension, Extensions, X509s, X509};
+pub use x509::{Extension, Extensions, KeyPurposes, X509s, X509};
 
 use crate::sys;
 use crate::Certificate;

@@ -5,3 +5,5 @@ pub mod Written
 pub mod ReadAgain
 pub mod Shrinking
 pub mod Hashing
+pub mod LaterBytes
+pub mod LaterParts

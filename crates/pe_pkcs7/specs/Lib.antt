@@ -10,3 +10,4 @@ pub mod Names
 pub mod Times
 pub mod Encoding
 pub mod TimeStamps
+pub mod Later

@@ -71,27 +71,39 @@ impl Certificate {
 #[derive(Default)]
 pub struct Certificates<'a> {
     by_serial: HashMap<(&'a [u8], &'a [u8]), X509<'a>>,
-    by_subject: HashMap<&'a [u8], X509<'a>>,
+    by_key: HashMap<&'a [u8], X509<'a>>,
+    by_subject: HashMap<&'a [u8], Vec<X509<'a>>>,
 }
 
 /// How many certificates of a chain are told: a chain of signers has three or four.
 const CHAIN: usize = 16;
+/// How many certificates of one name are tried as the issuer. An authority that renews its certificate has two or three.
+const ONE_NAME: usize = 8;
 
 impl<'a> Certificates<'a> {
-    /// Those that are not refused. Of two with one name the first counts.
+    /// Those that are not refused. Of two with one issuer and serial number the first counts.
     pub fn of(signature: &pe_c::Signature<'a>) -> Certificates<'a> {
-        let mut found = Certificates { by_serial: HashMap::new(), by_subject: HashMap::new() };
+        let mut found = Certificates::default();
         for certificate in signature.certificates().flatten() {
             let issuer = certificate.issuer().der();
             found.by_serial.entry((issuer, certificate.serial())).or_insert(certificate);
-            found.by_subject.entry(certificate.subject().der()).or_insert(certificate);
+            if let Ok(Some(key)) = certificate.key_identifier() {
+                found.by_key.entry(key).or_insert(certificate);
+            }
+            let namesakes = found.by_subject.entry(certificate.subject().der()).or_default();
+            if namesakes.len() < ONE_NAME {
+                namesakes.push(certificate);
+            }
         }
         found
     }
 
     /// The certificate that a signer names.
     pub fn of_signer(&self, signer: &Signer<'a>) -> Option<X509<'a>> {
-        self.by_serial.get(&(signer.issuer().der(), signer.serial())).copied()
+        match signer.key_identifier() {
+            Some(key) => self.by_key.get(key).copied(),
+            None => self.by_serial.get(&(signer.issuer().der(), signer.serial())).copied(),
+        }
     }
 
     /// All of them, in no order.
@@ -99,16 +111,40 @@ impl<'a> Certificates<'a> {
         self.by_serial.values().copied()
     }
 
+    /// The certificate of the issuer of one, which has its name and no other key identifier, and is none of these: where several do,
+    /// the first that signed it, and where that is not known of any, the first.
+    fn issuer(
+        &self,
+        certificate: &X509<'a>,
+        before: &[X509<'a>],
+        is_signed_by: &dyn Fn(&X509<'a>, &X509<'a>) -> bool,
+    ) -> Option<X509<'a>> {
+        let namesakes = self.by_subject.get(certificate.issuer().der())?;
+        let fits = |it: &&X509<'a>| has_key(it, certificate) && !before.iter().any(|known| known.der() == it.der());
+        let mut fitting = namesakes.iter().filter(fits);
+        let first = fitting.clone().next()?;
+        let signing = fitting.clone().nth(1).and_then(|_| fitting.find(|it| is_signed_by(certificate, it)));
+        Some(*signing.unwrap_or(first))
+    }
+
     /// The certificates from this one on, each followed by that of its issuer, as far as they are here.
-    pub fn chain(&self, first: X509<'a>) -> Vec<X509<'a>> {
+    pub fn chain(&self, first: X509<'a>, is_signed_by: &dyn Fn(&X509<'a>, &X509<'a>) -> bool) -> Vec<X509<'a>> {
         let mut chain = vec![first];
         while let Some(last) = chain.last().filter(|it| !is_self_issued(it) && chain.len() < CHAIN) {
-            match self.by_subject.get(last.issuer().der()) {
-                Some(issuer) if !chain.iter().any(|it| it.der() == issuer.der()) => chain.push(*issuer),
-                _ => break,
+            match self.issuer(last, &chain, is_signed_by) {
+                Some(issuer) => chain.push(issuer),
+                None => break,
             }
         }
         chain
+    }
+}
+
+/// Whether a certificate has the key that another says its issuer has, or one of both says none.
+fn has_key(issuer: &X509<'_>, certificate: &X509<'_>) -> bool {
+    match (certificate.issuer_key_identifier(), issuer.key_identifier()) {
+        (Ok(Some(said)), Ok(Some(own))) => said == own,
+        _ => true,
     }
 }
 

@@ -1,6 +1,7 @@
 //! Whether a signature is that of a key, and whether a chain of certificates leads to a root. OpenSSL says it, where the program is
 //! built with the feature `openssl`; else nothing is checked, and that is said.
 
+use pe_c::X509;
 use std::path::Path;
 
 /// Whether a signature is that of a key.
@@ -25,6 +26,12 @@ impl Checked {
 pub const NO_CERTIFICATE: Checked = Checked::Not("its certificate is not in the file");
 pub const NO_ISSUER: Checked = Checked::Not("that of its issuer is not in the file");
 pub const NO_ROOTS: Checked = Checked::Not("no roots are given");
+
+/// Whether a certificate is signed by the key of another.
+pub fn is_signed_by(certificate: &X509<'_>, issuer: &X509<'_>) -> Checked {
+    let algorithm = certificate.signature_algorithm().oid();
+    check(*issuer, algorithm, None, &[certificate.to_be_signed()], certificate.signature())
+}
 
 #[cfg(not(feature = "openssl"))]
 mod by {
@@ -129,12 +136,7 @@ mod by {
     fn digest_of(algorithm: Oid<'_>, signer: Option<Hash>) -> Option<MessageDigest> {
         let hash = match algorithm.known()? {
             KnownOid::RSA | KnownOid::EC | KnownOid::DSA => signer?,
-            KnownOid::MD5_RSA => Hash::Md5,
-            KnownOid::SHA1_RSA | KnownOid::ECDSA_SHA1 | KnownOid::DSA_SHA1 => Hash::Sha1,
-            KnownOid::SHA256_RSA | KnownOid::ECDSA_SHA256 => Hash::Sha256,
-            KnownOid::SHA384_RSA | KnownOid::ECDSA_SHA384 => Hash::Sha384,
-            KnownOid::SHA512_RSA | KnownOid::ECDSA_SHA512 => Hash::Sha512,
-            _ => return None,
+            _ => Hash::of_signature(algorithm)?,
         };
         Some(match hash {
             Hash::Md5 => MessageDigest::md5(),

@@ -5,6 +5,7 @@ use md5::Md5;
 use pe_c::KnownOid;
 use sha1::Sha1;
 use sha2::{Digest, Sha256, Sha384, Sha512};
+use std::collections::BTreeSet;
 
 /// An algorithm of a digest.
 #[derive(Clone, Copy, Debug, PartialEq, Eq)]
@@ -27,6 +28,23 @@ impl Hash {
             KnownOid::SHA512 => Hash::Sha512,
             _ => return None,
         })
+    }
+
+    /// The algorithm of the digest that is signed. `None` where the object identifier does not say one.
+    pub fn of_signature(oid: pe_c::Oid<'_>) -> Option<Hash> {
+        Some(match oid.known()? {
+            KnownOid::MD5_RSA => Hash::Md5,
+            KnownOid::SHA1_RSA | KnownOid::ECDSA_SHA1 | KnownOid::DSA_SHA1 => Hash::Sha1,
+            KnownOid::SHA256_RSA | KnownOid::ECDSA_SHA256 => Hash::Sha256,
+            KnownOid::SHA384_RSA | KnownOid::ECDSA_SHA384 => Hash::Sha384,
+            KnownOid::SHA512_RSA | KnownOid::ECDSA_SHA512 => Hash::Sha512,
+            _ => return None,
+        })
+    }
+
+    /// Whether two texts with one digest have been made.
+    pub fn is_weak(self) -> bool {
+        matches!(self, Hash::Md5 | Hash::Sha1)
     }
 
     pub fn name(self) -> &'static str {
@@ -54,6 +72,11 @@ impl Hash {
             Hash::Sha512 => worked_out::<Sha512>(slices),
         }
     }
+}
+
+/// The weak algorithms among these, by their names.
+pub fn weak_of(hashes: impl Iterator<Item = Option<Hash>>) -> BTreeSet<&'static str> {
+    hashes.flatten().filter(|it| it.is_weak()).map(Hash::name).collect()
 }
 
 /// The digests of one text, each worked out once: many signers may ask for them.

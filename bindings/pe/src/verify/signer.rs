@@ -1,12 +1,14 @@
 //! A signer, and what of it fits: the digest of what is signed, the signature, the chain of its certificates, its time stamps.
 
 use super::checked::{self, Checked, Roots, NO_CERTIFICATE, NO_ISSUER, NO_ROOTS};
-use super::hashing::{Compared, Digests, Hash};
+use super::claims::{self, CODE_SIGNING, TIME_STAMPING};
+use super::hashing::{weak_of, Compared, Digests, Hash};
 use super::or_refused;
 use crate::facts::hex_of;
 use crate::facts::signatures::{algorithm_of, is_self_issued, text_of, Certificate, Certificates, SignatureRefusal};
-use pe_c::{Signature, SignatureError, Signer, Time, X509};
+use pe_c::{Oid, Signature, SignatureError, Signer, Time, X509};
 use serde::Serialize;
+use std::collections::BTreeSet;
 
 /// How many time stamps of a signer are told. Signers have one.
 const STAMPS: usize = 4;
@@ -27,8 +29,12 @@ pub struct Told {
     pub digest_algorithm: String,
     /// Of what is signed, as the signer has it.
     pub message_digest: Compared,
+    /// Whether the signer says the type that what is signed has.
+    pub content_type: Checked,
     pub signature_algorithm: String,
     pub signature: Checked,
+    /// Whether the certificate's key is for code signing.
+    pub key_purpose: Checked,
     /// The subjects of the certificates from that of the signer on.
     pub chain: Vec<String>,
     /// Whether the last of them is by its own word.
@@ -41,6 +47,9 @@ pub struct Told {
     /// Whether there are more time stamps.
     #[serde(skip)]
     pub is_limited: bool,
+    /// Those of the signer, its chain and its time stamps.
+    #[serde(skip)]
+    pub weak_algorithms: BTreeSet<&'static str>,
     pub error: Option<SignatureRefusal>,
 }
 
@@ -56,21 +65,27 @@ pub struct Stamp {
     pub digest: Compared,
     /// Of what the stamp signs.
     pub message_digest: Compared,
+    /// Whether the stamp says the type that what it signs has. A counter-signature says none.
+    pub content_type: Checked,
     pub signature: Checked,
+    /// Whether the certificate's key is for time stamps.
+    pub key_purpose: Checked,
     /// Whether the chain of its certificate leads to one of the roots that were given, at the time of the stamp.
     pub trust: Checked,
     pub error: Option<SignatureRefusal>,
     #[serde(skip)]
     stamped: Option<Time>,
+    #[serde(skip)]
+    weak_algorithms: BTreeSet<&'static str>,
 }
 
 impl Stamp {
     /// When it was stamped, where all of the stamp fits.
     fn good_time(&self) -> Option<Time> {
         let digests = [&self.digest, &self.message_digest];
-        let is_good = self.signature == Checked::Good
-            && self.trust == Checked::Good
-            && digests.iter().all(|it| **it == Compared::Equal);
+        let checks = [&self.signature, &self.trust, &self.content_type, &self.key_purpose];
+        let is_good =
+            checks.iter().all(|it| **it == Checked::Good) && digests.iter().all(|it| **it == Compared::Equal);
         self.stamped.filter(|_| is_good && self.error.is_none())
     }
 }
@@ -79,6 +94,7 @@ impl Stamp {
 pub struct Signed<'a> {
     certificates: Certificates<'a>,
     content: Digests<'a>,
+    content_type: Oid<'a>,
     digested: Option<&'a [u8]>,
 }
 
@@ -86,7 +102,7 @@ impl<'a> Signed<'a> {
     pub fn of(signature: &Signature<'a>) -> Signed<'a> {
         let digested = signature.digested();
         let content = Digests::of(digested.into_iter().collect());
-        Signed { certificates: Certificates::of(signature), content, digested }
+        Signed { certificates: Certificates::of(signature), content, content_type: signature.content_type(), digested }
     }
 
     /// The digest of what is signed, as a signer of it has it.
@@ -95,6 +111,12 @@ impl<'a> Signed<'a> {
             (Some(said), Some(_)) => self.content.compared(signer.digest_algorithm().oid(), said),
             _ => Compared::Absent,
         }
+    }
+
+    /// A certificate, and after it those of its issuers, as far as they are here.
+    fn chain(&self, certificate: Option<X509<'a>>) -> Vec<X509<'a>> {
+        let is_signed_by = |it: &X509<'a>, by: &X509<'a>| checked::is_signed_by(it, by) == Checked::Good;
+        certificate.map(|it| self.certificates.chain(it, &is_signed_by)).unwrap_or_default()
     }
 
     /// Whether the signature of a signer is by the key of its certificate.
@@ -113,7 +135,7 @@ impl<'a> Signed<'a> {
     pub fn tell(&mut self, signer: &Signer<'a>, roots: Option<&Roots>) -> Told {
         let mut error = None;
         let certificate = self.certificates.of_signer(signer);
-        let chain = certificate.map(|it| self.certificates.chain(it)).unwrap_or_default();
+        let chain = self.chain(certificate);
         let opus = or_refused(signer.opus_info(), &mut error);
         let message_digest = self.message_digest(signer, &mut error);
         let mut stamps = self.time_stamps(signer, roots);
@@ -129,11 +151,14 @@ impl<'a> Signed<'a> {
             signing_time: or_refused(signer.signing_time(), &mut error).map(|it| it.to_string()),
             digest_algorithm: algorithm_of(signer.digest_algorithm().oid()),
             message_digest,
+            content_type: claims::content_type(or_refused(signer.content_type(), &mut error), self.content_type),
             signature_algorithm: algorithm_of(signer.signature_algorithm().oid()),
             signature: self.signature(signer, certificate),
+            key_purpose: claims::key_purpose(certificate, &CODE_SIGNING),
             is_chain_whole: chain.last().is_some_and(is_self_issued),
             chain_signatures: signatures_of(&chain),
-            trust: self.trust(certificate, roots, time),
+            trust: trust(&chain, &mut self.certificates.all(), roots, time),
+            weak_algorithms: weak_algorithms(signer, &chain, &time_stamps),
             chain: chain.iter().map(|it| text_of(it.subject())).collect(),
             time_stamps,
             is_limited,
@@ -141,14 +166,6 @@ impl<'a> Signed<'a> {
         }
     }
 
-    /// Whether a certificate leads to a root, at the time of a stamp, or now.
-    fn trust(&self, certificate: Option<X509<'_>>, roots: Option<&Roots>, time: Option<Time>) -> Checked {
-        match (certificate, roots) {
-            (_, None) => NO_ROOTS,
-            (None, _) => NO_CERTIFICATE,
-            (Some(certificate), Some(roots)) => roots.lead_to(certificate, &mut self.certificates.all(), time),
-        }
-    }
 
     /// The time stamps of a signer, of both kinds.
     fn time_stamps<'s>(&'s self, signer: &Signer<'a>, roots: Option<&'s Roots>) -> impl Iterator<Item = Stamp> + 's {
@@ -181,10 +198,13 @@ impl<'a> Signed<'a> {
             subject: certificate.map(|it| text_of(it.subject())),
             message_digest: digest.clone(),
             digest,
+            content_type: Checked::Good,
             signature: self.signature(&stamp, certificate),
-            trust: self.trust(certificate, roots, time),
+            key_purpose: claims::key_purpose(certificate, &TIME_STAMPING),
+            trust: trust(&self.chain(certificate), &mut self.certificates.all(), roots, time),
             error,
             stamped: time,
+            weak_algorithms: weak_of(hashes_of(&stamp).into_iter()),
         }
     }
 
@@ -202,6 +222,10 @@ impl<'a> Signed<'a> {
         });
         let signer = or_refused(token.signers().next().transpose(), &mut error);
         let certificate = signer.and_then(|it| signed.certificates.of_signer(&it).or(self.certificates.of_signer(&it)));
+        // Some tools put the certificates of a stamp into the signature that is stamped.
+        let mut others = signed.certificates.all().chain(self.certificates.all());
+        let trust = trust(&signed.chain(certificate), &mut others, roots, time);
+        drop(others);
         Stamp {
             kind: "RFC 3161",
             time: time.map(|it| it.to_string()),
@@ -209,11 +233,52 @@ impl<'a> Signed<'a> {
             digest,
             message_digest: signer.map_or(Compared::Absent, |it| signed.message_digest(&it, &mut error)),
             signature: signer.map_or(NO_CERTIFICATE, |it| signed.signature(&it, certificate)),
-            trust: signed.trust(certificate, roots, time),
+            content_type: claims::content_type(
+                signer.and_then(|it| or_refused(it.content_type(), &mut error)),
+                signed.content_type,
+            ),
+            key_purpose: claims::key_purpose(certificate, &TIME_STAMPING),
+            trust,
+            weak_algorithms: weak_of(
+                signer.iter().flat_map(hashes_of).chain([said.and_then(|it| Hash::of(it.digest_algorithm().oid()))]),
+            ),
             error,
             stamped: time,
         }
     }
+}
+
+/// Whether the first certificate of a chain leads to a root, over those of the chain or over all of these: where several have one
+/// name, OpenSSL tries the first alone. At the time of a stamp, or now.
+fn trust(
+    chain: &[X509<'_>],
+    others: &mut dyn Iterator<Item = X509<'_>>,
+    roots: Option<&Roots>,
+    time: Option<Time>,
+) -> Checked {
+    match (chain, roots) {
+        (_, None) => NO_ROOTS,
+        ([], _) => NO_CERTIFICATE,
+        ([first, issuers @ ..], Some(roots)) => match roots.lead_to(*first, &mut issuers.iter().copied(), time) {
+            Checked::Good => Checked::Good,
+            _ => roots.lead_to(*first, others, time),
+        },
+    }
+}
+
+/// The algorithms of the digests that a signer has: of what is signed, and of what its signature is over.
+fn hashes_of(signer: &Signer<'_>) -> [Option<Hash>; 2] {
+    [Hash::of(signer.digest_algorithm().oid()), Hash::of_signature(signer.signature_algorithm().oid())]
+}
+
+/// The weak ones of a signer, of the certificates that others signed, and of the time stamps. The last certificate of a chain that
+/// is by its own word is trusted for itself.
+fn weak_algorithms(signer: &Signer<'_>, chain: &[X509<'_>], stamps: &[Stamp]) -> BTreeSet<&'static str> {
+    let signed = chain.iter().filter(|it| !is_self_issued(it));
+    let hashes = signed.map(|it| Hash::of_signature(it.signature_algorithm().oid())).chain(hashes_of(signer));
+    let mut weak = weak_of(hashes);
+    weak.extend(stamps.iter().flat_map(|it| &it.weak_algorithms));
+    weak
 }
 
 fn shortened(text: String) -> String {
@@ -227,10 +292,13 @@ fn refused_stamp(kind: &'static str, refused: SignatureError) -> Stamp {
         subject: None,
         digest: Compared::Absent,
         message_digest: Compared::Absent,
+        content_type: claims::NOT_SAID,
         signature: NO_CERTIFICATE,
+        key_purpose: NO_CERTIFICATE,
         trust: NO_CERTIFICATE,
         error: Some(refused.into()),
         stamped: None,
+        weak_algorithms: BTreeSet::new(),
     }
 }
 
@@ -238,11 +306,7 @@ fn refused_stamp(kind: &'static str, refused: SignatureError) -> Stamp {
 fn signatures_of(chain: &[X509<'_>]) -> Checked {
     let last = chain.last().filter(|it| is_self_issued(it));
     let issuers = chain.iter().skip(1).chain(last);
-    let check = |it: (&X509<'_>, &X509<'_>)| {
-        let (algorithm, message) = (it.0.signature_algorithm().oid(), it.0.to_be_signed());
-        checked::check(*it.1, algorithm, None, &[message], it.0.signature())
-    };
-    let mut links = chain.iter().zip(issuers).map(check);
+    let mut links = chain.iter().zip(issuers).map(|it| checked::is_signed_by(it.0, it.1));
     match (chain.len(), links.find(|it| *it != Checked::Good)) {
         (0, _) => NO_CERTIFICATE,
         (_, Some(bad)) => bad,

@@ -1,5 +1,6 @@
 //! What is said of the signatures of an image, as text.
 
+use super::checked::Checked;
 use super::hashing::Compared;
 use super::signer::{Stamp, Told};
 use super::{Signature, State, Verified};
@@ -52,6 +53,10 @@ fn signature_of(signature: &Signature, page: &mut Page) {
         page.row("  file digest", format_args!("{algorithm} {digest}, {compared}"));
     }
     signature.signers.iter().for_each(|it| signer_of(it, page));
+    if !signature.weak_algorithms.is_empty() {
+        let weak: Vec<&str> = signature.weak_algorithms.iter().copied().collect();
+        page.warning(format_args!("weak: {}; two texts with one such digest have been made", weak.join(", ")));
+    }
     if let Some(error) = &signature.error {
         page.warning(error);
     }
@@ -73,12 +78,19 @@ fn signer_of(signer: &Told, page: &mut Page) {
     }
     signer.signing_time.iter().for_each(|it| page.row("  says signed", it));
     page.row("  digest", format_args!("{}, {}", signer.digest_algorithm, words_of_digest(&signer.message_digest)));
+    page.row("", claims_of(&signer.content_type, &signer.key_purpose, "code signing"));
     page.row("  by", format_args!("{}, {}", signer.signature_algorithm, signer.signature.text()));
     chain_of(signer, page);
     signer.time_stamps.iter().for_each(|it| stamp_of(it, page));
     if let Some(error) = &signer.error {
         page.warning(error);
     }
+}
+
+/// What is said of the type of the content, and of what the key is for.
+fn claims_of(content_type: &Checked, key_purpose: &Checked, purpose: &str) -> String {
+    let words = |it: &Checked| it.text().replace("wrong", "WRONG");
+    format!("type of the content {}; a key for {purpose}: {}", words(content_type), words(key_purpose))
 }
 
 fn chain_of(signer: &Told, page: &mut Page) {
@@ -107,6 +119,7 @@ fn stamp_of(stamp: &Stamp, page: &mut Page) {
     page.row("  time stamp", format_args!("{time}, {}, by {subject}", stamp.kind));
     page.row("", format_args!("digest of the signature {}", words_of_digest(&stamp.digest)));
     page.row("", format_args!("digest of the stamp {}", words_of_digest(&stamp.message_digest)));
+    page.row("", claims_of(&stamp.content_type, &stamp.key_purpose, "time stamps"));
     page.row("", format_args!("signature {}; trust {}", stamp.signature.text(), stamp.trust.text()));
     if let Some(error) = &stamp.error {
         page.warning(error);

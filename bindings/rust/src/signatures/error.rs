@@ -46,6 +46,15 @@ impl fmt::Display for SignatureError {
 
 impl core::error::Error for SignatureError {}
 
+/// Returns [`Error::SIGNATURE_TAG`] unless an element has this tag.
+pub(crate) fn require_tag(element: &sys::DerElement, tag: u32) -> Result<(), SignatureError> {
+    if element.tag == tag {
+        return Ok(());
+    }
+    let (offset, value) = (element.whole.offset, element.tag.into());
+    Err(SignatureError { error: Error::SIGNATURE_TAG, offset, value, left: 0, expected: tag })
+}
+
 /// A call that takes the bytes and a range, or a walk, and returns a record or a failure.
 type Call<R, T> = unsafe extern "C" fn(*const u8, usize, R, *mut sys::SignatureFailure, *mut T) -> u32;
 

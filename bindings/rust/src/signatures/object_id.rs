@@ -1,8 +1,12 @@
 //! Object identifiers, by which signatures name kinds and algorithms.
 
-use super::of;
+use super::error::require_tag;
+use super::{of, SignatureError};
 use crate::sys;
 use core::fmt;
+
+/// The tag of an object identifier.
+const OBJECT_IDENTIFIER: u32 = 6;
 
 macro_rules! object_ids {
     ($($(#[$doc:meta])* $name:ident = $number:literal,)*) => {
@@ -174,6 +178,12 @@ pub struct Oid<'a> {
 impl<'a> Oid<'a> {
     pub(super) fn new(bytes: &'a [u8], oid: sys::Oid) -> Self {
         Oid { octets: of(oid.octets, bytes), known: oid.id }
+    }
+
+    /// The one that an element is. It is none of those that are known: that depends on where it stands.
+    pub(super) fn of_element(bytes: &'a [u8], element: &sys::DerElement) -> Result<Self, SignatureError> {
+        require_tag(element, OBJECT_IDENTIFIER)?;
+        Ok(Oid { octets: of(element.content, bytes), known: 0 })
     }
 
     /// Its octets: the content of its element.

@@ -87,6 +87,19 @@ impl<'a> Signer<'a> {
         Ok(value.filter(|it| it.tag == 4).map(|it| of(it.content, self.bytes)))
     }
 
+    /// The type of what is signed, as the signer has it: that of [`Signature::content_type`] ([RFC 5652], 11.1). `None` without the
+    /// attribute, as of a counter-signature.
+    ///
+    /// [RFC 5652]: https://www.rfc-editor.org/rfc/rfc5652
+    ///
+    /// # Errors
+    ///
+    /// Those of the attributes up to this one, and of its value.
+    pub fn content_type(&self) -> Result<Option<Oid<'a>>, SignatureError> {
+        let value = self.signed_value(KnownOid::CONTENT_TYPE)?;
+        value.map(|it| Oid::of_element(self.bytes, &it)).transpose()
+    }
+
     /// When the signer says to have signed. `None` without the attribute.
     ///
     /// # Errors

@@ -1,8 +1,14 @@
 //! The X.509 certificates of a signature.
 
-use super::error::read;
+use super::error::{read, require_tag};
 use super::{list, of, Algorithm, Elements, KnownOid, Name, Oid, SignatureError, Time};
 use crate::sys;
+use core::iter::FusedIterator;
+
+/// Tags of DER: an `OCTET STRING`, a `SEQUENCE`, and `[0]` of a string.
+const OCTET_STRING: u32 = 0x04;
+const SEQUENCE: u32 = 0x30;
+const TAGGED_STRING_0: u32 = 0x80;
 
 /// A certificate of X.509: whose key it is, by whose word, and when it is valid
 /// ([RFC 5280](https://www.rfc-editor.org/rfc/rfc5280), 4.1). An entry of the certificate table is a [`Certificate`](crate::Certificate).
@@ -100,15 +106,78 @@ impl<'a> X509<'a> {
     ///
     /// Those of the extensions up to this one, and of its value.
     pub fn key_usage(&self) -> Result<Option<u32>, SignatureError> {
-        for extension in self.extensions() {
-            let extension = extension?;
-            if extension.kind() == KnownOid::KEY_USAGE {
-                return super::signer::key_usage_at(self.bytes, extension.whole);
-            }
+        match self.extension(KnownOid::KEY_USAGE)? {
+            Some(extension) => super::signer::key_usage_at(self.bytes, extension.whole),
+            None => Ok(None),
         }
-        Ok(None)
+    }
+
+    /// What else the key is for, such as 1.3.6.1.5.5.7.3.3, code signing ([RFC 5280], 4.2.1.12). `None` without the extension: then
+    /// it is for all that [`X509::key_usage`] allows.
+    ///
+    /// [RFC 5280]: https://www.rfc-editor.org/rfc/rfc5280
+    ///
+    /// # Errors
+    ///
+    /// Those of the extensions up to this one, and of its value.
+    pub fn key_purposes(&self) -> Result<Option<KeyPurposes<'a>>, SignatureError> {
+        let Some(list) = self.value_of(KnownOid::EXTENDED_KEY_USAGE)? else { return Ok(None) };
+        require_tag(&list, SEQUENCE)?;
+        Ok(Some(KeyPurposes(Elements::new(self.bytes, list.content))))
+    }
+
+    /// What its issuer calls the key, mostly a digest of it. `None` without the extension.
+    ///
+    /// # Errors
+    ///
+    /// As [`X509::key_purposes`].
+    pub fn key_identifier(&self) -> Result<Option<&'a [u8]>, SignatureError> {
+        let Some(value) = self.value_of(KnownOid::SUBJECT_KEY_IDENTIFIER)? else { return Ok(None) };
+        require_tag(&value, OCTET_STRING)?;
+        Ok(Some(of(value.content, self.bytes)))
+    }
+
+    /// The [`X509::key_identifier`] of its issuer's certificate, where the issuer has several keys. `None` without the extension, and
+    /// where it does not have it.
+    ///
+    /// # Errors
+    ///
+    /// As [`X509::key_purposes`].
+    pub fn issuer_key_identifier(&self) -> Result<Option<&'a [u8]>, SignatureError> {
+        let Some(value) = self.value_of(KnownOid::AUTHORITY_KEY_IDENTIFIER)? else { return Ok(None) };
+        require_tag(&value, SEQUENCE)?;
+        let first = Elements::new(self.bytes, value.content).next().transpose()?;
+        Ok(first.filter(|it| it.tag == TAGGED_STRING_0).map(|it| of(it.content, self.bytes)))
+    }
+
+    /// The first extension of a kind.
+    fn extension(&self, kind: KnownOid) -> Result<Option<Extension<'a>>, SignatureError> {
+        let mut extensions = self.extensions();
+        extensions.find(|it| it.as_ref().map_or(true, |it| it.kind() == kind)).transpose()
+    }
+
+    /// The element that is the value of an extension.
+    fn value_of(&self, kind: KnownOid) -> Result<Option<sys::DerElement>, SignatureError> {
+        match self.extension(kind)? {
+            Some(extension) => Elements::new(self.bytes, extension.parts.value).next().transpose(),
+            None => Ok(None),
+        }
     }
 }
+
+/// What a key is for, as object identifiers. It is over after an error.
+#[derive(Clone, Debug)]
+pub struct KeyPurposes<'a>(Elements<'a>);
+
+impl<'a> Iterator for KeyPurposes<'a> {
+    type Item = Result<Oid<'a>, SignatureError>;
+
+    fn next(&mut self) -> Option<Self::Item> {
+        Some(self.0.next()?.and_then(|element| Oid::of_element(self.0.bytes, &element)))
+    }
+}
+
+impl FusedIterator for KeyPurposes<'_> {}
 
 /// An extension of a certificate.
 #[derive(Clone, Copy, Debug)]

@@ -1,0 +1,157 @@
+-- What is read of bytes that other bytes stand before: the same, further on. `k` is how many stand before.
+use Rattle.std.specs.Prelude.{◌≡◌, ℕ, ◌+◌, List, ◌++◌, length, Option, Some, None, Result, Ok, Err}
+use Rattle.std.specs.Option.{option_map}
+use Rattle.pe_pkcs7.specs.declared.der.Element.{Element}
+use Rattle.pe_pkcs7.specs.declared.error.SignatureError.{SignatureError}
+use Rattle.pe_pkcs7.specs.declared.error.SignatureError.TheVariants.{Truncated, TagNumber, IndefiniteLength, LengthOctets, LengthForm, PastParent, Missing, Tag, Trailing, ContentType, BadTime}
+use Rattle.pe_pkcs7.specs.declared.signed_data.ContentInfo.{ContentInfo}
+use Rattle.pe_pkcs7.specs.declared.signed_data.SignedData.{SignedData}
+use Rattle.pe_pkcs7.specs.declared.signed_data.EncapsulatedContent.{EncapsulatedContent}
+use Rattle.pe_pkcs7.specs.declared.indirect_data.AlgorithmIdentifier.{AlgorithmIdentifier}
+use Rattle.pe_pkcs7.specs.declared.indirect_data.SpcIndirectData.{SpcIndirectData}
+use Rattle.pe_pkcs7.specs.declared.indirect_data.TypeAndValue.{TypeAndValue}
+use Rattle.pe_pkcs7.specs.declared.indirect_data.DigestInfo.{DigestInfo}
+use Rattle.pe_pkcs7.specs.declared.indirect_data.SpcPeImageData.{SpcPeImageData}
+use Rattle.pe_pkcs7.specs.declared.indirect_data.SpcSpOpusInfo.{SpcSpOpusInfo}
+use Rattle.pe_pkcs7.specs.declared.signer.SignerInfo.{SignerInfo}
+use Rattle.pe_pkcs7.specs.declared.signer.IssuerAndSerial.{IssuerAndSerial}
+use Rattle.pe_pkcs7.specs.declared.signer.Attribute.{Attribute}
+use Rattle.pe_pkcs7.specs.declared.certificate.Certificate.{Certificate}
+use Rattle.pe_pkcs7.specs.declared.certificate.ToBeSigned.{ToBeSigned}
+use Rattle.pe_pkcs7.specs.declared.certificate.Validity.{Validity}
+use Rattle.pe_pkcs7.specs.declared.certificate.Extension.{Extension}
+use Rattle.pe_pkcs7.specs.declared.name.NameAttribute.{NameAttribute}
+use Rattle.pe_pkcs7.specs.declared.time_stamp.TstInfo.{TstInfo}
+
+-- ---- elements and errors
+
+abbrev pub later : ℕ → Element → Element
+later k x = record { tag = x.tag; offset = x.offset + k; content = x.content + k; end = x.end + k }
+
+-- one that may be absent
+abbrev pub later_if : ℕ → Option Element → Option Element
+later_if k None = None
+later_if k (Some x) = Some (later k x)
+
+abbrev pub later_error : ℕ → SignatureError → SignatureError
+later_error k (Truncated p left) = Truncated (p + k) left
+later_error k (TagNumber p) = TagNumber (p + k)
+later_error k (IndefiniteLength p) = IndefiniteLength (p + k)
+later_error k (LengthOctets p octets) = LengthOctets (p + k) octets
+later_error k (LengthForm p) = LengthForm (p + k)
+later_error k (PastParent p content left) = PastParent (p + k) content left
+later_error k (Missing p) = Missing (p + k)
+later_error k (Tag p expected found) = Tag (p + k) expected found
+later_error k (Trailing p left) = Trailing (p + k) left
+later_error k (ContentType p) = ContentType (p + k)
+later_error k (BadTime p) = BadTime (p + k)
+
+-- what a call returns: what it reads, by what this says of it, or the error
+abbrev pub later_result : {Y : Type 0} → (Y → Y) → ℕ → Result Y SignatureError → Result Y SignatureError
+later_result further k (Ok y) = Ok (further y)
+later_result further k (Err e) = Err (later_error k e)
+
+-- ---- what is read of them
+
+-- of an element where these bytes stand before the others, as many further on
+abbrev pub ReadsLater : {Y : Type 0} → (List ℕ → Element → Result Y SignatureError) → (ℕ → Y → Y) → Type 0
+ReadsLater read further = (front b : List ℕ) (x : Element) → read (front ++ b) (later (length front) x) ≡ later_result (further (length front)) (length front) (read b x)
+
+-- what has no offset stays
+abbrev pub the_same : {Y : Type 0} → ℕ → Y → Y
+the_same k y = y
+
+-- ---- records of elements: each of them further on
+
+abbrev pub later_content_info : ℕ → ContentInfo → ContentInfo
+later_content_info k r = record { content_type = later k r.content_type; content = later k r.content }
+
+abbrev pub later_signed_data : ℕ → SignedData → SignedData
+later_signed_data k r = record {
+  version = later k r.version;
+  digest_algorithms = later k r.digest_algorithms;
+  encapsulated = later k r.encapsulated;
+  certificates = later_if k r.certificates;
+  crls = later_if k r.crls;
+  signers = later k r.signers;
+}
+
+abbrev pub later_encapsulated_content : ℕ → EncapsulatedContent → EncapsulatedContent
+later_encapsulated_content k r = record { content_type = later k r.content_type; content = later_if k r.content }
+
+abbrev pub later_algorithm_identifier : ℕ → AlgorithmIdentifier → AlgorithmIdentifier
+later_algorithm_identifier k r = record { algorithm = later k r.algorithm; parameters = later_if k r.parameters }
+
+abbrev pub later_type_and_value : ℕ → TypeAndValue → TypeAndValue
+later_type_and_value k r = record { value_type = later k r.value_type; value = later_if k r.value }
+
+abbrev pub later_digest_info : ℕ → DigestInfo → DigestInfo
+later_digest_info k r = record { algorithm = later k r.algorithm; digest = later k r.digest }
+
+abbrev pub later_indirect_data : ℕ → SpcIndirectData → SpcIndirectData
+later_indirect_data k r = record { signed = later k r.signed; message_digest = later k r.message_digest }
+
+abbrev pub later_image_data : ℕ → SpcPeImageData → SpcPeImageData
+later_image_data k r = record { flags = later_if k r.flags; file = later_if k r.file }
+
+abbrev pub later_opus_info : ℕ → SpcSpOpusInfo → SpcSpOpusInfo
+later_opus_info k r = record { program_name = later_if k r.program_name; more_info = later_if k r.more_info }
+
+abbrev pub later_signer_info : ℕ → SignerInfo → SignerInfo
+later_signer_info k r = record {
+  version = later k r.version;
+  signer = later k r.signer;
+  digest_algorithm = later k r.digest_algorithm;
+  signed_attributes = later_if k r.signed_attributes;
+  signature_algorithm = later k r.signature_algorithm;
+  signature = later k r.signature;
+  unsigned_attributes = later_if k r.unsigned_attributes;
+}
+
+abbrev pub later_issuer_and_serial : ℕ → IssuerAndSerial → IssuerAndSerial
+later_issuer_and_serial k r = record { issuer = later k r.issuer; serial = later k r.serial }
+
+abbrev pub later_attribute : ℕ → Attribute → Attribute
+later_attribute k r = record { kind = later k r.kind; values = later k r.values }
+
+abbrev pub later_certificate : ℕ → Certificate → Certificate
+later_certificate k r = record {
+  to_be_signed = later k r.to_be_signed;
+  signature_algorithm = later k r.signature_algorithm;
+  signature = later k r.signature;
+}
+
+abbrev pub later_to_be_signed : ℕ → ToBeSigned → ToBeSigned
+later_to_be_signed k r = record {
+  version = later_if k r.version;
+  serial = later k r.serial;
+  signature_algorithm = later k r.signature_algorithm;
+  issuer = later k r.issuer;
+  validity = later k r.validity;
+  subject = later k r.subject;
+  public_key = later k r.public_key;
+  extensions = later_if k r.extensions;
+}
+
+abbrev pub later_validity : ℕ → Validity → Validity
+later_validity k r = record { not_before = later k r.not_before; not_after = later k r.not_after }
+
+abbrev pub later_extension : ℕ → Extension → Extension
+later_extension k r = record { kind = later k r.kind; critical = later_if k r.critical; value = later k r.value }
+
+abbrev pub later_tst_info : ℕ → TstInfo → TstInfo
+later_tst_info k r = record {
+  version = later k r.version;
+  policy = later k r.policy;
+  message_imprint = later k r.message_imprint;
+  serial = later k r.serial;
+  time = later k r.time;
+  accuracy = later_if k r.accuracy;
+  nonce = later_if k r.nonce;
+  tsa = later_if k r.tsa;
+}
+
+-- an attribute of a name, with the end of its relative distinguished name and where what follows starts
+abbrev pub later_name_attribute : ℕ → NameAttribute × (ℕ × ℕ) → NameAttribute × (ℕ × ℕ)
+later_name_attribute k r =
+    (record { kind = later k r.0.kind; value = later k r.0.value; starts_rdn = r.0.starts_rdn }, (r.1.0 + k, r.1.1 + k))
