@@ -1,2 +1,3 @@
 pub mod WrittenBlocks
 pub mod VersionRefusals
+pub mod VersionValues
