@@ -1,5 +1,5 @@
 /* Shows what Windows' own calls find of the resources of files, for tools/try_edited: each resource with its size and a sum of
-   its bytes, the version information, and the size of the first icon that LoadIcon finds by an id. */
+   its bytes, the version information, and what LoadIcon loads of the first group of icons: its size and the colour of its middle. */
 #include <windows.h>
 #include <stdio.h>
 #include <stdlib.h>
@@ -68,16 +68,25 @@ static void show_version(const char *path)
     free(data);
 }
 
+/* The first group of icons, which is the one that Windows shows of a program. */
+static BOOL CALLBACK load_first(HMODULE module, LPCWSTR type, LPWSTR name, LONG_PTR icon)
+{
+    (void)type;
+    *(HICON *)icon = LoadIconW(module, name);
+    return FALSE;
+}
+
 static void show_icon(HMODULE module)
 {
     ICONINFO info;
     BITMAP map;
     HICON icon = NULL;
-    unsigned id;
-    for (id = 1; id < 1000 && !icon; id++)
-        icon = LoadIconA(module, MAKEINTRESOURCEA(id));
-    if (icon && GetIconInfo(icon, &info) && GetObjectA(info.hbmColor ? info.hbmColor : info.hbmMask, sizeof map, &map))
-        printf("icon %ld x %ld\n", map.bmWidth, map.bmHeight);
+    HDC dc = CreateCompatibleDC(NULL);
+    EnumResourceNamesW(module, (LPCWSTR)RT_GROUP_ICON, load_first, (LONG_PTR)&icon);
+    if (icon && GetIconInfo(icon, &info) && info.hbmColor && GetObjectA(info.hbmColor, sizeof map, &map)) {
+        SelectObject(dc, info.hbmColor);
+        printf("icon %ld x %ld colour %06lx\n", map.bmWidth, map.bmHeight, GetPixel(dc, map.bmWidth / 2, map.bmHeight / 2));
+    }
 }
 
 int main(int argc, char **argv)

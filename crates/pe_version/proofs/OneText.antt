@@ -2,15 +2,14 @@
 use Rattle.std.proofs.Common.{◌≡◌, ℕ, Bool, true, false, List, [], ◌∷◌, ◌++◌, Option, Some, None, if◌then◌else◌, refl, ap, sym, ◌∙◌}
 use Rattle.std.specs.Prelude.{is_some}
 use Rattle.std.specs.Str.{bytes_eq}
-use Rattle.std.specs.Bool.{Decides}
 use Rattle.std.proofs.lemmas.Slice.Eq.{bytes_eq-Decides}
 use Rattle.pe_version.specs.VersionValues.{TableValue, TextValue, replaced, text_named, with_text}
 
 same_bytes : (xs : List ℕ) → bytes_eq xs xs ≡ true
-same_bytes xs = grind (bytes_eq-Decides xs xs)
+same_bytes xs = (bytes_eq-Decides xs xs).1 refl
 
 equal_bytes : (xs ys : List ℕ) → bytes_eq xs ys ≡ true → xs ≡ ys
-equal_bytes xs ys e = grind (bytes_eq-Decides xs ys, e)
+equal_bytes xs ys e = (bytes_eq-Decides xs ys).0 e
 
 -- the head of what is replaced, by whether it has the name
 head_read : (new s : TextValue) (ss : List TextValue) (t : Bool) → bytes_eq new.name s.name ≡ t → is_some (text_named new.name (s ∷ ss)) ≡ true →
