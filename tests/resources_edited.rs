@@ -223,6 +223,32 @@ fn numbers_in_refusals_at_the_end(rt: HostRuntime) -> Result<(), Fail> {
     Ok(())
 }
 
+/// The data of debug entries stay: they end by the end of the sections' data. The entries are in a section or in the headers.
+#[test]
+fn debug_data_after_the_sections_are_refused(rt: HostRuntime) -> Result<(), Fail> {
+    let leaves = [resource(1, &CONTENT)];
+    // The entry at 0x200 in the file, at the RVA 0x1000: its data are 0x100 bytes from 0x500 on, or one more.
+    let section = [(0x130, &[0, 0x10, 0, 0, 28][..]), (0x218, &[0, 5, 0, 0][..])];
+    for (size, text) in [(0, "edited"), (1, "DebugData(512)")] {
+        let mut bytes = without_resources(rt.alloc())?;
+        put(&mut bytes, &section);
+        put(&mut bytes, &[(0x210, &[size, 1, 0, 0])]);
+        let mut out = vec![in rt.alloc(); OLD; LENGTH + 0x200]?;
+        let header = header_of(&bytes)?;
+        let shown = match write_edited(&bytes, &header, &list(&leaves), &mut out) {
+            Ok(_) => String::from_str(rt.alloc(), "edited")?,
+            Err(error) => format!(in rt.alloc(); "{error:?}")?,
+        };
+        assert_eq!(rt; shown.as_str(), text);
+    }
+    // The entry at 4, in the headers: its data start one byte after the sections'.
+    let mut bytes = without_resources(rt.alloc())?;
+    put(&mut bytes, &[(0x130, &[4, 0, 0, 0, 28]), (0x1C, &[1, 6, 0, 0])]);
+    let shown = refused(rt.alloc(), &bytes, &leaves)?;
+    assert_eq!(rt; shown.as_str(), "DebugData(4)");
+    Ok(())
+}
+
 /// A new section after the two, and what follows the sections after it.
 #[test]
 fn bytes_of_a_new_section(rt: HostRuntime) -> Result<(), Fail> {
@@ -313,7 +339,7 @@ fn texts_of_refusals(rt: HostRuntime) -> Result<(), Fail> {
         ),
         (
             RewriteError::DebugData(0x200),
-            "data of the debug entry at file offset 0x200 start after the data of the sections",
+            "data of the debug entry at file offset 0x200 end after the data of the sections",
         ),
         (
             RewriteError::NoRoom {

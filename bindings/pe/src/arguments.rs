@@ -332,6 +332,21 @@ pub enum Command {
         #[command(flatten)]
         reading: Reading,
     },
+    /// Write an image with other icons to a file, which must not exist: in the place of those of its first group of icons.
+    SetIcon {
+        /// The image.
+        file: PathBuf,
+        /// The file to write, or - for standard output.
+        #[arg(value_name = "OUT")]
+        to: PathBuf,
+        /// The icons, an .ico file.
+        icon: PathBuf,
+        /// In this language alone, as 1033 or 0x409. Without it in those that the group has.
+        #[arg(long, value_parser = language)]
+        language: Option<u16>,
+        #[command(flatten)]
+        reading: Reading,
+    },
     /// Write an image with a resource that has the content of a file to a file, which must not exist.
     SetResource {
         /// The image.

@@ -5,9 +5,10 @@ use crate::arguments::{NewVersion, OneResource};
 use crate::escape::escaped;
 use crate::facts::Refusal;
 use crate::files::{self, Report};
+use crate::icon::{self, Group, IconError};
 use crate::Status;
 use pe_c::{Error, Image, ResourceEditor, ResourceKey, VersionInfo};
-use std::path::Path;
+use std::path::{Path, PathBuf};
 
 /// `RT_VERSION` and `RT_MANIFEST`.
 const VERSION: u16 = 16;
@@ -27,6 +28,8 @@ enum Failure {
     File,
     /// There is no such resource.
     Missing,
+    /// A file is no icon.
+    Icon(PathBuf, IconError),
 }
 
 impl From<Error> for Failure {
@@ -52,6 +55,7 @@ fn deliver(
         Err(Failure::Refused(error)) => Report::refused(paths.0, Refusal::from(error)),
         Err(Failure::File) => Report::of("", Status::FileError),
         Err(Failure::Missing) => Report::refused(paths.0, "the image has no such resource"),
+        Err(Failure::Icon(path, error)) => Report::refused(&path, error),
     }
 }
 
@@ -151,6 +155,26 @@ pub fn set_manifest(
         let name = names_of(editor, &kind).into_iter().next().unwrap_or(ResourceKey::Id(new));
         for language in languages_of(editor, &kind, &name, language) {
             editor.set(kind.clone(), name.clone(), language, content.clone());
+        }
+        Ok(())
+    })
+}
+
+/// The image with other icons in the place of those of its first group, which is the one that Windows shows.
+pub fn set_icon(
+    paths: (&Path, &Path),
+    image: Result<Image<'_>, Error>,
+    file: &Path,
+    language: Option<u16>,
+) -> Report {
+    deliver(paths, image, |_, editor| {
+        let content = content_of(file)?;
+        let of_file = |error| Failure::Icon(file.to_path_buf(), error);
+        let images = icon::images_of(&content).map_err(of_file)?;
+        let kind = ResourceKey::Id(icon::GROUP_ICON);
+        let name = names_of(editor, &kind).into_iter().next().unwrap_or(ResourceKey::Id(1));
+        for language in languages_of(editor, &kind, &name, language) {
+            icon::set_group(editor, &Group { name: name.clone(), language }, &images).map_err(of_file)?;
         }
         Ok(())
     })

@@ -13,6 +13,7 @@ mod facts;
 mod files;
 mod find;
 mod html;
+mod icon;
 mod man;
 mod names;
 mod page;
@@ -253,6 +254,7 @@ fn write_file(command: &Command, out: &mut dyn Write) -> io::Result<Status> {
 fn edit_file(command: &Command, out: &mut dyn Write) -> io::Result<Status> {
     let (Command::SetVersion { file, to, reading, .. }
     | Command::SetManifest { file, to, reading, .. }
+    | Command::SetIcon { file, to, reading, .. }
     | Command::SetResource { file, to, reading, .. }
     | Command::RemoveResource { file, to, reading, .. }) = command
     else {
@@ -263,6 +265,7 @@ fn edit_file(command: &Command, out: &mut dyn Write) -> io::Result<Status> {
         let (paths, image) = ((path, to.as_path()), parsed(bytes, reading));
         match command {
             Command::SetManifest { manifest, language, .. } => edit::set_manifest(paths, image, manifest, *language),
+            Command::SetIcon { icon, language, .. } => edit::set_icon(paths, image, icon, *language),
             Command::SetResource { which, content, .. } => edit::set_resource(paths, image, which, content),
             Command::RemoveResource { which, .. } => edit::remove_resource(paths, image, which),
             Command::SetVersion { version, .. } => edit::set_version(paths, image, version),

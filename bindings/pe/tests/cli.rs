@@ -584,7 +584,7 @@ fn the_man_page_has_each_command() {
     assert_eq!(status, 0);
     let commands =
         ["show", "find", "diff", "unwind", "key", "digest", "extract", "attach", "detach", "checksum", "report"];
-    let edits = ["set-version", "set-manifest", "set-resource", "remove-resource"];
+    let edits = ["set-version", "set-manifest", "set-icon", "set-resource", "remove-resource"];
     for command in commands.into_iter().chain(edits).chain(["completions", "man"]) {
         assert!(page.contains(&format!(".SS \"pe {}", command.replace('-', "\\-"))), "{command}");
     }

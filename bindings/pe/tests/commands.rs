@@ -304,6 +304,59 @@ fn manifests_and_resources_are_changed() {
     assert!(!folder.0.join("f.exe").exists());
 }
 
+/// An icon file with a bitmap of this width for each byte, of 41 bytes, the last of which is the width again.
+fn icons(widths: &[u8]) -> Vec<u8> {
+    let mut file = vec![0, 0, 1, 0, widths.len() as u8, 0];
+    for (index, width) in widths.iter().enumerate() {
+        file.extend([*width, *width, 0, 0, 1, 0, 24, 0, 41, 0, 0, 0]);
+        file.extend((6 + 16 * widths.len() as u32 + 41 * index as u32).to_le_bytes());
+    }
+    for width in widths {
+        file.extend([40, 0, 0, 0, *width, 0, 0, 0, 2 * width, 0, 0, 0, 1, 0, 24, 0]);
+        file.extend([0; 24]);
+        file.push(*width);
+    }
+    file
+}
+
+#[test]
+fn icons_are_changed() {
+    let folder = Folder::new("icon");
+    let file = folder.file("a.exe", &made::editable());
+    let path = |name: &str| folder.0.join(name).to_str().unwrap().to_string();
+    let (three, one) = (folder.file("3.ico", &icons(&[16, 24, 32])), folder.file("1.ico", &icons(&[48])));
+    assert_eq!(run(&["set-icon", &file, &path("b.exe"), &three, "--language", "0x407"]).2, 0);
+    // It is read as the file that it was made of, and the manifest is there as before.
+    let extracted = |image: &str, out: &str| {
+        assert_eq!(run(&["extract", &path(image), "icon", &path(out)]).2, 0);
+        fs::read(path(out)).unwrap()
+    };
+    assert_eq!(extracted("b.exe", "b.ico"), icons(&[16, 24, 32]));
+    assert_eq!(run(&["extract", &path("b.exe"), "manifest", "-"]).0, "<old/>");
+    // Other icons take its name, its language and its identifiers; those that are left over go.
+    assert_eq!(run(&["set-icon", &path("b.exe"), &path("c.exe"), &one]).2, 0);
+    assert_eq!(extracted("c.exe", "c.ico"), icons(&[48]));
+    let ids = |image: &str, language: &str| {
+        let of_id = |id: &&str| {
+            let words = ["extract", image, "resource", "--type", "3", "--name", id, "--language", language];
+            run(&[&words[..], &[&path(&format!("{image}{id}{language}").replace('/', "-"))]].concat()).2 == 0
+        };
+        ["1", "2", "3", "4"].iter().filter(of_id).count()
+    };
+    let counts = ["b.exe", "c.exe"].map(|it| (ids(&path(it), "0x407"), ids(&path(it), "0x409")));
+    assert_eq!(counts, [(3, 0), (1, 0)]);
+    // An icon of another group stays, in a new language too.
+    assert_eq!(run(&["set-icon", &path("c.exe"), &path("d.exe"), &three, "--language", "0x409"]).2, 0);
+    assert_eq!((ids(&path("d.exe"), "0x407"), ids(&path("d.exe"), "0x409")), (1, 3));
+    let damaged = folder.file("bad.ico", &icons(&[16])[..60]);
+    let (said, complaint, status) = run(&["set-icon", &file, &path("e.exe"), &damaged]);
+    assert_eq!((said.as_str(), status), ("", 1));
+    assert!(complaint.contains("bad.ico: image 1 of the icon file passes its end"), "{complaint}");
+    assert_eq!(run(&["set-icon", &file, &path("e.exe"), &file]).2, 1);
+    assert_eq!(run(&["set-icon", &file, &path("e.exe"), &path("none")]).2, 3);
+    assert!(!folder.0.join("e.exe").exists());
+}
+
 #[test]
 fn versions_are_changed() {
     let folder = Folder::new("version");

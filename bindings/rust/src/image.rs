@@ -220,7 +220,7 @@ errors! {
     EDIT_NO_HEADER_ROOM = 471;
     /// Image with the resources ends after 4 GB.
     EDIT_IMAGE_TOO_LARGE = 472;
-    /// Data of a debug entry start after the data of the sections.
+    /// Data of a debug entry end after the data of the sections.
     EDIT_DEBUG_DATA = 473;
     /// Element of a signature truncated before its content.
     SIGNATURE_TRUNCATED = 501;

@@ -3,7 +3,7 @@
 
 mod made;
 
-use pe_c::{Error, Image, Mode, ResourceEditor, ResourceKey, VersionInfo};
+use pe_c::{sys, Error, Image, Mode, ResourceEditor, ResourceKey, VersionInfo};
 
 fn strict(bytes: &[u8]) -> Image<'_> {
     Image::parse(bytes, Mode::Strict).unwrap()
@@ -120,4 +120,78 @@ fn version_information_is_made() {
     assert_eq!(version.to_bytes(), Err(Error::BLOCK_TOO_LONG));
     assert_eq!(VersionInfo::of(&[]), Ok(None));
     assert_eq!(VersionInfo::of(&[9, 0, 0, 0, 0, 0, 0, 0]), Err(Error::SHORT));
+}
+
+/// Numbers that differ, the same in each run.
+struct Seeds(u64);
+
+impl Seeds {
+    fn below(&mut self, n: usize) -> usize {
+        self.0 = self.0.wrapping_mul(0x5851_F42D_4C95_7F2D).wrapping_add(0x1405_7B7E_F767_814F);
+        (self.0 >> 33) as usize % n
+    }
+}
+
+/// A copy with a few bytes changed, and one in four truncated.
+fn damaged(bytes: &[u8], seeds: &mut Seeds) -> Vec<u8> {
+    let mut copy = bytes.to_vec();
+    for _ in 0..=seeds.below(6) {
+        // The headers and the first bytes of each section say most.
+        let at = if seeds.below(2) == 0 { seeds.below(0x200.min(copy.len())) } else { seeds.below(copy.len()) };
+        copy[at] = [0, 1, 0x7F, 0x80, 0xFF, seeds.below(256) as u8][seeds.below(6)];
+    }
+    if seeds.below(4) == 0 {
+        copy.truncate(seeds.below(bytes.len() + 1));
+    }
+    copy
+}
+
+/// Whether the call for C writes an image with a resource of four bytes. After an error its room is as it was.
+fn edits_by_call(image: &Image<'_>, length: usize) -> bool {
+    let name = sys::ResourceName { id: 10, ..Default::default() };
+    let content = sys::Range { offset: 0, length: 4 };
+    let record = sys::Resource { resource_type: name, name, content, language: 0, code_page: 0 };
+    let (bytes, data) = (image.bytes(), [1, 2, 3, 4]);
+    let (mut room, mut out) = (vec![0xA5; length], 0xA5);
+    // SAFETY: each pointer and length are those of one slice or one record, lent for the call; the room is apart from the others.
+    let answer = unsafe {
+        let (room, length) = (room.as_mut_ptr(), room.len());
+        sys::pe_c_edit(bytes.as_ptr(), bytes.len(), image.info(), &record, 1, data.as_ptr(), 4, room, length, &mut out)
+    };
+    assert!(answer == 0 || (out == 0xA5 && room.iter().all(|it| *it == 0xA5)));
+    answer == 0
+}
+
+#[test]
+fn damaged_images_are_edited_or_refused() {
+    let bytes = made::editable();
+    let mut editor = ResourceEditor::of(&strict(&bytes)).unwrap();
+    editor.set(10.into(), "LONG".into(), 0x409, vec![7; 0x1000]);
+    let roots = [bytes.clone(), editor.write().unwrap(), made::with_named_resources(), made::with_resources()];
+    let (mut seeds, mut written, mut refused) = (Seeds(59), 0, 0);
+    for number in 0..2_000 {
+        let copy = damaged(&roots[number % roots.len()], &mut seeds);
+        let Ok(image) = Image::parse(&copy, Mode::Permissive) else {
+            refused += 1;
+            continue;
+        };
+        edits_by_call(&image, copy.len() + 0x2000);
+        edits_by_call(&image, seeds.below(copy.len() + 1));
+        let Ok(mut editor) = ResourceEditor::of(&image) else {
+            refused += 1;
+            continue;
+        };
+        let length = [5, 0x300, 0x3000][number % 3];
+        editor.set(10.into(), "NEW".into(), 0x409, vec![9; length]);
+        let Ok(file) = editor.write() else {
+            refused += 1;
+            continue;
+        };
+        // What is written has the resources that were asked for.
+        let image = Image::parse(&file, Mode::Permissive).unwrap();
+        let again = ResourceEditor::of(&image).unwrap();
+        assert!(again.resources().eq(editor.resources()), "{number}");
+        written += 1;
+    }
+    assert!(written > 200 && refused > 200, "{written} written, {refused} refused");
 }

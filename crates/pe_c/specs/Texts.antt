@@ -135,7 +135,7 @@ edit_texts =
     codes "version block has more than 65,535 bytes" ∷
     codes "headers have no room for another section header" ∷
     codes "image with the resources ends after 4 GB" ∷
-    codes "data of a debug entry start after the data of the sections" ∷
+    codes "data of a debug entry end after the data of the sections" ∷
     []
 
 -- the text of a refusal of resources that are written, by its number from 451 on

@@ -169,17 +169,21 @@ has_rva rva s = nat_le s.virtual_address rva && nat_lt rva (s.virtual_address + 
 abbrev pub index_with : List ℕ → HeaderView → ℕ → ℕ
 index_with b h rva = position_or_len (has_rva rva) (section_headers b h)
 
--- the data of the k-th debug entry from file offset p on start before `end`; an entry after the end of the file is none
+-- the data of the k-th debug entry from file offset p on end by `end`; an entry after the end of the file is none
 abbrev pub debug_stays : List ℕ → ℕ → ℕ → ℕ → Bool
-debug_stays b end p k = nat_lt (length b) (p + 28 * k + 28) || nat_lt (le b (p + 28 * k + 24) 4) end
+debug_stays b end p k = nat_lt (length b) (p + 28 * k + 28) || nat_le (le b (p + 28 * k + 24) 4 + le b (p + 28 * k + 16) 4) end
 
--- so do those of all debug entries, of 28 bytes each
-abbrev pub debug_all_stay : List ℕ → HeaderView → DataDirectory → ℕ → Bool
-debug_all_stay b h d end =
+-- so do those of the entries of 28 bytes each from file offset p on, as many as the directory has
+abbrev pub entries_stay : List ℕ → DataDirectory → ℕ → ℕ → Bool
+entries_stay b d end p = list_all (debug_stays b end p) (each (λ k. k) (min (d.size / 28) (length b / 28)))
+
+-- so do those of all debug entries, which are in the data of a section or in the headers, of n bytes
+abbrev pub debug_all_stay : List ℕ → HeaderView → DataDirectory → ℕ → ℕ → Bool
+debug_all_stay b h d n end =
     let i = index_with b h d.virtual_address in
     let s = section_header b h i in
-    nat_le h.coff_header.number_of_sections i
-    || list_all (debug_stays b end (s.pointer_to_raw_data + (d.virtual_address - s.virtual_address))) (each (λ k. k) (min (d.size / 28) (length b / 28)))
+    if nat_lt i h.coff_header.number_of_sections then entries_stay b d end (s.pointer_to_raw_data + (d.virtual_address - s.virtual_address))
+    else (nat_le n d.virtual_address || entries_stay b d end d.virtual_address)
 
 -- the tests, in their order
 abbrev pub room_tests : List ℕ → HeaderView → Target → ℕ → LastSection → List (Bool × RewriteRefusal)
@@ -190,7 +194,7 @@ room_tests b h t n l =
     ∷ (is_alone (enlarged l) h.optional_header, SharedSection)
     ∷ (symbols_move h l, Symbols)
     ∷ (is_last b h t l, Overlap)
-    ∷ (debug_all_stay b h (debug_directory h.optional_header) (raw_end l.section), DebugData) ∷ []
+    ∷ (debug_all_stay b h (debug_directory h.optional_header) t.size_of_headers (raw_end l.section), DebugData) ∷ []
 
 abbrev pub room_with : List ℕ → HeaderView → Target → ℕ → LastSection → Result Room RewriteRefusal
 room_with b h t n l = outcome (room_tests b h t n l) (room_at h t n l)

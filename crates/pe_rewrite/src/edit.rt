@@ -142,12 +142,13 @@ fn write_at_end(
 /// - `Headers` if the data directories end after the start of the section table; `Image` with `Short` if the section table is
 ///   truncated;
 /// - `Alignment` if that of sections is below 4096, or that of their data below 512 or no power of two;
-/// - of a new section, where the resources do not fit in place and their section does not grow: `ImageTooLarge` if the image ends
-///   after 4 GB; `NoHeaderRoom` if no 40 zeros follow the section table in the headers, or there are 65,535 sections; `Section`
-///   if the data of all sections and the headers do not end in the file, at a multiple of the file alignment; `SharedSection` if
-///   the entry point or a directory leads after the image in memory; `Symbols` if COFF symbols start before the end of the data
-///   and end after it; `Overlap` if a section ends after the image in memory, by `SizeOfImage`, or shares bytes with the headers;
-///   `DebugData` if the data of a debug entry start after the data of the sections;
+/// - of a new section, where the resources do not fit in place and their section does not grow: `ImageTooLarge` if its RVA or the
+///   offset of its data is not below 2^32, and `Leaves` with `TooLarge` at its RVA; `NoHeaderRoom` if no 40 zeros follow the section
+///   table in the headers, there are 65,535 sections, or the PE signature lies in the DOS header; `ImageTooLarge` if the image
+///   ends after 4 GB; `Section` if the data of all sections and the headers do not end in the file, at a multiple of the file
+///   alignment; `SharedSection` if the entry point or a directory leads after the image in memory; `Symbols` if COFF symbols
+///   start before the end of the data and end after it; `Overlap` if a section ends after the image in memory, by `SizeOfImage`,
+///   or shares bytes with the headers; `DebugData` if the data of a debug entry end after the data of the sections;
 /// - `Image` with `WriteFit` if the file does not fit into `out`.
 #[tactic(auto, using(crate::proofs::Calls::written_first, crate::proofs::Calls::write_second, crate::proofs::Calls::write_neither))]
 pub fn write_edited(

@@ -58,8 +58,8 @@ pub enum RewriteError {
     /// The image with the resources, in memory or in the file, ends after 4 GB.
     #[error("image with the resources ends after 4 GB")]
     ImageTooLarge,
-    /// The offset of a debug entry whose data start after the data of the sections, where they would move.
-    #[error("data of the debug entry at file offset {0:#x} start after the data of the sections")]
+    /// The offset of a debug entry whose data end after the data of the sections, where they would move.
+    #[error("data of the debug entry at file offset {0:#x} end after the data of the sections")]
     DebugData(usize),
 }
 

@@ -391,17 +391,21 @@ fn index_with(bytes: &[u8], header: &Header<'_>, rva: u32) -> usize
     count
 }
 
-/// Whether the data of a debug entry start before `end`, or the entry is after the end of the file.
+/// Whether the data of a debug entry end by `end`, or the entry is after the end of the file.
 fn debug_stays(bytes: &[u8], end: usize, start: usize, index: usize) -> bool
     requires start { start < 2 ^ 34 }
     requires index { index ≤ length bytes.now / 28 }
     ensures { result ≡ debug_stays bytes.now end start index }
 {
     let entry = start + SIZE_OF_DEBUG_ENTRY * index;
-    entry + SIZE_OF_DEBUG_ENTRY > bytes.len() || (read_u32(bytes, entry + 24) as usize) < end
+    if entry + SIZE_OF_DEBUG_ENTRY > bytes.len() {
+        return true;
+    }
+    let size = read_u32(bytes, entry + 16) as usize;
+    read_u32(bytes, entry + 24) as usize + size <= end
 }
 
-/// `DebugData` if the data of a debug entry do not start before `end`. `start` is the file offset of the entries.
+/// `DebugData` if the data of a debug entry do not end by `end`. `start` is the file offset of the entries.
 #[tactic(auto, using(pe_sign::proofs::SectionRows::all_more), unfolding(pe_core::specs::Rows::each))]
 fn require_entries(bytes: &[u8], end: usize, start: usize, count: usize) -> Result<(), RewriteError>
     requires start { start < 2 ^ 34 }
@@ -417,29 +421,38 @@ fn require_entries(bytes: &[u8], end: usize, start: usize, count: usize) -> Resu
     Ok(())
 }
 
-/// `DebugData` if the data of a debug entry do not start before `end`.
-fn require_debug(bytes: &[u8], header: &Header<'_>, end: usize) -> Result<(), RewriteError>
+/// `DebugData` if the data of a debug entry do not end by `end`. The entries are in the data of a section, or in the headers, of so
+/// many bytes.
+fn require_debug(
+    bytes: &[u8],
+    header: &Header<'_>,
+    headers: usize,
+    end: usize,
+) -> Result<(), RewriteError>
     requires { headers_end (header_view header.now) ≤ length bytes.now }
     ensures { RewriteReturns result (outcome
         ((
           debug_all_stay bytes.now (header_view header.now)
-              (debug_directory (header_view header.now).optional_header) end,
+              (debug_directory (header_view header.now).optional_header) headers end,
           DebugData,
         ) ∷ []) tt) }
 {
     let directory = debug_directory(header);
-    let index = index_with(bytes, header, directory.virtual_address);
-    if index >= header.coff_header.number_of_sections as usize {
-        return Ok(());
-    }
-    let section = section_header(bytes, header, index);
     let rva = directory.virtual_address as usize;
-    let start = section.pointer_to_raw_data as usize
-        + rva.saturating_sub(section.virtual_address as usize);
     let count = (directory.size as usize / SIZE_OF_DEBUG_ENTRY).min(
         bytes.len() / SIZE_OF_DEBUG_ENTRY,
     );
-    require_entries(bytes, end, start, count)
+    let index = index_with(bytes, header, directory.virtual_address);
+    if index < header.coff_header.number_of_sections as usize {
+        let section = section_header(bytes, header, index);
+        let start = section.pointer_to_raw_data as usize
+            + rva.saturating_sub(section.virtual_address as usize);
+        return require_entries(bytes, end, start, count);
+    }
+    if rva >= headers {
+        return Ok(());
+    }
+    require_entries(bytes, end, rva, count)
 }
 
 /// The section header with more bytes of data.
@@ -514,7 +527,7 @@ fn room_with(
         return Err(RewriteError::Symbols(header.coff_header.pointer_to_symbol_table));
     }
     require_last(bytes, header, target, last)?;
-    require_debug(bytes, header, room.end)?;
+    require_debug(bytes, header, target.size_of_headers as usize, room.end)?;
     Ok(room)
 }
 

@@ -2,3 +2,5 @@ pub mod Blocks
 pub mod Keys
 pub mod Tests
 pub mod Calls
+pub mod VersionsRead
+pub mod OneText

@@ -1,2 +1,4 @@
 pub mod WrittenBlocks
 pub mod VersionRefusals
+pub mod VersionValues
+pub mod VersionViews

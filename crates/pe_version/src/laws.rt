@@ -1,9 +1,11 @@
 //! Laws over the definitions. Each is the contract of a function that does nothing.
 
-ghost use Rattle.std.specs.Prelude.{◌≡◌, ◌++◌, List, Ok, Some, map, ℕ};
+ghost use Rattle.std.specs.Prelude.{◌≡◌, ◌++◌, List, Ok, Some, false, map, ℕ};
+ghost use Rattle.std.specs.Str.{bytes_eq};
 ghost use Rattle.pe_resource.specs.VersionBlocks.{blocks, first_block};
 ghost use Rattle.pe_version.specs.VersionRefusals.{block_of};
 ghost use Rattle.pe_version.specs.WrittenBlocks.{AllFit, BlockValue, Fits, blocks_bytes, padded_block, read_block};
+ghost use Rattle.pe_version.specs.VersionValues.{NumbersFit, TextValue, Value, as_read, text_named, version_of, version_read, with_text};
 
 /// pe_resource's walk reads a written block as it was given, and goes on with what follows it; blocks one after the other are
 /// read each as it was given.
@@ -20,4 +22,21 @@ pub fn written_blocks_are_read()
 pub fn blocks_are_accepted()
     ensures fits { (k : BlockValue) (s : List ℕ) → block_of k ≡ Ok s → Fits k }
     ensures value { (k : BlockValue) (s : List ℕ) → block_of k ≡ Ok s → s ≡ padded_block k }
+{}
+
+/// pe_resource's walks, down to texts and numbers, read written version information exactly as it was given: the fixed file
+/// information, each string table with its language, its code page and all its strings, and the translations.
+#[tactic(auto, using(crate::proofs::VersionsRead::version_is_read))]
+pub fn written_versions_are_read()
+    ensures { (v : Value) (s : List ℕ) → NumbersFit v → version_of v ≡ Ok s →
+        version_read s ≡ Ok (Some (as_read v)) }
+{}
+
+/// A string that is set in a table is the text of its name there, and the texts of all other names are as before.
+#[tactic(auto, using(crate::proofs::OneText::set_is_read, crate::proofs::OneText::others_stay))]
+pub fn one_text_is_set()
+    ensures set { (new : TextValue) (ss : List TextValue) →
+        text_named new.name (with_text new ss) ≡ Some new.text }
+    ensures others { (name : List ℕ) (new : TextValue) (ss : List TextValue) → bytes_eq name new.name ≡ false →
+        text_named name (with_text new ss) ≡ text_named name ss }
 {}

@@ -1,11 +1,13 @@
 //! Version information written: the bytes of a block for its key, its value and the blocks in it. See Microsoft's
 //! [VS_VERSIONINFO](https://learn.microsoft.com/windows/win32/menurc/vs-versioninfo). A caller writes the innermost blocks
-//! first, one after the other, and hands their bytes to the block that has them.
+//! first, one after the other, and hands their bytes to the block that has them; or `version_bytes` writes a whole value.
 #![tactic(auto)]
 
 mod block;
 mod error;
 pub mod laws;
+mod version;
 
 pub use block::{NewBlock, block_len, write_block};
 pub use error::VersionError;
+pub use version::{StringTable, VersionText, VersionValue, version_bytes};
