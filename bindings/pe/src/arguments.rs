@@ -385,13 +385,18 @@ pub enum Command {
         #[command(flatten)]
         output: Output,
     },
-    /// Write a page of HTML that shows an image to a file, which must not exist.
+    /// Write a page of HTML that shows an image, or the stacks of a minidump, to a file, which must not exist.
     Report {
-        /// The image.
+        /// The image or the minidump.
         file: PathBuf,
         /// The file to write, or - for standard output.
         #[arg(value_name = "OUT")]
         to: PathBuf,
+        /// Of a minidump: a folder below which the images of modules are, or a file, as of `pe stack`.
+        #[arg(long, value_name = "FOLDER")]
+        images: Vec<PathBuf>,
+        #[command(flatten)]
+        stacks: Stacks,
         #[command(flatten)]
         reading: Reading,
         #[command(flatten)]

@@ -1,7 +1,8 @@
-//! `pe report`: an image as one page of HTML, for looking rather than reading: a map of the file, warnings, and tables that
+//! `pe report`: an image, or a minidump (`dump`), as one page of HTML, for looking rather than reading: a map of the file, warnings, and tables that
 //! a text field filters. The page stands alone. Its Content-Security-Policy allows one script and one style sheet, by their
 //! hashes, and nothing else: no request leaves it, and no name of an image can be markup (`markup`).
 
+pub mod dump;
 mod map;
 mod markup;
 mod overview;
@@ -9,7 +10,7 @@ mod overview;
 use crate::escape::escaped;
 use crate::facts::debug::Debug;
 use crate::facts::regions::{self, Region};
-use crate::facts::{count_of, Facts, Part, Wanted};
+use crate::facts::{count_of, Facts, Part, Refusal, Wanted};
 use crate::files::{self, Report};
 use crate::summary::kind_of;
 use crate::tables::{self, Row, Table};
@@ -54,7 +55,7 @@ fn page_of(facts: &Facts, image: Option<&Image<'_>>) -> String {
     html.markup(" · ").text(grouped(facts.file_size as u64)).markup(" bytes</p><p class=path>");
     html.text(escaped(&facts.file)).markup("</p></header>");
     overview::of(facts, &mut html);
-    warnings(facts, &mut html);
+    warnings(&facts.refusals(), &facts.limited(), &mut html);
     if let Some(image) = image {
         filter(&mut html);
         let mut main = Html::new();
@@ -67,9 +68,13 @@ fn page_of(facts: &Facts, image: Option<&Image<'_>>) -> String {
     html.markup("<footer>What is said of the image comes from calls of the library for C (");
     html.text(crate::arguments::ARCHIVE)
         .markup("). Hashes, entropy and what an overlay is are the program&#39;s own. ");
-    html.markup("Signatures are not verified. <code>pe ")
-        .text(env!("CARGO_PKG_VERSION"))
-        .markup("</code></footer><script>");
+    html.markup("Signatures are not verified.");
+    end(html)
+}
+
+/// The end of a footer, and what follows it.
+fn end(mut html: Html) -> String {
+    html.markup(" <code>pe ").text(env!("CARGO_PKG_VERSION")).markup("</code></footer><script>");
     html.markup(SCRIPT).markup("</script></body></html>\n");
     html.into_text()
 }
@@ -99,8 +104,7 @@ fn head(name: &str, html: &mut Html) {
 }
 
 /// What is refused comes first, each with its reason, and the parts of which the page does not have all.
-fn warnings(facts: &Facts, html: &mut Html) {
-    let (refusals, limited) = (facts.refusals(), facts.limited());
+fn warnings(refusals: &[(&'static str, &Refusal)], limited: &[&'static str], html: &mut Html) {
     if refusals.is_empty() {
         html.markup("<p class=accepted>Nothing is refused.</p>");
     }

@@ -240,10 +240,11 @@ fn write_file(command: &Command, out: &mut dyn Write) -> io::Result<Status> {
                 None => of_image(bytes, reading, |image| sign::checksum(path, image, output.json)),
             })
         }
-        Command::Report { file, to, reading, hashing } => {
+        Command::Report { file, to, images, stacks, reading, hashing } => {
             let wanted = Wanted::parts(&[], hashing.has_hashes());
-            files::each(&Files::one(file), out, |path, bytes| {
-                html::write_to((path, bytes), parsed(bytes, reading), &wanted, to)
+            files::each(&Files::one(file), out, |path, bytes| match stack::is_dump(bytes) {
+                true => html::dump::write_to((path, bytes), &stack::Known::below(images), stacks.asked(false), to),
+                false => html::write_to((path, bytes), parsed(bytes, reading), &wanted, to),
             })
         }
         _ => edit_file(command, out),

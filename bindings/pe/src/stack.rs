@@ -5,7 +5,7 @@
 mod files;
 mod frames;
 mod modules;
-mod text;
+pub mod text;
 mod told;
 
 use crate::facts::{Budget, List, Named, Origin, Part, Refusal, Stamp};
@@ -18,7 +18,8 @@ use pe_c::sys::{DumpException, DumpModule, DumpThread};
 use pe_c::{Dump, DumpImages, DumpMemory, Stacks};
 use std::collections::HashMap;
 use std::path::Path;
-use told::{Exception, Memory, Process, System, Thread, Told, Unloaded};
+pub use told::Told;
+use told::{Exception, Memory, Process, System, Thread, Unloaded};
 
 /// How many UTF-16 code units of a text are shown. A path under Windows has mostly less than 260.
 const UNITS: usize = 1024;
@@ -46,13 +47,23 @@ pub struct Asked {
 
 /// What is said of a dump, as text or JSON. The images of its modules come from its memory, or from these files.
 pub fn report(path: &Path, bytes: &[u8], known: &Known, asked: Asked) -> Report {
-    let told = match Dump::parse(bytes) {
-        Ok(dump) => told_of(&dump, path, known, asked),
-        Err(error) => Told::refused(path, error),
-    };
+    let told = told(path, bytes, known, asked);
     let status = if told.is_refused() { Status::Refused } else { Status::Done };
     let text = if asked.is_json { crate::json(&told) } else { text::of(&told, Style::of_stdout()) };
     Report::of(text, status)
+}
+
+/// What is said of a dump, as records.
+pub fn told(path: &Path, bytes: &[u8], known: &Known, asked: Asked) -> Told {
+    match Dump::parse(bytes) {
+        Ok(dump) => told_of(&dump, path, known, asked),
+        Err(error) => Told::refused(path, error),
+    }
+}
+
+/// Whether a file starts as minidumps do.
+pub fn is_dump(bytes: &[u8]) -> bool {
+    bytes.starts_with(b"MDMP")
 }
 
 /// The texts of a dump, of which records may share one: they are shown up to a bound.

@@ -113,6 +113,73 @@ fn names_are_no_markup() {
     assert!(page.contains("<td>to &lt;script&gt;\\x0a&amp;--&gt;</td>"));
 }
 
+/// What a page says between its head and its footer.
+fn main_of(page: &str) -> &str {
+    let (_, rest) = page.split_once("<main>").unwrap();
+    rest.split_once("</main>").unwrap().0
+}
+
+#[test]
+fn a_dump_has_a_page_of_its_stacks() {
+    let folder = Folder::new("report-dump");
+    let (page, status) = page_of(&folder, &folder.file("a.dmp", &made::full_dump(made::X64)));
+    assert_well_formed(&page);
+    assert_eq!((status, page.contains("Nothing is refused.")), (0, true));
+    assert!(page.contains("<title>a.dmp: pe</title>"));
+    // One element a line, as `tests/golden/dump_page.txt` has it.
+    let said = main_of(&page).replace("><", ">\n<") + "\n";
+    let golden = std::path::Path::new(env!("CARGO_MANIFEST_DIR")).join("tests/golden/dump_page.txt");
+    if std::env::var_os("UPDATE_GOLDEN").is_some() {
+        fs::write(&golden, &said).unwrap();
+    }
+    assert_eq!(said, fs::read_to_string(golden).unwrap());
+    let (page, status) = page_of(&folder, &folder.file("b.dmp", b"MDMP"));
+    assert_well_formed(&page);
+    assert!(page.contains("<li><b>dump</b> truncated <code>SHORT</code></li>"));
+    assert_eq!(status, 1);
+}
+
+#[test]
+fn a_page_shows_the_stacks_that_are_asked_for() {
+    let folder = Folder::new("report-dump-images");
+    let image = folder.file("other name.exe", &made::with_functions());
+    let dump = folder.file("a.dmp", &made::dump());
+    let (page, _, status) = run(&["report", &dump, "-", "--images", folder.0.to_str().unwrap()]);
+    assert_well_formed(&page);
+    assert_eq!(status, 0);
+    assert!(page.contains("<p>the stack is whole</p>"), "{page}");
+    assert!(page.contains(&format!("<td>{image}</td>")), "{page}");
+    let (page, _, _) = run(&["report", &dump, "-", "--frames", "0"]);
+    assert!(page.contains("<p>there may be more frames</p>") && !page.contains("<tr id=frame-"));
+    assert!(!run(&["report", &dump, "-", "--thread", "37"]).0.contains("<details id=thread-"));
+}
+
+#[test]
+fn texts_of_a_dump_are_no_markup() {
+    let folder = Folder::new("report-dump-hostile");
+    let mut bytes = made::full_dump(made::X64);
+    let at = bytes.windows(10).position(|it| it == b"a\0.\0e\0x\0e\0").unwrap();
+    bytes[at..at + 10].copy_from_slice(b"<\0&\0\"\0\x1b\0>\0");
+    let (page, status) = page_of(&folder, &folder.file("a.dmp", &bytes));
+    assert_well_formed(&page);
+    assert_eq!(status, 0);
+    assert!(page.contains("<h2>thread 36 &lt;&amp;&quot;\\x1b&gt;, which crashed</h2>"), "{page}");
+    assert!(page.contains("<td>&lt;&amp;&quot;\\x1b&gt;+0x5000</td>"));
+}
+
+#[test]
+fn damaged_dumps_have_pages() {
+    let folder = Folder::new("report-dump-damaged");
+    let whole = made::full_dump(made::X64);
+    for at in (0..whole.len().min(2048)).step_by(7) {
+        let mut bytes = whole.clone();
+        bytes[at] ^= 0xFF;
+        let (page, status) = page_of(&folder, &folder.file("a.dmp", &bytes));
+        assert_well_formed(&page);
+        assert!(status < 2, "{at}");
+    }
+}
+
 #[test]
 fn pages_stand_alone() {
     let folder = Folder::new("report-alone");

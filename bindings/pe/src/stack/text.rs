@@ -1,16 +1,18 @@
 //! What is said of a minidump, as text.
 
-use super::told::{Exception, Memory, Module, System, Thread, Told};
+use super::told::{Exception, Memory, Module, System, Thread, Told, Unloaded};
 use crate::escape::escaped;
 use crate::facts::counted;
 use crate::page::{Page, Style};
 use crate::show::time_of;
-use crate::tables::{number, text, Table};
+use crate::tables::{number, text, Row, Table};
 
 pub fn of(told: &Told, style: Style) -> String {
     let mut page = Page::new(style);
     page.heading(&escaped(&told.origin.file));
-    summary_of(told, &mut page);
+    for (label, value) in summary(told) {
+        page.row(label, value);
+    }
     for (part, refusal) in told.refusals() {
         page.warning(format_args!("{part}: {refusal}"));
     }
@@ -21,9 +23,7 @@ pub fn of(told: &Told, style: Style) -> String {
     }
     if let Some(unloaded) = told.unloaded_modules.present().filter(|it| !it.entries.is_empty()) {
         page.heading("unloaded modules");
-        let rows = unloaded.entries.iter();
-        let rows = rows.map(|it| vec![format!("{:#x}", it.base_va), it.size.to_string(), name_or(&it.name)]);
-        page.table(&Table::new(&[number("base"), number("bytes"), text("module")], rows));
+        page.table(&unloaded_of(&unloaded.entries));
     }
     page.into_text()
 }
@@ -41,36 +41,34 @@ fn place_of(module: &Option<String>, offset: Option<u64>, address: u64) -> Strin
     }
 }
 
-fn summary_of(told: &Told, page: &mut Page) {
+/// Why the process crashed, and what is known of it.
+pub fn summary(told: &Told) -> Vec<Row> {
+    let mut rows = Vec::new();
     if let Some(raised) = told.exception.present() {
-        exception_of(raised, page);
+        rows.push(("reason", reason_of(raised)));
+        rows.push(("at", place_of(&raised.module, raised.offset, raised.address_va)));
     }
-    if let Some(system) = told.system.present() {
-        page.row("system", words_of(system));
-    }
+    rows.extend(told.system.present().map(|it| ("system", words_of(it))));
     if let Some(process) = told.process.present() {
         let id = process.id.map_or("of no known id".to_string(), |it| format!("id {it}"));
         let made =
             process.create_time.filter(|it| *it != 0).map_or(String::new(), |it| format!(", made {}", time_of(it)));
-        page.row("process", format_args!("{id}{made}"));
+        rows.push(("process", id + &made));
     }
-    if let Some(stamp) = told.written.filter(|it| it.seconds != 0) {
-        page.row("written", time_of(stamp.seconds));
-    }
-    told.memory.iter().for_each(|it| memory_of(it, page));
+    rows.extend(told.written.as_ref().filter(|it| it.seconds != 0).map(|it| ("written", time_of(it.seconds))));
+    rows.extend(told.memory.iter().map(|it| ("memory", memory_of(it))));
+    rows
 }
 
-fn exception_of(raised: &Exception, page: &mut Page) {
+fn reason_of(raised: &Exception) -> String {
     let code = match raised.code.name {
         Some(name) => format!("{name} ({:#010x})", raised.code.number),
         None => format!("{:#010x}", raised.code.number),
     };
-    let access = match (raised.access, raised.access_va) {
-        (Some(access), Some(address)) => format!(": {access} at {address:#x}"),
-        _ => String::new(),
-    };
-    page.row("reason", format_args!("{code}{access}"));
-    page.row("at", place_of(&raised.module, raised.offset, raised.address_va));
+    match (raised.access, raised.access_va) {
+        (Some(access), Some(address)) => format!("{code}: {access} at {address:#x}"),
+        _ => code,
+    }
 }
 
 fn words_of(system: &System) -> String {
@@ -80,18 +78,22 @@ fn words_of(system: &System) -> String {
     format!("{} {major_version}.{minor_version}.{build_number}{pack} on {machine}, {processors}", system.platform)
 }
 
-fn memory_of(memory: &Memory, page: &mut Page) {
+fn memory_of(memory: &Memory) -> String {
     let lost = match memory.lost_bytes {
         0 => String::new(),
         lost => format!("; {lost} bytes more are lost: the file is truncated"),
     };
-    page.row("memory", format_args!("{} bytes in {}{lost}", memory.bytes, counted(memory.pieces, "piece")));
+    format!("{} bytes in {}{lost}", memory.bytes, counted(memory.pieces, "piece"))
 }
 
-fn thread_of(thread: &Thread, page: &mut Page) {
+/// Which thread it is.
+pub fn title_of(thread: &Thread) -> String {
     let name = thread.name.as_deref().map_or(String::new(), |it| format!(" {}", escaped(it)));
     let crashed = if thread.is_crashed { ", which crashed" } else { "" };
-    page.heading(&format!("thread {}{name}{crashed}", thread.id));
+    format!("thread {}{name}{crashed}", thread.id)
+}
+
+pub fn frames_of(thread: &Thread) -> Table {
     let rows = thread.frames.iter().enumerate().map(|(index, it)| {
         vec![
             index.to_string(),
@@ -100,7 +102,12 @@ fn thread_of(thread: &Thread, page: &mut Page) {
             it.way.to_string(),
         ]
     });
-    page.table(&Table::new(&[number("frame"), number("address"), text("place"), text("found by")], rows));
+    Table::new(&[number("frame"), number("address"), text("place"), text("found by")], rows)
+}
+
+fn thread_of(thread: &Thread, page: &mut Page) {
+    page.heading(&title_of(thread));
+    page.table(&frames_of(thread));
     for (index, frame) in thread.frames.iter().enumerate() {
         let registers = frame.registers.iter().flatten().map(|(name, value)| format!("{name} {value:#x}"));
         let registers: Vec<String> = registers.collect();
@@ -112,7 +119,7 @@ fn thread_of(thread: &Thread, page: &mut Page) {
 }
 
 /// How the walk of a stack ended.
-fn end_of(thread: &Thread) -> String {
+pub fn end_of(thread: &Thread) -> String {
     let words = match thread.end {
         Some("bottom") => "the stack is whole",
         Some("bound") => "there may be more frames",
@@ -125,7 +132,7 @@ fn end_of(thread: &Thread) -> String {
     thread.end_error.as_ref().map_or(words.to_string(), |it| format!("{words}: {it}"))
 }
 
-fn modules_of(modules: &[Module]) -> Table {
+pub fn modules_of(modules: &[Module]) -> Table {
     let rows = modules.iter().map(|it| {
         let image = match (&it.image, &it.image_file) {
             (_, Some(file)) => escaped(file),
@@ -143,4 +150,10 @@ fn modules_of(modules: &[Module]) -> Table {
     });
     let columns = [number("base"), number("bytes"), text("module"), text("version"), text("image from"), text("PDB")];
     Table::new(&columns, rows)
+}
+
+pub fn unloaded_of(unloaded: &[Unloaded]) -> Table {
+    let rows = unloaded.iter();
+    let rows = rows.map(|it| vec![format!("{:#x}", it.base_va), it.size.to_string(), name_or(&it.name)]);
+    Table::new(&[number("base"), number("bytes"), text("module")], rows)
 }

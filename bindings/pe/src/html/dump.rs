@@ -1,0 +1,93 @@
+//! The page of a minidump: why the process crashed, the stacks of its threads, and its modules. It says what `pe stack` does.
+
+use super::markup::Html;
+use super::{end, filter, grouped, head, list, table, warnings, OPEN_ROWS};
+use crate::escape::escaped;
+use crate::facts::counted;
+use crate::files::{self, Report};
+use crate::stack::{self, Asked, Known, Told};
+use crate::tables::Table;
+use crate::Status;
+use std::path::Path;
+
+/// How many frames are on the page: a browser takes more only slowly.
+const FRAMES: usize = 20_000;
+
+/// Writes the page of a dump. One of a file that is no dump says why.
+pub fn write_to(file: (&Path, &[u8]), known: &Known, asked: Asked, to: &Path) -> Report {
+    let (path, bytes) = file;
+    let told = stack::told(path, bytes, known, asked);
+    let status = if told.is_refused() { Status::Refused } else { Status::Done };
+    files::deliver(page_of(&told, bytes.len()).as_bytes(), to, status)
+}
+
+fn page_of(told: &Told, size: usize) -> String {
+    let mut html = Html::new();
+    let name = Path::new(&told.origin.file).file_name().map(|it| it.to_string_lossy()).unwrap_or_default();
+    head(&name, &mut html);
+    html.markup("<header><h1>").text(&name).markup("</h1><p>minidump · ").text(grouped(size as u64));
+    html.markup(" bytes</p><p class=path>").text(escaped(&told.origin.file)).markup("</p></header>");
+    warnings(&told.refusals(), &[], &mut html);
+    let mut main = Html::new();
+    list("crash", "Crash", stack::text::summary(told), &mut main);
+    threads(told, &mut main);
+    if let Some(modules) = told.modules.present() {
+        table("modules", "Modules", &stack::text::modules_of(&modules.entries), &mut main);
+    }
+    if let Some(unloaded) = told.unloaded_modules.present() {
+        table("unloaded", "Unloaded modules", &stack::text::unloaded_of(&unloaded.entries), &mut main);
+    }
+    filter(&mut html);
+    html.markup("<nav aria-label=Contents><ul class=contents>");
+    for (id, title) in main.parts() {
+        html.markup("<li><a href=\"#").markup(id).markup("\">").markup(title).markup("</a></li>");
+    }
+    html.markup("</ul></nav><main>").append(main);
+    html.markup("</main><footer>What is said of the dump comes from calls of the library for C (");
+    html.text(crate::arguments::ARCHIVE).markup("). Names of codes are the program&#39;s own.");
+    end(html)
+}
+
+/// The stacks, each with its frames and how it ended, the crashed one first.
+fn threads(told: &Told, html: &mut Html) {
+    let threads = told.threads.entries();
+    if threads.is_empty() {
+        return;
+    }
+    html.has_part("threads", "Threads");
+    html.markup("<h2 id=threads>Threads</h2>");
+    let mut left = FRAMES;
+    for (index, thread) in threads.iter().enumerate() {
+        let frames = stack::text::frames_of(thread);
+        let is_open = frames.rows.len() <= OPEN_ROWS && index < OPEN_ROWS;
+        html.markup("<details id=thread-").text(index).markup(if is_open { " open" } else { "" });
+        html.markup("><summary><h2>").text(stack::text::title_of(thread)).markup("</h2> <span class=count>");
+        html.text(frames.rows.len()).markup("</span></summary><p>");
+        html.text(stack::text::end_of(thread)).markup("</p>");
+        rows(&frames, index, &mut left, html);
+        html.markup("</details>");
+    }
+}
+
+/// The rows of the frames of a thread, as many as the page still takes.
+fn rows(frames: &Table, thread: usize, left: &mut usize, html: &mut Html) {
+    let shown = frames.rows.len().min(*left);
+    *left -= shown;
+    if shown < frames.rows.len() {
+        html.markup("<p>Only the first ").text(counted(shown, "row")).markup(" are on this page.</p>");
+    }
+    html.markup("<div class=scroll role=region tabindex=0 aria-label=Frames><table><thead><tr>");
+    for column in &frames.columns {
+        html.markup(if column.is_number { "<th scope=col class=n>" } else { "<th scope=col>" });
+        html.markup(column.head).markup("</th>");
+    }
+    html.markup("</tr></thead><tbody>");
+    for (index, row) in frames.rows.iter().take(shown).enumerate() {
+        html.markup("<tr id=frame-").text(thread).markup("-").text(index).markup(">");
+        for (column, cell) in frames.columns.iter().zip(row) {
+            html.markup(if column.is_number { "<td class=n>" } else { "<td>" }).text(cell).markup("</td>");
+        }
+        html.markup("</tr>");
+    }
+    html.markup("</tbody></table></div>");
+}

@@ -1,0 +1,39 @@
+-- The memory of a dump: the pieces of both of its lists, as walks take them.
+use Rattle.std.specs.Prelude.{ℕ, List, [], ◌++◌, length, map, Option, Some, None, Result, Ok, Err, min}
+use Rattle.pe_frame.specs.declared.memory_list.MemoryPiece.{MemoryPiece}
+use Rattle.pe_minidump.specs.Dumps.{DumpView, read_stream}
+use Rattle.pe_minidump.specs.Memory64.{Listed64, memory64_of, pieces_from}
+use Rattle.pe_minidump.specs.Pieces.{PieceView, piece}
+use Rattle.pe_minidump.specs.Refusals.{DumpRefusal}
+use Rattle.pe_minidump.specs.Streams.{memory_list}
+use Rattle.pe_minidump.specs.declared.memory.MemoryDescriptor.{MemoryDescriptor}
+
+-- a piece, and where the bytes are that the file has of it
+abbrev pub listed_piece : List ℕ → PieceView → MemoryPiece
+listed_piece file p = record {
+  start = p.start;
+  offset = min p.offset (length file);
+  length = length p.bytes;
+}
+
+-- that of an entry of the memory list
+abbrev pub described : List ℕ → MemoryDescriptor → MemoryPiece
+described file d = listed_piece file (piece file d.start_of_memory_range (d.memory).rva (d.memory).size)
+
+-- the elements of a list, if it is there and not refused
+abbrev pub elements : {X Y : Type 0} → (X → List Y) → Result (Option X) DumpRefusal → List Y
+elements of (Ok (Some x)) = of x
+elements of (Ok None) = []
+elements of (Err e) = []
+
+-- the pieces of the memory list
+abbrev pub described_all : List ℕ → List MemoryDescriptor → List MemoryPiece
+described_all file ds = map (described file) ds
+
+-- those of a full dump's
+abbrev pub listed_all : List ℕ → Listed64 → List MemoryPiece
+listed_all file l = map (listed_piece file) (pieces_from file l.ranges l.base_rva 0)
+
+-- the pieces of both lists, those of the memory list first
+abbrev pub pieces_of : DumpView → List MemoryPiece
+pieces_of d = elements (described_all d.bytes) (memory_list d) ++ elements (listed_all d.bytes) (read_stream memory64_of d 9)

@@ -1,0 +1,4 @@
+pub mod DumpMemory
+pub mod Images
+pub mod Lookups
+pub mod ThreadContexts

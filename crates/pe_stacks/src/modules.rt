@@ -1,0 +1,91 @@
+//! The modules of a minidump as walks take them: in the order of the dump, which is no order of addresses, and in which modules may
+//! overlap. The first that has an address is that of the address.
+
+ghost use Rattle.std.specs.Prelude.{◌≡◌, IfOk};
+ghost use Rattle.std.specs.Option.{option_map};
+ghost use Rattle.pe_frame.specs.Modules.{module_at};
+
+use crate::ranges::IndexedRanges;
+use pe_frame::{
+    Arm64StackFrame, CallSites, LoadedModules, Memory, Module, StackFrame, WalkEnd,
+    caller_in_module, caller_in_module_arm64, caller_outside, caller_outside_arm64,
+};
+use std::alloc::{AllocError, Allocator};
+
+/// The modules of a process, in any order.
+#[derive(Drop)]
+pub struct IndexedModules<'a, A: Allocator + Drop> {
+    modules: IndexedRanges<'a, Module<'a>, A>,
+}
+
+impl<'a, A: Allocator + Copy + Drop> IndexedModules<'a, A> {
+    /// These modules.
+    pub fn new(alloc: A, modules: &'a [Module<'a>]) -> Result<IndexedModules<'a, A>, AllocError>
+        ensures { IfOk result (λ m. m.modules.ranges.now ≡ modules.entry.now) }
+    {
+        Ok(IndexedModules {
+            modules: IndexedRanges::new(alloc, modules)?,
+        })
+    }
+
+    /// The first module that has an address.
+    pub fn find(&self, address: u64) -> Option<&'a Module<'a>>
+        ensures { option_map (λ m. m.now) result ≡ module_at self.now.modules.ranges.now address }
+    {
+        self.modules.find(address)
+    }
+}
+
+impl<'a, A: Allocator + Copy + Drop> CallSites for IndexedModules<'a, A> {
+    ghost list = { λ m. m.modules.ranges.now };
+
+    fn ends_call(&self, address: u64) -> bool {
+        match self.find(address.saturating_sub(1)) {
+            Some(module) => module.is_after_call(address),
+            None => false,
+        }
+    }
+
+    fn ends_code_call(&self, address: u64) -> bool {
+        match self.find(address.saturating_sub(1)) {
+            Some(module) => module.is_code_return(address),
+            None => false,
+        }
+    }
+
+    fn ends_call_arm64(&self, address: u64) -> bool {
+        match self.find(address.saturating_sub(1)) {
+            Some(module) => module.is_after_call_arm64(address),
+            None => false,
+        }
+    }
+
+    fn ends_code_call_arm64(&self, address: u64) -> bool {
+        match self.find(address.saturating_sub(1)) {
+            Some(module) => module.is_code_return_arm64(address),
+            None => false,
+        }
+    }
+}
+
+impl<'a, A: Allocator + Copy + Drop> LoadedModules for IndexedModules<'a, A> {
+    ghost modules = { λ m. m.modules.ranges.now };
+
+    fn caller_of<M: Memory>(&self, frame: &StackFrame, memory: &M) -> Result<StackFrame, WalkEnd> {
+        match self.find(frame.lookup_address()) {
+            Some(module) => caller_in_module(self, module, frame, memory),
+            None => caller_outside(self, frame, memory),
+        }
+    }
+
+    fn caller_of_arm64<M: Memory>(
+        &self,
+        frame: &Arm64StackFrame,
+        memory: &M,
+    ) -> Result<Arm64StackFrame, WalkEnd> {
+        match self.find(frame.lookup_address()) {
+            Some(module) => caller_in_module_arm64(self, module, frame, memory),
+            None => caller_outside_arm64(self, frame, memory),
+        }
+    }
+}
