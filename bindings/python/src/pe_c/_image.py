@@ -21,6 +21,8 @@ if TYPE_CHECKING:
 
 T = TypeVar("T")
 RT_VERSION, RT_MANIFEST = 16, 24
+# What the bytes of a _core.Image are.
+IMAGE, OBJECT, TE, BYTES = range(4)
 IMAGE_FILE_DLL, IMAGE_FILE_EXECUTABLE_IMAGE = 0x2000, 0x2
 # Windows rounds raw pointers down to multiples of it.
 SECTOR = 512
@@ -80,7 +82,7 @@ class Image:
                  path: str | None = None) -> None:
         self.path = path
         self._kept: dict[str, Any] = {}
-        core, number = _core.image(data, int(mode), copy)
+        core, number = _core.image(data, int(mode), copy, IMAGE, False)
         if core is None:
             raise error_of(number, "headers", path)
         self._core = core
@@ -314,7 +316,7 @@ class Image:
 
     def _version_of(self, leaf: Resource) -> Version:
         place = (leaf.offset or 0, leaf.size)
-        fixed, _, _ = self._read("fixed_version", *place)
+        fixed, _, _ = self._read("fixed_version_in", *place)
         blocks: Part[VersionBlock] = self._part_of(self._read("version_blocks", *place), "version")
         strings: dict[str, dict[str, str]] = {}
         translations: list[tuple[int, int]] = []

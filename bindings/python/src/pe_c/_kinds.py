@@ -223,3 +223,76 @@ class Kind(enum.IntEnum):
     @classmethod
     def _missing_(cls, value: object) -> "Kind":
         return cls.OTHER
+
+
+class KnownOid(enum.IntEnum):
+    """An object identifier in signatures that has a number in pe.h. Numbers never change, and new ones may come."""
+
+    OTHER = 0
+    DATA = 1
+    SIGNED_DATA = 2
+    TST_INFO = 3
+    SPC_INDIRECT_DATA = 4
+    SPC_PE_IMAGE_DATA = 5
+    SPC_SIP_INFO = 6
+    SPC_CAB_DATA = 7
+    CTL = 8
+    CONTENT_TYPE = 101
+    MESSAGE_DIGEST = 102
+    SIGNING_TIME = 103
+    COUNTER_SIGNATURE = 104
+    SIGNING_CERTIFICATE = 105
+    AA_TIME_STAMP_TOKEN = 106
+    SIGNING_CERTIFICATE_V2 = 107
+    SPC_STATEMENT_TYPE = 108
+    SPC_SP_OPUS_INFO = 109
+    NESTED_SIGNATURE = 110
+    TIME_STAMP_TOKEN = 111
+    MD5 = 201
+    SHA1 = 202
+    SHA256 = 203
+    SHA384 = 204
+    SHA512 = 205
+    RSA = 206
+    MD5_RSA = 207
+    SHA1_RSA = 208
+    SHA256_RSA = 209
+    SHA384_RSA = 210
+    SHA512_RSA = 211
+    RSA_PSS = 212
+    EC = 213
+    ECDSA_SHA1 = 214
+    ECDSA_SHA256 = 215
+    ECDSA_SHA384 = 216
+    ECDSA_SHA512 = 217
+    DSA = 218
+    DSA_SHA1 = 219
+    COMMON_NAME = 301
+    SERIAL_NUMBER = 302
+    COUNTRY = 303
+    LOCALITY = 304
+    STATE = 305
+    STREET = 306
+    ORGANIZATION = 307
+    ORGANIZATIONAL_UNIT = 308
+    BUSINESS_CATEGORY = 309
+    POSTAL_CODE = 310
+    DOMAIN_COMPONENT = 311
+    USER_ID = 312
+    EMAIL_ADDRESS = 313
+    JURISDICTION_COUNTRY = 314
+    JURISDICTION_STATE = 315
+    JURISDICTION_LOCALITY = 316
+    SUBJECT_KEY_IDENTIFIER = 401
+    KEY_USAGE = 402
+    SUBJECT_ALT_NAME = 403
+    BASIC_CONSTRAINTS = 404
+    CERTIFICATE_POLICIES = 405
+    AUTHORITY_KEY_IDENTIFIER = 406
+    EXTENDED_KEY_USAGE = 407
+    CRL_DISTRIBUTION_POINTS = 408
+    AUTHORITY_INFORMATION_ACCESS = 409
+
+    @classmethod
+    def _missing_(cls, value: object) -> "KnownOid":
+        return cls.OTHER

@@ -106,8 +106,12 @@ def shown(value: Any) -> str:
         return f"{value.nbytes} bytes"
     if isinstance(value, tuple):
         return f"{len(value)} entries" if not fields_of(value) else html.escape(repr(tuple(value)))
-    text = value if isinstance(value, str) else repr(value)
-    return html.escape("".join(it if it.isprintable() else it.encode("unicode_escape").decode() for it in text))
+    return html.escape(shown_text(value if isinstance(value, str) else repr(value)))
+
+
+def shown_text(text: str) -> str:
+    """A text without control characters, which none can forge a line with."""
+    return "".join(it if it.isprintable() else it.encode("unicode_escape").decode() for it in text)
 
 
 def entropy_of(counts: Iterable[int]) -> float:
