@@ -14,10 +14,11 @@ import unicodedata
 from typing import Any, Callable, Iterable
 
 from . import _core, _names as names
-from ._image import BYTES, IMAGE, OBJECT, TE, Mode
+from ._image import Mode
 from ._kinds import Kind
 from ._ordinals import ORDINALS
 from ._part import entropy_of
+from ._reader import IMAGE, OBJECT, TE
 
 Facts = dict[str, Any]
 Triple = tuple[Any, int, bool]
@@ -719,6 +720,3 @@ def is_refused(value: Any, key: str = "") -> bool:
         return any(it is not None if name == "error" or name.endswith("_error") else is_refused(it, name)
                    for name, it in value.items())
     return isinstance(value, list) and key not in SHOWN_AS_SUCH and any(is_refused(it, key) for it in value)
-
-
-__all__ = ["BYTES", "Facts", "facts_of", "is_refused"]

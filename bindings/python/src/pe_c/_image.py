@@ -5,24 +5,25 @@ import enum
 import hashlib
 import os
 import struct
-from typing import TYPE_CHECKING, Any, Callable, NamedTuple, TypeVar
+from typing import TYPE_CHECKING, Any, NamedTuple
 
 from . import _core
 from ._core import (AllHeaders, Arm64Function, Arm64Packed, Arm64Record, BoundLibrary, Certificate, Checksum, ClrHeader, DebugEntry,
-                    DelayLibrary, Export, ExportTable, FixedVersion, Function, Headers, Library, LoadConfig, Metadata, Pdb20,
-                    Pogo, RelocationBlock, Repro, Resource, RichHeader, Section, SymbolKey, Tls, UnwindRecord, VcFeatures,
+                    DelayLibrary, EmbeddedPdb, Export, ExportTable, FixedVersion, Function, Headers, Library, LoadConfig, Metadata, Pdb20, PdbChecksum,
+                    Pogo, RelocationBlock, Repro, Resource, RichHeader, Section, Symbol, SymbolKey, Tls, UnwindRecord, VcFeatures,
                     VersionBlock)
 from ._kinds import Kind
 from ._ordinals import ORDINALS
 from ._part import SHOWN, Error, Part, entropy_of, error_of, plain, shown
+from ._reader import IMAGE, Reader, content_of
+from ._report import Report
 
 if TYPE_CHECKING:
     from _typeshed import ReadableBuffer
+    from ._signature import Signature
 
-T = TypeVar("T")
 RT_VERSION, RT_MANIFEST = 16, 24
-# What the bytes of a _core.Image are.
-IMAGE, OBJECT, TE, BYTES = range(4)
+WIN_CERT_TYPE_PKCS_SIGNED_DATA = 2
 IMAGE_FILE_DLL, IMAGE_FILE_EXECUTABLE_IMAGE = 0x2000, 0x2
 # Windows rounds raw pointers down to multiples of it.
 SECTOR = 512
@@ -67,7 +68,7 @@ class Unwind(NamedTuple):
     """its unwind records: its own, then those that it is chained to"""
 
 
-class Image:
+class Image(Reader):
     """A PE image over the bytes of a file: bytes, a bytearray, an mmap, a memoryview or anything else with a buffer.
 
     It holds the buffer, and copies one that may be written; with copy=False it holds that too, and nothing may write
@@ -80,27 +81,7 @@ class Image:
 
     def __init__(self, data: ReadableBuffer, mode: Mode = Mode.PERMISSIVE, *, copy: bool = True,
                  path: str | None = None) -> None:
-        self.path = path
-        self._kept: dict[str, Any] = {}
-        core, number = _core.image(data, int(mode), copy, IMAGE, False)
-        if core is None:
-            raise error_of(number, "headers", path)
-        self._core = core
-
-    def close(self) -> None:
-        """Lets the buffer go. Raises BufferError while another call reads the image, as that of another thread."""
-        self._core.close()
-        self._kept.clear()
-
-    @property
-    def closed(self) -> bool:
-        return self._core.closed
-
-    def __enter__(self) -> Image:
-        return self
-
-    def __exit__(self, *_: object) -> None:
-        self.close()
+        super().__init__(data, IMAGE, "headers", mode=int(mode), copy=copy, path=path)
 
     def __repr__(self) -> str:
         if self.closed:
@@ -108,50 +89,7 @@ class Image:
         headers = self.headers
         return f"<pe_c.Image {self.path or ''} machine 0x{headers.machine:x} width {headers.width} {len(self.memory)} bytes>"
 
-    # ---- reading
-
-    def _read(self, name: str, *arguments: Any) -> tuple[Any, int, bool]:
-        answer: tuple[Any, int, bool] = getattr(self._core, name)(*arguments)
-        return answer
-
-    def _once(self, name: str, read: Callable[[], T]) -> T:
-        """What is read of an open image, kept until it is closed: from then on each read raises ValueError."""
-        if name not in self._kept:
-            self._kept[name] = read()
-        kept: T = self._kept[name]
-        return kept
-
-    def _part_of(self, answer: tuple[Any, int, bool], name: str) -> Part[Any]:
-        rows, number, is_limited = answer
-        part: Part[Any] = Part(rows or ())
-        part.error = error_of(number, name, self.path) if number else None
-        part.is_limited = is_limited
-        return part
-
-    def _part(self, name: str) -> Part[Any]:
-        return self._once(name, lambda: self._part_of(self._read(name), name))
-
-    def _kept_answer(self, name: str) -> tuple[Any, int, bool]:
-        return self._once(name, lambda: self._read(name))
-
-    def _one(self, name: str) -> Any:
-        value, number, _ = self._kept_answer(name)
-        if number:
-            raise error_of(number, name, self.path)
-        return value
-
-    def _asked(self, part: str, name: str, *arguments: Any) -> Any:
-        value, number, _ = self._read(name, *arguments)
-        if number:
-            raise error_of(number, part, self.path)
-        return value
-
     # ---- headers
-
-    @property
-    def memory(self) -> memoryview:
-        """All bytes of the image, which can't be written."""
-        return self._core.memory
 
     @property
     def headers(self) -> Headers:
@@ -225,6 +163,28 @@ class Image:
         return self._part("certificates")
 
     @property
+    def signatures(self) -> Part[Signature]:
+        """What the certificates that are signatures say. They are not verified. Of damaged ones the first is the error."""
+        from ._signature import Signature
+        def read() -> Part[Signature]:
+            found, refused = [], self.certificates.error
+            for it in self.certificates:
+                if it.type == WIN_CERT_TYPE_PKCS_SIGNED_DATA:
+                    try:
+                        found.append(Signature(it.body, path=self.path))
+                    except Error as error:
+                        refused = refused or error
+            part: Part[Signature] = Part(found)
+            part.error = refused
+            return part
+        return self._once("signatures", read)
+
+    @property
+    def symbols(self) -> Part[Symbol]:
+        """The COFF symbols, without auxiliary records, as images of mingw-w64 and Go have them."""
+        return self._part("symbols")
+
+    @property
     def resources(self) -> Part[Resource]:
         """All resources, each in each language."""
         return self._part("resources")
@@ -286,6 +246,18 @@ class Image:
     def pogo(self) -> Pogo | None:
         """The POGO record: the parts of the image's sections."""
         row: Pogo | None = self._one("pogo")
+        return row
+
+    @property
+    def embedded_pdb(self) -> EmbeddedPdb | None:
+        """A portable PDB in the image itself, of .NET."""
+        row: EmbeddedPdb | None = self._one("embedded_pdb")
+        return row
+
+    @property
+    def pdb_checksum(self) -> PdbChecksum | None:
+        """A checksum of the PDB file, of .NET."""
+        row: PdbChecksum | None = self._one("pdb_checksum")
         return row
 
     @property
@@ -504,6 +476,15 @@ class Image:
                 "notes": list(self.notes),
                 "warnings": [{"part": it.part, "number": it.number, "text": it.text} for it in self.warnings]}
 
+    def facts(self, *, has_hashes: bool = True) -> dict[str, Any]:
+        """What `pe --json` says of the image, as docs/pe.schema.json has it. Never raises Error: an error stands beside its part."""
+        from ._facts import facts_of
+        return facts_of(self.memory, self.path or "", Mode(self.headers.mode), has_hashes)[0]
+
+    def report(self, program: str = "pe") -> Report:
+        """The page of `pe report`, to be shown in a notebook. Raises OSError without that program, and where it fails."""
+        return Report.of(self.memory, self.path or "image", program)
+
     def _repr_html_(self) -> str:
         rows = "".join(f"<tr><td>{shown(it.name)}</td><td>0x{it.virtual_address:x}</td><td>{it.size_of_raw_data}</td>"
                        f"<td><meter max=8 value={value or 0:.2f}></meter> {value or 0:.2f}</td></tr>"
@@ -520,11 +501,5 @@ def open(path: str | os.PathLike[str], mode: Mode = Mode.PERMISSIVE, *, limit: i
 
     Raises Error where its headers are refused, and OSError where it can't be read or has more than `limit` bytes.
     """
-    import errno
-    import io
     name = os.fspath(path)
-    with io.open(name, "rb", buffering=0) as file:
-        if os.fstat(file.fileno()).st_size > limit:
-            raise OSError(errno.EFBIG, os.strerror(errno.EFBIG), name)
-        data = file.readall()
-    return Image(data, mode, path=name)
+    return Image(content_of(name, limit), mode, path=name)

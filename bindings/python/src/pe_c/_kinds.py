@@ -296,3 +296,38 @@ class KnownOid(enum.IntEnum):
     @classmethod
     def _missing_(cls, value: object) -> "KnownOid":
         return cls.OTHER
+
+
+class Way(enum.IntEnum):
+    """How a frame of a stack walk was found."""
+
+    TOP = 0
+    """it is the top frame"""
+    RECORDS = 1
+    """by the unwind records of the function that it called"""
+    LEAF = 2
+    """it called a leaf function"""
+    INTERRUPT = 3
+    """an interrupt stopped it: the records before it show what the processor pushed, on ARM64 what the
+    operating system saved"""
+    SCANNED = 4
+    """by a scan of the stack, where no records led on: it may be wrong, and those after it"""
+
+
+class End(enum.IntEnum):
+    """Why a stack walk is over."""
+
+    BOUND = 0
+    """as many frames were returned as the caller wants"""
+    BOTTOM = 1
+    """the stack is whole: its last frame returns to 0, and no frame is found there"""
+    NO_MODULE = 2
+    """no module has the last instruction pointer, and no return address is found"""
+    NO_FUNCTION = 3
+    """no function covers the call in the last frame"""
+    RECORDS = 4
+    """an unwind record of the last function cannot be read: `error` says why"""
+    LONG_CHAIN = 5
+    """more than 32 of them are chained"""
+    STEP = 6
+    """the step from the last frame is refused: `error` and `address` as in pe_c_step"""

@@ -17,9 +17,10 @@ from typing import Iterable, Iterator, NamedTuple
 
 from . import _core
 from ._facts import facts_of, is_refused
-from ._image import IMAGE, Mode
+from ._image import Mode
 from ._kinds import Kind
 from ._part import shown_text
+from ._reader import IMAGE
 
 DONE, REFUSED, MISUSED, FILE_ERROR = 0, 1, 2, 3
 # How much of a file below a folder is read to see whether it is an image.
