@@ -7,7 +7,7 @@ import concurrent.futures.process
 import os
 import sys
 import time
-from typing import TextIO
+import typing
 
 from ._image import Mode
 from .scan import DONE, FILE_ERROR, How, scan
@@ -35,7 +35,7 @@ def arguments(words: list[str]) -> argparse.Namespace:
 class Bar:
     """A sign that work goes on, on a terminal."""
 
-    def __init__(self, out: TextIO, is_shown: bool) -> None:
+    def __init__(self, out: typing.TextIO, is_shown: bool) -> None:
         self.out, self.is_shown, self.start, self.next = out, is_shown, time.monotonic(), 0.0
         self.files = self.bytes = 0
 

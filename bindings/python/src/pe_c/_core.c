@@ -995,10 +995,9 @@ static PyObject *get_closed(Image *self, void *Py_UNUSED(none))
     return B(!self->memory);
 }
 
+/* The collector does not see the buffer: it would clear a memoryview in a cycle while the image has it. */
 static int traverse(Image *self, visitproc visit, void *arg)
 {
-    Py_VISIT(self->memory);
-    Py_VISIT(self->view.obj);
     Py_VISIT((PyObject *)Py_TYPE((PyObject *)self));
     return 0;
 }
@@ -1055,16 +1054,13 @@ static int holds(Image *self, PyObject *data, int is_copied)
 static uint32_t headers_of(Image *self, unsigned int mode)
 {
     pe_c_headers_info all = PE_C_EMPTY;
-    uint32_t result = PE_C_DONE;
-    if (self->kind == KIND_OBJECT)
-        result = pe_c_coff(BYTES, &self->coff);
-    if (self->kind == KIND_TE)
-        result = pe_c_te(BYTES, &self->te);
-    if (self->kind == KIND_IMAGE)
-        result = pe_c_image(BYTES, mode, &self->info);
+    uint32_t result = self->kind == KIND_OBJECT  ? pe_c_coff(BYTES, &self->coff)
+                      : self->kind == KIND_TE    ? pe_c_te(BYTES, &self->te)
+                      : self->kind == KIND_IMAGE ? pe_c_image(BYTES, mode, &self->info)
+                                                 : PE_C_DONE;
     if (self->kind == KIND_IMAGE && result == PE_C_DONE && pe_c_headers(BYTES, mode, &all) == PE_C_DONE)
         self->coff = all.coff;
-    if (self->kind == KIND_OBJECT || self->kind == KIND_TE)
+    if (self->kind != KIND_IMAGE)
         self->info.number_of_sections = self->kind == KIND_TE ? self->te.number_of_sections : self->coff.number_of_sections;
     return result;
 }
@@ -1080,12 +1076,9 @@ static uint32_t reads(Image *self, unsigned int mode)
         PyErr_NoMemory();
         return PE_C_MEMORY;
     }
-    if (self->kind == KIND_OBJECT)
-        result = pe_c_coff_sections(BYTES, &self->coff, SECTIONS);
-    else if (self->kind == KIND_TE)
-        result = pe_c_te_sections(BYTES, &self->te, SECTIONS);
-    else
-        result = pe_c_sections(BYTES, &self->info, SECTIONS);
+    result = self->kind == KIND_OBJECT ? pe_c_coff_sections(BYTES, &self->coff, SECTIONS)
+             : self->kind == KIND_TE   ? pe_c_te_sections(BYTES, &self->te, SECTIONS)
+                                       : pe_c_sections(BYTES, &self->info, SECTIONS);
     uint32_t strings = self->kind == KIND_OBJECT ? pe_c_coff_strings(BYTES, &self->coff, &self->strings)
                                                  : pe_c_string_table(BYTES, &self->info, &self->strings);
     if (self->kind == KIND_TE || self->kind == KIND_BYTES || strings != PE_C_DONE)

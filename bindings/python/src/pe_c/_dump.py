@@ -4,7 +4,8 @@ from __future__ import annotations
 import bisect
 import os
 import struct
-from typing import TYPE_CHECKING, Any, Callable, Iterable, NamedTuple
+import typing
+from typing import TYPE_CHECKING, Any
 
 from . import _core
 from ._core import (Arm64Context, Arm64Registers, Arm64StackFrame, Context, DumpEntry, DumpException, DumpHandle, DumpHeader,
@@ -16,7 +17,7 @@ from ._part import Error, Part, error_of
 from ._reader import BYTES, Reader, content_of
 
 if TYPE_CHECKING:
-    from _typeshed import ReadableBuffer
+    import _typeshed
 
 LISTS = ("entries", "threads", "modules", "thread_names", "unloaded", "thread_infos", "handles", "regions", "memory", "memory64")
 RECORDS = ("exception", "system", "process")
@@ -28,7 +29,7 @@ Piece = tuple[int, int, int]
 AnyFrame = StackFrame | Arm64StackFrame
 
 
-class Stack(NamedTuple):
+class Stack(typing.NamedTuple):
     """A stack that was walked."""
 
     frames: Part[AnyFrame]
@@ -41,8 +42,8 @@ class Stack(NamedTuple):
     """what the error of a step speaks of"""
 
 
-def walk(registers: Registers | Arm64Registers, modules: Iterable[tuple[Image, int]], memory: ReadableBuffer,
-         pieces: Iterable[Piece], most: int = 1000) -> Stack:
+def walk(registers: Registers | Arm64Registers, modules: typing.Iterable[tuple[Image, int]], memory: _typeshed.ReadableBuffer,
+         pieces: typing.Iterable[Piece], most: int = 1000) -> Stack:
     """Walks a stack from the registers of a thread, x64's or ARM64's: through modules, each an image and the address where it is
     loaded, over pieces of memory, each an address, an offset in `memory` and a length. At most `most` frames, 16,384 or fewer.
 
@@ -73,7 +74,7 @@ class Dump(Reader):
     """A minidump over the bytes of a file. Raises Error where its header is refused. After that a list never raises: what ended it is
     its `error`; a record raises Error where it is damaged, and is None where the dump has none."""
 
-    def __init__(self, data: ReadableBuffer, *, copy: bool = True, path: str | None = None) -> None:
+    def __init__(self, data: _typeshed.ReadableBuffer, *, copy: bool = True, path: str | None = None) -> None:
         super().__init__(data, BYTES, "dump", copy=copy, path=path)
         self._one("dump")
 
@@ -216,7 +217,7 @@ class Dump(Reader):
         headers = image.headers
         return (headers.time_date_stamp, headers.size_of_image) == (module.time_date_stamp, module.size_of_image)
 
-    def stack(self, thread: DumpThread, look_up: Callable[[DumpModule], Image | None] | None = None, most: int = 1000) -> Stack:
+    def stack(self, thread: DumpThread, look_up: typing.Callable[[DumpModule], Image | None] | None = None, most: int = 1000) -> Stack:
         """The stack of a thread. The image of a module is that in the dump's memory, else the one that `look_up` returns for it, if its
         time stamp and its size are the module's. Raises Error where the registers of the thread can't be read."""
         registers = self.context(thread).registers

@@ -2,7 +2,7 @@
 from __future__ import annotations
 
 import struct
-from typing import Iterable, Mapping
+import typing
 
 from . import _core
 from ._image import Image
@@ -85,7 +85,7 @@ class ResourceEditor:
         return written
 
 
-def _block(key: str, is_text: bool, value: bytes, children: Iterable[bytes] = ()) -> bytes:
+def _block(key: str, is_text: bool, value: bytes, children: typing.Iterable[bytes] = ()) -> bytes:
     found, number = _core.write_block(_units(key), int(is_text), value, b"".join(children))
     if number or found is None:
         raise error_of(number, "version")
@@ -93,7 +93,7 @@ def _block(key: str, is_text: bool, value: bytes, children: Iterable[bytes] = ()
 
 
 def version_info(*, file_version: tuple[int, int, int, int] = (0, 0, 0, 0), product_version: tuple[int, int, int, int] | None = None,
-                 strings: Mapping[str, str] | None = None, language: int = 0x409, file_type: int = VFT_APP) -> bytes:
+                 strings: typing.Mapping[str, str] | None = None, language: int = 0x409, file_type: int = VFT_APP) -> bytes:
     """Version information, the content of a resource of type 16 (RT_VERSION): the numbers, and strings in one language. Raises Error
     where a string can't be written, and where all have more than 65,535 bytes."""
     def halves(version: tuple[int, int, int, int]) -> tuple[int, int]:

@@ -11,7 +11,8 @@ import math
 import os
 import struct
 import unicodedata
-from typing import Any, Callable, Iterable
+import typing
+from typing import Any
 
 from . import _core, _names as names
 from ._image import Mode
@@ -100,14 +101,14 @@ def stamp(seconds: int, is_hash: bool = False) -> Facts:
     return {"time_date_stamp": seconds, "time": time_of(seconds) if seconds and not is_hash else None}
 
 
-def part(key: str, answer: Triple, of: Callable[[Any], Any]) -> Facts:
+def part(key: str, answer: Triple, of: typing.Callable[[Any], Any]) -> Facts:
     """A part that is absent, there, or refused."""
     value, number, _ = answer
     is_there = value is not None and not number
     return {key: of(value) if is_there else None, f"{key}_error": refusal(number)}
 
 
-def rows(key: str, answer: Triple, of: Callable[[Any], Any]) -> Facts:
+def rows(key: str, answer: Triple, of: typing.Callable[[Any], Any]) -> Facts:
     """A list, up to its error: None where it is absent, or its start is refused."""
     value, number, is_limited = answer
     return {key: None if value is None else [of(it) for it in value], f"{key}_error": refusal(number),
@@ -490,7 +491,7 @@ def tables_in(blocks: Triple, own: Facts, to: list[Facts]) -> int:
     found, number, _ = blocks
     if not found:
         return number
-    informations, number, _ = found[0].children
+    informations, last, _ = found[0].children
     for information in informations or ():
         if text_to_zero(information.key) != "StringFileInfo":
             continue
@@ -502,8 +503,8 @@ def tables_in(blocks: Triple, own: Facts, to: list[Facts]) -> int:
             is_own = table.language is not None and (table.language != 0 or own["id"] == 0)
             to.append({"language": language(table.language) if is_own else own, "code_page": table.code_page, "strings": strings})
         if inner:
-            return inner
-    return number
+            return int(inner)
+    return int(last)
 
 
 def languages(image: Exact) -> Facts:
@@ -644,7 +645,7 @@ def kind_of(data: bytes) -> str | None:
     """What a file is that is no image, by its first bytes."""
     def is_machine(two: bytes) -> bool:
         return len(two) == 2 and int.from_bytes(two, "little") in names.MACHINES
-    starts: Iterable[tuple[bool, str | None]] = (
+    starts: typing.Iterable[tuple[bool, str | None]] = (
         (not data, "an empty file"), (data[:2] == b"VZ" and is_machine(data[2:4]), TE_IMAGE),
         (data[:4] == b"\x7fELF", "an ELF file"), (data[:8] == b"!<arch>\n", "an archive of objects"),
         (data[:8] == b"!<thin>\n", "a thin archive of objects"),
@@ -661,7 +662,7 @@ def origin(path: str, size: int, number: int = 0, kind: str | None = None) -> Fa
             "file_hex": None if is_text else raw.hex(), "file_size": size, "error": refusal(number), "file_kind": kind}
 
 
-PARTS: list[Callable[[Exact], Facts]] = [
+PARTS: list[typing.Callable[[Exact], Facts]] = [
     imports, exports, lambda it: {"debug": debug(it)}, certificates, functions, lambda it: {"version": version(it)}, tls, relocations,
     delay_imports, bound_imports, load_config, clr, rich, resources]
 

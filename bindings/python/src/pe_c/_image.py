@@ -5,7 +5,8 @@ import enum
 import hashlib
 import os
 import struct
-from typing import TYPE_CHECKING, Any, NamedTuple
+import typing
+from typing import TYPE_CHECKING, Any
 
 from . import _core
 from ._core import (AllHeaders, Arm64Function, Arm64Packed, Arm64Record, BoundLibrary, Certificate, Checksum, ClrHeader, DebugEntry,
@@ -19,8 +20,8 @@ from ._reader import IMAGE, Reader, content_of
 from ._report import Report
 
 if TYPE_CHECKING:
-    from _typeshed import ReadableBuffer
-    from ._signature import Signature
+    import _typeshed
+    from . import _signature
 
 RT_VERSION, RT_MANIFEST = 16, 24
 WIN_CERT_TYPE_PKCS_SIGNED_DATA = 2
@@ -44,7 +45,7 @@ class Mode(enum.IntFlag):
     """the bytes are a module in memory, or a copy of one, from its first byte on: RVAs are offsets"""
 
 
-class Version(NamedTuple):
+class Version(typing.NamedTuple):
     """Version information in one language."""
 
     language: int | str
@@ -59,7 +60,7 @@ class Version(NamedTuple):
     """all blocks as a tree; its `error` is the first of them"""
 
 
-class Unwind(NamedTuple):
+class Unwind(typing.NamedTuple):
     """What unwinds an RVA of x64."""
 
     function: Function
@@ -79,7 +80,7 @@ class Image(Reader):
     without one, raises Error where it is damaged. After close() each raises ValueError. Contents, as those of
     resources, are memoryviews: they are not copied, can't be written, and stay valid after close(). """
 
-    def __init__(self, data: ReadableBuffer, mode: Mode = Mode.PERMISSIVE, *, copy: bool = True,
+    def __init__(self, data: _typeshed.ReadableBuffer, mode: Mode = Mode.PERMISSIVE, *, copy: bool = True,
                  path: str | None = None) -> None:
         super().__init__(data, IMAGE, "headers", mode=int(mode), copy=copy, path=path)
 
@@ -163,10 +164,10 @@ class Image(Reader):
         return self._part("certificates")
 
     @property
-    def signatures(self) -> Part[Signature]:
+    def signatures(self) -> Part[_signature.Signature]:
         """What the certificates that are signatures say. They are not verified. Of damaged ones the first is the error."""
         from ._signature import Signature
-        def read() -> Part[Signature]:
+        def read() -> Part[_signature.Signature]:
             found, refused = [], self.certificates.error
             for it in self.certificates:
                 if it.type == WIN_CERT_TYPE_PKCS_SIGNED_DATA:
@@ -174,7 +175,7 @@ class Image(Reader):
                         found.append(Signature(it.body, path=self.path))
                     except Error as error:
                         refused = refused or error
-            part: Part[Signature] = Part(found)
+            part: Part[_signature.Signature] = Part(found)
             part.error = refused
             return part
         return self._once("signatures", read)

@@ -9,14 +9,14 @@ from ._part import Part
 from ._reader import OBJECT, TE, Reader, content_of
 
 if TYPE_CHECKING:
-    from _typeshed import ReadableBuffer
+    import _typeshed
 
 
 class Coff(Reader):
     """A COFF object over the bytes of a file. Any bytes are such a header: look at `header.machine` and at the sections. Raises
     Error where headers are truncated. After that it is as Image."""
 
-    def __init__(self, data: ReadableBuffer, *, copy: bool = True, path: str | None = None) -> None:
+    def __init__(self, data: _typeshed.ReadableBuffer, *, copy: bool = True, path: str | None = None) -> None:
         super().__init__(data, OBJECT, "headers", copy=copy, path=path)
 
     @classmethod
@@ -46,7 +46,7 @@ class Te(Reader):
     """A TE image over the bytes of a file. RVAs are reduced by the bytes that were stripped, so each is a file offset. Raises Error
     where headers are refused. After that it is as Image."""
 
-    def __init__(self, data: ReadableBuffer, *, copy: bool = True, path: str | None = None) -> None:
+    def __init__(self, data: _typeshed.ReadableBuffer, *, copy: bool = True, path: str | None = None) -> None:
         super().__init__(data, TE, "headers", copy=copy, path=path)
 
     @classmethod

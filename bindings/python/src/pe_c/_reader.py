@@ -4,16 +4,17 @@ from __future__ import annotations
 import errno
 import io
 import os
-from typing import TYPE_CHECKING, Any, Callable, TypeVar
+import typing
+from typing import TYPE_CHECKING, Any, TypeVar
 
 from . import _core
 from ._part import Error, Part, error_of
 
 if TYPE_CHECKING:
-    from _typeshed import ReadableBuffer
-    from typing_extensions import Self
+    import _typeshed
 
 T = TypeVar("T")
+Self = TypeVar("Self", bound="Reader")
 # What the bytes of a _core.Image are.
 IMAGE, OBJECT, TE, BYTES = range(4)
 
@@ -29,7 +30,7 @@ def content_of(name: str, limit: int) -> bytes:
 class Reader:
     """The bytes of a file, and what was read of them."""
 
-    def __init__(self, data: ReadableBuffer, kind: int, part: str, *, mode: int = 1, copy: bool = True,
+    def __init__(self, data: _typeshed.ReadableBuffer, kind: int, part: str, *, mode: int = 1, copy: bool = True,
                  path: str | None = None) -> None:
         self.path = path
         self._kept: dict[str, Any] = {}
@@ -47,7 +48,7 @@ class Reader:
     def closed(self) -> bool:
         return self._core.closed
 
-    def __enter__(self) -> Self:
+    def __enter__(self: Self) -> Self:
         return self
 
     def __exit__(self, *_: object) -> None:
@@ -64,7 +65,7 @@ class Reader:
         answer: tuple[Any, int, bool] = getattr(self._core, name)(*arguments)
         return answer
 
-    def _once(self, name: str, read: Callable[[], T]) -> T:
+    def _once(self, name: str, read: typing.Callable[[], T]) -> T:
         """What is read of an open image, kept until it is closed: from then on each read raises ValueError."""
         if name not in self._kept:
             self._kept[name] = read()

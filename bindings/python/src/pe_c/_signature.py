@@ -2,9 +2,9 @@
 others to check."""
 from __future__ import annotations
 
-import functools
 import unicodedata
-from typing import TYPE_CHECKING, Any, Callable, TypeVar
+import typing
+from typing import TYPE_CHECKING, Any, TypeVar
 
 from . import _core
 from ._core import DerElement, NameAttribute, ObjectIdentifier, Range, SignedData, SignerInfo, X509Row
@@ -13,7 +13,7 @@ from ._part import Error, Part, error_of
 from ._reader import BYTES, Reader
 
 if TYPE_CHECKING:
-    from _typeshed import ReadableBuffer
+    import _typeshed
 
 T = TypeVar("T")
 # How many signatures stand in each other, and how many there are in all.
@@ -104,11 +104,11 @@ class _Inside:
         self._reader = reader
 
     def _name(self, at: Range) -> Name:
-        return Name(self._reader._part_of(self._reader._read("name_attributes", *at), "name"))
+        return Name(self._reader._part_of(self._reader._read("name_attributes", at.offset, at.length), "name"))
 
     def _time(self, at: Range) -> str | None:
         """A time as RFC 3339 has it; None where it is none."""
-        found, _, _ = self._reader._read("utc_time", *at)
+        found, _, _ = self._reader._read("utc_time", at.offset, at.length)
         return found and "{:04}-{:02}-{:02}T{:02}:{:02}:{:02}Z".format(*found)
 
 
@@ -117,7 +117,7 @@ class X509(_Inside):
 
     def __init__(self, reader: Signature, at: Range) -> None:
         super().__init__(reader)
-        self.row: X509Row = reader._asked("certificate", "x509", *at)
+        self.row: X509Row = reader._asked("certificate", "x509", at.offset, at.length)
         self.der = bytes(reader._bytes(at))
 
     @property
@@ -145,9 +145,9 @@ class X509(_Inside):
     def key_usage(self) -> int | None:
         """What the key is for: 0x80 signatures, 4 certificates, .. as pe_c_key_usage has it; None where it does not say."""
         for it in self._reader._elements(self.row.extensions):
-            extension, number, _ = self._reader._read("extension", *it.whole)
+            extension, number, _ = self._reader._read("extension", it.whole.offset, it.whole.length)
             if not number and extension.type.id == KnownOid.KEY_USAGE:
-                usage: int | None = self._reader._read("key_usage", *it.whole)[0]
+                usage: int | None = self._reader._read("key_usage", it.whole.offset, it.whole.length)[0]
                 return usage
         return None
 
@@ -160,7 +160,8 @@ class TimeStamp(_Inside):
 
     def __init__(self, signature: Signature) -> None:
         super().__init__(signature)
-        row = signature._asked("time stamp", "time_stamp", *signature.row.content)
+        at = signature.row.content or Range((0, 0))
+        row = signature._asked("time stamp", "time_stamp", at.offset, at.length)
         self.signature = signature
         self.time = self._time(row.time)
         self.digest_algorithm = algorithm_of(row.digest_algorithm.oid)
@@ -176,9 +177,10 @@ class Signer(_Inside):
 
     def __init__(self, reader: Signature, at: Range) -> None:
         super().__init__(reader)
-        self.row: SignerInfo = reader._asked("signer", "signer", *at)
+        self.row: SignerInfo = reader._asked("signer", "signer", at.offset, at.length)
         self.digest_algorithm = algorithm_of(self.row.digest_algorithm.oid)
         self.signature_algorithm = algorithm_of(self.row.signature_algorithm.oid)
+        self._attributes = self._read_attributes()
 
     @property
     def issuer(self) -> Name:
@@ -194,20 +196,19 @@ class Signer(_Inside):
     def signature(self) -> bytes:
         return self.row.signature
 
-    @functools.cached_property
+    @property
     def certificate(self) -> X509 | None:
         """That of the signer, if the signature has it."""
         own = self._reader._bytes(self.row.issuer)
         return next((it for it in self._reader.certificates
                      if it.row.serial == self.row.serial and self._reader._bytes(it.row.issuer) == own), None)
 
-    @functools.cached_property
-    def _attributes(self) -> dict[KnownOid, list[Range]]:
+    def _read_attributes(self) -> dict[KnownOid, list[Range]]:
         """The values of the attributes that have a number: those of the signed ones, then of the others."""
         found: dict[KnownOid, list[Range]] = {}
         for walk in (self.row.signed_attributes, self.row.unsigned_attributes):
-            for it in self._reader._elements(walk):
-                attribute, number, _ = self._reader._read("attribute", *it.whole)
+            for it in self._reader._elements(walk) if walk is not None else ():
+                attribute, number, _ = self._reader._read("attribute", it.whole.offset, it.whole.length)
                 if not number and attribute.type.id:
                     values = [one.whole for one in self._reader._elements(attribute.values)]
                     found.setdefault(KnownOid(attribute.type.id), []).extend(values)
@@ -220,19 +221,19 @@ class Signer(_Inside):
     def signing_time(self) -> str | None:
         """When the signer says to have signed."""
         at = self._first(KnownOid.SIGNING_TIME)
-        return at and self._time(at)
+        return None if at is None else self._time(at)
 
     @property
     def message_digest(self) -> bytes | None:
         """The digest of what is signed, as a signed attribute."""
         at = self._first(KnownOid.MESSAGE_DIGEST)
-        found = self._reader._elements(at) if at else ()
-        return bytes(self._reader._bytes(found[0].content)) if found else None
+        found = self._reader._elements(at)[0].content if at is not None and self._reader._elements(at) else None
+        return None if found is None else bytes(self._reader._bytes(found))
 
-    @functools.cached_property
+    @property
     def _program(self) -> Any:
         at = self._first(KnownOid.SPC_SP_OPUS_INFO)
-        return self._reader._read("opus_info", *at)[0] if at else None
+        return self._reader._read("opus_info", at.offset, at.length)[0] if at else None
 
     @property
     def program_name(self) -> str | None:
@@ -244,7 +245,7 @@ class Signer(_Inside):
         it = self._program
         return text_of(0x16, it.more_info) if it and it.more_info_tag == 0x80 else None
 
-    def _made(self, kind: KnownOid, make: Callable[[Range], T]) -> Part[T]:
+    def _made(self, kind: KnownOid, make: typing.Callable[[Range], T]) -> Part[T]:
         return _all_of(self._attributes.get(kind, []), make)
 
     @property
@@ -265,7 +266,7 @@ class Signer(_Inside):
         return f"<pe_c.Signer {self.certificate.subject if self.certificate else self.serial}>"
 
 
-def _all_of(ranges: list[Range], make: Callable[[Range], T]) -> Part[T]:
+def _all_of(ranges: list[Range], make: typing.Callable[[Range], T]) -> Part[T]:
     """What is made of each; the first that is refused is the error."""
     found, refused = [], None
     for at in ranges:
@@ -282,7 +283,7 @@ class Signature(Reader):
     """A signature: the body of a certificate of an image. Raises Error where it is refused; what it has then never raises but Error.
     It is no verifier: see `digest`."""
 
-    def __init__(self, data: ReadableBuffer, *, path: str | None = None, depth: int = 0) -> None:
+    def __init__(self, data: _typeshed.ReadableBuffer, *, path: str | None = None, depth: int = 0) -> None:
         super().__init__(data, BYTES, "signature", path=path)
         if depth > MOST_NESTED:
             raise error_of(Kind.SIGNATURE_CONTENT_TYPE, "nested signature", path)
@@ -293,7 +294,7 @@ class Signature(Reader):
         return self.memory[at.offset:at.offset + at.length]
 
     def _elements(self, at: Range) -> tuple[DerElement, ...]:
-        found: tuple[DerElement, ...] | None = self._read("elements", *at)[0]
+        found: tuple[DerElement, ...] | None = self._read("elements", at.offset, at.length)[0]
         return found or ()
 
     def _inner(self, at: Range) -> Signature:
@@ -304,12 +305,13 @@ class Signature(Reader):
         """What is signed: "SPC_INDIRECT_DATA" of an image."""
         return algorithm_of(self.row.content_type)
 
-    @functools.cached_property
+    @property
     def _indirect(self) -> _core.SpcIndirectData | None:
-        if self.row.content_type.id != KnownOid.SPC_INDIRECT_DATA:
-            return None
-        row: _core.SpcIndirectData = self._asked("indirect data", "indirect_data", *self.row.content)
-        return row
+        def read() -> _core.SpcIndirectData:
+            at = self.row.content or Range((0, 0))
+            row: _core.SpcIndirectData = self._asked("indirect data", "indirect_data", at.offset, at.length)
+            return row
+        return self._once("indirect", read) if self.row.content_type.id == KnownOid.SPC_INDIRECT_DATA else None
 
     @property
     def digest_algorithm(self) -> str | None:
@@ -321,15 +323,18 @@ class Signature(Reader):
         """The digest of the image that is signed: it is that of this image where Image.digest(digest_algorithm) has it."""
         return self._indirect.digest if self._indirect else None
 
-    @functools.cached_property
+    def _members(self, name: str, walk: Range, make: typing.Callable[[Range], T]) -> Part[T]:
+        return self._once(name, lambda: _all_of([it.whole for it in self._elements(walk)], make))
+
+    @property
     def certificates(self) -> Part[X509]:
         """The certificates in the signature. Of damaged ones the first is the error."""
-        return _all_of([it.whole for it in self._elements(self.row.certificates)], lambda it: X509(self, it))
+        return self._members("certificates", self.row.certificates, lambda it: X509(self, it))
 
-    @functools.cached_property
+    @property
     def signers(self) -> Part[Signer]:
         """Who signed; of an image it is one."""
-        return _all_of([it.whole for it in self._elements(self.row.signers)], lambda it: Signer(self, it))
+        return self._members("signers", self.row.signers, lambda it: Signer(self, it))
 
     def __repr__(self) -> str:
         return f"<pe_c.Signature {self.content_type} {list(self.signers)}>"

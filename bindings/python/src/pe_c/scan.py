@@ -13,7 +13,7 @@ import json
 import os
 import stat
 import sys
-from typing import Iterable, Iterator, NamedTuple
+import typing
 
 from . import _core
 from ._facts import facts_of, is_refused
@@ -30,7 +30,7 @@ BATCH_BYTES, BATCH_FILES, AHEAD = 16 << 20, 64, 4
 LIMIT = 1 << 32
 
 
-class File(NamedTuple):
+class File(typing.NamedTuple):
     """A file that is asked for."""
 
     path: str
@@ -40,14 +40,14 @@ class File(NamedTuple):
     """bytes, as far as they are known"""
 
 
-class How(NamedTuple):
+class How(typing.NamedTuple):
     """How files are read and shown."""
 
     mode: int = int(Mode.PERMISSIVE)
     has_hashes: bool = True
 
 
-class Said(NamedTuple):
+class Said(typing.NamedTuple):
     """What is said of a file."""
 
     line: str
@@ -60,7 +60,7 @@ class Said(NamedTuple):
     size: int
 
 
-def below(folder: str) -> Iterator[File]:
+def below(folder: str) -> typing.Iterator[File]:
     """The files below a folder, each folder's in the order of their names. Links to folders are not followed. A folder that can't be
     read is an item by itself, so that reading it says why."""
     waiting = [os.fsencode(folder)]
@@ -76,9 +76,9 @@ def below(folder: str) -> Iterator[File]:
         yield File(os.fsdecode(path), True, size)
 
 
-def files(paths: Iterable[str | os.PathLike[str]], recursive: bool = False) -> Iterator[File]:
+def files(paths: typing.Iterable[str | os.PathLike[str]], recursive: bool = False) -> typing.Iterator[File]:
     """The files that are named, and those below the folders that are."""
-    for path in map(os.fspath, paths):
+    for path in (os.fspath(it) for it in paths):
         if recursive and os.path.isdir(path):
             yield from below(path)
         else:
@@ -130,22 +130,22 @@ def lines_of(batch: list[File], how: How) -> list[Said]:
     return [line_of(it, how) for it in batch]
 
 
-def batches(found: Iterable[File]) -> Iterator[list[File]]:
-    """The files by so many bytes: files of 90 MB stand beside files of 9 KB."""
+def batches(found: typing.Iterable[File], size: int = BATCH_BYTES, count: int = BATCH_FILES) -> typing.Iterator[list[File]]:
+    """The files in lists of so many bytes, and of so many files at most: files of 90 MB stand beside files of 9 KB."""
     batch: list[File] = []
-    left = BATCH_BYTES
+    left = size
     for it in found:
-        if batch and (it.size > left or len(batch) == BATCH_FILES):
+        if batch and (it.size > left or len(batch) == count):
             yield batch
-            batch, left = [], BATCH_BYTES
+            batch, left = [], size
         batch.append(it)
         left -= it.size
     if batch:
         yield batch
 
 
-def scan(paths: Iterable[str | os.PathLike[str]], *, recursive: bool = True, jobs: int | None = None,
-         how: How = How()) -> Iterator[Said]:
+def scan(paths: typing.Iterable[str | os.PathLike[str]], *, recursive: bool = True, jobs: int | None = None,
+         how: How = How()) -> typing.Iterator[Said]:
     """What is said of each file, in the order of the files, by so many processes: by default as many as the machine has."""
     jobs = jobs or len(os.sched_getaffinity(0))
     found = batches(files(paths, recursive))
