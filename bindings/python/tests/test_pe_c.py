@@ -377,15 +377,35 @@ class Allocations(unittest.TestCase):
         for name in ("exports", "resources", "functions", "debug", "x86_dll", "delay_imports", "bound_imports", "clr", "tls",
                      "relocations", "rich_header", "certificates"):
             data = bytes_of(name)
-            self.fails_in_turn(lambda: pe_c._core.image(data, 1, True))
-            core, _ = pe_c._core.image(data, 1, True)
-            for call in (*LISTS, *RECORDS, "checksum", "digest_ranges", "detach"):
+            self.fails_in_turn(lambda: pe_c._core.image(data, 1, True, 0, False))
+            core, _ = pe_c._core.image(data, 1, True, 0, False)
+            for call in (*LISTS, *RECORDS, "checksum", "digest_ranges", "detach", "symbols", "fixed_version", "manifest"):
                 self.fails_in_turn(getattr(core, call))
             self.fails_in_turn(lambda: core.histogram(0, 64))
             for leaf in core.resources()[0] or ():
                 self.fails_in_turn(lambda: core.version_blocks(leaf.offset or 0, leaf.size))
             for function in (core.functions()[0] or ())[:4]:
                 self.fails_in_turn(lambda: core.unwind_records(function.unwind))
+
+
+    def test_calls_of_other_files(self):
+        for name, kind in (("object.obj", 1), ("te_image.te", 2), ("x64.dmp", 3), ("arm64.dmp", 3)):
+            with open(os.path.join(IMAGES, name), "rb") as file:
+                data = file.read()
+            self.fails_in_turn(lambda: pe_c._core.image(data, 1, True, kind, False))
+            core, _ = pe_c._core.image(data, 1, True, kind, False)
+            calls = {1: ("sections", "symbols", "coff_header"), 2: ("te_header", "te_debug_entries", "te_symbol_key"),
+                     3: [it for it in dir(core) if it.startswith("dump") and "context" not in it]}[kind]
+            for call in calls:
+                self.fails_in_turn(getattr(core, call))
+        image = pe_c._core.image(bytes_of("functions"), 1, True, 0, False)[0]
+        registers = struct.pack("<49Q", *[0] * 4, 0x20000, 0x20040, *[0] * 42, 0x180005008)
+        memory = pe_c._core.image(struct.pack("<6Q", 0, 0, 0, 0, 1, 2), 1, True, 3, False)[0]
+        base, piece = struct.pack("<Q", 0x180000000), struct.pack("<3Q", 0x20000, 0, 48)
+        self.fails_in_turn(lambda: memory.frames((image,), base, piece, registers, 8))
+        self.fails_in_turn(lambda: pe_c._core.write_block(b"a\0", 1, b"b\0\0\0", b""))
+        core = pe_c._core.image(hostile.resources(1, 1, 1), 1, True, 0, True)[0]
+        self.fails_in_turn(lambda: core.edited(b"", b""))
 
 
 class Hostile(unittest.TestCase):

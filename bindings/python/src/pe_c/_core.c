@@ -4,6 +4,9 @@
  * method returns (value, number, is_limited): what there is before the first error, the number of that error or
  * PE_C_DONE, and whether the budget ended it. What records become is written by tools/make_python, in _rows.h.
  *
+ * An Image is also a COFF object, a TE image, or bytes of which nothing is read, as those of a minidump. One that is exact, for the
+ * JSON of _facts.py, has each inner list as such a triple, and of names that are no text each byte.
+ *
  * A budget bounds what a hostile image costs: many of its lists and names may be one and the same bytes, and each RVA is
  * looked for in all of its sections. */
 #define Py_LIMITED_API 0x030B0000
@@ -13,10 +16,13 @@
 #include "pe.h"
 #include "_row_kinds.h"
 
+/* What the bytes of an Image are. */
+enum { KIND_IMAGE, KIND_OBJECT, KIND_TE, KIND_BYTES };
+
 /* What a row costs, in bytes of the budget; to how many sections one such byte is equal, where the row's RVAs are mapped; how
  * many rows a list has at most whose entries may be the same bytes; and how many levels version blocks have at most below
- * the first, of which real ones have three. */
-enum { ROW_COST = 16, SECTIONS_A_BYTE = 16, MOST_ROWS = 1 << 18, MOST_DEPTH = 8 };
+ * the first, of which real ones have three; how many frames a stack has at most. */
+enum { ROW_COST = 16, SECTIONS_A_BYTE = 16, MOST_ROWS = 1 << 18, MOST_DEPTH = 8, MOST_FRAMES = 1 << 14 };
 
 typedef struct {
     PyTypeObject *image;
@@ -30,7 +36,10 @@ typedef struct {
     PyObject *memory;               /* a memoryview of what is read, read-only; NULL once closed */
     pe_c_image_info info;
     pe_c_section *sections;
+    pe_c_coff_header coff;          /* of an object, or of an image */
+    pe_c_te_image te;
     pe_c_range strings;             /* the COFF string table, empty without one */
+    int kind, is_exact;
     Py_ssize_t users;               /* how many calls read it: close() is refused meanwhile. Any of them may let others run,
                                        since a new object may start the collector, and that finalizers */
 } Image;
@@ -38,6 +47,7 @@ typedef struct {
 #define BYTES self->view.buf, (size_t)self->view.len
 #define SECTIONS self->sections, self->info.number_of_sections
 #define IMAGE BYTES, &self->info, SECTIONS
+#define VIEW &(pe_c_view){BYTES, &self->info, SECTIONS, NULL, 0}
 
 typedef struct {
     uint64_t bytes, rows;           /* that are left */
@@ -76,9 +86,22 @@ static PyObject *bytes_of(const uint8_t *bytes, size_t length)
     return PyBytes_FromStringAndSize((const char *)bytes, (Py_ssize_t)length);
 }
 
+static PyObject *numbers(const uint64_t *of, Py_ssize_t count)
+{
+    PyObject *tuple = PyTuple_New(count);
+    for (Py_ssize_t i = 0; tuple && i < count; i++) {
+        PyObject *number = N(of[i]);
+        if (number)
+            PyTuple_SetItem(tuple, i, number);
+        else
+            Py_CLEAR(tuple);
+    }
+    return tuple;
+}
+
 static PyObject *utf8(Image *self, pe_c_range range)
 {
-    return PyUnicode_DecodeUTF8(AT(range), "backslashreplace");
+    return PyUnicode_DecodeUTF8(AT(range), self->is_exact ? "surrogateescape" : "backslashreplace");
 }
 
 static PyObject *raw(Image *self, pe_c_range range)
@@ -98,7 +121,7 @@ static PyObject *utf16(Image *self, pe_c_range range)
 {
     int little_endian = -1;
     range.length &= ~(uint64_t)1;
-    return PyUnicode_DecodeUTF16(AT(range), "backslashreplace", &little_endian);
+    return PyUnicode_DecodeUTF16(AT(range), self->is_exact ? "replace" : "backslashreplace", &little_endian);
 }
 
 static PyObject *utf16_to_zero(Image *self, pe_c_range range)
@@ -122,7 +145,7 @@ static PyObject *resource_name(Image *self, pe_c_resource_name name)
     return name.has_name ? utf16(self, name.name) : N(name.id);
 }
 
-/* That of the string table, or of the header. */
+/* That of the string table, or of the header, which an exact image has as it is. */
 static PyObject *section_name(Image *self, Rows *rows, const pe_c_section *it)
 {
     pe_c_range name = PE_C_EMPTY;
@@ -132,9 +155,20 @@ static PyObject *section_name(Image *self, Rows *rows, const pe_c_section *it)
         if (pays(rows->names, result == PE_C_DONE ? name.length : self->strings.length) && result == PE_C_DONE)
             return utf8(self, name);
     }
+    if (self->is_exact)
+        return Py_NewRef(Py_None);
     const uint8_t *end = memchr(it->name, 0, sizeof it->name);
     Py_ssize_t length = end ? end - it->name : (Py_ssize_t)sizeof it->name;
     return PyUnicode_DecodeUTF8((const char *)it->name, length, "backslashreplace");
+}
+
+/* A string of a minidump, or None where its location is refused. */
+static PyObject *dump_text(Image *self, Rows *rows, uint64_t rva)
+{
+    pe_c_range range = PE_C_EMPTY;
+    if (!rva || pe_c_dump_text(BYTES, rva, &range) != PE_C_DONE || !pays(rows->budget, range.length))
+        return Py_NewRef(Py_None);
+    return utf16(self, range);
 }
 
 /* ---- lists */
@@ -179,6 +213,14 @@ static Rows rows_of(Image *self, Budget *budget)
     return (Rows){PyList_New(0), budget, self, budget, PE_C_DONE};
 }
 
+/* The result of the call that starts a list. An exact image has None for one that is absent or refused, and () for an empty one. */
+static void starts(Rows *rows, uint32_t result)
+{
+    rows->result = result;
+    if (rows->image->is_exact && result != PE_C_DONE)
+        Py_CLEAR(rows->list);
+}
+
 static int goes_on(const Rows *rows)
 {
     return rows->list && rows->result == PE_C_DONE && !rows->budget->is_over;
@@ -197,30 +239,40 @@ static void append(Rows *rows, PyObject *row)
     while (goes_on(rows) && ((rows)->result = (call)) == PE_C_DONE) \
         append(rows, row)
 
-/* The rows as a tuple. An error of an inner list is that of the list around it, which ends there. */
-static PyObject *inside(Rows *outer, Rows *rows)
+static PyObject *tuple_of(Rows *rows)
 {
     PyObject *tuple = rows->list ? PyList_AsTuple(rows->list) : NULL;
-    Py_XDECREF(rows->list);
-    if (rows->result != PE_C_DONE && rows->result != PE_C_NOTHING)
-        outer->result = rows->result;
+    Py_CLEAR(rows->list);
     return tuple;
 }
 
-static PyObject *answer(PyObject *value, const Rows *rows)
+static PyObject *triple(PyObject *value, const Rows *rows)
 {
-    rows->image->users--;
     unsigned long number = rows->result == PE_C_NOTHING ? PE_C_DONE : rows->result;
     if (!value && !PyErr_Occurred())
         value = Py_NewRef(Py_None);
     return value ? Py_BuildValue("(NkN)", value, number, B(rows->budget->is_over)) : NULL;
 }
 
+/* The rows as a tuple. An error of an inner list is that of the list around it, which ends there, but in an exact image. */
+static PyObject *inside(Rows *outer, Rows *rows)
+{
+    if (rows->image->is_exact)
+        return triple(tuple_of(rows), rows);
+    if (rows->result != PE_C_DONE && rows->result != PE_C_NOTHING)
+        outer->result = rows->result;
+    return tuple_of(rows);
+}
+
+static PyObject *answer(PyObject *value, const Rows *rows)
+{
+    rows->image->users--;
+    return triple(value, rows);
+}
+
 static PyObject *finished(Rows *rows)
 {
-    PyObject *tuple = rows->list ? PyList_AsTuple(rows->list) : NULL;
-    Py_XDECREF(rows->list);
-    return answer(tuple, rows);
+    return answer(tuple_of(rows), rows);
 }
 
 static PyObject *filled(Image *self, int kind, PyObject **items, Py_ssize_t count)
@@ -253,42 +305,14 @@ static PyObject *filled(Image *self, int kind, PyObject **items, Py_ssize_t coun
 #define ROW_OF(name) row_##name(self, &rows, &item)
 
 static PyObject *directories_of(Image *self, Rows *rows, const pe_c_directory *it, uint32_t count);
-static PyObject *rich_entries(Image *self, Rows *outer, const pe_c_rich_header_info *it);
-static PyObject *pogo_entries(Image *self, Rows *outer, const pe_c_pogo *it);
-static PyObject *unwind_codes(Image *self, Rows *outer, const pe_c_record *it);
-static PyObject *arm64_scopes(Image *self, Rows *outer, const pe_c_arm64_record *it);
-static PyObject *arm64_codes(Image *self, Rows *outer, const pe_c_arm64_record *it);
-static PyObject *imports_of(Image *self, Rows *outer, const pe_c_library *it);
-static PyObject *delayed_functions(Image *self, Rows *outer, const pe_c_delay_import *it);
-static PyObject *bound_forwarders(Image *self, Rows *outer, const pe_c_bound_import *it);
-static PyObject *version_children(Image *self, Rows *outer, const pe_c_version_block *it);
-static PyObject *tls_callbacks(Image *self, Rows *outer, const pe_c_tls_directory *it);
-static PyObject *relocations_of(Image *self, Rows *outer, const pe_c_relocation_block *it);
-static PyObject *metadata_streams(Image *self, Rows *outer, const pe_c_metadata *it);
 #include "_rows.h"
-
-INNER(rich_entries, pe_c_rich_header_info, pe_c_range, it->entries, pe_c_rich_entry,
-      pe_c_next_rich_entry(BYTES, it->key, &walk, &item), ROW_OF(rich_entry))
-INNER(pogo_entries, pe_c_pogo, pe_c_range, it->entries, pe_c_pogo_entry, pe_c_next_pogo_entry(BYTES, &walk, &item),
-      ROW_OF(pogo_entry))
-INNER(unwind_codes, pe_c_record, pe_c_walk, it->codes, pe_c_code, pe_c_next_code(BYTES, &walk, &item), ROW_OF(code))
-INNER(arm64_scopes, pe_c_arm64_record, pe_c_range, it->scopes, pe_c_arm64_scope,
-      pe_c_next_arm64_scope(BYTES, &walk, &item), ROW_OF(arm64_scope))
-INNER(imports_of, pe_c_library, pe_c_imports, it->imports, pe_c_import, pe_c_next_import(IMAGE, &walk, &item),
-      ROW_OF(import))
-INNER(delayed_functions, pe_c_delay_import, pe_c_delayed_functions, it->functions, pe_c_delayed_function,
-      pe_c_next_delayed_function(IMAGE, &walk, &item), ROW_OF(delayed_function))
-INNER(relocations_of, pe_c_relocation_block, pe_c_range, it->entries, pe_c_relocation,
-      pe_c_next_relocation(BYTES, it->page_rva, &walk, &item), ROW_OF(relocation))
-INNER(metadata_streams, pe_c_metadata, pe_c_metadata_streams, it->streams, pe_c_metadata_stream,
-      pe_c_next_metadata_stream(BYTES, &walk, &item), ROW_OF(metadata_stream))
 
 static PyObject *directories_of(Image *self, Rows *outer, const pe_c_directory *it, uint32_t count)
 {
     Rows rows = rows_of(self, outer->budget);
     for (uint32_t i = 0; i < count && i < 16 && goes_on(&rows); i++)
         append(&rows, row_directory(self, &rows, &it[i]));
-    return inside(outer, &rows);
+    return tuple_of(&rows);
 }
 
 /* All codes of a record: those of its prolog, and those of its epilogs after them. */
@@ -326,6 +350,8 @@ static void add_version_blocks(Image *self, Rows *rows, pe_c_range walk)
             break;
         result = result == PE_C_DONE ? rows->result : result;
         first_error = first_error == PE_C_DONE ? result : first_error;
+        if (self->is_exact && first_error != PE_C_DONE)
+            break;
     }
     rows->result = first_error;
 }
@@ -346,7 +372,7 @@ static PyObject *tls_callbacks(Image *self, Rows *outer, const pe_c_tls_director
     pe_c_range walk = PE_C_EMPTY;
     uint64_t item = 0;
     Rows rows = rows_of(self, outer->budget);
-    rows.result = pe_c_tls_callbacks(IMAGE, it, &walk);
+    starts(&rows, pe_c_tls_callbacks(IMAGE, it, &walk));
     EACH(&rows, pe_c_next_tls_callback(BYTES, &self->info, &walk, &item), takes(&rows, 0) ? N(item) : NULL);
     return inside(outer, &rows);
 }
@@ -389,39 +415,17 @@ static int is_open(Image *self)
         Walk walk = PE_C_EMPTY; \
         Item item = PE_C_EMPTY; \
         rows = rows_of(self, &budget); \
-        rows.result = start; \
+        starts(&rows, start); \
         EACH(&rows, call, row); \
         return finished(&rows); \
     }
 
-METHOD(headers)
-{
-    OPEN_OWN
-    return answer(row_image_info(self, &rows, &self->info), &rows);
-}
-
-ONE(all_headers, pe_c_headers_info, pe_c_headers(BYTES, self->info.mode, &item), ROW_OF(headers_info))
-ONE(rich_header, pe_c_rich_header_info, pe_c_rich_header(BYTES, &item), ROW_OF(rich_header_info))
-ONE(symbol_key, pe_c_key, pe_c_symbol_key(IMAGE, &item), ROW_OF(key))
-ONE(pdb20, pe_c_pdb20, pe_c_debug_pdb20(IMAGE, &item), ROW_OF(pdb20))
-ONE(vc_features, pe_c_vc_features, pe_c_debug_vc_features(IMAGE, &item), ROW_OF(vc_features))
-ONE(extended_dll_characteristics, uint32_t, pe_c_debug_characteristics(IMAGE, &item), N(item))
-ONE(repro, pe_c_repro, pe_c_debug_repro(IMAGE, &item), ROW_OF(repro))
-ONE(pogo, pe_c_pogo, pe_c_debug_pogo(IMAGE, &item), ROW_OF(pogo))
-ONE(overlay, pe_c_range, pe_c_overlay(IMAGE, &item), view_of(self, item))
-ONE(tls, pe_c_tls_directory, pe_c_tls(IMAGE, &item), ROW_OF(tls_directory))
-ONE(load_config, pe_c_load_config_directory, pe_c_load_config(IMAGE, &item), ROW_OF(load_config_directory))
-ONE(clr_header, pe_c_cor20_header, pe_c_clr_header(IMAGE, &item), ROW_OF(cor20_header))
-ONE(export_table, pe_c_address_table, pe_c_export_addresses(IMAGE, &item), ROW_OF(address_table))
-
-LIST(imports, pe_c_libraries, pe_c_import_libraries(IMAGE, &walk), pe_c_library,
-     pe_c_next_library(IMAGE, &walk, &item), ROW_OF(library))
-LIST(delay_imports, pe_c_range, pe_c_delay_imports(IMAGE, &walk), pe_c_delay_import,
-     pe_c_next_delay_import(IMAGE, &walk, &item), ROW_OF(delay_import))
-LIST(debug_entries, pe_c_range, pe_c_debug_entries(IMAGE, &walk), pe_c_debug_entry,
-     pe_c_next_debug_entry(BYTES, &walk, &item), ROW_OF(debug_entry))
-LIST(resources, pe_c_resource_walk, pe_c_resource_leaves(IMAGE, &walk), pe_c_resource_leaf,
-     pe_c_next_resource_leaf(IMAGE, &walk, &item), ROW_OF(resource_leaf))
+/* What was read with the headers. */
+#define OWN(name, row) METHOD(name) { OPEN_OWN return answer(row, &rows); }
+OWN(headers, row_image_info(self, &rows, &self->info))
+OWN(coff_header, row_coff_header(self, &rows, &self->coff))
+OWN(te_header, row_te_image(self, &rows, &self->te))
+OWN(coff_strings, self->strings.length ? view_of(self, self->strings) : NULL)
 
 /* The walk over certificates starts as the range of their directory, which is one of the file. */
 static uint32_t certificate_table(Image *self, pe_c_range *out)
@@ -433,6 +437,44 @@ static uint32_t certificate_table(Image *self, pe_c_range *out)
 
 LIST(certificates, pe_c_range, certificate_table(self, &walk), pe_c_certificate,
      pe_c_next_certificate(BYTES, &walk, &item), ROW_OF(certificate))
+
+/* The record of the first debug entry of a type that no call reads by the image. */
+#define OF_ENTRY(name, Item, type, call) \
+    static uint32_t name(Image *self, Item *out) \
+    { \
+        pe_c_debug_entry entry = PE_C_EMPTY; \
+        uint32_t result = pe_c_first_debug_entry(VIEW, type, &entry); \
+        return result == PE_C_DONE ? call(BYTES, self->info.mode, &entry, out) : result; \
+    }
+OF_ENTRY(first_embedded_pdb, pe_c_embedded_pdb, 17, pe_c_embedded_pdb_of)
+OF_ENTRY(first_pdb_checksum, pe_c_pdb_checksum, 19, pe_c_pdb_checksum_of)
+ONE(embedded_pdb, pe_c_embedded_pdb, first_embedded_pdb(self, &item), ROW_OF(embedded_pdb))
+ONE(pdb_checksum, pe_c_pdb_checksum, first_pdb_checksum(self, &item), ROW_OF(pdb_checksum))
+
+/* ---- COFF objects and TE images */
+
+static uint32_t first_te_key(Image *self, pe_c_key *out)
+{
+    pe_c_debug_entry entry = PE_C_EMPTY;
+    uint32_t result = pe_c_te_first_debug_entry(BYTES, &self->te, 2, &entry);
+    return result == PE_C_DONE ? pe_c_symbol_key_of(BYTES, PE_C_MAPPED, &entry, out) : result;
+}
+
+ONE(te_symbol_key, pe_c_key, first_te_key(self, &item), ROW_OF(key))
+/* The COFF symbols. A name that is refused ends the list before its symbol. */
+METHOD(symbols)
+{
+    OPEN_OWN
+    pe_c_symbol_walk walk = PE_C_EMPTY;
+    pe_c_symbol_entry item = PE_C_EMPTY;
+    pe_c_range name = PE_C_EMPTY;
+    rows = rows_of(self, &budget);
+    starts(&rows, pe_c_coff_symbols(BYTES, &self->coff, &walk));
+    while (goes_on(&rows) && (rows.result = pe_c_next_symbol(BYTES, &walk, &item)) == PE_C_DONE)
+        if ((rows.result = pe_c_symbol_name(BYTES, &walk.table, &self->strings, item.index, &name)) == PE_C_DONE)
+            append(&rows, takes(&rows, name.length) ? row_symbol_entry(self, &rows, &item, name) : NULL);
+    return finished(&rows);
+}
 
 METHOD(section_headers)
 {
@@ -452,7 +494,7 @@ METHOD(bound_imports)
     pe_c_range table = PE_C_EMPTY;
     pe_c_bound_import item = PE_C_EMPTY;
     rows = rows_of(self, &budget);
-    rows.result = pe_c_bound_imports(BYTES, &self->info, &table);
+    starts(&rows, pe_c_bound_imports(BYTES, &self->info, &table));
     pe_c_range walk = table;
     EACH(&rows, pe_c_next_bound_import(BYTES, &table, &walk, &item), ROW_OF(bound_import));
     return finished(&rows);
@@ -513,9 +555,9 @@ METHOD(exports)
     pe_c_address_table table = PE_C_EMPTY;
     pe_c_exports walk = PE_C_EMPTY;
     rows = rows_of(self, &budget);
-    rows.result = pe_c_export_addresses(IMAGE, &table);
+    starts(&rows, pe_c_export_addresses(IMAGE, &table));
     if (rows.result == PE_C_DONE)
-        rows.result = pe_c_export_tables(IMAGE, &walk);
+        starts(&rows, pe_c_export_tables(IMAGE, &walk));
     if (rows.list && rows.result == PE_C_DONE) {
         uint8_t *is_named = PyMem_Calloc(table.addresses.length / 4 + 1, 1);
         if (is_named) {
@@ -536,34 +578,25 @@ METHOD(relocations)
     pe_c_range walk = PE_C_EMPTY;
     pe_c_relocation_block item = PE_C_EMPTY;
     rows = rows_of(self, &budget);
-    rows.result = pe_c_relocation_blocks(IMAGE, &walk);
+    starts(&rows, pe_c_relocation_blocks(IMAGE, &walk));
     EACH(&rows, pe_c_next_relocation_block(BYTES, &walk, &item), ROW_OF(relocation_block));
     return finished(&rows);
 }
 
-METHOD(functions)
-{
-    OPEN_OWN
-    pe_c_range table = PE_C_EMPTY;
-    pe_c_function item = PE_C_EMPTY;
-    rows = rows_of(self, &budget);
-    rows.result = pe_c_function_table(IMAGE, &table);
-    uint64_t i = 0, count = table.length / 12;
-    EACH(&rows, i < count ? pe_c_function_at(BYTES, &table, i++, &item) : PE_C_NOTHING, ROW_OF(function));
-    return finished(&rows);
-}
-
-METHOD(arm64_functions)
-{
-    OPEN_OWN
-    pe_c_range table = PE_C_EMPTY;
-    pe_c_arm64_function item = PE_C_EMPTY;
-    rows = rows_of(self, &budget);
-    rows.result = pe_c_arm64_table(IMAGE, &table);
-    uint64_t i = 0, count = table.length / 8;
-    EACH(&rows, i < count ? pe_c_arm64_function_at(BYTES, &table, i++, &item) : PE_C_NOTHING, ROW_OF(arm64_function));
-    return finished(&rows);
-}
+#define FUNCTIONS(name, Item, start, size, call, row) \
+    METHOD(name) \
+    { \
+        OPEN_OWN \
+        pe_c_range table = PE_C_EMPTY; \
+        Item item = PE_C_EMPTY; \
+        rows = rows_of(self, &budget); \
+        starts(&rows, start(IMAGE, &table)); \
+        uint64_t i = 0, count = table.length / size; \
+        EACH(&rows, i < count ? call(BYTES, &table, i++, &item) : PE_C_NOTHING, row); \
+        return finished(&rows); \
+    }
+FUNCTIONS(functions, pe_c_function, pe_c_function_table, 12, pe_c_function_at, ROW_OF(function))
+FUNCTIONS(arm64_functions, pe_c_arm64_function, pe_c_arm64_table, 8, pe_c_arm64_function_at, ROW_OF(arm64_function))
 
 /* ---- methods with arguments */
 
@@ -591,37 +624,23 @@ static PyObject *offset_of(Image *self, PyObject *argument)
     return answer(rows.result == PE_C_DONE ? N(offset) : NULL, &rows);
 }
 
-static PyObject *find_function(Image *self, PyObject *argument)
-{
-    pe_c_range table = PE_C_EMPTY;
-    pe_c_function item = PE_C_EMPTY;
-    uint32_t rva, result;
-    if (!rva_of(argument, &rva, &result))
-        return NULL;
-    OPEN
-    rows.result = result;
-    if (rows.result == PE_C_DONE)
-        rows.result = pe_c_function_table(IMAGE, &table);
-    if (rows.result == PE_C_DONE)
-        rows.result = pe_c_find_function(BYTES, &table, rva, &item);
-    return answer(rows.result == PE_C_DONE ? ROW_OF(function) : NULL, &rows);
-}
-
-static PyObject *find_arm64_function(Image *self, PyObject *argument)
-{
-    pe_c_range table = PE_C_EMPTY;
-    pe_c_arm64_function item = PE_C_EMPTY;
-    uint32_t rva, result;
-    if (!rva_of(argument, &rva, &result))
-        return NULL;
-    OPEN
-    rows.result = result;
-    if (rows.result == PE_C_DONE)
-        rows.result = pe_c_arm64_table(IMAGE, &table);
-    if (rows.result == PE_C_DONE)
-        rows.result = pe_c_find_arm64_function(IMAGE, &table, rva, &item);
-    return answer(rows.result == PE_C_DONE ? ROW_OF(arm64_function) : NULL, &rows);
-}
+#define FIND(name, Item, start, call, row) \
+    static PyObject *name(Image *self, PyObject *argument) \
+    { \
+        pe_c_range table = PE_C_EMPTY; \
+        Item item = PE_C_EMPTY; \
+        uint32_t rva, result; \
+        if (!rva_of(argument, &rva, &result)) \
+            return NULL; \
+        OPEN \
+        rows.result = result == PE_C_DONE ? start(IMAGE, &table) : result; \
+        if (rows.result == PE_C_DONE) \
+            rows.result = call; \
+        return answer(rows.result == PE_C_DONE ? row : NULL, &rows); \
+    }
+FIND(find_function, pe_c_function, pe_c_function_table, pe_c_find_function(BYTES, &table, rva, &item), ROW_OF(function))
+FIND(find_arm64_function, pe_c_arm64_function, pe_c_arm64_table, pe_c_find_arm64_function(IMAGE, &table, rva, &item),
+     ROW_OF(arm64_function))
 
 /* The records of a function by its field `unwind`, up to the root of its chain. */
 static PyObject *unwind_records(Image *self, PyObject *argument)
@@ -676,27 +695,158 @@ static PyObject *version_blocks(Image *self, PyObject *arguments)
     return finished(&rows);
 }
 
-static PyObject *fixed_version(Image *self, PyObject *arguments)
+/* ---- signatures: each call reads the element in a range. Others read a record there */
+
+#define SIGNED(name, Item, call, row) \
+    static PyObject *name(Image *self, PyObject *arguments) \
+    { \
+        pe_c_range range; \
+        pe_c_signature_failure failure = PE_C_EMPTY; \
+        Item item = PE_C_EMPTY; \
+        if (!range_of(arguments, &range)) \
+            return NULL; \
+        OPEN \
+        (void)failure; \
+        rows.result = call; \
+        return answer(rows.result == PE_C_DONE ? row : NULL, &rows); \
+    }
+#define SIGNED_LIST(name, Walk, start, Item, call, row) \
+    static PyObject *name(Image *self, PyObject *arguments) \
+    { \
+        pe_c_range range; \
+        pe_c_signature_failure failure = PE_C_EMPTY; \
+        Walk walk = PE_C_EMPTY; \
+        Item item = PE_C_EMPTY; \
+        if (!range_of(arguments, &range)) \
+            return NULL; \
+        OPEN_OWN \
+        rows = rows_of(self, &budget); \
+        rows.result = start; \
+        EACH(&rows, call(BYTES, &walk, &failure, &item), row); \
+        return finished(&rows); \
+    }
+SIGNED_LIST(elements, pe_c_range, (walk = range, PE_C_DONE), pe_c_der_element, pe_c_next_element, ROW_OF(der_element))
+SIGNED_LIST(name_attributes, pe_c_name_walk, pe_c_name(BYTES, &range, &failure, &walk), pe_c_name_attribute,
+            pe_c_next_name_attribute, ROW_OF(name_attribute))
+
+/* ---- minidumps: each call reads the stream of a kind */
+
+static uint32_t stream_of(Image *self, uint32_t kind, pe_c_range *out)
 {
-    pe_c_range content;
-    pe_c_version item = PE_C_EMPTY;
-    if (!range_of(arguments, &content))
-        return NULL;
-    OPEN
-    rows.result = pe_c_fixed_version_in(BYTES, &content, &item);
-    return answer(rows.result == PE_C_DONE ? ROW_OF(version) : NULL, &rows);
+    pe_c_dump_info info = PE_C_EMPTY;
+    uint32_t result = pe_c_dump(BYTES, &info);
+    if (kind == 0)
+        *out = info.directory;
+    return result != PE_C_DONE || kind == 0 ? result : pe_c_dump_stream(BYTES, &info.directory, kind, out);
 }
 
-static PyObject *codeview(Image *self, PyObject *arguments)
+#define STREAM(name, kind, Item, call, row) \
+    METHOD(name) \
+    { \
+        OPEN_OWN \
+        Item item = PE_C_EMPTY; \
+        pe_c_range stream = PE_C_EMPTY; \
+        rows.result = stream_of(self, kind, &stream); \
+        if (rows.result == PE_C_DONE) \
+            rows.result = call; \
+        return answer(rows.result == PE_C_DONE ? row : NULL, &rows); \
+    }
+#define STREAM_LIST(name, kind, Item, call, row) \
+    METHOD(name) \
+    { \
+        OPEN_OWN \
+        Item item = PE_C_EMPTY; \
+        pe_c_range stream = PE_C_EMPTY; \
+        uint64_t i = 0; \
+        rows = rows_of(self, &budget); \
+        rows.result = stream_of(self, kind, &stream); \
+        EACH(&rows, call, row); \
+        return finished(&rows); \
+    }
+static uint32_t memory64_of(Image *self, pe_c_memory64_walk *out)
 {
-    pe_c_range record;
-    pe_c_key item = PE_C_EMPTY;
-    if (!range_of(arguments, &record))
-        return NULL;
-    OPEN
-    rows.result = pe_c_codeview(BYTES, &record, &item);
-    return answer(rows.result == PE_C_DONE ? ROW_OF(key) : NULL, &rows);
+    pe_c_range stream = PE_C_EMPTY;
+    uint32_t result = stream_of(self, PE_C_MEMORY64_LIST_STREAM, &stream);
+    return result == PE_C_DONE ? pe_c_dump_memory64(BYTES, &stream, out) : result;
 }
+
+LIST(dump_memory64, pe_c_memory64_walk, memory64_of(self, &walk), pe_c_dump_piece, pe_c_next_memory64(BYTES, &walk, &item),
+     ROW_OF(dump_piece))
+
+#define CONTEXT(name, Item, call, row) \
+    static PyObject *name(Image *self, PyObject *arguments) \
+    { \
+        pe_c_dump_location location; \
+        Item item = PE_C_EMPTY; \
+        if (!PyArg_ParseTuple(arguments, "II", &location.size, &location.rva)) \
+            return NULL; \
+        OPEN_OWN \
+        rows.result = call; \
+        return answer(rows.result == PE_C_DONE ? row : NULL, &rows); \
+    }
+#include "_calls.h"
+
+/* ---- stack walks */
+
+/* The modules, each an image and the address where it is loaded, in an array that the caller frees. They stay valid as long as no
+ * other code runs. */
+static pe_c_module *modules_in(State *state, PyObject *images, PyObject *bases)
+{
+    Py_ssize_t count = PyTuple_Size(images);
+    pe_c_module *modules = PyMem_Calloc((size_t)count + 1, sizeof *modules);
+    if (!modules)
+        PyErr_NoMemory();
+    for (Py_ssize_t i = 0; modules && i < count; i++) {
+        Image *self = (Image *)PyTuple_GetItem(images, i);
+        if (PyBytes_Size(bases) != 8 * count || !PyObject_TypeCheck((PyObject *)self, state->image) || !self->memory) {
+            PyErr_SetString(PyExc_ValueError, "a module without an address, or that is no open image");
+            PyMem_Free(modules);
+            return NULL;
+        }
+        pe_c_range table = PE_C_EMPTY;
+        uint32_t result = self->info.machine == 0xAA64 ? pe_c_arm64_table(IMAGE, &table) : pe_c_function_table(IMAGE, &table);
+        modules[i] = (pe_c_module){*VIEW, result == PE_C_DONE ? table : (pe_c_range)PE_C_EMPTY, 0};
+        memcpy(&modules[i].base, PyBytes_AsString(bases) + 8 * i, 8);
+    }
+    return modules;
+}
+
+/* frames(images, bases, pieces, registers, most) walks a stack in this memory: of each frame a row, and last one of the walk as it
+ * ended. The last four are the numbers of pe.h's records, in bytes. No Python code runs while it walks. */
+#define WALK(name, Walk, call, row) \
+    static PyObject *name(Image *self, PyObject *arguments) \
+    { \
+        PyObject *images, *bases, *pieces, *registers; \
+        Walk walk = PE_C_EMPTY; \
+        uint64_t count = 0; \
+        unsigned int most; \
+        if (!PyArg_ParseTuple(arguments, "O!SSSI", &PyTuple_Type, &images, &bases, &pieces, &registers, &most)) \
+            return NULL; \
+        most = most < MOST_FRAMES ? most : MOST_FRAMES; \
+        OPEN_OWN \
+        budget.bytes += (uint64_t)(most + 1) * sizeof walk * ROW_COST; \
+        pe_c_module *modules = modules_in(self->state, images, bases); \
+        Walk *frames = modules ? PyMem_Calloc(most + 1u, sizeof walk) : NULL; \
+        if (modules && !frames) \
+            PyErr_NoMemory(); \
+        if (frames) { \
+            size_t length = (size_t)PyBytes_Size(registers), own = sizeof walk.registers; \
+            memcpy(&walk.registers, PyBytes_AsString(registers), length < own ? length : own); \
+            walk.remaining = most; \
+            rows.result = call(modules, (size_t)PyTuple_Size(images), BYTES, (const pe_c_memory_piece *)PyBytes_AsString(pieces), \
+                               (size_t)PyBytes_Size(pieces) / sizeof(pe_c_memory_piece), &walk, frames, most + 1u, &count); \
+            rows.result = rows.result == PE_C_NOTHING ? PE_C_DONE : rows.result; \
+            frames[count] = walk; \
+            rows.list = PyList_New(0); \
+        } \
+        for (uint64_t i = 0; i <= count && goes_on(&rows); i++) \
+            append(&rows, row(self, &rows, &frames[i])); \
+        PyMem_Free(modules); \
+        PyMem_Free(frames); \
+        return finished(&rows); \
+    }
+WALK(frames, pe_c_stack_walk, pe_c_next_frames, row_stack_walk)
+WALK(arm64_frames, pe_c_arm64_stack_walk, pe_c_next_arm64_frames, row_arm64_stack_walk)
 
 /* ---- whole files, without the GIL */
 
@@ -708,19 +858,6 @@ METHOD(checksum)
     rows.result = pe_c_checksum(BYTES, &self->info, &item);
     Py_END_ALLOW_THREADS
     return answer(rows.result == PE_C_DONE ? ROW_OF(checksum_field) : NULL, &rows);
-}
-
-static PyObject *numbers(const uint64_t *counts)
-{
-    PyObject *tuple = PyTuple_New(256);
-    for (Py_ssize_t i = 0; tuple && i < 256; i++) {
-        PyObject *number = N(counts[i]);
-        if (number)
-            PyTuple_SetItem(tuple, i, number);
-        else
-            Py_CLEAR(tuple);
-    }
-    return tuple;
 }
 
 /* How often each byte stands in a range, as far as the file has it. */
@@ -738,7 +875,7 @@ static PyObject *histogram(Image *self, PyObject *arguments)
     for (uint64_t i = start; i < end; i++)
         counts[bytes[i]]++;
     Py_END_ALLOW_THREADS
-    return answer(numbers(counts), &rows);
+    return answer(numbers(counts, 256), &rows);
 }
 
 /* What an Authenticode digest covers: the ranges, and how many zeros follow. */
@@ -791,6 +928,41 @@ METHOD(detach)
     return written(file, &rows);
 }
 
+/* edited(records, data): the image with these resources. The records are pe.h's, in bytes. */
+static PyObject *edited(Image *self, PyObject *arguments)
+{
+    PyObject *records, *data;
+    uint64_t size = 0;
+    if (!PyArg_ParseTuple(arguments, "SS", &records, &data))
+        return NULL;
+    OPEN
+#define EDIT BYTES, &self->info, (const pe_c_resource *)PyBytes_AsString(records), \
+             (size_t)PyBytes_Size(records) / sizeof(pe_c_resource), (const uint8_t *)PyBytes_AsString(data), (size_t)PyBytes_Size(data)
+    rows.result = pe_c_edited_length(EDIT, &size);
+    PyObject *file = rows.result == PE_C_DONE ? PyBytes_FromStringAndSize(NULL, (Py_ssize_t)size) : NULL;
+    if (file)
+        rows.result = pe_c_edit(EDIT, (uint8_t *)PyBytes_AsString(file), (size_t)size, &size);
+    return written(file, &rows);
+}
+
+/* write_block(key, is_text, value, children) returns a block of version information, or None, and the number of the error. */
+static PyObject *write_block(PyObject *Py_UNUSED(module), PyObject *arguments)
+{
+    const char *key, *value, *children;
+    Py_ssize_t lengths[3];
+    unsigned int is_text;
+    uint64_t size = 0;
+    if (!PyArg_ParseTuple(arguments, "y#Iy#y#", &key, &lengths[0], &is_text, &value, &lengths[1], &children, &lengths[2]))
+        return NULL;
+#define BLOCK (const uint8_t *)key, (size_t)lengths[0], is_text, (const uint8_t *)value, (size_t)lengths[1], \
+              (const uint8_t *)children, (size_t)lengths[2]
+    uint32_t result = pe_c_block_length(BLOCK, &size);
+    PyObject *block = result == PE_C_DONE ? PyBytes_FromStringAndSize(NULL, (Py_ssize_t)size) : Py_NewRef(Py_None);
+    if (block && result == PE_C_DONE)
+        result = pe_c_write_block(BLOCK, (uint8_t *)PyBytes_AsString(block), (size_t)size, &size);
+    return block ? Py_BuildValue("(Nk)", block, (unsigned long)result) : NULL;
+}
+
 /* ---- the image as an object */
 
 static void let_go(Image *self)
@@ -823,10 +995,9 @@ static PyObject *get_closed(Image *self, void *Py_UNUSED(none))
     return B(!self->memory);
 }
 
+/* The collector does not see the buffer: it would clear a memoryview in a cycle while the image has it. */
 static int traverse(Image *self, visitproc visit, void *arg)
 {
-    Py_VISIT(self->memory);
-    Py_VISIT(self->view.obj);
     Py_VISIT((PyObject *)Py_TYPE((PyObject *)self));
     return 0;
 }
@@ -880,10 +1051,24 @@ static int holds(Image *self, PyObject *data, int is_copied)
     return self->memory != NULL;
 }
 
+static uint32_t headers_of(Image *self, unsigned int mode)
+{
+    pe_c_headers_info all = PE_C_EMPTY;
+    uint32_t result = self->kind == KIND_OBJECT  ? pe_c_coff(BYTES, &self->coff)
+                      : self->kind == KIND_TE    ? pe_c_te(BYTES, &self->te)
+                      : self->kind == KIND_IMAGE ? pe_c_image(BYTES, mode, &self->info)
+                                                 : PE_C_DONE;
+    if (self->kind == KIND_IMAGE && result == PE_C_DONE && pe_c_headers(BYTES, mode, &all) == PE_C_DONE)
+        self->coff = all.coff;
+    if (self->kind != KIND_IMAGE)
+        self->info.number_of_sections = self->kind == KIND_TE ? self->te.number_of_sections : self->coff.number_of_sections;
+    return result;
+}
+
 /* Reads the headers. Returns the library's result, or PE_C_MEMORY with an exception. */
 static uint32_t reads(Image *self, unsigned int mode)
 {
-    uint32_t result = pe_c_image(BYTES, mode, &self->info);
+    uint32_t result = headers_of(self, mode);
     if (result != PE_C_DONE)
         return result;
     self->sections = PyMem_Calloc(self->info.number_of_sections + 1u, sizeof *self->sections);
@@ -891,19 +1076,23 @@ static uint32_t reads(Image *self, unsigned int mode)
         PyErr_NoMemory();
         return PE_C_MEMORY;
     }
-    result = pe_c_sections(BYTES, &self->info, SECTIONS);
-    if (result == PE_C_DONE && pe_c_string_table(BYTES, &self->info, &self->strings) != PE_C_DONE)
+    result = self->kind == KIND_OBJECT ? pe_c_coff_sections(BYTES, &self->coff, SECTIONS)
+             : self->kind == KIND_TE   ? pe_c_te_sections(BYTES, &self->te, SECTIONS)
+                                       : pe_c_sections(BYTES, &self->info, SECTIONS);
+    uint32_t strings = self->kind == KIND_OBJECT ? pe_c_coff_strings(BYTES, &self->coff, &self->strings)
+                                                 : pe_c_string_table(BYTES, &self->info, &self->strings);
+    if (self->kind == KIND_TE || self->kind == KIND_BYTES || strings != PE_C_DONE)
         self->strings = (pe_c_range)PE_C_EMPTY;
     return result;
 }
 
-/* image(data, mode, copy) returns an image, or None, and the number of the error. */
+/* image(data, mode, copy, kind, is_exact) returns an image, or None, and the number of the error. */
 static PyObject *image(PyObject *module, PyObject *arguments)
 {
     PyObject *data;
     unsigned int mode;
-    int is_copied;
-    if (!PyArg_ParseTuple(arguments, "OIp", &data, &mode, &is_copied))
+    int is_copied, kind, is_exact;
+    if (!PyArg_ParseTuple(arguments, "OIpip", &data, &mode, &is_copied, &kind, &is_exact))
         return NULL;
     State *state = PyModule_GetState(module);
     allocfunc allocate = (allocfunc)PyType_GetSlot(state->image, Py_tp_alloc);
@@ -911,6 +1100,8 @@ static PyObject *image(PyObject *module, PyObject *arguments)
     if (!self)
         return NULL;
     self->state = state;
+    self->kind = kind;
+    self->is_exact = is_exact;
     uint32_t result = holds(self, data, is_copied) ? reads(self, mode) : PE_C_MEMORY;
     PyObject *made = (PyObject *)self;
     if (result != PE_C_DONE) {
@@ -938,16 +1129,15 @@ static PyObject *text_of(PyObject *Py_UNUSED(module), PyObject *argument)
 #define WITH_ONE(name) {#name, (PyCFunction)name, METH_O, NULL}
 #define WITH_SOME(name) {#name, (PyCFunction)name, METH_VARARGS, NULL}
 static PyMethodDef methods[] = {
+    MADE_METHODS
     {"sections", (PyCFunction)section_headers, METH_NOARGS, NULL}, {"close", (PyCFunction)close_image, METH_NOARGS, NULL},
-    WITHOUT(headers), WITHOUT(all_headers), WITHOUT(rich_header), WITHOUT(symbol_key), WITHOUT(pdb20), WITHOUT(vc_features), WITHOUT(repro),
-    WITHOUT(extended_dll_characteristics), WITHOUT(pogo),
-    WITHOUT(overlay), WITHOUT(tls), WITHOUT(load_config), WITHOUT(clr_header), WITHOUT(clr_metadata),
-    WITHOUT(export_table),
-    WITHOUT(imports), WITHOUT(delay_imports), WITHOUT(bound_imports), WITHOUT(debug_entries), WITHOUT(resources),
+    WITHOUT(headers), WITHOUT(clr_metadata), WITHOUT(embedded_pdb), WITHOUT(pdb_checksum), WITHOUT(bound_imports),
     WITHOUT(relocations), WITHOUT(certificates), WITHOUT(exports), WITHOUT(functions), WITHOUT(arm64_functions),
-    WITHOUT(checksum), WITHOUT(digest_ranges), WITHOUT(detach), WITH_ONE(offset_of), WITH_ONE(find_function),
-    WITH_ONE(find_arm64_function), WITH_ONE(unwind_records), WITH_SOME(arm64_unwind), WITH_SOME(version_blocks),
-    WITH_SOME(fixed_version), WITH_SOME(codeview), WITH_SOME(histogram), WITH_SOME(attach),
+    WITHOUT(coff_header), WITHOUT(coff_strings), WITHOUT(symbols), WITHOUT(te_header), WITHOUT(te_symbol_key),
+    WITHOUT(dump_memory64), WITHOUT(checksum), WITHOUT(digest_ranges), WITHOUT(detach), WITH_ONE(offset_of),
+    WITH_ONE(find_function), WITH_ONE(find_arm64_function), WITH_ONE(unwind_records), WITH_SOME(arm64_unwind),
+    WITH_SOME(version_blocks), WITH_SOME(elements), WITH_SOME(name_attributes),
+    WITH_SOME(frames), WITH_SOME(arm64_frames), WITH_SOME(histogram), WITH_SOME(attach), WITH_SOME(edited),
     {NULL, NULL, 0, NULL}};
 
 static PyGetSetDef getters[] = {{"memory", (getter)get_memory, NULL, NULL, NULL},
@@ -992,7 +1182,7 @@ static int clear_module(PyObject *module)
     return 0;
 }
 
-static PyMethodDef functions_of_module[] = {WITH_SOME(image), WITH_ONE(text_of), {NULL, NULL, 0, NULL}};
+static PyMethodDef functions_of_module[] = {WITH_SOME(image), WITH_SOME(write_block), WITH_ONE(text_of), {NULL, NULL, 0, NULL}};
 /* From 3.12 on a slot says that interpreters with locks of their own may have the module, as all that changes is in
  * its state. 3.11, whose headers do not name it, refuses a slot that it does not know. */
 enum { MULTIPLE_INTERPRETERS = 3 };

@@ -5,22 +5,26 @@ import enum
 import hashlib
 import os
 import struct
-from typing import TYPE_CHECKING, Any, Callable, NamedTuple, TypeVar
+import typing
+from typing import TYPE_CHECKING, Any
 
 from . import _core
 from ._core import (AllHeaders, Arm64Function, Arm64Packed, Arm64Record, BoundLibrary, Certificate, Checksum, ClrHeader, DebugEntry,
-                    DelayLibrary, Export, ExportTable, FixedVersion, Function, Headers, Library, LoadConfig, Metadata, Pdb20,
-                    Pogo, RelocationBlock, Repro, Resource, RichHeader, Section, SymbolKey, Tls, UnwindRecord, VcFeatures,
+                    DelayLibrary, EmbeddedPdb, Export, ExportTable, FixedVersion, Function, Headers, Library, LoadConfig, Metadata, Pdb20, PdbChecksum,
+                    Pogo, RelocationBlock, Repro, Resource, RichHeader, Section, Symbol, SymbolKey, Tls, UnwindRecord, VcFeatures,
                     VersionBlock)
 from ._kinds import Kind
 from ._ordinals import ORDINALS
 from ._part import SHOWN, Error, Part, entropy_of, error_of, plain, shown
+from ._reader import IMAGE, Reader, content_of
+from ._report import Report
 
 if TYPE_CHECKING:
-    from _typeshed import ReadableBuffer
+    import _typeshed
+    from . import _signature
 
-T = TypeVar("T")
 RT_VERSION, RT_MANIFEST = 16, 24
+WIN_CERT_TYPE_PKCS_SIGNED_DATA = 2
 IMAGE_FILE_DLL, IMAGE_FILE_EXECUTABLE_IMAGE = 0x2000, 0x2
 # Windows rounds raw pointers down to multiples of it.
 SECTOR = 512
@@ -41,7 +45,7 @@ class Mode(enum.IntFlag):
     """the bytes are a module in memory, or a copy of one, from its first byte on: RVAs are offsets"""
 
 
-class Version(NamedTuple):
+class Version(typing.NamedTuple):
     """Version information in one language."""
 
     language: int | str
@@ -56,7 +60,7 @@ class Version(NamedTuple):
     """all blocks as a tree; its `error` is the first of them"""
 
 
-class Unwind(NamedTuple):
+class Unwind(typing.NamedTuple):
     """What unwinds an RVA of x64."""
 
     function: Function
@@ -65,7 +69,7 @@ class Unwind(NamedTuple):
     """its unwind records: its own, then those that it is chained to"""
 
 
-class Image:
+class Image(Reader):
     """A PE image over the bytes of a file: bytes, a bytearray, an mmap, a memoryview or anything else with a buffer.
 
     It holds the buffer, and copies one that may be written; with copy=False it holds that too, and nothing may write
@@ -76,29 +80,9 @@ class Image:
     without one, raises Error where it is damaged. After close() each raises ValueError. Contents, as those of
     resources, are memoryviews: they are not copied, can't be written, and stay valid after close(). """
 
-    def __init__(self, data: ReadableBuffer, mode: Mode = Mode.PERMISSIVE, *, copy: bool = True,
+    def __init__(self, data: _typeshed.ReadableBuffer, mode: Mode = Mode.PERMISSIVE, *, copy: bool = True,
                  path: str | None = None) -> None:
-        self.path = path
-        self._kept: dict[str, Any] = {}
-        core, number = _core.image(data, int(mode), copy)
-        if core is None:
-            raise error_of(number, "headers", path)
-        self._core = core
-
-    def close(self) -> None:
-        """Lets the buffer go. Raises BufferError while another call reads the image, as that of another thread."""
-        self._core.close()
-        self._kept.clear()
-
-    @property
-    def closed(self) -> bool:
-        return self._core.closed
-
-    def __enter__(self) -> Image:
-        return self
-
-    def __exit__(self, *_: object) -> None:
-        self.close()
+        super().__init__(data, IMAGE, "headers", mode=int(mode), copy=copy, path=path)
 
     def __repr__(self) -> str:
         if self.closed:
@@ -106,50 +90,7 @@ class Image:
         headers = self.headers
         return f"<pe_c.Image {self.path or ''} machine 0x{headers.machine:x} width {headers.width} {len(self.memory)} bytes>"
 
-    # ---- reading
-
-    def _read(self, name: str, *arguments: Any) -> tuple[Any, int, bool]:
-        answer: tuple[Any, int, bool] = getattr(self._core, name)(*arguments)
-        return answer
-
-    def _once(self, name: str, read: Callable[[], T]) -> T:
-        """What is read of an open image, kept until it is closed: from then on each read raises ValueError."""
-        if name not in self._kept:
-            self._kept[name] = read()
-        kept: T = self._kept[name]
-        return kept
-
-    def _part_of(self, answer: tuple[Any, int, bool], name: str) -> Part[Any]:
-        rows, number, is_limited = answer
-        part: Part[Any] = Part(rows or ())
-        part.error = error_of(number, name, self.path) if number else None
-        part.is_limited = is_limited
-        return part
-
-    def _part(self, name: str) -> Part[Any]:
-        return self._once(name, lambda: self._part_of(self._read(name), name))
-
-    def _kept_answer(self, name: str) -> tuple[Any, int, bool]:
-        return self._once(name, lambda: self._read(name))
-
-    def _one(self, name: str) -> Any:
-        value, number, _ = self._kept_answer(name)
-        if number:
-            raise error_of(number, name, self.path)
-        return value
-
-    def _asked(self, part: str, name: str, *arguments: Any) -> Any:
-        value, number, _ = self._read(name, *arguments)
-        if number:
-            raise error_of(number, part, self.path)
-        return value
-
     # ---- headers
-
-    @property
-    def memory(self) -> memoryview:
-        """All bytes of the image, which can't be written."""
-        return self._core.memory
 
     @property
     def headers(self) -> Headers:
@@ -223,6 +164,28 @@ class Image:
         return self._part("certificates")
 
     @property
+    def signatures(self) -> Part[_signature.Signature]:
+        """What the certificates that are signatures say. They are not verified. Of damaged ones the first is the error."""
+        from ._signature import Signature
+        def read() -> Part[_signature.Signature]:
+            found, refused = [], self.certificates.error
+            for it in self.certificates:
+                if it.type == WIN_CERT_TYPE_PKCS_SIGNED_DATA:
+                    try:
+                        found.append(Signature(it.body, path=self.path))
+                    except Error as error:
+                        refused = refused or error
+            part: Part[_signature.Signature] = Part(found)
+            part.error = refused
+            return part
+        return self._once("signatures", read)
+
+    @property
+    def symbols(self) -> Part[Symbol]:
+        """The COFF symbols, without auxiliary records, as images of mingw-w64 and Go have them."""
+        return self._part("symbols")
+
+    @property
     def resources(self) -> Part[Resource]:
         """All resources, each in each language."""
         return self._part("resources")
@@ -287,6 +250,18 @@ class Image:
         return row
 
     @property
+    def embedded_pdb(self) -> EmbeddedPdb | None:
+        """A portable PDB in the image itself, of .NET."""
+        row: EmbeddedPdb | None = self._one("embedded_pdb")
+        return row
+
+    @property
+    def pdb_checksum(self) -> PdbChecksum | None:
+        """A checksum of the PDB file, of .NET."""
+        row: PdbChecksum | None = self._one("pdb_checksum")
+        return row
+
+    @property
     def tls(self) -> Tls | None:
         """The TLS directory, with the virtual addresses of its callbacks."""
         row: Tls | None = self._one("tls")
@@ -314,7 +289,7 @@ class Image:
 
     def _version_of(self, leaf: Resource) -> Version:
         place = (leaf.offset or 0, leaf.size)
-        fixed, _, _ = self._read("fixed_version", *place)
+        fixed, _, _ = self._read("fixed_version_in", *place)
         blocks: Part[VersionBlock] = self._part_of(self._read("version_blocks", *place), "version")
         strings: dict[str, dict[str, str]] = {}
         translations: list[tuple[int, int]] = []
@@ -502,6 +477,15 @@ class Image:
                 "notes": list(self.notes),
                 "warnings": [{"part": it.part, "number": it.number, "text": it.text} for it in self.warnings]}
 
+    def facts(self, *, has_hashes: bool = True) -> dict[str, Any]:
+        """What `pe --json` says of the image, as docs/pe.schema.json has it. Never raises Error: an error stands beside its part."""
+        from ._facts import facts_of
+        return facts_of(self.memory, self.path or "", Mode(self.headers.mode), has_hashes)[0]
+
+    def report(self, program: str = "pe") -> Report:
+        """The page of `pe report`, to be shown in a notebook. Raises OSError without that program, and where it fails."""
+        return Report.of(self.memory, self.path or "image", program)
+
     def _repr_html_(self) -> str:
         rows = "".join(f"<tr><td>{shown(it.name)}</td><td>0x{it.virtual_address:x}</td><td>{it.size_of_raw_data}</td>"
                        f"<td><meter max=8 value={value or 0:.2f}></meter> {value or 0:.2f}</td></tr>"
@@ -518,11 +502,5 @@ def open(path: str | os.PathLike[str], mode: Mode = Mode.PERMISSIVE, *, limit: i
 
     Raises Error where its headers are refused, and OSError where it can't be read or has more than `limit` bytes.
     """
-    import errno
-    import io
     name = os.fspath(path)
-    with io.open(name, "rb", buffering=0) as file:
-        if os.fstat(file.fileno()).st_size > limit:
-            raise OSError(errno.EFBIG, os.strerror(errno.EFBIG), name)
-        data = file.readall()
-    return Image(data, mode, path=name)
+    return Image(content_of(name, limit), mode, path=name)

@@ -223,3 +223,111 @@ class Kind(enum.IntEnum):
     @classmethod
     def _missing_(cls, value: object) -> "Kind":
         return cls.OTHER
+
+
+class KnownOid(enum.IntEnum):
+    """An object identifier in signatures that has a number in pe.h. Numbers never change, and new ones may come."""
+
+    OTHER = 0
+    DATA = 1
+    SIGNED_DATA = 2
+    TST_INFO = 3
+    SPC_INDIRECT_DATA = 4
+    SPC_PE_IMAGE_DATA = 5
+    SPC_SIP_INFO = 6
+    SPC_CAB_DATA = 7
+    CTL = 8
+    CONTENT_TYPE = 101
+    MESSAGE_DIGEST = 102
+    SIGNING_TIME = 103
+    COUNTER_SIGNATURE = 104
+    SIGNING_CERTIFICATE = 105
+    AA_TIME_STAMP_TOKEN = 106
+    SIGNING_CERTIFICATE_V2 = 107
+    SPC_STATEMENT_TYPE = 108
+    SPC_SP_OPUS_INFO = 109
+    NESTED_SIGNATURE = 110
+    TIME_STAMP_TOKEN = 111
+    MD5 = 201
+    SHA1 = 202
+    SHA256 = 203
+    SHA384 = 204
+    SHA512 = 205
+    RSA = 206
+    MD5_RSA = 207
+    SHA1_RSA = 208
+    SHA256_RSA = 209
+    SHA384_RSA = 210
+    SHA512_RSA = 211
+    RSA_PSS = 212
+    EC = 213
+    ECDSA_SHA1 = 214
+    ECDSA_SHA256 = 215
+    ECDSA_SHA384 = 216
+    ECDSA_SHA512 = 217
+    DSA = 218
+    DSA_SHA1 = 219
+    COMMON_NAME = 301
+    SERIAL_NUMBER = 302
+    COUNTRY = 303
+    LOCALITY = 304
+    STATE = 305
+    STREET = 306
+    ORGANIZATION = 307
+    ORGANIZATIONAL_UNIT = 308
+    BUSINESS_CATEGORY = 309
+    POSTAL_CODE = 310
+    DOMAIN_COMPONENT = 311
+    USER_ID = 312
+    EMAIL_ADDRESS = 313
+    JURISDICTION_COUNTRY = 314
+    JURISDICTION_STATE = 315
+    JURISDICTION_LOCALITY = 316
+    SUBJECT_KEY_IDENTIFIER = 401
+    KEY_USAGE = 402
+    SUBJECT_ALT_NAME = 403
+    BASIC_CONSTRAINTS = 404
+    CERTIFICATE_POLICIES = 405
+    AUTHORITY_KEY_IDENTIFIER = 406
+    EXTENDED_KEY_USAGE = 407
+    CRL_DISTRIBUTION_POINTS = 408
+    AUTHORITY_INFORMATION_ACCESS = 409
+
+    @classmethod
+    def _missing_(cls, value: object) -> "KnownOid":
+        return cls.OTHER
+
+
+class Way(enum.IntEnum):
+    """How a frame of a stack walk was found."""
+
+    TOP = 0
+    """it is the top frame"""
+    RECORDS = 1
+    """by the unwind records of the function that it called"""
+    LEAF = 2
+    """it called a leaf function"""
+    INTERRUPT = 3
+    """an interrupt stopped it: the records before it show what the processor pushed, on ARM64 what the
+    operating system saved"""
+    SCANNED = 4
+    """by a scan of the stack, where no records led on: it may be wrong, and those after it"""
+
+
+class End(enum.IntEnum):
+    """Why a stack walk is over."""
+
+    BOUND = 0
+    """as many frames were returned as the caller wants"""
+    BOTTOM = 1
+    """the stack is whole: its last frame returns to 0, and no frame is found there"""
+    NO_MODULE = 2
+    """no module has the last instruction pointer, and no return address is found"""
+    NO_FUNCTION = 3
+    """no function covers the call in the last frame"""
+    RECORDS = 4
+    """an unwind record of the last function cannot be read: `error` says why"""
+    LONG_CHAIN = 5
+    """more than 32 of them are chained"""
+    STEP = 6
+    """the step from the last frame is refused: `error` and `address` as in pe_c_step"""

@@ -3,7 +3,8 @@ from __future__ import annotations
 
 import hashlib
 import html
-from typing import Any, Iterable, TypeVar
+import typing
+from typing import Any, TypeVar
 
 from . import _core
 from ._kinds import Kind
@@ -35,7 +36,7 @@ class Error(ValueError):
         return ": ".join(it for it in (self.path, self.part, self.text) if it)
 
 
-def error_of(number: int, part: str, path: str | None) -> Error:
+def error_of(number: int, part: str, path: str | None = None) -> Error:
     return Error(number, _core.text_of(number), part, path)
 
 
@@ -106,11 +107,15 @@ def shown(value: Any) -> str:
         return f"{value.nbytes} bytes"
     if isinstance(value, tuple):
         return f"{len(value)} entries" if not fields_of(value) else html.escape(repr(tuple(value)))
-    text = value if isinstance(value, str) else repr(value)
-    return html.escape("".join(it if it.isprintable() else it.encode("unicode_escape").decode() for it in text))
+    return html.escape(shown_text(value if isinstance(value, str) else repr(value)))
 
 
-def entropy_of(counts: Iterable[int]) -> float:
+def shown_text(text: str) -> str:
+    """A text without control characters, which none can forge a line with."""
+    return "".join(it if it.isprintable() else it.encode("unicode_escape").decode() for it in text)
+
+
+def entropy_of(counts: typing.Iterable[int]) -> float:
     """Shannon's entropy of bytes in bits a byte, 0.0 to 8.0, by how often each byte stands there."""
     import math
     some = [it for it in counts if it]

@@ -1,13 +1,17 @@
 /* The rows that records of pe.h become. Written by tools/make_python of pe.h. */
 
+static PyObject *row_range(Image *self, Rows *rows, const pe_c_range *it);
 static PyObject *row_directory(Image *self, Rows *rows, const pe_c_directory *it);
 static PyObject *row_image_info(Image *self, Rows *rows, const pe_c_image_info *it);
 static PyObject *row_section(Image *self, Rows *rows, const pe_c_section *it);
+static PyObject *section_name(Image *self, Rows *rows, const pe_c_section *it);
 static PyObject *row_dos_header(Image *self, Rows *rows, const pe_c_dos_header *it);
 static PyObject *row_coff_header(Image *self, Rows *rows, const pe_c_coff_header *it);
 static PyObject *row_optional_header(Image *self, Rows *rows, const pe_c_optional_header *it);
 static PyObject *row_headers_info(Image *self, Rows *rows, const pe_c_headers_info *it);
+static PyObject *row_symbol_entry(Image *self, Rows *rows, const pe_c_symbol_entry *it, pe_c_range name);
 static PyObject *row_rich_header_info(Image *self, Rows *rows, const pe_c_rich_header_info *it);
+static PyObject *rich_entries(Image *self, Rows *rows, const pe_c_rich_header_info *it);
 static PyObject *row_rich_entry(Image *self, Rows *rows, const pe_c_rich_entry *it);
 static PyObject *row_debug_entry(Image *self, Rows *rows, const pe_c_debug_entry *it);
 static PyObject *row_key(Image *self, Rows *rows, const pe_c_key *it);
@@ -15,36 +19,104 @@ static PyObject *row_pdb20(Image *self, Rows *rows, const pe_c_pdb20 *it);
 static PyObject *row_vc_features(Image *self, Rows *rows, const pe_c_vc_features *it);
 static PyObject *row_repro(Image *self, Rows *rows, const pe_c_repro *it);
 static PyObject *row_pogo(Image *self, Rows *rows, const pe_c_pogo *it);
+static PyObject *pogo_entries(Image *self, Rows *rows, const pe_c_pogo *it);
 static PyObject *row_pogo_entry(Image *self, Rows *rows, const pe_c_pogo_entry *it);
+static PyObject *row_embedded_pdb(Image *self, Rows *rows, const pe_c_embedded_pdb *it);
+static PyObject *row_pdb_checksum(Image *self, Rows *rows, const pe_c_pdb_checksum *it);
+static PyObject *row_te_image(Image *self, Rows *rows, const pe_c_te_image *it);
 static PyObject *row_certificate(Image *self, Rows *rows, const pe_c_certificate *it);
+static PyObject *row_oid(Image *self, Rows *rows, const pe_c_oid *it);
+static PyObject *row_algorithm(Image *self, Rows *rows, const pe_c_algorithm *it);
+static PyObject *row_der_element(Image *self, Rows *rows, const pe_c_der_element *it);
+static PyObject *row_signed_data(Image *self, Rows *rows, const pe_c_signed_data *it);
+static PyObject *row_spc_indirect_data(Image *self, Rows *rows, const pe_c_spc_indirect_data *it);
+static PyObject *row_spc_pe_image_data(Image *self, Rows *rows, const pe_c_spc_pe_image_data *it);
+static PyObject *row_signer_info(Image *self, Rows *rows, const pe_c_signer_info *it);
+static PyObject *row_signer_attribute(Image *self, Rows *rows, const pe_c_signer_attribute *it);
+static PyObject *row_spc_opus_info(Image *self, Rows *rows, const pe_c_spc_opus_info *it);
+static PyObject *row_x509_certificate(Image *self, Rows *rows, const pe_c_x509_certificate *it);
+static PyObject *row_x509_extension(Image *self, Rows *rows, const pe_c_x509_extension *it);
+static PyObject *row_name_attribute(Image *self, Rows *rows, const pe_c_name_attribute *it);
+static PyObject *row_utc_time(Image *self, Rows *rows, const pe_c_utc_time *it);
+static PyObject *row_tst_info(Image *self, Rows *rows, const pe_c_tst_info *it);
 static PyObject *row_checksum_field(Image *self, Rows *rows, const pe_c_checksum_field *it);
 static PyObject *row_function(Image *self, Rows *rows, const pe_c_function *it);
 static PyObject *row_record(Image *self, Rows *rows, const pe_c_record *it);
+static PyObject *unwind_codes(Image *self, Rows *rows, const pe_c_record *it);
 static PyObject *row_code(Image *self, Rows *rows, const pe_c_code *it);
+static PyObject *row_registers(Image *self, Rows *rows, const pe_c_registers *it);
+static PyObject *row_stack_walk(Image *self, Rows *rows, const pe_c_stack_walk *it);
 static PyObject *row_arm64_function(Image *self, Rows *rows, const pe_c_arm64_function *it);
 static PyObject *row_arm64_packed(Image *self, Rows *rows, const pe_c_arm64_packed *it);
 static PyObject *row_arm64_record(Image *self, Rows *rows, const pe_c_arm64_record *it);
+static PyObject *arm64_scopes(Image *self, Rows *rows, const pe_c_arm64_record *it);
+static PyObject *arm64_codes(Image *self, Rows *rows, const pe_c_arm64_record *it);
 static PyObject *row_arm64_scope(Image *self, Rows *rows, const pe_c_arm64_scope *it);
 static PyObject *row_arm64_code(Image *self, Rows *rows, const pe_c_arm64_code *it);
+static PyObject *row_arm64_registers(Image *self, Rows *rows, const pe_c_arm64_registers *it);
+static PyObject *row_arm64_stack_walk(Image *self, Rows *rows, const pe_c_arm64_stack_walk *it);
 static PyObject *row_address_table(Image *self, Rows *rows, const pe_c_address_table *it);
 static PyObject *row_exported(Image *self, Rows *rows, const pe_c_exported *it, const pe_c_export *named);
 static PyObject *row_library(Image *self, Rows *rows, const pe_c_library *it);
+static PyObject *imports_of(Image *self, Rows *rows, const pe_c_library *it);
 static PyObject *row_import(Image *self, Rows *rows, const pe_c_import *it);
 static PyObject *row_delay_descriptor(Image *self, Rows *rows, const pe_c_delay_descriptor *it);
 static PyObject *row_delay_import(Image *self, Rows *rows, const pe_c_delay_import *it);
+static PyObject *delayed_functions(Image *self, Rows *rows, const pe_c_delay_import *it);
 static PyObject *row_delayed_function(Image *self, Rows *rows, const pe_c_delayed_function *it);
 static PyObject *row_bound_import(Image *self, Rows *rows, const pe_c_bound_import *it);
+static PyObject *bound_forwarders(Image *self, Rows *rows, const pe_c_bound_import *it);
 static PyObject *row_bound_forwarder(Image *self, Rows *rows, const pe_c_bound_forwarder *it);
 static PyObject *row_version(Image *self, Rows *rows, const pe_c_version *it);
 static PyObject *row_version_block(Image *self, Rows *rows, const pe_c_version_block *it);
+static PyObject *version_children(Image *self, Rows *rows, const pe_c_version_block *it);
 static PyObject *row_resource_leaf(Image *self, Rows *rows, const pe_c_resource_leaf *it);
 static PyObject *row_tls_directory(Image *self, Rows *rows, const pe_c_tls_directory *it);
+static PyObject *tls_callbacks(Image *self, Rows *rows, const pe_c_tls_directory *it);
 static PyObject *row_load_config_directory(Image *self, Rows *rows, const pe_c_load_config_directory *it);
 static PyObject *row_relocation_block(Image *self, Rows *rows, const pe_c_relocation_block *it);
+static PyObject *relocations_of(Image *self, Rows *rows, const pe_c_relocation_block *it);
 static PyObject *row_relocation(Image *self, Rows *rows, const pe_c_relocation *it);
 static PyObject *row_cor20_header(Image *self, Rows *rows, const pe_c_cor20_header *it);
 static PyObject *row_metadata(Image *self, Rows *rows, const pe_c_metadata *it);
+static PyObject *metadata_streams(Image *self, Rows *rows, const pe_c_metadata *it);
 static PyObject *row_metadata_stream(Image *self, Rows *rows, const pe_c_metadata_stream *it);
+static PyObject *row_dump_info(Image *self, Rows *rows, const pe_c_dump_info *it);
+static PyObject *row_dump_location(Image *self, Rows *rows, const pe_c_dump_location *it);
+static PyObject *row_dump_entry(Image *self, Rows *rows, const pe_c_dump_entry *it);
+static PyObject *row_dump_stack(Image *self, Rows *rows, const pe_c_dump_stack *it);
+static PyObject *row_dump_thread(Image *self, Rows *rows, const pe_c_dump_thread *it);
+static PyObject *row_dump_version(Image *self, Rows *rows, const pe_c_dump_version *it);
+static PyObject *row_dump_module(Image *self, Rows *rows, const pe_c_dump_module *it);
+static PyObject *row_dump_thread_name(Image *self, Rows *rows, const pe_c_dump_thread_name *it);
+static PyObject *row_dump_unloaded(Image *self, Rows *rows, const pe_c_dump_unloaded *it);
+static PyObject *row_dump_thread_info(Image *self, Rows *rows, const pe_c_dump_thread_info *it);
+static PyObject *row_dump_handle(Image *self, Rows *rows, const pe_c_dump_handle *it);
+static PyObject *row_dump_region(Image *self, Rows *rows, const pe_c_dump_region *it);
+static PyObject *row_dump_raised(Image *self, Rows *rows, const pe_c_dump_raised *it);
+static PyObject *row_dump_system_info(Image *self, Rows *rows, const pe_c_dump_system_info *it);
+static PyObject *row_dump_times(Image *self, Rows *rows, const pe_c_dump_times *it);
+static PyObject *row_dump_power(Image *self, Rows *rows, const pe_c_dump_power *it);
+static PyObject *row_dump_process_info(Image *self, Rows *rows, const pe_c_dump_process_info *it);
+static PyObject *row_dump_piece(Image *self, Rows *rows, const pe_c_dump_piece *it);
+static PyObject *row_context(Image *self, Rows *rows, const pe_c_context *it);
+static PyObject *row_arm64_context(Image *self, Rows *rows, const pe_c_arm64_context *it);
+
+static PyStructSequence_Field row_range_fields[] = {
+    {"offset", "from the start of the bytes"},
+    {"length", "bytes"},
+    {NULL, NULL}};
+
+static PyObject *row_range(Image *self, Rows *rows, const pe_c_range *it)
+{
+    if (!takes(rows, 0))
+        return NULL;
+    PyObject *items[] = {
+        N(it->offset),
+        N(it->length),
+    };
+    return filled(self, ROW_RANGE, items, 2);
+}
 
 static PyStructSequence_Field row_directory_fields[] = {
     {"virtual_address", "RVA"},
@@ -326,6 +398,38 @@ static PyObject *row_headers_info(Image *self, Rows *rows, const pe_c_headers_in
     return filled(self, ROW_HEADERS_INFO, items, 8);
 }
 
+static PyStructSequence_Field row_symbol_entry_fields[] = {
+    {"name", NULL},
+    {"auxiliary", "its auxiliary records, 18 bytes each, up to the end of the table"},
+    {"at", "of its entry in the table; auxiliary records count"},
+    {"raw_name", "padded with zeros; or 4 zeros, and the offset of a longer name in the string table"},
+    {"value", "by the storage class, for instance an offset in the section"},
+    {"string_offset", "of the name in the string table, from its size field; 0 where `name` has the name"},
+    {"section_number", "from 1; 0 IMAGE_SYM_UNDEFINED, -1 _ABSOLUTE, -2 _DEBUG"},
+    {"type", "IMAGE_SYM_TYPE_ and IMAGE_SYM_DTYPE_"},
+    {"storage_class", "IMAGE_SYM_CLASS_"},
+    {"number_of_aux_symbols", "auxiliary records that follow"},
+    {NULL, NULL}};
+
+static PyObject *row_symbol_entry(Image *self, Rows *rows, const pe_c_symbol_entry *it, pe_c_range name)
+{
+    if (!takes(rows, 0))
+        return NULL;
+    PyObject *items[] = {
+        utf8(self, name),
+        view_of(self, it->auxiliary),
+        N(it->index),
+        bytes_of(it->name, sizeof it->name),
+        N(it->value),
+        N(it->string_offset),
+        PyLong_FromLong(it->section_number),
+        N(it->type),
+        N(it->storage_class),
+        N(it->number_of_aux_symbols),
+    };
+    return filled(self, ROW_SYMBOL_ENTRY, items, 10);
+}
+
 static PyStructSequence_Field row_rich_header_info_fields[] = {
     {"entries", "8 bytes each, XORed with the key; a walk through them"},
     {"key", "what the header is XORed with"},
@@ -502,6 +606,72 @@ static PyObject *row_pogo_entry(Image *self, Rows *rows, const pe_c_pogo_entry *
     return filled(self, ROW_POGO_ENTRY, items, 3);
 }
 
+static PyStructSequence_Field row_embedded_pdb_fields[] = {
+    {"compressed", "raw Deflate data"},
+    {"uncompressed_size", "bytes of the PDB, as the record states it"},
+    {NULL, NULL}};
+
+static PyObject *row_embedded_pdb(Image *self, Rows *rows, const pe_c_embedded_pdb *it)
+{
+    if (!takes(rows, 0))
+        return NULL;
+    PyObject *items[] = {
+        view_of(self, it->compressed),
+        N(it->uncompressed_size),
+    };
+    return filled(self, ROW_EMBEDDED_PDB, items, 2);
+}
+
+static PyStructSequence_Field row_pdb_checksum_fields[] = {
+    {"algorithm", "the name of the algorithm, as \"SHA256\", not NUL-terminated"},
+    {"checksum", "the rest of the record"},
+    {NULL, NULL}};
+
+static PyObject *row_pdb_checksum(Image *self, Rows *rows, const pe_c_pdb_checksum *it)
+{
+    if (!takes(rows, it->algorithm.length + it->checksum.length))
+        return NULL;
+    PyObject *items[] = {
+        utf8(self, it->algorithm),
+        raw(self, it->checksum),
+    };
+    return filled(self, ROW_PDB_CHECKSUM, items, 2);
+}
+
+static PyStructSequence_Field row_te_image_fields[] = {
+    {"image_base", "preferred virtual address of the image"},
+    {"entry_point", "RVA"},
+    {"base_of_code", "RVA"},
+    {"reloc_dir", "the base relocations; the RVA is reduced where it is absent too"},
+    {"debug_dir", "the debug directory; both fields are 0 where it is absent"},
+    {"rva_offset", "how many bytes the file is shorter: stripped_size less 40"},
+    {"signature", "0x5A56, \"VZ\""},
+    {"machine", "IMAGE_FILE_MACHINE_"},
+    {"stripped_size", "bytes of headers that were stripped"},
+    {"number_of_sections", NULL},
+    {"subsystem", "IMAGE_SUBSYSTEM_"},
+    {NULL, NULL}};
+
+static PyObject *row_te_image(Image *self, Rows *rows, const pe_c_te_image *it)
+{
+    if (!takes(rows, 0))
+        return NULL;
+    PyObject *items[] = {
+        N(it->image_base),
+        N(it->entry_point),
+        N(it->base_of_code),
+        row_directory(self, rows, &it->reloc_dir),
+        row_directory(self, rows, &it->debug_dir),
+        N(it->rva_offset),
+        N(it->signature),
+        N(it->machine),
+        N(it->stripped_size),
+        N(it->number_of_sections),
+        N(it->subsystem),
+    };
+    return filled(self, ROW_TE_IMAGE, items, 11);
+}
+
 static PyStructSequence_Field row_certificate_fields[] = {
     {"body", "what follows the header of 8 bytes"},
     {"length", "dwLength: bytes of header and body"},
@@ -520,6 +690,314 @@ static PyObject *row_certificate(Image *self, Rows *rows, const pe_c_certificate
         N(it->type),
     };
     return filled(self, ROW_CERTIFICATE, items, 4);
+}
+
+static PyStructSequence_Field row_oid_fields[] = {
+    {"octets", NULL},
+    {"id", "PE_C_OID_, of the group that the field has"},
+    {NULL, NULL}};
+
+static PyObject *row_oid(Image *self, Rows *rows, const pe_c_oid *it)
+{
+    if (!takes(rows, it->octets.length))
+        return NULL;
+    PyObject *items[] = {
+        raw(self, it->octets),
+        N(it->id),
+    };
+    return filled(self, ROW_OID, items, 2);
+}
+
+static PyStructSequence_Field row_algorithm_fields[] = {
+    {"oid", "of algorithms"},
+    {"parameters", "whole"},
+    {NULL, NULL}};
+
+static PyObject *row_algorithm(Image *self, Rows *rows, const pe_c_algorithm *it)
+{
+    if (!takes(rows, it->parameters.length))
+        return NULL;
+    PyObject *items[] = {
+        row_oid(self, rows, &it->oid),
+        raw(self, it->parameters),
+    };
+    return filled(self, ROW_ALGORITHM, items, 2);
+}
+
+static PyStructSequence_Field row_der_element_fields[] = {
+    {"whole", NULL},
+    {"content", NULL},
+    {"tag", "the identifier octet, such as 0x30 for a SEQUENCE, 4 for an OCTET STRING"},
+    {NULL, NULL}};
+
+static PyObject *row_der_element(Image *self, Rows *rows, const pe_c_der_element *it)
+{
+    if (!takes(rows, 0))
+        return NULL;
+    PyObject *items[] = {
+        row_range(self, rows, &it->whole),
+        row_range(self, rows, &it->content),
+        N(it->tag),
+    };
+    return filled(self, ROW_DER_ELEMENT, items, 3);
+}
+
+static PyStructSequence_Field row_signed_data_fields[] = {
+    {"content_type", "of what is signed, by content types"},
+    {"version", "an INTEGER, which is 1 in Authenticode"},
+    {"digest_algorithms", "a walk for pe_c_next_element, each for pe_c_algorithm_identifier"},
+    {"content", "what is signed, whole: for pe_c_indirect_data, or in a time stamp for pe_c_time_stamp"},
+    {"digested", "what messageDigest is the digest of: the content of `content`"},
+    {"certificates", "a walk, each for pe_c_x509"},
+    {"crls", "a walk over certificate revocation lists"},
+    {"signers", "a walk, each for pe_c_signer"},
+    {NULL, NULL}};
+
+static PyObject *row_signed_data(Image *self, Rows *rows, const pe_c_signed_data *it)
+{
+    if (!takes(rows, 0))
+        return NULL;
+    PyObject *items[] = {
+        row_oid(self, rows, &it->content_type),
+        row_range(self, rows, &it->version),
+        row_range(self, rows, &it->digest_algorithms),
+        OPTIONAL(it->has_content, row_range(self, rows, &it->content)),
+        row_range(self, rows, &it->digested),
+        row_range(self, rows, &it->certificates),
+        row_range(self, rows, &it->crls),
+        row_range(self, rows, &it->signers),
+    };
+    return filled(self, ROW_SIGNED_DATA, items, 8);
+}
+
+static PyStructSequence_Field row_spc_indirect_data_fields[] = {
+    {"value_type", "by content types; of an image PE_C_OID_SPC_PE_IMAGE_DATA"},
+    {"value", "whole; of an image for pe_c_image_data"},
+    {"digest_algorithm", NULL},
+    {"digest", "of what pe_c_digest_ranges says"},
+    {NULL, NULL}};
+
+static PyObject *row_spc_indirect_data(Image *self, Rows *rows, const pe_c_spc_indirect_data *it)
+{
+    if (!takes(rows, it->digest.length))
+        return NULL;
+    PyObject *items[] = {
+        row_oid(self, rows, &it->value_type),
+        row_range(self, rows, &it->value),
+        row_algorithm(self, rows, &it->digest_algorithm),
+        raw(self, it->digest),
+    };
+    return filled(self, ROW_SPC_INDIRECT_DATA, items, 4);
+}
+
+static PyStructSequence_Field row_spc_pe_image_data_fields[] = {
+    {"flags", "a BIT STRING, not used"},
+    {"file", "whole: [2] with the text <<<Obsolete>>>, or [1] with page hashes"},
+    {NULL, NULL}};
+
+static PyObject *row_spc_pe_image_data(Image *self, Rows *rows, const pe_c_spc_pe_image_data *it)
+{
+    if (!takes(rows, 0))
+        return NULL;
+    PyObject *items[] = {
+        row_range(self, rows, &it->flags),
+        row_range(self, rows, &it->file),
+    };
+    return filled(self, ROW_SPC_PE_IMAGE_DATA, items, 2);
+}
+
+static PyStructSequence_Field row_signer_info_fields[] = {
+    {"version", "an INTEGER, which is 1 with an issuer and a serial number"},
+    {"issuer", "whole, for pe_c_name"},
+    {"serial", "an INTEGER: two's complement, the high byte first"},
+    {"key_identifier", "of the certificate, where there is no issuer"},
+    {"digest_algorithm", NULL},
+    {"signed_attributes", "a walk for pe_c_next_element, each for pe_c_attribute"},
+    {"signed_rest", "the octets of the signed attributes after their tag"},
+    {"signature_algorithm", NULL},
+    {"signature", NULL},
+    {"unsigned_attributes", "a walk, each for pe_c_attribute"},
+    {"signed_first", "0x31, the tag of a SET, in place of their own tag; 0 without them"},
+    {NULL, NULL}};
+
+static PyObject *row_signer_info(Image *self, Rows *rows, const pe_c_signer_info *it)
+{
+    if (!takes(rows, it->serial.length + it->key_identifier.length + it->signature.length))
+        return NULL;
+    PyObject *items[] = {
+        row_range(self, rows, &it->version),
+        row_range(self, rows, &it->issuer),
+        raw(self, it->serial),
+        raw(self, it->key_identifier),
+        row_algorithm(self, rows, &it->digest_algorithm),
+        OPTIONAL(it->has_signed_attributes, row_range(self, rows, &it->signed_attributes)),
+        row_range(self, rows, &it->signed_rest),
+        row_algorithm(self, rows, &it->signature_algorithm),
+        raw(self, it->signature),
+        row_range(self, rows, &it->unsigned_attributes),
+        N(it->signed_first),
+    };
+    return filled(self, ROW_SIGNER_INFO, items, 11);
+}
+
+static PyStructSequence_Field row_signer_attribute_fields[] = {
+    {"type", "by attributes"},
+    {"values", NULL},
+    {NULL, NULL}};
+
+static PyObject *row_signer_attribute(Image *self, Rows *rows, const pe_c_signer_attribute *it)
+{
+    if (!takes(rows, 0))
+        return NULL;
+    PyObject *items[] = {
+        row_oid(self, rows, &it->type),
+        row_range(self, rows, &it->values),
+    };
+    return filled(self, ROW_SIGNER_ATTRIBUTE, items, 2);
+}
+
+static PyStructSequence_Field row_spc_opus_info_fields[] = {
+    {"program_name", NULL},
+    {"more_info", NULL},
+    {"program_name_tag", "0x80 for UTF-16, the high byte first; 0x81 for ASCII; 0 without a name"},
+    {"more_info_tag", "0x80 for a URL in ASCII; 0xA1 for an object, 0xA2 for a file; 0 without one"},
+    {NULL, NULL}};
+
+static PyObject *row_spc_opus_info(Image *self, Rows *rows, const pe_c_spc_opus_info *it)
+{
+    if (!takes(rows, it->program_name.length + it->more_info.length))
+        return NULL;
+    PyObject *items[] = {
+        raw(self, it->program_name),
+        raw(self, it->more_info),
+        N(it->program_name_tag),
+        N(it->more_info_tag),
+    };
+    return filled(self, ROW_SPC_OPUS_INFO, items, 4);
+}
+
+static PyStructSequence_Field row_x509_certificate_fields[] = {
+    {"to_be_signed", "whole"},
+    {"serial", "an INTEGER: two's complement, the high byte first"},
+    {"issuer", "whole, for pe_c_name"},
+    {"subject", "whole, for pe_c_name"},
+    {"not_before", "whole, for pe_c_time"},
+    {"not_after", "whole, for pe_c_time"},
+    {"public_key", "whole: SubjectPublicKeyInfo"},
+    {"extensions", "a walk for pe_c_next_element, each for pe_c_extension"},
+    {"signature_algorithm", NULL},
+    {"signature", "the bits of the BIT STRING, without the octet before them"},
+    {NULL, NULL}};
+
+static PyObject *row_x509_certificate(Image *self, Rows *rows, const pe_c_x509_certificate *it)
+{
+    if (!takes(rows, it->serial.length + it->signature.length))
+        return NULL;
+    PyObject *items[] = {
+        row_range(self, rows, &it->to_be_signed),
+        raw(self, it->serial),
+        row_range(self, rows, &it->issuer),
+        row_range(self, rows, &it->subject),
+        row_range(self, rows, &it->not_before),
+        row_range(self, rows, &it->not_after),
+        row_range(self, rows, &it->public_key),
+        row_range(self, rows, &it->extensions),
+        row_algorithm(self, rows, &it->signature_algorithm),
+        raw(self, it->signature),
+    };
+    return filled(self, ROW_X509_CERTIFICATE, items, 10);
+}
+
+static PyStructSequence_Field row_x509_extension_fields[] = {
+    {"type", "by extensions"},
+    {"value", "the content of its OCTET STRING: an element"},
+    {"critical", "1 where it is critical, else 0"},
+    {NULL, NULL}};
+
+static PyObject *row_x509_extension(Image *self, Rows *rows, const pe_c_x509_extension *it)
+{
+    if (!takes(rows, it->value.length))
+        return NULL;
+    PyObject *items[] = {
+        row_oid(self, rows, &it->type),
+        raw(self, it->value),
+        N(it->critical),
+    };
+    return filled(self, ROW_X509_EXTENSION, items, 3);
+}
+
+static PyStructSequence_Field row_name_attribute_fields[] = {
+    {"type", "by attributes of names"},
+    {"value", NULL},
+    {"tag", "of the value: PrintableString 0x13, UTF8String 0x0C, IA5String 0x16, BMPString 0x1E, .."},
+    {"starts_rdn", "1 where it is the first of its relative distinguished name, else 0"},
+    {NULL, NULL}};
+
+static PyObject *row_name_attribute(Image *self, Rows *rows, const pe_c_name_attribute *it)
+{
+    if (!takes(rows, it->value.length))
+        return NULL;
+    PyObject *items[] = {
+        row_oid(self, rows, &it->type),
+        raw(self, it->value),
+        N(it->tag),
+        N(it->starts_rdn),
+    };
+    return filled(self, ROW_NAME_ATTRIBUTE, items, 4);
+}
+
+static PyStructSequence_Field row_utc_time_fields[] = {
+    {"year", "0 to 9999"},
+    {"month", "1 to 12"},
+    {"day", "1 to 31; that a month has fewer days is not tested"},
+    {"hour", NULL},
+    {"minute", NULL},
+    {"second", "0 to 59; a fraction is left out"},
+    {NULL, NULL}};
+
+static PyObject *row_utc_time(Image *self, Rows *rows, const pe_c_utc_time *it)
+{
+    if (!takes(rows, 0))
+        return NULL;
+    PyObject *items[] = {
+        N(it->year),
+        N(it->month),
+        N(it->day),
+        N(it->hour),
+        N(it->minute),
+        N(it->second),
+    };
+    return filled(self, ROW_UTC_TIME, items, 6);
+}
+
+static PyStructSequence_Field row_tst_info_fields[] = {
+    {"version", "an INTEGER, which is 1"},
+    {"policy", "an object identifier"},
+    {"digest_algorithm", NULL},
+    {"digest", "of the signature that is stamped, the field `signature` of its signer"},
+    {"serial", "an INTEGER"},
+    {"time", "whole, for pe_c_time"},
+    {"accuracy", "whole"},
+    {"nonce", "an INTEGER"},
+    {"authority", "who stamps, a GeneralName"},
+    {NULL, NULL}};
+
+static PyObject *row_tst_info(Image *self, Rows *rows, const pe_c_tst_info *it)
+{
+    if (!takes(rows, it->policy.length + it->digest.length + it->serial.length + it->nonce.length))
+        return NULL;
+    PyObject *items[] = {
+        row_range(self, rows, &it->version),
+        raw(self, it->policy),
+        row_algorithm(self, rows, &it->digest_algorithm),
+        raw(self, it->digest),
+        raw(self, it->serial),
+        row_range(self, rows, &it->time),
+        row_range(self, rows, &it->accuracy),
+        raw(self, it->nonce),
+        row_range(self, rows, &it->authority),
+    };
+    return filled(self, ROW_TST_INFO, items, 9);
 }
 
 static PyStructSequence_Field row_checksum_field_fields[] = {
@@ -606,6 +1084,48 @@ static PyObject *row_code(Image *self, Rows *rows, const pe_c_code *it)
         N(it->value),
     };
     return filled(self, ROW_CODE, items, 5);
+}
+
+static PyStructSequence_Field row_registers_fields[] = {
+    {"general", "rax, rcx, rdx, rbx, rsp, rbp, rsi, rdi, r8 .. r15: rsp is general[4]"},
+    {"xmm", "of xmm0 .. xmm15 the low half and then the high half, as CONTEXT has them"},
+    {"rip", NULL},
+    {NULL, NULL}};
+
+static PyObject *row_registers(Image *self, Rows *rows, const pe_c_registers *it)
+{
+    if (!takes(rows, 0))
+        return NULL;
+    PyObject *items[] = {
+        numbers(it->general, 16),
+        numbers(it->xmm, 32),
+        N(it->rip),
+    };
+    return filled(self, ROW_REGISTERS, items, 3);
+}
+
+static PyStructSequence_Field row_stack_walk_fields[] = {
+    {"registers", "inside the function of the frame"},
+    {"address", "of a walk that is over, as `address` of a frame; else 0"},
+    {"way", "PE_C_WAY_*"},
+    {"has_called", "1 where the function of the frame has called: rip is the return address. 0 where rip is the instruction that is about to run"},
+    {"end", "PE_C_END_* of a walk that is over"},
+    {"error", "a result, for PE_C_END_RECORDS, _LONG_CHAIN and _STEP; else 0"},
+    {NULL, NULL}};
+
+static PyObject *row_stack_walk(Image *self, Rows *rows, const pe_c_stack_walk *it)
+{
+    if (!takes(rows, 0))
+        return NULL;
+    PyObject *items[] = {
+        row_registers(self, rows, &it->registers),
+        N(it->address),
+        N(it->way),
+        B(it->has_called),
+        N(it->end),
+        N(it->error),
+    };
+    return filled(self, ROW_STACK_WALK, items, 6);
 }
 
 static PyStructSequence_Field row_arm64_function_fields[] = {
@@ -720,6 +1240,50 @@ static PyObject *row_arm64_code(Image *self, Rows *rows, const pe_c_arm64_code *
         N(it->flags),
     };
     return filled(self, ROW_ARM64_CODE, items, 6);
+}
+
+static PyStructSequence_Field row_arm64_registers_fields[] = {
+    {"general", "x0 .. x30: the frame pointer is general[29], the link register general[30]"},
+    {"floats", "d8 .. d15, the low halves of v8 .. v15"},
+    {"sp", NULL},
+    {"pc", NULL},
+    {NULL, NULL}};
+
+static PyObject *row_arm64_registers(Image *self, Rows *rows, const pe_c_arm64_registers *it)
+{
+    if (!takes(rows, 0))
+        return NULL;
+    PyObject *items[] = {
+        numbers(it->general, 31),
+        numbers(it->floats, 8),
+        N(it->sp),
+        N(it->pc),
+    };
+    return filled(self, ROW_ARM64_REGISTERS, items, 4);
+}
+
+static PyStructSequence_Field row_arm64_stack_walk_fields[] = {
+    {"registers", "inside the function of the frame"},
+    {"address", "of a walk that is over, as `address` of a frame; else 0"},
+    {"way", "PE_C_WAY_*"},
+    {"has_called", "1 where the function of the frame has called: pc is the return address. 0 where pc is the instruction that is about to run"},
+    {"end", "PE_C_END_* of a walk that is over"},
+    {"error", "a result, for PE_C_END_RECORDS and _STEP; else 0"},
+    {NULL, NULL}};
+
+static PyObject *row_arm64_stack_walk(Image *self, Rows *rows, const pe_c_arm64_stack_walk *it)
+{
+    if (!takes(rows, 0))
+        return NULL;
+    PyObject *items[] = {
+        row_arm64_registers(self, rows, &it->registers),
+        N(it->address),
+        N(it->way),
+        B(it->has_called),
+        N(it->end),
+        N(it->error),
+    };
+    return filled(self, ROW_ARM64_STACK_WALK, items, 6);
 }
 
 static PyStructSequence_Field row_address_table_fields[] = {
@@ -1174,7 +1738,486 @@ static PyObject *row_metadata_stream(Image *self, Rows *rows, const pe_c_metadat
     return filled(self, ROW_METADATA_STREAM, items, 4);
 }
 
+static PyStructSequence_Field row_dump_info_fields[] = {
+    {"directory", "entries of 12 bytes"},
+    {"flags", "what the writer was asked for, MINIDUMP_TYPE"},
+    {"version", "A793h in the low 16 bits; the others are the writer's own"},
+    {"number_of_streams", NULL},
+    {"check_sum", "mostly 0"},
+    {"time_date_stamp", "when the dump was written, in seconds since 1970"},
+    {NULL, NULL}};
+
+static PyObject *row_dump_info(Image *self, Rows *rows, const pe_c_dump_info *it)
+{
+    if (!takes(rows, 0))
+        return NULL;
+    PyObject *items[] = {
+        row_range(self, rows, &it->directory),
+        N(it->flags),
+        N(it->version),
+        N(it->number_of_streams),
+        N(it->check_sum),
+        N(it->time_date_stamp),
+    };
+    return filled(self, ROW_DUMP_INFO, items, 6);
+}
+
+static PyStructSequence_Field row_dump_location_fields[] = {
+    {"size", NULL},
+    {"rva", "offset in the dump"},
+    {NULL, NULL}};
+
+static PyObject *row_dump_location(Image *self, Rows *rows, const pe_c_dump_location *it)
+{
+    if (!takes(rows, 0))
+        return NULL;
+    PyObject *items[] = {
+        N(it->size),
+        N(it->rva),
+    };
+    return filled(self, ROW_DUMP_LOCATION, items, 2);
+}
+
+static PyStructSequence_Field row_dump_entry_fields[] = {
+    {"stream_type", "PE_C_*_STREAM; 0 is none"},
+    {"location", NULL},
+    {NULL, NULL}};
+
+static PyObject *row_dump_entry(Image *self, Rows *rows, const pe_c_dump_entry *it)
+{
+    if (!takes(rows, 0))
+        return NULL;
+    PyObject *items[] = {
+        N(it->stream_type),
+        row_dump_location(self, rows, &it->location),
+    };
+    return filled(self, ROW_DUMP_ENTRY, items, 2);
+}
+
+static PyStructSequence_Field row_dump_stack_fields[] = {
+    {"start_of_memory_range", NULL},
+    {"memory", NULL},
+    {NULL, NULL}};
+
+static PyObject *row_dump_stack(Image *self, Rows *rows, const pe_c_dump_stack *it)
+{
+    if (!takes(rows, 0))
+        return NULL;
+    PyObject *items[] = {
+        N(it->start_of_memory_range),
+        row_dump_location(self, rows, &it->memory),
+    };
+    return filled(self, ROW_DUMP_STACK, items, 2);
+}
+
+static PyStructSequence_Field row_dump_thread_fields[] = {
+    {"thread_id", NULL},
+    {"suspend_count", "0 if it runs"},
+    {"priority_class", NULL},
+    {"priority", NULL},
+    {"teb", "address of its environment block"},
+    {"stack", NULL},
+    {"thread_context", "no bytes where it has none"},
+    {NULL, NULL}};
+
+static PyObject *row_dump_thread(Image *self, Rows *rows, const pe_c_dump_thread *it)
+{
+    if (!takes(rows, 0))
+        return NULL;
+    PyObject *items[] = {
+        N(it->thread_id),
+        N(it->suspend_count),
+        N(it->priority_class),
+        N(it->priority),
+        N(it->teb),
+        row_dump_stack(self, rows, &it->stack),
+        row_dump_location(self, rows, &it->thread_context),
+    };
+    return filled(self, ROW_DUMP_THREAD, items, 7);
+}
+
+static PyStructSequence_Field row_dump_version_fields[] = {
+    {"signature", "FEEF04BDh"},
+    {"struc_version", NULL},
+    {"file_version_ms", "major part in the upper 16 bits, minor part in the lower"},
+    {"file_version_ls", "build and revision"},
+    {"product_version_ms", NULL},
+    {"product_version_ls", NULL},
+    {"file_flags_mask", NULL},
+    {"file_flags", NULL},
+    {"file_os", NULL},
+    {"file_type", NULL},
+    {"file_subtype", NULL},
+    {"file_date_ms", NULL},
+    {"file_date_ls", NULL},
+    {NULL, NULL}};
+
+static PyObject *row_dump_version(Image *self, Rows *rows, const pe_c_dump_version *it)
+{
+    if (!takes(rows, 0))
+        return NULL;
+    PyObject *items[] = {
+        N(it->signature),
+        N(it->struc_version),
+        N(it->file_version_ms),
+        N(it->file_version_ls),
+        N(it->product_version_ms),
+        N(it->product_version_ls),
+        N(it->file_flags_mask),
+        N(it->file_flags),
+        N(it->file_os),
+        N(it->file_type),
+        N(it->file_subtype),
+        N(it->file_date_ms),
+        N(it->file_date_ls),
+    };
+    return filled(self, ROW_DUMP_VERSION, items, 13);
+}
+
+static PyStructSequence_Field row_dump_module_fields[] = {
+    {"base_of_image", "address where it is loaded"},
+    {"size_of_image", "SizeOfImage of its image"},
+    {"check_sum", "CheckSum of its image"},
+    {"time_date_stamp", "TimeDateStamp of its image"},
+    {"module_name", "its path, for pe_c_dump_text"},
+    {"module_name_rva", "its path, for pe_c_dump_text"},
+    {"version_info", NULL},
+    {"cv_record", "its CodeView record: pe_c_dump_range, then pe_c_codeview. No bytes where there is none"},
+    {"misc_record", "its IMAGE_DEBUG_MISC"},
+    {NULL, NULL}};
+
+static PyObject *row_dump_module(Image *self, Rows *rows, const pe_c_dump_module *it)
+{
+    if (!takes(rows, 0))
+        return NULL;
+    PyObject *items[] = {
+        N(it->base_of_image),
+        N(it->size_of_image),
+        N(it->check_sum),
+        N(it->time_date_stamp),
+        dump_text(self, rows, it->module_name_rva),
+        N(it->module_name_rva),
+        row_dump_version(self, rows, &it->version_info),
+        row_dump_location(self, rows, &it->cv_record),
+        row_dump_location(self, rows, &it->misc_record),
+    };
+    return filled(self, ROW_DUMP_MODULE, items, 9);
+}
+
+static PyStructSequence_Field row_dump_thread_name_fields[] = {
+    {"name", "for pe_c_dump_text"},
+    {"rva_of_thread_name", "for pe_c_dump_text"},
+    {"thread_id", NULL},
+    {NULL, NULL}};
+
+static PyObject *row_dump_thread_name(Image *self, Rows *rows, const pe_c_dump_thread_name *it)
+{
+    if (!takes(rows, 0))
+        return NULL;
+    PyObject *items[] = {
+        dump_text(self, rows, it->rva_of_thread_name),
+        N(it->rva_of_thread_name),
+        N(it->thread_id),
+    };
+    return filled(self, ROW_DUMP_THREAD_NAME, items, 3);
+}
+
+static PyStructSequence_Field row_dump_unloaded_fields[] = {
+    {"base_of_image", NULL},
+    {"size_of_image", NULL},
+    {"check_sum", NULL},
+    {"time_date_stamp", NULL},
+    {"module_name", "for pe_c_dump_text"},
+    {"module_name_rva", "for pe_c_dump_text"},
+    {NULL, NULL}};
+
+static PyObject *row_dump_unloaded(Image *self, Rows *rows, const pe_c_dump_unloaded *it)
+{
+    if (!takes(rows, 0))
+        return NULL;
+    PyObject *items[] = {
+        N(it->base_of_image),
+        N(it->size_of_image),
+        N(it->check_sum),
+        N(it->time_date_stamp),
+        dump_text(self, rows, it->module_name_rva),
+        N(it->module_name_rva),
+    };
+    return filled(self, ROW_DUMP_UNLOADED, items, 6);
+}
+
+static PyStructSequence_Field row_dump_thread_info_fields[] = {
+    {"thread_id", NULL},
+    {"dump_flags", "MINIDUMP_THREAD_INFO_*: 2 is the thread that wrote the dump"},
+    {"dump_error", "an HRESULT of the writer"},
+    {"exit_status", "259 while it runs"},
+    {"create_time", "in 100 ns since 1601"},
+    {"exit_time", NULL},
+    {"kernel_time", "in 100 ns"},
+    {"user_time", NULL},
+    {"start_address", "of its function"},
+    {"affinity", NULL},
+    {NULL, NULL}};
+
+static PyObject *row_dump_thread_info(Image *self, Rows *rows, const pe_c_dump_thread_info *it)
+{
+    if (!takes(rows, 0))
+        return NULL;
+    PyObject *items[] = {
+        N(it->thread_id),
+        N(it->dump_flags),
+        N(it->dump_error),
+        N(it->exit_status),
+        N(it->create_time),
+        N(it->exit_time),
+        N(it->kernel_time),
+        N(it->user_time),
+        N(it->start_address),
+        N(it->affinity),
+    };
+    return filled(self, ROW_DUMP_THREAD_INFO, items, 10);
+}
+
+static PyStructSequence_Field row_dump_handle_fields[] = {
+    {"handle", NULL},
+    {"type_name", "for pe_c_dump_text; 0 if there is none"},
+    {"type_name_rva", "for pe_c_dump_text; 0 if there is none"},
+    {"object_name", "likewise"},
+    {"object_name_rva", "likewise"},
+    {"attributes", NULL},
+    {"granted_access", NULL},
+    {"handle_count", NULL},
+    {"pointer_count", NULL},
+    {NULL, NULL}};
+
+static PyObject *row_dump_handle(Image *self, Rows *rows, const pe_c_dump_handle *it)
+{
+    if (!takes(rows, 0))
+        return NULL;
+    PyObject *items[] = {
+        N(it->handle),
+        dump_text(self, rows, it->type_name_rva),
+        N(it->type_name_rva),
+        dump_text(self, rows, it->object_name_rva),
+        N(it->object_name_rva),
+        N(it->attributes),
+        N(it->granted_access),
+        N(it->handle_count),
+        N(it->pointer_count),
+    };
+    return filled(self, ROW_DUMP_HANDLE, items, 9);
+}
+
+static PyStructSequence_Field row_dump_region_fields[] = {
+    {"base_address", NULL},
+    {"allocation_base", NULL},
+    {"region_size", NULL},
+    {"allocation_protect", "PAGE_*"},
+    {"state", "MEM_COMMIT, MEM_RESERVE or MEM_FREE"},
+    {"protect", "PAGE_*"},
+    {"memory_type", "MEM_IMAGE, MEM_MAPPED or MEM_PRIVATE"},
+    {NULL, NULL}};
+
+static PyObject *row_dump_region(Image *self, Rows *rows, const pe_c_dump_region *it)
+{
+    if (!takes(rows, 0))
+        return NULL;
+    PyObject *items[] = {
+        N(it->base_address),
+        N(it->allocation_base),
+        N(it->region_size),
+        N(it->allocation_protect),
+        N(it->state),
+        N(it->protect),
+        N(it->memory_type),
+    };
+    return filled(self, ROW_DUMP_REGION, items, 7);
+}
+
+static PyStructSequence_Field row_dump_raised_fields[] = {
+    {"thread_id", NULL},
+    {"exception_code", NULL},
+    {"exception_flags", NULL},
+    {"number_parameters", "as the file says, so it may be above 15"},
+    {"exception_record", "address, in the process, of another exception that it belongs to, or 0"},
+    {"exception_address", "of the instruction"},
+    {"exception_information", NULL},
+    {"thread_context", "of the thread as it crashed"},
+    {NULL, NULL}};
+
+static PyObject *row_dump_raised(Image *self, Rows *rows, const pe_c_dump_raised *it)
+{
+    if (!takes(rows, 0))
+        return NULL;
+    PyObject *items[] = {
+        N(it->thread_id),
+        N(it->exception_code),
+        N(it->exception_flags),
+        N(it->number_parameters),
+        N(it->exception_record),
+        N(it->exception_address),
+        numbers(it->exception_information, 15),
+        row_dump_location(self, rows, &it->thread_context),
+    };
+    return filled(self, ROW_DUMP_RAISED, items, 8);
+}
+
+static PyStructSequence_Field row_dump_system_info_fields[] = {
+    {"processor_architecture", "9 x64, 12 ARM64, 0 x86: of which machine the contexts are"},
+    {"processor_level", NULL},
+    {"processor_revision", NULL},
+    {"number_of_processors", NULL},
+    {"product_type", "VER_NT_*"},
+    {"major_version", NULL},
+    {"minor_version", NULL},
+    {"build_number", NULL},
+    {"platform_id", "VER_PLATFORM_*"},
+    {"csd_version", "the name of the service pack, for pe_c_dump_text"},
+    {"csd_version_rva", "the name of the service pack, for pe_c_dump_text"},
+    {"suite_mask", "VER_SUITE_*"},
+    {NULL, NULL}};
+
+static PyObject *row_dump_system_info(Image *self, Rows *rows, const pe_c_dump_system_info *it)
+{
+    if (!takes(rows, 0))
+        return NULL;
+    PyObject *items[] = {
+        N(it->processor_architecture),
+        N(it->processor_level),
+        N(it->processor_revision),
+        N(it->number_of_processors),
+        N(it->product_type),
+        N(it->major_version),
+        N(it->minor_version),
+        N(it->build_number),
+        N(it->platform_id),
+        dump_text(self, rows, it->csd_version_rva),
+        N(it->csd_version_rva),
+        N(it->suite_mask),
+    };
+    return filled(self, ROW_DUMP_SYSTEM_INFO, items, 12);
+}
+
+static PyStructSequence_Field row_dump_times_fields[] = {
+    {"process_create_time", "in seconds since 1970"},
+    {"process_user_time", "in seconds"},
+    {"process_kernel_time", NULL},
+    {NULL, NULL}};
+
+static PyObject *row_dump_times(Image *self, Rows *rows, const pe_c_dump_times *it)
+{
+    if (!takes(rows, 0))
+        return NULL;
+    PyObject *items[] = {
+        N(it->process_create_time),
+        N(it->process_user_time),
+        N(it->process_kernel_time),
+    };
+    return filled(self, ROW_DUMP_TIMES, items, 3);
+}
+
+static PyStructSequence_Field row_dump_power_fields[] = {
+    {"processor_max_mhz", NULL},
+    {"processor_current_mhz", NULL},
+    {"processor_mhz_limit", NULL},
+    {"processor_max_idle_state", NULL},
+    {"processor_current_idle_state", NULL},
+    {NULL, NULL}};
+
+static PyObject *row_dump_power(Image *self, Rows *rows, const pe_c_dump_power *it)
+{
+    if (!takes(rows, 0))
+        return NULL;
+    PyObject *items[] = {
+        N(it->processor_max_mhz),
+        N(it->processor_current_mhz),
+        N(it->processor_mhz_limit),
+        N(it->processor_max_idle_state),
+        N(it->processor_current_idle_state),
+    };
+    return filled(self, ROW_DUMP_POWER, items, 5);
+}
+
+static PyStructSequence_Field row_dump_process_info_fields[] = {
+    {"size_of_info", "as the writer says it"},
+    {"flags1", "MINIDUMP_MISC1_*"},
+    {"process_id", "with bit 0 of the flags"},
+    {"process_times", "with bit 1"},
+    {"processor_power", NULL},
+    {NULL, NULL}};
+
+static PyObject *row_dump_process_info(Image *self, Rows *rows, const pe_c_dump_process_info *it)
+{
+    if (!takes(rows, 0))
+        return NULL;
+    PyObject *items[] = {
+        N(it->size_of_info),
+        N(it->flags1),
+        N(it->process_id),
+        row_dump_times(self, rows, &it->process_times),
+        OPTIONAL(it->has_processor_power, row_dump_power(self, rows, &it->processor_power)),
+    };
+    return filled(self, ROW_DUMP_PROCESS_INFO, items, 5);
+}
+
+static PyStructSequence_Field row_dump_piece_fields[] = {
+    {"start", NULL},
+    {"offset", NULL},
+    {"length", NULL},
+    {"lost", "how many more bytes the dump says it has, which a truncated file does not have"},
+    {NULL, NULL}};
+
+static PyObject *row_dump_piece(Image *self, Rows *rows, const pe_c_dump_piece *it)
+{
+    if (!takes(rows, 0))
+        return NULL;
+    PyObject *items[] = {
+        N(it->memory.start),
+        N(it->memory.offset),
+        N(it->memory.length),
+        N(it->lost),
+    };
+    return filled(self, ROW_DUMP_PIECE, items, 4);
+}
+
+static PyStructSequence_Field row_context_fields[] = {
+    {"registers", "xmm is 0 where it was not saved"},
+    {"context_flags", "CONTEXT_*: bit 3 says that xmm was saved"},
+    {"eflags", NULL},
+    {NULL, NULL}};
+
+static PyObject *row_context(Image *self, Rows *rows, const pe_c_context *it)
+{
+    if (!takes(rows, 0))
+        return NULL;
+    PyObject *items[] = {
+        row_registers(self, rows, &it->registers),
+        N(it->context_flags),
+        N(it->eflags),
+    };
+    return filled(self, ROW_CONTEXT, items, 3);
+}
+
+static PyStructSequence_Field row_arm64_context_fields[] = {
+    {"registers", "d8 to d15 are 0 where they were not saved"},
+    {"context_flags", "CONTEXT_ARM64_*: bit 2 says that they were"},
+    {"cpsr", NULL},
+    {NULL, NULL}};
+
+static PyObject *row_arm64_context(Image *self, Rows *rows, const pe_c_arm64_context *it)
+{
+    if (!takes(rows, 0))
+        return NULL;
+    PyObject *items[] = {
+        row_arm64_registers(self, rows, &it->registers),
+        N(it->context_flags),
+        N(it->cpsr),
+    };
+    return filled(self, ROW_ARM64_CONTEXT, items, 3);
+}
+
 static const PyStructSequence_Desc row_kinds[] = {
+    [ROW_RANGE] = {"pe_c._core.Range", "A range of the bytes of the image.", row_range_fields, 2},
     [ROW_DIRECTORY] = {"pe_c._core.Directory", "A data directory. Both fields are 0 where it is absent.", row_directory_fields, 2},
     [ROW_IMAGE_INFO] = {"pe_c._core.Headers", "The headers of an image. Without an optional header the numbers that it has are 0, and its directories are absent.", row_image_info_fields, 20},
     [ROW_SECTION] = {"pe_c._core.Section", "IMAGE_SECTION_HEADER.", row_section_fields, 11},
@@ -1182,6 +2225,7 @@ static const PyStructSequence_Desc row_kinds[] = {
     [ROW_COFF_HEADER] = {"pe_c._core.CoffHeader", "IMAGE_FILE_HEADER.", row_coff_header_fields, 7},
     [ROW_OPTIONAL_HEADER] = {"pe_c._core.OptionalHeader", "IMAGE_OPTIONAL_HEADER32 or IMAGE_OPTIONAL_HEADER64.", row_optional_header_fields, 31},
     [ROW_HEADERS_INFO] = {"pe_c._core.AllHeaders", "Without an optional header its numbers and both offsets are 0, and all directories are absent.", row_headers_info_fields, 8},
+    [ROW_SYMBOL_ENTRY] = {"pe_c._core.Symbol", "A COFF symbol, IMAGE_SYMBOL, with what its entry says of others.", row_symbol_entry_fields, 10},
     [ROW_RICH_HEADER_INFO] = {"pe_c._core.RichHeader", NULL, row_rich_header_info_fields, 4},
     [ROW_RICH_ENTRY] = {"pe_c._core.RichEntry", NULL, row_rich_entry_fields, 3},
     [ROW_DEBUG_ENTRY] = {"pe_c._core.DebugEntry", "IMAGE_DEBUG_DIRECTORY.", row_debug_entry_fields, 8},
@@ -1191,16 +2235,37 @@ static const PyStructSequence_Desc row_kinds[] = {
     [ROW_REPRO] = {"pe_c._core.Repro", "Repro: the same sources build the same image.", row_repro_fields, 1},
     [ROW_POGO] = {"pe_c._core.Pogo", "POGO: the parts of the image's sections, such as \".text$mn\".", row_pogo_fields, 2},
     [ROW_POGO_ENTRY] = {"pe_c._core.PogoEntry", NULL, row_pogo_entry_fields, 3},
+    [ROW_EMBEDDED_PDB] = {"pe_c._core.EmbeddedPdb", "A portable PDB in the image itself, of .NET.", row_embedded_pdb_fields, 2},
+    [ROW_PDB_CHECKSUM] = {"pe_c._core.PdbChecksum", "A checksum of the PDB file, of .NET: of its bytes with zeros in place of the PDB's id.", row_pdb_checksum_fields, 2},
+    [ROW_TE_IMAGE] = {"pe_c._core.TeHeader", "The header of a TE image, EFI_TE_IMAGE_HEADER. Its RVAs are reduced by rva_offset.", row_te_image_fields, 11},
     [ROW_CERTIFICATE] = {"pe_c._core.Certificate", "WIN_CERTIFICATE.", row_certificate_fields, 4},
+    [ROW_OID] = {"pe_c._core.ObjectIdentifier", "An object identifier.", row_oid_fields, 2},
+    [ROW_ALGORITHM] = {"pe_c._core.Algorithm", "An algorithm, AlgorithmIdentifier.", row_algorithm_fields, 2},
+    [ROW_DER_ELEMENT] = {"pe_c._core.DerElement", "An element of DER.", row_der_element_fields, 3},
+    [ROW_SIGNED_DATA] = {"pe_c._core.SignedData", "A signature: ContentInfo, SignedData, EncapsulatedContentInfo.", row_signed_data_fields, 8},
+    [ROW_SPC_INDIRECT_DATA] = {"pe_c._core.SpcIndirectData", "What Authenticode signs, SpcIndirectDataContent.", row_spc_indirect_data_fields, 4},
+    [ROW_SPC_PE_IMAGE_DATA] = {"pe_c._core.SpcPeImageData", "SpcPeImageData.", row_spc_pe_image_data_fields, 2},
+    [ROW_SIGNER_INFO] = {"pe_c._core.SignerInfo", "A signer, SignerInfo. Its certificate is the one with this issuer and serial number. Its signature is over the octet signed_first and the bytes of signed_rest; without signed attributes over what is signed, the field `digested`.", row_signer_info_fields, 11},
+    [ROW_SIGNER_ATTRIBUTE] = {"pe_c._core.SignerAttribute", "An attribute of a signer. Its values are a walk for pe_c_next_element, mostly of one: PE_C_OID_MESSAGE_DIGEST an OCTET STRING, whose content is the digest PE_C_OID_SIGNING_TIME for pe_c_time PE_C_OID_SPC_SP_OPUS_INFO for pe_c_opus_info PE_C_OID_COUNTER_SIGNATURE for pe_c_signer: its messageDigest is the digest of the signature of this signer PE_C_OID_TIME_STAMP_TOKEN for pe_c_signature, whose content is for pe_c_time_stamp PE_C_OID_NESTED_SIGNATURE each for pe_c_signature", row_signer_attribute_fields, 2},
+    [ROW_SPC_OPUS_INFO] = {"pe_c._core.SpcOpusInfo", "What a signer says of the program, SpcSpOpusInfo.", row_spc_opus_info_fields, 4},
+    [ROW_X509_CERTIFICATE] = {"pe_c._core.X509Row", "A certificate of X.509, of those in a signature. The issuer's signature is over the bytes of to_be_signed.", row_x509_certificate_fields, 10},
+    [ROW_X509_EXTENSION] = {"pe_c._core.X509Extension", "An extension of a certificate.", row_x509_extension_fields, 3},
+    [ROW_NAME_ATTRIBUTE] = {"pe_c._core.NameAttribute", "An attribute of a name.", row_name_attribute_fields, 4},
+    [ROW_UTC_TIME] = {"pe_c._core.UtcTime", "A time in UTC.", row_utc_time_fields, 6},
+    [ROW_TST_INFO] = {"pe_c._core.TstInfo", "What a time-stamp token says, TSTInfo.", row_tst_info_fields, 9},
     [ROW_CHECKSUM_FIELD] = {"pe_c._core.Checksum", "The checksum that an image should have. Windows tests it for drivers and boot files.", row_checksum_field_fields, 2},
     [ROW_FUNCTION] = {"pe_c._core.Function", "RUNTIME_FUNCTION.", row_function_fields, 3},
     [ROW_RECORD] = {"pe_c._core.UnwindRecord", "UNWIND_INFO.", row_record_fields, 9},
     [ROW_CODE] = {"pe_c._core.UnwindCode", "UNWIND_CODE.", row_code_fields, 5},
+    [ROW_REGISTERS] = {"pe_c._core.Registers", "The registers of a thread that unwinding restores.", row_registers_fields, 3},
+    [ROW_STACK_WALK] = {"pe_c._core.StackFrame", "A walk of a stack, and the frame that was returned last. For a walk from the start set the registers to those of the thread, `remaining` to how many frames are wanted at most, and all else to 0.", row_stack_walk_fields, 6},
     [ROW_ARM64_FUNCTION] = {"pe_c._core.Arm64Function", "An entry of the function table.", row_arm64_function_fields, 2},
     [ROW_ARM64_PACKED] = {"pe_c._core.Arm64Packed", "Packed unwind data. The fields mean nothing unless is_packed.", row_arm64_packed_fields, 8},
     [ROW_ARM64_RECORD] = {"pe_c._core.Arm64Record", "An unwind record (.xdata).", row_arm64_record_fields, 7},
     [ROW_ARM64_SCOPE] = {"pe_c._core.Arm64Scope", "An epilog scope.", row_arm64_scope_fields, 4},
     [ROW_ARM64_CODE] = {"pe_c._core.Arm64Code", "An ARM64 unwind code.", row_arm64_code_fields, 6},
+    [ROW_ARM64_REGISTERS] = {"pe_c._core.Arm64Registers", "The registers of a thread that unwinding restores.", row_arm64_registers_fields, 4},
+    [ROW_ARM64_STACK_WALK] = {"pe_c._core.Arm64StackFrame", "A walk of a stack on ARM64, and the frame that was returned last, as pe_c_stack_walk.", row_arm64_stack_walk_fields, 6},
     [ROW_ADDRESS_TABLE] = {"pe_c._core.ExportTable", "The table of RVAs, which has all exports by their index, also those without a name.", row_address_table_fields, 4},
     [ROW_EXPORTED] = {"pe_c._core.Export", "An export by its index.", row_exported_fields, 5},
     [ROW_LIBRARY] = {"pe_c._core.Library", "IMAGE_IMPORT_DESCRIPTOR.", row_library_fields, 7},
@@ -1220,4 +2285,24 @@ static const PyStructSequence_Desc row_kinds[] = {
     [ROW_COR20_HEADER] = {"pe_c._core.ClrHeader", "IMAGE_COR20_HEADER.", row_cor20_header_fields, 12},
     [ROW_METADATA] = {"pe_c._core.Metadata", "The root of the metadata.", row_metadata_fields, 5},
     [ROW_METADATA_STREAM] = {"pe_c._core.MetadataStream", NULL, row_metadata_stream_fields, 4},
+    [ROW_DUMP_INFO] = {"pe_c._core.DumpHeader", "The header, MINIDUMP_HEADER.", row_dump_info_fields, 6},
+    [ROW_DUMP_LOCATION] = {"pe_c._core.DumpLocation", "Where bytes are, MINIDUMP_LOCATION_DESCRIPTOR. One of no bytes says that there are none.", row_dump_location_fields, 2},
+    [ROW_DUMP_ENTRY] = {"pe_c._core.DumpEntry", "An entry of the directory, MINIDUMP_DIRECTORY.", row_dump_entry_fields, 2},
+    [ROW_DUMP_STACK] = {"pe_c._core.DumpStack", "The memory of a stack, MINIDUMP_MEMORY_DESCRIPTOR. It may be empty: the pieces of memory have what there is of it.", row_dump_stack_fields, 2},
+    [ROW_DUMP_THREAD] = {"pe_c._core.DumpThread", "A thread, MINIDUMP_THREAD.", row_dump_thread_fields, 7},
+    [ROW_DUMP_VERSION] = {"pe_c._core.DumpVersion", "The version of a module, VS_FIXEDFILEINFO. A signature of 0 says that there is none.", row_dump_version_fields, 13},
+    [ROW_DUMP_MODULE] = {"pe_c._core.DumpModule", "A module, MINIDUMP_MODULE.", row_dump_module_fields, 9},
+    [ROW_DUMP_THREAD_NAME] = {"pe_c._core.DumpThreadName", "The name of a thread, MINIDUMP_THREAD_NAME.", row_dump_thread_name_fields, 3},
+    [ROW_DUMP_UNLOADED] = {"pe_c._core.DumpUnloadedModule", "A module that was unloaded, MINIDUMP_UNLOADED_MODULE.", row_dump_unloaded_fields, 6},
+    [ROW_DUMP_THREAD_INFO] = {"pe_c._core.DumpThreadInfo", "More on a thread, MINIDUMP_THREAD_INFO.", row_dump_thread_info_fields, 10},
+    [ROW_DUMP_HANDLE] = {"pe_c._core.DumpHandle", "A handle, MINIDUMP_HANDLE_DESCRIPTOR.", row_dump_handle_fields, 9},
+    [ROW_DUMP_REGION] = {"pe_c._core.DumpRegion", "A region of memory, MINIDUMP_MEMORY_INFO.", row_dump_region_fields, 7},
+    [ROW_DUMP_RAISED] = {"pe_c._core.DumpException", "The exception that a dump was written for, MINIDUMP_EXCEPTION_STREAM.", row_dump_raised_fields, 8},
+    [ROW_DUMP_SYSTEM_INFO] = {"pe_c._core.DumpSystem", "The system, MINIDUMP_SYSTEM_INFO.", row_dump_system_info_fields, 12},
+    [ROW_DUMP_TIMES] = {"pe_c._core.DumpTimes", "How long a process ran.", row_dump_times_fields, 3},
+    [ROW_DUMP_POWER] = {"pe_c._core.DumpPower", "The speed of the processor.", row_dump_power_fields, 5},
+    [ROW_DUMP_PROCESS_INFO] = {"pe_c._core.DumpProcess", "What is known of a process, MINIDUMP_MISC_INFO and _2. What is not there is 0.", row_dump_process_info_fields, 5},
+    [ROW_DUMP_PIECE] = {"pe_c._core.DumpPiece", "A piece of memory, as pe_c_next_frame takes it with the bytes of the dump as its memory.", row_dump_piece_fields, 4},
+    [ROW_CONTEXT] = {"pe_c._core.Context", "The registers of a thread on x64, CONTEXT.", row_context_fields, 3},
+    [ROW_ARM64_CONTEXT] = {"pe_c._core.Arm64Context", "The registers of a thread on ARM64, ARM64_NT_CONTEXT.", row_arm64_context_fields, 3},
 };

@@ -13,7 +13,8 @@ from __future__ import annotations
 import hashlib
 import os
 import struct
-from typing import Any, Iterable, Iterator
+import typing
+from typing import Any
 
 from . import _image, _pefile_tables as _tables, _row_names as _rows
 from ._kinds import Kind
@@ -155,7 +156,7 @@ class _Unpacked(Structure):
     """A structure of a caller's own, by a format as pefile has them: its name, and for each field "CODE,NAME" as
     struct has it."""
 
-    def __init__(self, format: tuple[str, Iterable[str]], data: bytes, offset: int | None) -> None:
+    def __init__(self, format: tuple[str, typing.Iterable[str]], data: bytes, offset: int | None) -> None:
         fields = [it.split(",") for it in format[1]]
         self._codes, self._names = "<" + "".join(it[0] for it in fields), [it[1:] for it in fields]
         values = struct.unpack_from(self._codes, data)
@@ -373,7 +374,7 @@ def _fields(names: dict[str, str], row: Any) -> dict[str, Any]:
 # ---- directories
 
 
-def _imports(pe: PE, rows: Iterable[Any], rva_of: Any) -> Iterator[ImportData]:
+def _imports(pe: PE, rows: typing.Iterable[Any], rva_of: Any) -> typing.Iterator[ImportData]:
     """The imports of a DLL. Those of ordinal 0 are not imports to pefile."""
     base = pe.OPTIONAL_HEADER.ImageBase
     for i, it in enumerate(rows):
@@ -703,7 +704,7 @@ class PE:
             self.__dict__.pop(name, None)
         self._image.close()
 
-    def __unpack_data__(self, format: tuple[str, Iterable[str]], data: bytes, file_offset: int | None) -> Structure | None:
+    def __unpack_data__(self, format: tuple[str, typing.Iterable[str]], data: bytes, file_offset: int | None) -> Structure | None:
         """A structure of the caller's own from some bytes; None where they are too short."""
         try:
             return _Unpacked(format, bytes(data), file_offset)

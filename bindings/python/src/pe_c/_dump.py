@@ -1,0 +1,237 @@
+"""Minidumps, and walks of stacks: of the threads of a dump, or over modules and memory that a caller has."""
+from __future__ import annotations
+
+import bisect
+import os
+import struct
+import typing
+from typing import TYPE_CHECKING, Any
+
+from . import _core
+from ._core import (Arm64Context, Arm64Registers, Arm64StackFrame, Context, DumpEntry, DumpException, DumpHandle, DumpHeader,
+                    DumpModule, DumpPiece, DumpProcess, DumpRegion, DumpSystem, DumpThread, DumpThreadInfo, DumpThreadName,
+                    DumpUnloadedModule, Registers, StackFrame, SymbolKey)
+from ._image import Image, Mode
+from ._kinds import End, Kind
+from ._part import Error, Part, error_of
+from ._reader import BYTES, Reader, content_of
+
+if TYPE_CHECKING:
+    import _typeshed
+
+LISTS = ("entries", "threads", "modules", "thread_names", "unloaded", "thread_infos", "handles", "regions", "memory", "memory64")
+RECORDS = ("exception", "system", "process")
+AMD64, ARM64 = 9, 12
+# How many pieces of memory that overlap are kept, and how many modules have images.
+MOST_OVERLAPPING, MOST_IMAGES = 4096, 4096
+
+Piece = tuple[int, int, int]
+AnyFrame = StackFrame | Arm64StackFrame
+
+
+class Stack(typing.NamedTuple):
+    """A stack that was walked."""
+
+    frames: Part[AnyFrame]
+    """the top frame first; of each the registers, and the way by which it was found"""
+    end: End
+    """why the walk is over"""
+    error: Error | None
+    """of a record or a step that is refused"""
+    address: int
+    """what the error of a step speaks of"""
+
+
+def walk(registers: Registers | Arm64Registers, modules: typing.Iterable[tuple[Image, int]], memory: _typeshed.ReadableBuffer,
+         pieces: typing.Iterable[Piece], most: int = 1000) -> Stack:
+    """Walks a stack from the registers of a thread, x64's or ARM64's: through modules, each an image and the address where it is
+    loaded, over pieces of memory, each an address, an offset in `memory` and a length. At most `most` frames, 16,384 or fewer.
+
+    Raises Error where a piece is not inside the memory."""
+    core, _ = _core.image(memory, 0, True, BYTES, False)
+    assert core is not None
+    return _walk(core, registers, list(modules), list(pieces), most, None)
+
+
+def _walk(core: _core.Image, registers: Registers | Arm64Registers, modules: list[tuple[Image, int]], pieces: list[Piece], most: int,
+          path: str | None) -> Stack:
+    modules.sort(key=lambda it: it[1])
+    numbers = [it for field in registers for it in (field if isinstance(field, tuple) else (field,))]
+    bases = struct.pack(f"<{len(modules)}Q", *(it[1] for it in modules))
+    places = b"".join(struct.pack("<3Q", *it) for it in pieces)
+    call: Any = core.frames if isinstance(registers, Registers) else core.arm64_frames
+    rows, number, is_limited = call(tuple(it[0]._core for it in modules), bases, places,
+                                    struct.pack(f"<{len(numbers)}Q", *numbers), max(most, 0))
+    if number or not rows:
+        raise error_of(number or Kind.SHORT, "stack walk", path)
+    frames: Part[AnyFrame] = Part(rows[:-1])
+    frames.is_limited = is_limited
+    last = rows[-1]
+    return Stack(frames, End(last.end), error_of(last.error, "stack walk", path) if last.error else None, last.address)
+
+
+class Dump(Reader):
+    """A minidump over the bytes of a file. Raises Error where its header is refused. After that a list never raises: what ended it is
+    its `error`; a record raises Error where it is damaged, and is None where the dump has none."""
+
+    def __init__(self, data: _typeshed.ReadableBuffer, *, copy: bool = True, path: str | None = None) -> None:
+        super().__init__(data, BYTES, "dump", copy=copy, path=path)
+        self._one("dump")
+
+    @classmethod
+    def open(cls, path: str | os.PathLike[str], *, limit: int = 1 << 34) -> Dump:
+        """That of a file, which is read whole."""
+        name = os.fspath(path)
+        return cls(content_of(name, limit), path=name)
+
+    @property
+    def header(self) -> DumpHeader:
+        header: DumpHeader = self._one("dump")
+        return header
+
+    @property
+    def entries(self) -> Part[DumpEntry]:
+        """The directory: which streams there are."""
+        return self._part("dump_entries")
+
+    @property
+    def threads(self) -> Part[DumpThread]:
+        return self._part("dump_threads")
+
+    @property
+    def modules(self) -> Part[DumpModule]:
+        """The modules of the process, in no order."""
+        return self._part("dump_modules")
+
+    @property
+    def thread_names(self) -> Part[DumpThreadName]:
+        return self._part("dump_thread_names")
+
+    @property
+    def unloaded_modules(self) -> Part[DumpUnloadedModule]:
+        return self._part("dump_unloaded")
+
+    @property
+    def thread_infos(self) -> Part[DumpThreadInfo]:
+        return self._part("dump_thread_infos")
+
+    @property
+    def handles(self) -> Part[DumpHandle]:
+        return self._part("dump_handles")
+
+    @property
+    def regions(self) -> Part[DumpRegion]:
+        """The regions of the process's memory: what may be done there."""
+        return self._part("dump_regions")
+
+    @property
+    def memory_list(self) -> Part[DumpPiece]:
+        """The pieces of memory of a small dump."""
+        return self._part("dump_memory")
+
+    @property
+    def memory64(self) -> Part[DumpPiece]:
+        """The pieces of memory of a full dump."""
+        return self._part("dump_memory64")
+
+    @property
+    def exception(self) -> DumpException | None:
+        """What the process crashed by."""
+        row: DumpException | None = self._one("dump_exception")
+        return row
+
+    @property
+    def system(self) -> DumpSystem | None:
+        row: DumpSystem | None = self._one("dump_system")
+        return row
+
+    @property
+    def process(self) -> DumpProcess | None:
+        row: DumpProcess | None = self._one("dump_process")
+        return row
+
+    @property
+    def warnings(self) -> tuple[Error, ...]:
+        """What of the dump is damaged, an error a stream."""
+        answers = [(name, self._part(f"dump_{name}").error) for name in LISTS]
+        found = [error for _, error in answers if error]
+        return tuple(found + [error_of(number, name, self.path) for name in RECORDS
+                              if (number := self._kept_answer(f"dump_{name}")[1])])
+
+    def symbol_key(self, module: DumpModule) -> SymbolKey | None:
+        """The symbol key of a module, as its record in the dump has it. Raises Error."""
+        at = module.cv_record
+        key: SymbolKey | None = self._asked("CodeView record", "codeview", at.rva, at.size) if at.size else None
+        return key
+
+    # ---- memory
+
+    @property
+    def pieces(self) -> tuple[Piece, ...]:
+        """The memory: of each piece its address, its offset in the dump, and its length; sorted, unless pieces overlap."""
+        def read() -> tuple[Piece, ...]:
+            listed = [(it.start, it.offset, it.length) for part in (self.memory_list, self.memory64) for it in part if it.length]
+            ordered = sorted(listed)
+            overlap = any(one[0] + one[2] > other[0] for one, other in zip(ordered, ordered[1:]))
+            return tuple(listed[:MOST_OVERLAPPING] if overlap else ordered)
+        return self._once("pieces", read)
+
+    def at(self, address: int, length: int) -> memoryview:
+        """The bytes at an address of the process, as far as one piece of memory has them; none where the dump has none."""
+        pieces = self.pieces
+        index = bisect.bisect_right(pieces, (address, 1 << 64, 0)) - 1
+        found = [pieces[index]] if index >= 0 and pieces[index][0] <= address < sum(pieces[index][::2]) else \
+            [it for it in pieces[:MOST_OVERLAPPING] if it[0] <= address < it[0] + it[2]]
+        if not found:
+            return self.memory[:0]
+        start, offset, size = found[0]
+        return self.memory[offset + address - start:offset + min(address - start + max(length, 0), size)]
+
+    # ---- stacks
+
+    def context(self, thread: DumpThread) -> Context | Arm64Context:
+        """The registers of a thread: where the exception names it, those as it crashed. Raises Error."""
+        system, raised = self.system, self._kept_answer("dump_exception")[0]
+        if system is None or system.processor_architecture not in (AMD64, ARM64):
+            raise error_of(Kind.DUMP_MACHINE, "context", self.path)
+        name = "dump_context" if system.processor_architecture == AMD64 else "dump_context_arm64"
+        places = [raised.thread_context] if raised and raised.thread_id == thread.thread_id else []
+        for at in places:
+            found, number, _ = self._read(name, at.size, at.rva)
+            if not number:
+                crashed: Context | Arm64Context = found
+                return crashed
+        own: Context | Arm64Context = self._asked("context", name, thread.thread_context.size, thread.thread_context.rva)
+        return own
+
+    def image_of(self, module: DumpModule) -> Image | None:
+        """The image of a module in the dump's memory, as it was loaded: one with the time stamp and the size of the module."""
+        try:
+            image = Image(self.at(module.base_of_image, module.size_of_image), Mode.PERMISSIVE | Mode.MAPPED)
+        except Error:
+            return None
+        return image if self._is_of(image, module) else None
+
+    @staticmethod
+    def _is_of(image: Image, module: DumpModule) -> bool:
+        headers = image.headers
+        return (headers.time_date_stamp, headers.size_of_image) == (module.time_date_stamp, module.size_of_image)
+
+    def stack(self, thread: DumpThread, look_up: typing.Callable[[DumpModule], Image | None] | None = None, most: int = 1000) -> Stack:
+        """The stack of a thread. The image of a module is that in the dump's memory, else the one that `look_up` returns for it, if its
+        time stamp and its size are the module's. Raises Error where the registers of the thread can't be read."""
+        registers = self.context(thread).registers
+        modules: list[tuple[Image, int]] = []
+        for it in self.modules[:MOST_IMAGES]:
+            name = f"image of {it.base_of_image:x}"
+            image = self._once(name, lambda: self.image_of(it))
+            if image is None and look_up is not None:
+                image = look_up(it)
+                image = image if image is not None and self._is_of(image, it) else None
+            if image is not None:
+                modules.append((image, it.base_of_image))
+        return _walk(self._core, registers, modules, list(self.pieces), most, self.path)
+
+    def module_at(self, address: int) -> DumpModule | None:
+        """The first module that has an address."""
+        return next((it for it in self.modules if it.base_of_image <= address < it.base_of_image + it.size_of_image), None)

@@ -1,0 +1,98 @@
+"""What images, objects, TE images and minidumps share: their bytes, and how their parts are read."""
+from __future__ import annotations
+
+import errno
+import io
+import os
+import typing
+from typing import TYPE_CHECKING, Any, TypeVar
+
+from . import _core
+from ._part import Error, Part, error_of
+
+if TYPE_CHECKING:
+    import _typeshed
+
+T = TypeVar("T")
+Self = TypeVar("Self", bound="Reader")
+# What the bytes of a _core.Image are.
+IMAGE, OBJECT, TE, BYTES = range(4)
+
+
+def content_of(name: str, limit: int) -> bytes:
+    """A file whole: one that is mapped, and that another program truncates, would end this one."""
+    with io.open(name, "rb", buffering=0) as file:
+        if os.fstat(file.fileno()).st_size > limit:
+            raise OSError(errno.EFBIG, os.strerror(errno.EFBIG), name)
+        return file.readall()
+
+
+class Reader:
+    """The bytes of a file, and what was read of them."""
+
+    def __init__(self, data: _typeshed.ReadableBuffer, kind: int, part: str, *, mode: int = 1, copy: bool = True,
+                 path: str | None = None) -> None:
+        self.path = path
+        self._kept: dict[str, Any] = {}
+        core, number = _core.image(data, mode, copy, kind, False)
+        if core is None:
+            raise error_of(number, part, path)
+        self._core = core
+
+    def close(self) -> None:
+        """Lets the buffer go. Raises BufferError while another call reads the image, as that of another thread."""
+        self._core.close()
+        self._kept.clear()
+
+    @property
+    def closed(self) -> bool:
+        return self._core.closed
+
+    def __enter__(self: Self) -> Self:
+        return self
+
+    def __exit__(self, *_: object) -> None:
+        self.close()
+
+    @property
+    def memory(self) -> memoryview:
+        """All bytes of the image, which can't be written."""
+        return self._core.memory
+
+    # ---- reading
+
+    def _read(self, name: str, *arguments: Any) -> tuple[Any, int, bool]:
+        answer: tuple[Any, int, bool] = getattr(self._core, name)(*arguments)
+        return answer
+
+    def _once(self, name: str, read: typing.Callable[[], T]) -> T:
+        """What is read of an open image, kept until it is closed: from then on each read raises ValueError."""
+        if name not in self._kept:
+            self._kept[name] = read()
+        kept: T = self._kept[name]
+        return kept
+
+    def _part_of(self, answer: tuple[Any, int, bool], name: str) -> Part[Any]:
+        rows, number, is_limited = answer
+        part: Part[Any] = Part(rows or ())
+        part.error = error_of(number, name, self.path) if number else None
+        part.is_limited = is_limited
+        return part
+
+    def _part(self, name: str) -> Part[Any]:
+        return self._once(name, lambda: self._part_of(self._read(name), name))
+
+    def _kept_answer(self, name: str) -> tuple[Any, int, bool]:
+        return self._once(name, lambda: self._read(name))
+
+    def _one(self, name: str) -> Any:
+        value, number, _ = self._kept_answer(name)
+        if number:
+            raise error_of(number, name, self.path)
+        return value
+
+    def _asked(self, part: str, name: str, *arguments: Any) -> Any:
+        value, number, _ = self._read(name, *arguments)
+        if number:
+            raise error_of(number, part, self.path)
+        return value

@@ -1,0 +1,163 @@
+"""A line of JSON a file, as `pe --json` writes it: of files, of all images below folders, over processes.
+
+    for said in pe_c.scan.scan(["C/Windows"], jobs=4):
+        out.write(said.line)
+
+What comes out is in the order of the files, however many processes there are, and no more than a few hundred files are read ahead,
+so a million files take no more memory than some hundred. `line_of` is the same of one file, for those who have a cluster."""
+from __future__ import annotations
+
+import collections
+import concurrent.futures
+import json
+import os
+import stat
+import sys
+import typing
+
+from . import _core
+from ._facts import facts_of, is_refused
+from ._image import Mode
+from ._kinds import Kind
+from ._part import shown_text
+from ._reader import IMAGE
+
+DONE, REFUSED, MISUSED, FILE_ERROR = 0, 1, 2, 3
+# How much of a file below a folder is read to see whether it is an image.
+START = 4096
+# A batch that a process gets has so many bytes or files, and so many batches wait for each process.
+BATCH_BYTES, BATCH_FILES, AHEAD = 16 << 20, 64, 4
+LIMIT = 1 << 32
+
+
+class File(typing.NamedTuple):
+    """A file that is asked for."""
+
+    path: str
+    is_below: bool
+    """whether it is one of those below a folder: what is no image is skipped there"""
+    size: int
+    """bytes, as far as they are known"""
+
+
+class How(typing.NamedTuple):
+    """How files are read and shown."""
+
+    mode: int = int(Mode.PERMISSIVE)
+    has_hashes: bool = True
+
+
+class Said(typing.NamedTuple):
+    """What is said of a file."""
+
+    line: str
+    """a line of JSON with its newline; empty for a file that is skipped or can't be read"""
+    complaint: str
+    """why it can't be read, or is skipped"""
+    status: int
+    """0, 1 where it or a part of it is refused, 3 where it can't be read"""
+    is_skipped: bool
+    size: int
+
+
+def below(folder: str) -> typing.Iterator[File]:
+    """The files below a folder, each folder's in the order of their names. Links to folders are not followed. A folder that can't be
+    read is an item by itself, so that reading it says why."""
+    waiting = [os.fsencode(folder)]
+    while waiting:
+        path = waiting.pop()
+        try:
+            if stat.S_ISDIR(os.lstat(path).st_mode):
+                waiting += sorted((os.path.join(path, it) for it in os.listdir(path)), reverse=True)
+                continue
+            size = os.stat(path).st_size
+        except OSError:
+            size = 0
+        yield File(os.fsdecode(path), True, size)
+
+
+def files(paths: typing.Iterable[str | os.PathLike[str]], recursive: bool = False) -> typing.Iterator[File]:
+    """The files that are named, and those below the folders that are."""
+    for path in (os.fspath(it) for it in paths):
+        if recursive and os.path.isdir(path):
+            yield from below(path)
+        else:
+            yield File(path, False, os.path.getsize(path) if os.path.isfile(path) else 0)
+
+
+def _content(file: File) -> bytes | None:
+    """A file whole. Of one below a folder the start is read first: one that is no image is not read on."""
+    if file.path == "-":
+        return sys.stdin.buffer.read()
+    mode = os.stat(file.path).st_mode
+    if not stat.S_ISREG(mode) and not stat.S_ISDIR(mode):
+        raise OSError(0, "it is no regular file; - reads standard input", file.path)
+    with open(file.path, "rb", buffering=0) as opened:
+        if os.fstat(opened.fileno()).st_size > LIMIT:
+            raise OSError(0, "it has more than 4 GiB", file.path)
+        start = opened.read(START) or b""
+        if file.is_below and _core.image(start, int(Mode.PERMISSIVE), False, IMAGE, False)[1] == Kind.BAD_MAGIC:
+            return None
+        return start + opened.readall() if len(start) == START else start
+
+
+def line_of(file: File, how: How = How()) -> Said:
+    """The line of a file. Raises nothing."""
+    def skipped(why: str) -> Said:
+        return Said("", f"{shown_text(file.path)}: skipped, {why}", DONE, True, file.size)
+    try:
+        if file.is_below and not stat.S_ISREG(os.stat(file.path).st_mode) and not os.path.isdir(file.path):
+            return skipped("it is no regular file")
+        if file.is_below and os.path.islink(file.path) and os.path.isdir(file.path):
+            return skipped("it is no regular file")
+        data = _content(file)
+    except OSError as error:
+        if file.is_below and os.path.islink(file.path) and isinstance(error, FileNotFoundError):
+            return skipped("the link leads to no file")
+        why = error.strerror or str(error)
+        hint = "; -r reads the files below it" if isinstance(error, IsADirectoryError) else ""
+        return Said("", f"{shown_text(file.path)}: {why}{hint}", FILE_ERROR, False, 0)
+    facts, is_image = facts_of(data, file.path, Mode(how.mode), how.has_hashes) if data is not None else ({}, False)
+    if file.is_below and not is_image:
+        return skipped("it is no image")
+    text = json.dumps(facts, ensure_ascii=False, separators=(",", ":")) + "\n"
+    # What is no UTF-8 is an escape of JSON.
+    line = text.encode("utf-8", "backslashreplace").decode()
+    return Said(line, "", REFUSED if is_refused(facts) else DONE, False, len(data or b""))
+
+
+def lines_of(batch: list[File], how: How) -> list[Said]:
+    return [line_of(it, how) for it in batch]
+
+
+def batches(found: typing.Iterable[File], size: int = BATCH_BYTES, count: int = BATCH_FILES) -> typing.Iterator[list[File]]:
+    """The files in lists of so many bytes, and of so many files at most: files of 90 MB stand beside files of 9 KB."""
+    batch: list[File] = []
+    left = size
+    for it in found:
+        if batch and (it.size > left or len(batch) == count):
+            yield batch
+            batch, left = [], size
+        batch.append(it)
+        left -= it.size
+    if batch:
+        yield batch
+
+
+def scan(paths: typing.Iterable[str | os.PathLike[str]], *, recursive: bool = True, jobs: int | None = None,
+         how: How = How()) -> typing.Iterator[Said]:
+    """What is said of each file, in the order of the files, by so many processes: by default as many as the machine has."""
+    jobs = jobs or len(os.sched_getaffinity(0))
+    found = batches(files(paths, recursive))
+    if jobs == 1:
+        for batch in found:
+            yield from (line_of(it, how) for it in batch)
+        return
+    with concurrent.futures.ProcessPoolExecutor(jobs) as pool:
+        waiting: collections.deque[concurrent.futures.Future[list[Said]]] = collections.deque()
+        for batch in found:
+            waiting.append(pool.submit(lines_of, batch, how))
+            if len(waiting) > AHEAD * jobs:
+                yield from waiting.popleft().result()
+        while waiting:
+            yield from waiting.popleft().result()

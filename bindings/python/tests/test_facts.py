@@ -1,0 +1,227 @@
+"""The JSON of the command is that of `pe`: the golden texts of bindings/pe, byte for byte, and how files are found and told apart.
+
+The environment names PE_C_IMAGES, as for test_pe_c; PE_C_GOLDEN and PE_C_EXAMPLES name folders of the repository."""
+import ast
+import json
+import os
+import re
+import shutil
+import signal
+import socket
+import subprocess
+import sys
+import tempfile
+import time
+import unittest
+
+import pe_c
+from pe_c import scan
+
+HERE = os.path.dirname(os.path.abspath(__file__))
+IMAGES = os.environ["PE_C_IMAGES"]
+GOLDEN = os.environ.get("PE_C_GOLDEN", os.path.join(HERE, "..", "..", "pe", "tests", "golden"))
+EXAMPLES = os.environ.get("PE_C_EXAMPLES", os.path.join(HERE, "..", "examples"))
+# Files of the sessions that have another name in the folder of images.
+OTHERS = {"te_image.bin": "te_image.te", "object.bin": "object.obj"}
+
+
+def run(*words, **more):
+    code = f"import sys, runpy; sys.path[:] = {sys.path!r}; sys.argv[0] = 'pe_c'; runpy.run_module('pe_c', run_name='__main__')"
+    done = subprocess.run([sys.executable, "-c", code, *words], capture_output=True, timeout=120, **more)
+    return done.stdout, done.stderr.decode(), done.returncode
+
+
+def sessions():
+    """Of each golden text the file and the line of `pe FILE --json`."""
+    for name in sorted(it for it in os.listdir(GOLDEN) if it.endswith(".txt")):
+        with open(os.path.join(GOLDEN, name), encoding="utf-8") as file:
+            lines = file.read().split("\n")
+        for one, other in zip(lines, lines[1:]):
+            found = re.fullmatch(r"\$ pe (\S+\.bin) --json", one)
+            if found:
+                yield found[1], other
+
+
+class Room(unittest.TestCase):
+    """A folder with the images under the names of the sessions."""
+
+    def setUp(self):
+        self.room = tempfile.mkdtemp()
+        self.addCleanup(shutil.rmtree, self.room)
+        for name in os.listdir(IMAGES):
+            shutil.copy(os.path.join(IMAGES, name), self.room)
+        for name, own in OTHERS.items():
+            os.rename(os.path.join(self.room, own), os.path.join(self.room, name))
+        with open(os.path.join(self.room, "short.bin"), "wb") as file:
+            file.write(b"MZ")
+
+
+class Lines(Room):
+    def test_golden_texts(self):
+        found = list(sessions())
+        self.assertGreater(len(found), 20)
+        out, complaints, status = run(*(name for name, _ in found), cwd=self.room)
+        self.assertEqual((complaints, status), ("", 1))
+        for (name, line), own in zip(found, out.decode().split("\n")):
+            self.assertEqual(own, line, name)
+
+    def test_a_folder(self):
+        inner = os.path.join(self.room, "inner")
+        os.makedirs(os.path.join(inner, "empty"))
+        shutil.copy(os.path.join(self.room, "debug.bin"), os.path.join(inner, "a\tb.dll"))
+        os.symlink("nowhere", os.path.join(inner, "link"))
+        os.symlink(self.room, os.path.join(inner, "loop"))
+        os.mkfifo(os.path.join(inner, "pipe"))
+        with open(os.path.join(inner, "text.txt"), "w") as file:
+            file.write("MZ is no image")
+        names = [json.loads(it)["file"] for it in run("scan", "-j", "1", self.room)[0].decode().splitlines()]
+        self.assertEqual([os.path.relpath(it, self.room) for it in names],
+                         sorted(it for it in [name for name in os.listdir(self.room) if name.endswith(".bin")] + ["inner/a\tb.dll"]
+                                if it not in ("te_image.bin", "object.bin", "short.bin")))
+        one = run("scan", "-j", "1", self.room)
+        self.assertEqual(run("scan", "-j", "3", self.room), one)
+        self.assertEqual(run("-r", self.room), one)
+        self.assertIn("skipped, no images", one[1])
+        self.assertIn("the link leads to no file", run("scan", "-v", "-j", "1", self.room)[1])
+
+    def test_statuses(self):
+        path = os.path.join(self.room, "debug.bin")
+        self.assertEqual(run(path)[2], 0)
+        self.assertEqual(run(os.path.join(self.room, "refused_import.bin"))[2], 1)
+        self.assertEqual(run(os.path.join(self.room, "absent\n.bin")),
+                         (b"", f"pe_c: {self.room}/absent\\n.bin: No such file or directory\n", 3))
+        self.assertIn("-r reads the files below it", run(self.room)[1])
+        self.assertEqual(run()[2], 2)
+        self.assertEqual(run("-j", "0", path)[2], 2)
+        with open(path, "rb") as file:
+            data = file.read()
+        self.assertEqual(json.loads(run("-", input=data)[0])["file_size"], len(data))
+
+    def test_options(self):
+        path = os.path.join(self.room, "debug.bin")
+        self.assertNotIn("hashes", json.loads(run("--no-hashes", path)[0]))
+        mapped, strict = (json.loads(run(it, path)[0]) for it in ("--mapped", "--strict"))
+        self.assertIsNone(mapped["headers"]["right_checksum"])
+        self.assertIsNone(mapped["hashes"]["authenticode_sha256_hex"])
+        self.assertEqual(strict["headers"], json.loads(run(path)[0])["headers"])
+
+    def test_a_path_that_is_no_text(self):
+        path = os.path.join(os.fsencode(self.room), b"\xff.bin")
+        shutil.copy(os.path.join(self.room, "debug.bin"), path)
+        found = json.loads(run(os.fsdecode(path))[0])
+        self.assertEqual(bytes.fromhex(found["file_hex"]), path)
+        self.assertTrue(found["file"].endswith("\ufffd.bin"))
+
+    def test_the_facts_of_an_image(self):
+        with pe_c.open(os.path.join(self.room, "debug.bin")) as image:
+            found = image.facts()
+        self.assertEqual(found, json.loads(run(os.path.join(self.room, "debug.bin"))[0]))
+
+    def test_batches_by_bytes(self):
+        found = [scan.File(str(it), True, size) for it, size in enumerate([1, 1, 90 << 20, 1, 9 << 20, 8 << 20] + [0] * 100)]
+        cut = list(scan.batches(found))
+        self.assertEqual([one for it in cut for one in it], found)
+        self.assertEqual([len(it) for it in cut[:3]], [2, 1, 2])
+        self.assertTrue(all(len(it) <= scan.BATCH_FILES for it in cut))
+
+    def test_a_reader_that_has_seen_enough(self):
+        code = f"import sys, runpy; sys.path[:] = {sys.path!r}; sys.argv[0] = 'pe_c'; runpy.run_module('pe_c', run_name='__main__')"
+        done = subprocess.Popen([sys.executable, "-c", code, "-r", *[self.room] * 30], stdout=subprocess.PIPE, stderr=subprocess.PIPE)
+        done.stdout.read(10)
+        done.stdout.close()
+        complaints = done.stderr.read()
+        done.stderr.close()
+        self.assertEqual((done.wait(60), complaints), (3, b""))
+
+
+class Schema(Room):
+    def test_damaged_images(self):
+        """The JSON of damaged images is as the schema says, where python3-jsonschema is."""
+        import random
+        try:
+            import jsonschema
+        except ImportError:
+            self.skipTest("Debian's python3-jsonschema is missing")
+        path = os.environ.get("PE_C_SCHEMA", os.path.join(HERE, "..", "..", "..", "docs", "pe.schema.json"))
+        with open(path, encoding="utf-8") as file:
+            schema = json.load(file)
+        validator = jsonschema.Draft202012Validator({**schema["$defs"]["summary"], "$defs": schema["$defs"]})
+        chance = random.Random(11)
+        for name in sorted(os.listdir(self.room)):
+            with open(os.path.join(self.room, name), "rb") as file:
+                data = bytearray(file.read())
+            for _ in range(4):
+                for _ in range(chance.randrange(0, 9)):
+                    data[chance.randrange(len(data))] = chance.choice((0, 1, 127, 128, 255))
+                with open(os.path.join(self.room, name), "wb") as file:
+                    file.write(data)
+                said = scan.line_of(scan.File(os.path.join(self.room, name), False, len(data)))
+                errors = list(validator.iter_errors(json.loads(said.line)))
+                self.assertEqual([str(it)[:500] for it in errors[:1]], [], name)
+
+
+def has_distributed():
+    try:
+        import distributed  # noqa: F401
+    except ImportError:
+        return False
+    return True
+
+
+@unittest.skipUnless(has_distributed(), "Debian's python3-distributed is missing")
+class Cluster(unittest.TestCase):
+    """examples/scan_dask.py over a scheduler and two workers of this machine, one of which is killed."""
+
+    def start(self, module, *words):
+        environment = {**os.environ, "PYTHONPATH": os.pathsep.join(it for it in sys.path if it)}
+        started = subprocess.Popen([sys.executable, "-m", module, *words], env=environment, stdout=subprocess.DEVNULL,
+                                   stderr=subprocess.DEVNULL, cwd=self.room)
+        self.addCleanup(started.wait)
+        self.addCleanup(started.kill)
+        return started
+
+    def test_a_worker_that_is_killed(self):
+        self.room = tempfile.mkdtemp()
+        self.addCleanup(shutil.rmtree, self.room)
+        images = os.path.join(self.room, "images")
+        os.mkdir(images)
+        with open(os.path.join(IMAGES, "resources.bin"), "rb") as file:
+            data = file.read()
+        for i in range(120):
+            with open(os.path.join(images, f"{i:03}.dll"), "wb") as file:
+                file.write(data + bytes(i))
+        with socket.socket() as free:
+            free.bind(("127.0.0.1", 0))
+            address = "tcp://127.0.0.1:%d" % free.getsockname()[1]
+        self.start("distributed.cli.dask_scheduler", "--host", "127.0.0.1", "--port", address.rpartition(":")[2], "--no-dashboard")
+        workers = [self.start("distributed.cli.dask_worker", address, "--nthreads", "1", "--no-nanny", "--no-dashboard")
+                   for _ in range(2)]
+        out = os.path.join(self.room, "out")
+        code = f"import sys, runpy; sys.path[:] = {sys.path!r}; sys.argv = sys.argv[1:]; runpy.run_path(sys.argv[0], run_name='__main__')"
+        script = os.path.join(EXAMPLES, "scan_dask.py")
+        words = [sys.executable, "-c", code, script, address, images, out, "--bytes", "4000", "--seconds", "0.02"]
+        done = subprocess.Popen(words, stdout=subprocess.PIPE, stderr=subprocess.STDOUT)
+        end = time.monotonic() + 60
+        while time.monotonic() < end and len(os.listdir(out) if os.path.isdir(out) else []) < 4 and done.poll() is None:
+            time.sleep(0.01)
+        self.assertIsNone(done.poll(), "the scan was over before a worker was killed")
+        workers[0].send_signal(signal.SIGKILL)
+        said, _ = done.communicate(timeout=90)
+        self.assertEqual(done.returncode, 0, said)
+        lines = b""
+        for name in sorted(os.listdir(out)):
+            with open(os.path.join(out, name), "rb") as file:
+                lines += file.read()
+        self.assertEqual(lines, run("scan", "-j", "1", images)[0])
+
+
+class Sources(unittest.TestCase):
+    def test_the_example_is_short(self):
+        with open(os.path.join(EXAMPLES, "scan_dask.py"), encoding="utf-8") as file:
+            text = file.read()
+        ast.parse(text)
+        self.assertLess(len(text.splitlines()), 60)
+
+
+if __name__ == "__main__":
+    unittest.main()

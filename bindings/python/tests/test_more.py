@@ -1,0 +1,390 @@
+"""Objects, TE images, signatures, minidumps, stack walks, resources that are changed, and what must hold on every input.
+
+What is expected stands in how the files are made (bindings/rust/tests/made), or is what other programs print of them: of the signature
+what osslsigncode and openssl do."""
+import datetime
+import gc
+import os
+import random
+import struct
+import subprocess
+import sys
+import unittest
+
+import hostile
+import pe_c
+from pe_c import End, Kind, KnownOid, Way
+
+HERE = os.path.dirname(os.path.abspath(__file__))
+IMAGES = os.environ["PE_C_IMAGES"]
+SIGNED = os.environ.get("PE_C_SIGNED", os.path.join(HERE, "..", "..", "pe", "tests", "signed"))
+
+
+def bytes_of(name):
+    with open(os.path.join(IMAGES, name), "rb") as file:
+        return file.read()
+
+
+def signed():
+    """An image with a signature by osslsigncode, which says so of it."""
+    with open(os.path.join(SIGNED, "signature.p7"), "rb") as file:
+        signature = file.read()
+    return pe_c.Image(bytes_of("imports.bin")).attach(struct.pack("<IHH", len(signature) + 8, 0x200, 2) + signature)
+
+
+class Objects(unittest.TestCase):
+    def test_a_coff_object(self):
+        coff = pe_c.Coff(bytes_of("object.obj"))
+        self.assertEqual((coff.header.machine, [it.name for it in coff.sections]), (0x8664, [".text", ".data", ".bss"]))
+        self.assertEqual([(it.name, it.at) for it in coff.symbols],
+                         [(".file", 0), ("longer_than_eight", 2), (".text", 4), (".data", 6), (".bss", 8), ("five", 10), ("outside", 11)])
+        self.assertEqual((coff.symbols[0].storage_class, len(coff.symbols[0].auxiliary)), (103, 18))
+        with self.assertRaises(pe_c.Error) as caught:
+            pe_c.Coff(b"short")
+        self.assertEqual(caught.exception.kind, Kind.SHORT)
+        path = os.path.join(IMAGES, "object.obj")
+        self.assertEqual(pe_c.Coff.open(path).header, coff.header)
+
+    def test_the_symbols_of_an_image(self):
+        data = bytearray(hostile.image(bytes(16), {}))
+        coff, start = 0x44, len(data)
+        struct.pack_into("<II", data, coff + 8, start, 2)
+        data += struct.pack("<8sIhHBB", b"short", 7, 1, 0x20, 2, 0) + struct.pack("<IIIhHBB", 0, 4, 9, -1, 0, 3, 0)
+        data += struct.pack("<I", 4 + 12) + b"a_long_name\0"
+        image = pe_c.Image(bytes(data))
+        self.assertEqual([(it.name, it.value, it.section_number) for it in image.symbols], [("short", 7, 1), ("a_long_name", 9, -1)])
+        refused = pe_c.Image(bytes(data[:-1])).symbols
+        self.assertEqual((len(refused), refused.error.kind), (1, Kind.STRING_TABLE))
+        self.assertEqual(pe_c.Image(bytes_of("debug.bin")).symbols, ())
+
+    def test_a_te_image(self):
+        te = pe_c.Te(bytes_of("te_image.te"))
+        self.assertEqual((te.header.machine, te.header.stripped_size, te.header.subsystem), (0x8664, 296, 10))
+        self.assertEqual((te.symbol_key.name, te.symbol_key.age, te.symbol_key.guid), ("a.pdb", 9, bytes(range(0x10, 0x20))))
+        self.assertEqual([it.data_type for it in te.debug_entries], [2])
+        self.assertEqual([it.name for it in te.sections], [".text"])
+        for wrong, kind in ((b"VZ", Kind.SHORT), (bytes(40), Kind.BAD_MAGIC)):
+            with self.assertRaises(pe_c.Error) as caught:
+                pe_c.Te(wrong)
+            self.assertEqual(caught.exception.kind, kind)
+        with pe_c.Te.open(os.path.join(IMAGES, "te_image.te")) as again:
+            self.assertEqual(again.header, te.header)
+        with self.assertRaises(ValueError):
+            again.sections
+
+    def test_records_of_dotnet(self):
+        image = pe_c.Image(bytes_of("managed_debug.bin"))
+        self.assertIsNotNone(image.embedded_pdb)
+        self.assertEqual(image.pdb_checksum.algorithm, "SHA256")
+        self.assertIsNone(pe_c.Image(bytes_of("debug.bin")).embedded_pdb)
+
+
+class Signatures(unittest.TestCase):
+    def test_who_signed(self):
+        image = pe_c.Image(signed())
+        signature, = image.signatures
+        signer, = signature.signers
+        self.assertEqual(str(signer.certificate.subject), "CN=Signer,OU=Two+O=Probe\\, Inc.,C=DE")
+        self.assertEqual((str(signer.issuer), signer.serial), ("CN=Root,O=Root of the test,C=DE", "1234"))
+        self.assertEqual((signer.certificate.not_before, signer.certificate.not_after),
+                         ("2026-11-27T04:37:07Z", "2048-10-22T04:37:07Z"))
+        self.assertEqual((signer.program_name, signer.program_url), ("Probe", "https://example.org/"))
+        self.assertEqual((signer.signing_time, signer.digest_algorithm, signer.signature_algorithm),
+                         ("2026-11-27T04:37:07Z", "sha256", "ECDSA_SHA256"))
+        self.assertEqual(signer.certificate.subject.get(KnownOid.ORGANIZATION), "Probe, Inc.")
+        self.assertEqual(sorted(str(it.subject) for it in signature.certificates),
+                         ["CN=Root,O=Root of the test,C=DE", "CN=Signer,OU=Two+O=Probe\\, Inc.,C=DE"])
+
+    def test_digests(self):
+        image = pe_c.Image(signed())
+        signature, = image.signatures
+        self.assertEqual((signature.content_type, signature.digest_algorithm), ("SPC_INDIRECT_DATA", "sha256"))
+        self.assertEqual(signature.digest.hex(), "d2a14c9f681445506a86fe95951af765d1badb45d72602d8fec09fb63541c3d3")
+        self.assertEqual(image.digest("sha256"), signature.digest.hex())
+        nested, = signature.signers[0].nested
+        self.assertEqual((nested.digest_algorithm, nested.digest.hex()), ("sha384", image.digest("sha384")))
+        changed = bytearray(signed())
+        changed[-len(image.certificates[0].body) - 0x60] ^= 1
+        self.assertNotEqual(pe_c.Image(changed).digest("sha256"), signature.digest.hex())
+
+    def test_a_time_stamp(self):
+        import hashlib
+        signer = pe_c.Image(signed()).signatures[0].signers[0]
+        stamp, = signer.time_stamps
+        self.assertEqual((stamp.time, stamp.digest), ("2026-11-27T05:37:07Z", hashlib.new(stamp.digest_algorithm, signer.signature).digest()))
+        self.assertEqual([str(it.certificate.subject) for it in stamp.signature.signers], ["CN=Stamps"])
+        self.assertTrue(datetime.datetime.fromisoformat(stamp.time))
+
+    def test_they_outlive_the_image(self):
+        image = pe_c.Image(signed())
+        signature, = image.signatures
+        image.close()
+        with self.assertRaises(ValueError):
+            image.signatures
+        self.assertEqual(len(signature.signers), 1)
+
+    def test_cycles_are_collected(self):
+        """A signature and its signers are a cycle over a memoryview, which the collector must not clear first."""
+        code = (f"import sys; sys.path[:] = {sys.path!r}\nimport gc, pe_c, test_more\n"
+                "for i in range(20):\n    image = pe_c.Image(test_more.signed())\n"
+                "    found = [(it, it.signers, it.signers[0].nested, it.signers[0].time_stamps) for it in image.signatures]\n"
+                "    del found, image\n    gc.collect()\nleft = pe_c.Image(test_more.signed()).signatures\nkept = left[0].signers\n")
+        done = subprocess.run([sys.executable, "-c", code], capture_output=True, timeout=60)
+        self.assertEqual((done.returncode, done.stderr), (0, b""))
+
+    def test_damaged_signatures(self):
+        data, chance, opened = signed(), random.Random(5), 0
+        start = len(data) - len(pe_c.Image(data).certificates[0].body)
+        for _ in range(300):
+            copy = bytearray(data)
+            for _ in range(chance.randrange(1, 6)):
+                copy[chance.randrange(start, len(copy))] = chance.choice((0, 1, 0x30, 127, 128, 255, chance.randrange(256)))
+            image = pe_c.Image(bytes(copy))
+            try:
+                repr(tell(image.signatures))
+                opened += 1
+            except pe_c.Error:
+                pass
+        self.assertGreater(opened, 100)
+
+    def test_no_signature(self):
+        self.assertEqual((pe_c.Image(bytes_of("debug.bin")).signatures, pe_c.Image(bytes_of("debug.bin")).signatures.error), ((), None))
+        part = pe_c.Image(bytes_of("certificates.bin")).signatures
+        self.assertIsNotNone(part.error)
+
+
+def tell(signatures, depth=0):
+    """All that signatures say."""
+    found = []
+    for it in signatures:
+        found += [it.content_type, it.digest_algorithm, it.digest, [(str(one.subject), one.key_usage, one.not_after) for one in it.certificates]]
+        for signer in it.signers:
+            found += [str(signer.issuer), signer.certificate, signer.signing_time, signer.message_digest, signer.program_name,
+                      signer.program_url, signer.counter_signatures, [one.time for one in signer.time_stamps]]
+            found += tell(signer.nested, depth + 1) if depth < 4 else []
+    return found
+
+
+BASE = 0x180000000
+
+
+class Stacks(unittest.TestCase):
+    """Walks over functions.bin: its first function pushes rbp, sets it to rsp and 32, and allocates 32 bytes. So of a frame at rsp
+    rbp is rsp + 64, the caller's rbp stands at rsp + 32, and the return address at rsp + 40."""
+
+    def registers(self, rip, rsp, **more):
+        general = [0] * 16
+        general[4] = rsp
+        for register, value in more.items():
+            general[{"rbx": 3, "rbp": 5}[register]] = value
+        return pe_c.Registers((tuple(general), (0,) * 32, rip))
+
+    def walk(self, words, rip, most=10, **more):
+        memory = struct.pack(f"<{len(words)}Q", *words)
+        image = pe_c.Image(bytes_of("functions.bin"))
+        return pe_c.walk(self.registers(rip, 0x20000, **more), [(image, BASE)], memory, [(0x20000, 0, len(memory))], most)
+
+    def test_a_frame(self):
+        stack = self.walk([1, 2, 3, 4, 0x5555, 0x7000], BASE + 0x5008, rbp=0x20040)
+        self.assertEqual([(it.registers.rip, it.registers.general[4], it.way) for it in stack.frames],
+                         [(BASE + 0x5008, 0x20000, Way.TOP), (0x7000, 0x20030, Way.RECORDS)])
+        self.assertEqual((stack.frames[1].registers.general[5], stack.end, stack.error), (0x5555, End.NO_MODULE, None))
+        # The section has no code, so no call ends at an address of it.
+        self.assertEqual([it.has_called for it in stack.frames], [False, False])
+
+    def test_frames_through_frames(self):
+        words = [0] * 4 + [0x20070, BASE + 0x500A] + [0] * 6
+        stack = self.walk(words, BASE + 0x5008, rbp=0x20040)
+        self.assertEqual([it.registers.rip - BASE for it in stack.frames], [0x5008, 0x500A])
+        self.assertEqual(stack.end, End.BOTTOM)
+        self.assertEqual(self.walk(words, BASE + 0x5008, most=1, rbp=0x20040).end, End.BOUND)
+
+    def test_memory_that_is_missing(self):
+        stack = self.walk([1, 2, 3, 4, 5], BASE + 0x5008, rbp=0x20040)
+        self.assertEqual((len(stack.frames), stack.end, stack.error.kind, stack.address), (1, End.STEP, Kind.MISSING, 0x20028))
+
+    def test_misuse(self):
+        image, memory = pe_c.Image(bytes_of("functions.bin")), bytes(16)
+        with self.assertRaises(pe_c.Error):
+            pe_c.walk(self.registers(1, 2), [(image, BASE)], memory, [(0x20000, 8, 9)])
+        image.close()
+        with self.assertRaises(ValueError):
+            pe_c.walk(self.registers(1, 2), [(image, BASE)], memory, [(0x20000, 0, 8)])
+        self.assertEqual(pe_c.walk(self.registers(1, 2), [], b"", [], 1 << 31).frames[0].registers.rip, 1)
+
+    def test_on_arm64(self):
+        registers = pe_c.Arm64Registers((tuple(range(31)), tuple(range(8)), 0x20000, 0x1234))
+        stack = pe_c.walk(registers, [(pe_c.Image(bytes_of("arm64_functions.bin")), BASE)], bytes(64), [(0x20000, 0, 64)])
+        self.assertEqual((stack.frames[0].registers, stack.end), (registers, End.NO_MODULE))
+
+
+class Dumps(unittest.TestCase):
+    def test_streams(self):
+        dump = pe_c.Dump(bytes_of("x64.dmp"))
+        self.assertEqual((dump.header.number_of_streams, len(dump.entries)), (12, 12))
+        self.assertEqual([it.thread_id for it in dump.threads], [0x24, 0x25])
+        module, = dump.modules
+        self.assertEqual((module.base_of_image, module.size_of_image, module.module_name), (BASE, 0x6000, "a.exe"))
+        self.assertEqual((dump.symbol_key(module).name, dump.symbol_key(module).age), ("a.pdb", 1))
+        self.assertEqual((dump.exception.thread_id, dump.exception.exception_code, dump.exception.number_parameters), (0x24, 0xC0000005, 2))
+        self.assertEqual((dump.process.process_id, dump.process.processor_power.processor_max_mhz), (1, 5))
+        self.assertEqual([(it.thread_id, it.name) for it in dump.thread_names], [(0x24, "a.exe")])
+        self.assertEqual([(it.base_of_image, it.size_of_image) for it in dump.unloaded_modules], [(0x70000000, 0x1000)])
+        self.assertEqual([(it.base_address, it.region_size, it.memory_type) for it in dump.regions], [(0x1000, 0x1000, 0x20000)])
+        self.assertEqual([(it.handle, it.pointer_count, it.type_name) for it in dump.handles], [(0x44, 4, "a.exe")])
+        self.assertEqual([(it.exit_status, it.affinity) for it in dump.thread_infos], [(259, 6)])
+        self.assertEqual([(it.start, it.length, it.lost) for it in dump.memory64], [(0x20000, 400, 624)])
+        self.assertEqual((dump.warnings, dump.system.processor_architecture), ((), 9))
+        self.assertEqual((len(dump.at(0x20000, 8)), len(dump.at(0x20000 + 399, 8)), len(dump.at(0x50000, 8))), (8, 1, 0))
+
+    def test_stacks(self):
+        dump = pe_c.Dump(bytes_of("x64.dmp"))
+        crashed = dump.threads[0]
+        self.assertEqual(dump.context(crashed).registers.rip, BASE + 0x5000)
+        self.assertEqual(dump.stack(crashed).end, End.NO_MODULE)
+        image = pe_c.Image(bytes_of("functions.bin"))
+        walked = dump.stack(crashed, lambda module: image)
+        self.assertEqual(([it.registers.rip for it in walked.frames], walked.end), ([BASE + 0x5000], End.BOTTOM))
+        other = bytearray(bytes_of("functions.bin"))
+        other[struct.unpack_from("<I", other, 60)[0] + 8] ^= 1
+        self.assertEqual(dump.stack(crashed, lambda module: pe_c.Image(bytes(other))).end, End.NO_MODULE)
+        self.assertEqual(dump.module_at(BASE + 5).module_name, "a.exe")
+        arm64 = pe_c.Dump(bytes_of("arm64.dmp"))
+        self.assertEqual(arm64.context(arm64.threads[0]).registers.pc, BASE + 0x5020)
+
+    def test_an_image_in_memory(self):
+        """The image of a module stands in the memory of the dump, as it was loaded."""
+        dump, file = bytearray(bytes_of("x64.dmp")), bytes_of("functions.bin")
+        dump += bytes(-len(dump) % 8)
+        loaded = (file + bytes(0x6000))[:0x6000]
+        start, directory = len(dump), struct.unpack_from("<I", dump, 12)[0]
+        dump += loaded
+        for i in range(12):
+            kind, _, at = struct.unpack_from("<III", dump, directory + 12 * i)
+            if kind == 5:
+                struct.pack_into("<QII", dump, at + 4, BASE, len(loaded), start)
+        image = pe_c.Dump(bytes(dump)).image_of(pe_c.Dump(bytes(dump)).modules[0])
+        self.assertEqual((image.headers.size_of_image, image.headers.mode), (0x6000, 3))
+
+    def test_refused(self):
+        for wrong, kind in ((b"MZ", Kind.SHORT), (bytes(32), Kind.DUMP_SIGNATURE)):
+            with self.assertRaises(pe_c.Error) as caught:
+                pe_c.Dump(wrong)
+            self.assertEqual(caught.exception.kind, kind)
+
+    def test_damaged_dumps(self):
+        chance = random.Random(7)
+        image = pe_c.Image(bytes_of("functions.bin"))
+        for name in ("x64.dmp", "arm64.dmp"):
+            for _ in range(250):
+                data = bytearray(bytes_of(name))
+                for _ in range(chance.randrange(1, 12)):
+                    data[chance.randrange(1400)] = chance.choice((0, 1, 127, 128, 255, chance.randrange(256)))
+                try:
+                    dump = pe_c.Dump(bytes(data[:chance.randrange(len(data))] if chance.random() < 0.1 else data))
+                except pe_c.Error:
+                    continue
+                self.assertIsInstance(repr((dump.warnings, dump.pieces, dump.modules, dump.handles)), str)
+                for thread in dump.threads[:3]:
+                    try:
+                        dump.stack(thread, lambda module: image)
+                    except pe_c.Error:
+                        pass
+
+
+class Edits(unittest.TestCase):
+    def test_resources(self):
+        image = pe_c.Image(hostile.resources(1, 1, 2))
+        editor = pe_c.ResourceEditor(image)
+        self.assertEqual(list(editor.resources), [(1, 1, 1), (1, 1, 2)])
+        editor.set("ÄB", 7, 0, b"hello")
+        editor.set(1, 1, 2, b"")
+        editor.remove(1, 1, 1)
+        editor.set(16, 1, 0x409, pe_c.version_info(file_version=(1, 2, 3, 4), strings={"ProductName": "Größe", "FileVersion": "1.2.3.4"}))
+        written = pe_c.Image(editor.write())
+        self.assertEqual([(it.type, it.name, it.language, bytes(it.content)) for it in written.resources if it.type != 16],
+                         [("ÄB", 7, 0, b"hello"), (1, 1, 2, b"")])
+        version, = written.versions
+        self.assertEqual((version.fixed.file_version_ms, version.fixed.file_version_ls), (1 << 16 | 2, 3 << 16 | 4))
+        self.assertEqual(version.strings, {"040904B0": {"ProductName": "Größe", "FileVersion": "1.2.3.4"}})
+        self.assertEqual((version.translations, version.blocks.error, written.warnings), (((0x409, 1200),), None, ()))
+        with self.assertRaises(KeyError):
+            editor.remove(1, 1, 1)
+
+    def test_what_is_refused(self):
+        editor = pe_c.ResourceEditor(pe_c.Image(bytes_of("resources.bin")))
+        with self.assertRaises(pe_c.Error) as caught:
+            editor.write()
+        self.assertEqual((caught.exception.kind, caught.exception.part), (Kind.EDIT_NO_HEADER_ROOM, "edit"))
+        with self.assertRaises(pe_c.Error):
+            pe_c.ResourceEditor(pe_c.Image(bytes_of("named_resources.bin")))
+        for strings, kind in (({"a\0": ""}, Kind.BLOCK_KEY), ({"a": "\0"}, Kind.BLOCK_TEXT), ({"a": "b" * 40000}, Kind.BLOCK_TOO_LONG)):
+            with self.assertRaises(pe_c.Error) as caught:
+                pe_c.version_info(strings=strings)
+            self.assertEqual(caught.exception.kind, kind)
+        editor = pe_c.ResourceEditor(pe_c.Image(hostile.resources(1, 1, 1)))
+        editor.set(1 << 20, 1, 0, b"")
+        with self.assertRaises(pe_c.Error) as caught:
+            editor.write()
+        self.assertEqual(caught.exception.kind, Kind.EDIT_RECORD)
+        editor.set(1 << 40, 1, 0, b"")
+        with self.assertRaises(pe_c.Error):
+            editor.write()
+
+
+class Everything(unittest.TestCase):
+    """After it is open nothing is raised but Error."""
+
+    def test_damaged_images(self):
+        chance, opened = random.Random(2026), 0
+        names = sorted(it for it in os.listdir(IMAGES) if it.endswith(".bin"))
+        for i in range(int(os.environ.get("PE_C_DAMAGED", "400"))):
+            data = bytearray(bytes_of(names[i % len(names)]))
+            for _ in range(chance.randrange(1, 16)):
+                place = chance.randrange(min(len(data), 1024) if chance.random() < 0.6 else len(data))
+                data[place] = chance.choice((0, 1, 127, 128, 255, chance.randrange(256)))
+            mode = pe_c.Mode(chance.randrange(4))
+            for kind in (pe_c.Image, pe_c.Coff, pe_c.Te):
+                try:
+                    opened += everything(kind(bytes(data), mode) if kind is pe_c.Image else kind(bytes(data)))
+                except pe_c.Error:
+                    continue
+        self.assertGreater(opened, 5_000)
+
+    def test_references(self):
+        data = bytes(bytearray(bytes_of("resources.bin")))
+        everything(pe_c.Image(data))
+        gc.collect()
+        before, none = sys.getrefcount(data), sys.getrefcount(None)
+        for _ in range(50):
+            everything(pe_c.Image(data))
+        gc.collect()
+        self.assertEqual(sys.getrefcount(data), before)
+        self.assertLess(abs(sys.getrefcount(None) - none), 40)
+
+
+def everything(reader):
+    """Asks for all that a reader has. Returns how much was not refused."""
+    count = 0
+    for name in dir(type(reader)):
+        if not name.startswith("_") and isinstance(getattr(type(reader), name), property):
+            count += asks(lambda: repr(getattr(reader, name)))
+    if isinstance(reader, pe_c.Image):
+        for call in (reader.facts, reader.to_dict, reader.imphash, reader.exphash, reader.rich_hash, reader.digest, reader.right_checksum,
+                     reader.entropy, reader.detach, lambda: reader.attach(bytes(16)), lambda: reader.unwind(0x5018),
+                     lambda: reader.arm64_unwind(0x5000), lambda: reader.at(0x1000, 64), lambda: reader.offset_of(0x1000),
+                     reader._repr_html_, lambda: pe_c.ResourceEditor(reader).write(), lambda: tell(reader.signatures)):
+            count += asks(call)
+    return count
+
+
+def asks(call):
+    try:
+        call()
+        return 1
+    except pe_c.Error:
+        return 0
+
+
+if __name__ == "__main__":
+    unittest.main()
