@@ -65,7 +65,7 @@ def reduced(text):
     reached = {it for it, block in blocks.items() if EXPORTED.fullmatch(it) and block.startswith("define")}
     left = list(reached)
     while left:
-        for name in set(NAME.findall(blocks[left.pop()])) & blocks.keys() - reached:
+        for name in (set(NAME.findall(blocks[left.pop()])) & blocks.keys()) - reached:
             reached.add(name)
             left.append(name)
     head = [it for it in rest if it.startswith(("target ", "source_filename", "%", "$"))]

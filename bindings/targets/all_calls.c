@@ -10,7 +10,7 @@
 #include "all_calls.h"
 
 /* How far lists are walked, so that a hostile file costs no more than a large one. */
-enum { ITEMS = 2000, LISTS = 300, FUNCTIONS = 48, INNER = 60, SECTIONS = 4096, RECORDS = 40 };
+enum { ITEMS = 2000, LISTS = 300, FUNCTIONS = 24, INNER = 30, SECTIONS = 4096, RECORDS = 40 };
 /* The entries of an array that a list call fills. */
 enum { ROWS = 7 };
 /* The addresses of a made stack start here. */
