@@ -1,16 +1,16 @@
 //! Walks of a stack on ARM64, a frame a call. The image and the stacks are by hand: what is expected is what each function was
 //! entered with.
 
-use super::made::{ARM64, ARM64_VERSION, SHORT, image, lies, range, sections};
+use super::made::{
+    ARM64, ARM64_VERSION, SHORT, bytes_of_words, image, lies, piece, range, sections, view,
+};
 use crate::arm64::frames::Arm64FrameRegisters;
 use crate::arm64::stack_walk::{Arm64StackWalk, pe_c_next_arm64_frame, pe_c_next_arm64_frames};
 use crate::image::Image;
 use crate::ranges::Range;
 use crate::results::{DONE, MISSING, NOTHING};
 use crate::stack_walk::ModuleView;
-use crate::view::View;
 use pe_core::SectionTable;
-use pe_frame::MemoryPiece;
 use pe_images::image as bytes_of;
 use std::alloc::{AllocError, Global};
 use std::test::Fail;
@@ -82,14 +82,8 @@ fn program(alloc: Global) -> Result<Vec<u8>, AllocError> {
 
 /// The image as a module.
 fn module<'a>(bytes: &'a [u8], image: &'a Image, sections: &'a [SectionTable]) -> ModuleView<'a> {
-    let image = View {
-        bytes,
-        image,
-        sections,
-        index: &[],
-    };
     ModuleView {
-        image,
+        image: view(bytes, image, sections),
         table: TABLE,
         base: BASE,
     }
@@ -118,24 +112,6 @@ fn walk_from(pc: u64, sp: u64, fp: u64, lr: u64, most: u64) -> Arm64StackWalk {
     }
 }
 
-/// The bytes of these words.
-fn bytes_of_words(alloc: Global, words: &[u64]) -> Result<Vec<u8>, AllocError> {
-    let mut bytes = Vec::new(alloc);
-    for word in words {
-        bytes.extend_from_slice(&u64::to_le_bytes(*word))?;
-    }
-    Ok(bytes)
-}
-
-/// Words in one piece from `STACK` on.
-fn piece(bytes: &[u8]) -> [MemoryPiece; 1] {
-    [MemoryPiece {
-        start: STACK,
-        offset: 0,
-        length: bytes.len() as u64,
-    }]
-}
-
 /// Of the frame of a walk its instruction pointer, its stack pointer and `x29`, how it was found, and whether it has called.
 fn frame_of(walk: &Arm64StackWalk) -> ([u64; 3], [u32; 2]) {
     let registers = walk.registers;
@@ -160,7 +136,7 @@ fn a_walk_returns_the_frames(rt: HostRuntime) -> Result<(), Fail> {
         7, 7, inner, INSIDE, outer, AFTER_CALL, 7, 7, 0x1111, 0, 7, 7,
     ];
     let stack = bytes_of_words(rt.alloc(), &words)?;
-    let pieces = piece(&stack);
+    let pieces = piece(STACK, &stack);
     let mut walk = walk_from(DISPATCHER, STACK, inner, 5, 9);
     let frames = [
         ([DISPATCHER, STACK, inner], [TOP, 0]),
@@ -211,11 +187,11 @@ fn end_after(
     walk: &mut Arm64StackWalk,
 ) -> Result<([u64; 2], [u32; 2]), Fail> {
     for _ in 0..frames {
-        if pe_c_next_arm64_frame(modules, stack, &piece(stack), walk) != DONE {
+        if pe_c_next_arm64_frame(modules, stack, &piece(STACK, stack), walk) != DONE {
             return Err("a frame".into());
         }
     }
-    if pe_c_next_arm64_frame(modules, stack, &piece(stack), walk) != NOTHING {
+    if pe_c_next_arm64_frame(modules, stack, &piece(STACK, stack), walk) != NOTHING {
         return Err("an end".into());
     }
     Ok(end_of(walk))
@@ -268,7 +244,7 @@ fn ranges_that_lie(rt: HostRuntime) -> Result<(), Fail> {
     ];
     for (lies, is_of_table) in cases {
         for lie in lies {
-            let (mut modules, mut pieces) = (modules, piece(&stack));
+            let (mut modules, mut pieces) = (modules, piece(STACK, &stack));
             if is_of_table {
                 modules[1].table = lie;
             } else {

@@ -1,8 +1,8 @@
 //! Blocks of base relocations, one a step, and the relocations of a block.
 
 use super::made::{
-    OVER, SHORT, UNMAPPED, UNTOUCHED, X64, directory, having, image, lies, of_range, range,
-    sections, untouched, words,
+    DIRECTORY_BLOCK_SIZE, DIRECTORY_BLOCK_TRUNCATED, DIRECTORY_NO_ARGUMENT, OVER, SHORT, UNMAPPED,
+    UNTOUCHED, X64, directory, having, image, lies, of_range, range, sections, untouched, words,
 };
 use crate::base_relocations::{
     Relocation, RelocationBlock, pe_c_next_relocation, pe_c_next_relocation_block,
@@ -11,12 +11,6 @@ use crate::base_relocations::{
 use crate::results::{DONE, NOTHING};
 use std::alloc::{AllocError, Global};
 use std::test::Fail;
-
-const BLOCK_SIZE: u32 = 301;
-
-const BLOCK_TRUNCATED: u32 = 302;
-
-const NO_ARGUMENT: u32 = 303;
 
 /// At offset 4: a block with two entries, and one with a HIGHADJ, its argument, and a HIGHADJ that has none.
 pub(crate) fn two_blocks(alloc: Global) -> Result<Vec<u8>, AllocError> {
@@ -75,9 +69,9 @@ fn blocks_in_turn(rt: HostRuntime) -> Result<(), Fail> {
     // At offset 0 the size is 0x1000, and at 12 it is 0x5000.
     for (walk, answer) in [
         ([4, 7], SHORT),
-        ([4, 11], BLOCK_TRUNCATED),
-        ([0, 26], BLOCK_TRUNCATED),
-        ([12, 20], BLOCK_TRUNCATED),
+        ([4, 11], DIRECTORY_BLOCK_TRUNCATED),
+        ([0, 26], DIRECTORY_BLOCK_TRUNCATED),
+        ([12, 20], DIRECTORY_BLOCK_TRUNCATED),
     ] {
         assert_eq!(rt; next_block(&bytes, walk), (answer, 7, UNTOUCHED, OVER));
     }
@@ -92,7 +86,7 @@ fn blocks_in_turn(rt: HostRuntime) -> Result<(), Fail> {
         let bytes = words(rt.alloc(), &[page, size, 0, 0])?;
         assert_eq!(rt;
             next_block(&bytes, [0, 16]),
-            (BLOCK_SIZE, 7, UNTOUCHED, OVER)
+            (DIRECTORY_BLOCK_SIZE, 7, UNTOUCHED, OVER)
         );
     }
     for lie in lies(32) {
@@ -125,7 +119,7 @@ fn relocations_in_turn(rt: HostRuntime) -> Result<(), Fail> {
         (0x1000, [14, 2], (DONE, [0x1FFF, 3, 0], [16, 0])),
         (0x1000, [16, 0], (NOTHING, [7, 8, 9], [16, 0])),
         (0x5000, [24, 6], (DONE, [0x5010, 4, 0x8765], [28, 2])),
-        (0x5000, [28, 2], (NO_ARGUMENT, [7, 8, 9], OVER)),
+        (0x5000, [28, 2], (DIRECTORY_NO_ARGUMENT, [7, 8, 9], OVER)),
         (0x5000, [28, 1], (SHORT, [7, 8, 9], OVER)),
         (u32::MAX, [14, 2], (DONE, [0x1_0000_0FFE, 3, 0], [16, 0])),
         (0x5000, OVER, (NOTHING, [7, 8, 9], OVER)),

@@ -1,8 +1,8 @@
 //! Bound imports: the directory, its DLLs and their forwarders, one a step.
 
 use super::made::{
-    OVER, PERMISSIVE, SHORT, UNTOUCHED, X64, directory, having, image, in_mode, lies, of_range,
-    range, untouched,
+    DIRECTORY_BOUND_IMPORT_NAME, OVER, PERMISSIVE, SHORT, UNTOUCHED, X64, directory, having, image,
+    in_mode, lies, of_range, range, untouched,
 };
 use crate::bound_imports::{
     BoundForwarder, BoundImport, pe_c_bound_imports, pe_c_next_bound_forwarder,
@@ -12,9 +12,6 @@ use crate::image::Image;
 use crate::ranges::{NO_BYTES, Range};
 use crate::results::{DONE, NOTHING};
 use std::test::Fail;
-
-/// A name that is not NUL-terminated or not UTF-8.
-const BOUND_IMPORT_NAME: u32 = 308;
 
 /// The directory at offset 4, 63 bytes: two DLLs, of which the first forwards to one, and an entry without a name. The last
 /// name is not NUL-terminated. By hand from the layout of winnt.h.
@@ -85,7 +82,7 @@ fn imports_in_turn(rt: HostRuntime) -> Result<(), Fail> {
     let first = ([0x2C, 7], [12, 8], 0x3F00_0001, 0);
     assert_eq!(rt; step(BYTES, table(), table()), (DONE, first, [20, 47]));
     // The name of the second is the end of the bytes.
-    let refused = (BOUND_IMPORT_NAME, flat(NO_IMPORT), OVER);
+    let refused = (DIRECTORY_BOUND_IMPORT_NAME, flat(NO_IMPORT), OVER);
     assert_eq!(rt; step(BYTES, table(), range(20, 47)), refused);
     let mut ended = *BYTES;
     ended[66] = 0;
@@ -144,7 +141,7 @@ fn forwarders_in_turn(rt: HostRuntime) -> Result<(), Fail> {
         step_forwarder(BYTES, table(), range(12, 7)),
         (SHORT, none, OVER)
     );
-    let refused = (BOUND_IMPORT_NAME, none, OVER);
+    let refused = (DIRECTORY_BOUND_IMPORT_NAME, none, OVER);
     assert_eq!(rt; step_forwarder(BYTES, range(4, 55), range(12, 8)), refused);
     for lie in lies(67) {
         assert_eq!(rt; step_forwarder(BYTES, table(), lie), (SHORT, none, OVER));

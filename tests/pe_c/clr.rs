@@ -1,8 +1,8 @@
 //! The CLR header of an image, the root of its metadata, and the streams of these, one a step.
 
 use super::made::{
-    BAD_MAGIC, OVER, SHORT, UNMAPPED, UNTOUCHED, X64, directory, having, image, in_mode, lies,
-    of_range, range, sections, untouched, words,
+    BAD_MAGIC, DIRECTORY_CLR_HEADER_SIZE, DIRECTORY_STREAM_NAME, OVER, SHORT, UNMAPPED, UNTOUCHED,
+    X64, directory, having, image, in_mode, lies, of_range, range, sections, untouched, words,
 };
 use crate::clr::{
     Metadata, MetadataStream, MetadataStreams, pe_c_clr_header, pe_c_clr_metadata,
@@ -14,10 +14,6 @@ use crate::results::{DONE, NOTHING};
 use pe_directories::ClrHeader;
 use std::alloc::{AllocError, Global};
 use std::test::Fail;
-
-const CLR_HEADER_SIZE: u32 = 305;
-
-const STREAM_NAME: u32 = 306;
 
 /// What `out` is before each call.
 fn no_header() -> ClrHeader {
@@ -72,7 +68,10 @@ fn headers(rt: HostRuntime) -> Result<(), Fail> {
     assert_eq!(rt; read(&bytes, &in_mode(&there, 2)), (SHORT, no_header()));
     let mut less = words(rt.alloc(), &numbers)?;
     less[4] = 71;
-    assert_eq!(rt; read(&less, &there), (CLR_HEADER_SIZE, no_header()));
+    assert_eq!(rt;
+        read(&less, &there),
+        (DIRECTORY_CLR_HEADER_SIZE, no_header())
+    );
     less[4] = 73;
     assert_eq!(rt; read(&less, &there).0, DONE);
     Ok(())
@@ -227,8 +226,8 @@ fn refusals_of_streams(rt: HostRuntime) -> Result<(), Fail> {
     let refused = |answer| (answer, [UNTOUCHED; 2], [7, 8, 9], [OVER; 2], 0);
     for (headers, want) in [
         ([44, 7], SHORT),
-        ([44, 8], STREAM_NAME),
-        ([44, 13], STREAM_NAME),
+        ([44, 8], DIRECTORY_STREAM_NAME),
+        ([44, 13], DIRECTORY_STREAM_NAME),
         ([44, 14], SHORT),
         ([44, 15], SHORT),
         ([64, 0], SHORT),
@@ -248,9 +247,15 @@ fn refusals_of_streams(rt: HostRuntime) -> Result<(), Fail> {
 #[test]
 fn long_names_of_streams(rt: HostRuntime) -> Result<(), Fail> {
     let mut bytes = words(rt.alloc(), &[0x6E6E_6E6E; 12])?;
-    assert_eq!(rt; step(&bytes, walk([0, 48], [0, 48], 1)).0, STREAM_NAME);
+    assert_eq!(rt;
+        step(&bytes, walk([0, 48], [0, 48], 1)).0,
+        DIRECTORY_STREAM_NAME
+    );
     bytes[40] = 0;
-    assert_eq!(rt; step(&bytes, walk([0, 48], [0, 48], 1)).0, STREAM_NAME);
+    assert_eq!(rt;
+        step(&bytes, walk([0, 48], [0, 48], 1)).0,
+        DIRECTORY_STREAM_NAME
+    );
     bytes[39] = 0;
     let (answer, [name, _], _, [_, headers], _) = step(&bytes, walk([0, 48], [0, 48], 1));
     assert_eq!(rt; (answer, name, headers), (DONE, [8, 31], [40, 8]));

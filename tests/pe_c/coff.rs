@@ -12,7 +12,7 @@
 //!
 //! and what is wanted of it is what `llvm-readobj --file-headers --sections --symbols` (14.0.6) prints.
 
-use super::made::{SHORT, UNTOUCHED, lies, of_range, range, sections, untouched};
+use super::made::{SHORT, STRING_TABLE, UNTOUCHED, lies, of_range, range, sections, untouched};
 use crate::coff::{
     Symbol, SymbolWalk, pe_c_coff, pe_c_coff_sections, pe_c_coff_strings, pe_c_coff_symbols,
     pe_c_next_symbol, pe_c_symbol, pe_c_symbol_name,
@@ -24,9 +24,6 @@ use pe_core::SectionTable;
 use pe_images::{image as bytes_of, put};
 use std::alloc::{AllocError, Global};
 use std::test::Fail;
-
-/// An error of the string table.
-const STRING_TABLE: u32 = 6;
 
 /// Offset and entries of the symbols, offset and size of the string table after them.
 const SYMBOLS: u64 = 0xA6;

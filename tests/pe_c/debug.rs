@@ -3,7 +3,7 @@
 use super::made::{
     BAD_MAGIC, DEBUG_BOUNDS, DEBUG_DATA, DEBUG_SIZE, MAPPED, PERMISSIVE, POGO_SIZE, SHORT, STRICT,
     UNMAPPED, UNTOUCHED, X64, directory, having, image, in_mode, lies, of_range, range, sections,
-    untouched,
+    untouched, view,
 };
 use crate::debug::{
     pe_c_debug_characteristics, pe_c_debug_entries, pe_c_debug_pdb20, pe_c_debug_pogo,
@@ -17,7 +17,6 @@ use crate::debug_records::{
 use crate::image::Image;
 use crate::ranges::Range;
 use crate::results::{DONE, NOTHING};
-use crate::view::View;
 use pe_core::SectionTable;
 use pe_images::{image as bytes_of, put};
 use pe_records::{ImageDebugDirectory, VCFeatureInfo};
@@ -503,12 +502,7 @@ const NO_ENTRY: ImageDebugDirectory = ImageDebugDirectory {
 
 fn first_entry(bytes: &[u8], image: &Image, data_type: u32) -> (u32, ImageDebugDirectory) {
     let sections: &[SectionTable] = &sections();
-    let view = View {
-        bytes,
-        image,
-        sections,
-        index: &[],
-    };
+    let view = view(bytes, image, sections);
     let mut out = NO_ENTRY;
     (pe_c_first_debug_entry(&view, data_type, &mut out), out)
 }

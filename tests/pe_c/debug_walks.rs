@@ -1,13 +1,12 @@
 //! The entries of the debug directory and of POGO, one a step.
 
 use super::made::{
-    OVER, POGO_NAME, SHORT, UNTOUCHED, X64, image, lies, of_range, range, sections, untouched,
+    OVER, POGO_NAME, SHORT, UNTOUCHED, X64, image, lies, of_range, range, sections, untouched, view,
 };
 use crate::debug_walks::{PogoEntry, pe_c_next_debug_entry, pe_c_next_pogo_entry};
 use crate::lists::debug::pe_c_list_pogo_entries;
 use crate::ranges::Range;
 use crate::results::{DONE, NOTHING, ROOM};
-use crate::view::View;
 use pe_records::ImageDebugDirectory;
 
 const NO_ENTRY: ImageDebugDirectory = ImageDebugDirectory {
@@ -147,12 +146,7 @@ fn pogo_entries_that_are_refused(rt: HostRuntime) {
 #[test]
 fn lists_of_pogo_entries(rt: HostRuntime) {
     let (image, sections) = (image(X64), sections());
-    let view = View {
-        bytes: POGO,
-        image: &image,
-        sections: &sections,
-        index: &[],
-    };
+    let view = view(POGO, &image, &sections);
     let none = PogoEntry {
         name: untouched(),
         rva: 5,

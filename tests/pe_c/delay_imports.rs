@@ -1,8 +1,8 @@
 //! The DLLs of the delay import directory, one a step, and what is imported of each.
 
 use super::made::{
-    OVER, SHORT, UNMAPPED, UNTOUCHED, X64, directory, having, image, in_mode, lies, of_range,
-    range, sections, untouched, words,
+    DIRECTORY_DELAY_IMPORT_NAME, DIRECTORY_VA_BELOW_BASE, OVER, SHORT, UNMAPPED, UNTOUCHED, X64,
+    directory, having, image, in_mode, lies, of_range, range, sections, untouched, view, words,
 };
 use crate::delay_imports::{
     DelayLibrary, DelayedFunction, DelayedFunctions, pe_c_delay_imports, pe_c_next_delay_import,
@@ -11,14 +11,9 @@ use crate::delay_imports::{
 use crate::image::Image;
 use crate::lists::delay_imports::{pe_c_list_delay_imports, pe_c_list_delayed_functions};
 use crate::results::{DONE, NOTHING, ROOM};
-use crate::view::View;
 use pe_directories::DelayImport;
 use std::alloc::{AllocError, Global};
 use std::test::Fail;
-
-const VA_BELOW_BASE: u32 = 304;
-
-const DELAY_IMPORT_NAME: u32 = 307;
 
 /// 128 bytes: at 4 an entry with RVAs and at 36 an entry of zeros; at 68 the name `a.dll`, at 76 a hint 0x201 and the name
 /// `fn`, at 84 a table with the number of that hint, an ordinal 9 and zero, of 8 bytes each, at 108 one of PE32, and at 120 a
@@ -152,7 +147,7 @@ fn entries_in_turn(rt: HostRuntime) -> Result<(), Fail> {
     // The image as loaded: its addresses are offsets.
     assert_eq!(rt;
         next(&bytes, &in_mode(&image, 2), [4, 64]),
-        nothing(DELAY_IMPORT_NAME, OVER)
+        nothing(DIRECTORY_DELAY_IMPORT_NAME, OVER)
     );
     Ok(())
 }
@@ -178,10 +173,10 @@ fn names_and_tables(rt: HostRuntime) -> Result<(), Fail> {
         (&wide, 1, 0x1044, 0x2000, UNMAPPED),
         // The last byte of all is a name, which is empty; after it there is none, and the name is tested first.
         (&wide, 3, 0x107F, 0x2000, UNMAPPED),
-        (&wide, 1, 0x1080, 0x2000, DELAY_IMPORT_NAME),
-        (&wide, 0, 0x1044, 0x1054, VA_BELOW_BASE),
-        (&low, 0, 0x3F_FFFF, 0x40_1054, VA_BELOW_BASE),
-        (&low, 0, 0x40_1044, 0x3F_FFFF, VA_BELOW_BASE),
+        (&wide, 1, 0x1080, 0x2000, DIRECTORY_DELAY_IMPORT_NAME),
+        (&wide, 0, 0x1044, 0x1054, DIRECTORY_VA_BELOW_BASE),
+        (&low, 0, 0x3F_FFFF, 0x40_1054, DIRECTORY_VA_BELOW_BASE),
+        (&low, 0, 0x40_1044, 0x3F_FFFF, DIRECTORY_VA_BELOW_BASE),
         (&low, 0, 0x40_2000, 0x40_1054, UNMAPPED),
         (&low, 0, 0x40_1044, 0x40_2000, UNMAPPED),
     ] {
@@ -201,7 +196,7 @@ fn names_and_tables(rt: HostRuntime) -> Result<(), Fail> {
     assert_eq!(rt; (answer, ranges), (DONE, [[68, 5], [144, 0]]));
     let mut bytes = bytes_of(rt.alloc())?;
     bytes[70] = 0xFF;
-    assert_eq!(rt; next(&bytes, &wide, [4, 64]).0, DELAY_IMPORT_NAME);
+    assert_eq!(rt; next(&bytes, &wide, [4, 64]).0, DIRECTORY_DELAY_IMPORT_NAME);
     Ok(())
 }
 
@@ -254,7 +249,7 @@ fn functions_in_turn(rt: HostRuntime) -> Result<(), Fail> {
     }
     assert_eq!(rt;
         step(&bytes, &wide, [84, 44], 0),
-        (VA_BELOW_BASE, UNTOUCHED, [7, 8], OVER)
+        (DIRECTORY_VA_BELOW_BASE, UNTOUCHED, [7, 8], OVER)
     );
     Ok(())
 }
@@ -265,7 +260,10 @@ fn names_of_functions(rt: HostRuntime) -> Result<(), Fail> {
     for (address, want) in [
         (0x104C, (DONE, [78, 2], [0x201, 1], [92, 36])),
         (0x107C, (DONE, [126, 0], [0, 1], [92, 36])),
-        (0x107E, (DELAY_IMPORT_NAME, UNTOUCHED, [7, 8], OVER)),
+        (
+            0x107E,
+            (DIRECTORY_DELAY_IMPORT_NAME, UNTOUCHED, [7, 8], OVER),
+        ),
         (0x107F, (SHORT, UNTOUCHED, [7, 8], OVER)),
         (0x2000, (UNMAPPED, UNTOUCHED, [7, 8], OVER)),
     ] {
@@ -286,7 +284,7 @@ fn names_of_functions(rt: HostRuntime) -> Result<(), Fail> {
     bytes[78] = 0xFF;
     assert_eq!(rt;
         step(&bytes, &wide, [84, 44], 1),
-        (DELAY_IMPORT_NAME, UNTOUCHED, [7, 8], OVER)
+        (DIRECTORY_DELAY_IMPORT_NAME, UNTOUCHED, [7, 8], OVER)
     );
     // An address of an old linker is virtual.
     let low = Image {
@@ -307,12 +305,7 @@ fn names_of_functions(rt: HostRuntime) -> Result<(), Fail> {
 fn lists_of_both(rt: HostRuntime) -> Result<(), Fail> {
     let bytes = bytes_of(rt.alloc())?;
     let (image, sections) = (image(X64), sections());
-    let view = View {
-        bytes: &bytes,
-        image: &image,
-        sections: &sections,
-        index: &[],
-    };
+    let view = view(&bytes, &image, &sections);
     let none = DelayLibrary {
         name: untouched(),
         functions: functions(UNTOUCHED, 7),

@@ -1,6 +1,10 @@
 //! Minidumps: every call on a dump that is made by hand from minidumpapiset.h and winnt.h, with a stream of each kind.
 
-use super::made::{SHORT, UNTOUCHED, of_range, range};
+use super::made::{
+    DUMP_CONTEXT_FLAGS, DUMP_CONTEXT_SIZE, DUMP_DIRECTORY, DUMP_ENTRY_SIZE, DUMP_LIST_SIZE,
+    DUMP_LOCATION, DUMP_MACHINE, DUMP_SIGNATURE, DUMP_TEXT, DUMP_VERSION, SHORT, UNTOUCHED,
+    of_range, range,
+};
 use crate::arm64::frames::Arm64FrameRegisters;
 use crate::debug_records::{SymbolKey, pe_c_codeview};
 use crate::dump::contexts::{Arm64Context, X64Context, pe_c_dump_context, pe_c_dump_context_arm64};
@@ -30,27 +34,6 @@ use pe_minidump::{
 };
 use std::alloc::{AllocError, Global};
 use std::test::Fail;
-
-/// The numbers of refusals, as a program in C knows them.
-const SIGNATURE: u32 = 551;
-
-const VERSION: u32 = 552;
-
-const DIRECTORY: u32 = 553;
-
-const LOCATION: u32 = 554;
-
-const LIST_SIZE: u32 = 555;
-
-const ENTRY_SIZE: u32 = 556;
-
-const TEXT: u32 = 557;
-
-const CONTEXT_SIZE: u32 = 558;
-
-const CONTEXT_FLAGS: u32 = 559;
-
-const MACHINE: u32 = 560;
 
 /// Where the parts stand.
 const SIZE: usize = 0xCB8;
@@ -218,12 +201,12 @@ fn header_of_a_dump(rt: HostRuntime) -> Result<(), Fail> {
         (12, 5, 6)
     );
     assert_eq!(rt; info_of(&bytes[..31]).0, SHORT);
-    assert_eq!(rt; info_of(&bytes[..175]).0, DIRECTORY);
+    assert_eq!(rt; info_of(&bytes[..175]).0, DUMP_DIRECTORY);
     put(&mut bytes, &[(4, b"\x94")]);
-    assert_eq!(rt; info_of(&bytes).0, VERSION);
+    assert_eq!(rt; info_of(&bytes).0, DUMP_VERSION);
     put(&mut bytes, &[(0, b"N")]);
     let (answer, info) = info_of(&bytes);
-    assert_eq!(rt; (answer, info.flags, info.version), (SIGNATURE, 9, 9));
+    assert_eq!(rt; (answer, info.flags, info.version), (DUMP_SIGNATURE, 9, 9));
     Ok(())
 }
 
@@ -245,11 +228,11 @@ fn streams_are_found_by_kind(rt: HostRuntime) -> Result<(), Fail> {
     assert_eq!(rt; stream_of(&bytes, &directory, 13), (NOTHING, UNTOUCHED));
     assert_eq!(rt;
         stream_of(&bytes[..0x113], &directory, 3),
-        (LOCATION, UNTOUCHED)
+        (DUMP_LOCATION, UNTOUCHED)
     );
     assert_eq!(rt; stream_of(&bytes[..0x120], &directory, 3).0, DONE);
     let outside = range(32, SIZE as u64);
-    assert_eq!(rt; stream_of(&bytes, &outside, 3), (LOCATION, UNTOUCHED));
+    assert_eq!(rt; stream_of(&bytes, &outside, 3), (DUMP_LOCATION, UNTOUCHED));
     // The first stream of a kind counts, and none past the end of the directory.
     let first = range(44, 132);
     assert_eq!(rt; stream_of(&bytes, &first, 3), (NOTHING, UNTOUCHED));
@@ -282,7 +265,7 @@ fn entries_of_the_directory(rt: HostRuntime) -> Result<(), Fail> {
     );
     assert_eq!(rt;
         pe_c_dump_entry_at(&bytes[..100], &directory, 0, &mut out),
-        LOCATION
+        DUMP_LOCATION
     );
     assert_eq!(rt; out, untouched);
     Ok(())
@@ -293,14 +276,20 @@ fn strings_and_locations(rt: HostRuntime) -> Result<(), Fail> {
     let mut bytes = dump(rt.alloc())?;
     let [offset, length] = UNTOUCHED;
     let mut out = range(offset, length);
-    assert_eq!(rt; pe_c_dump_text(&bytes[..0x403], 0x400, &mut out), LOCATION);
-    assert_eq!(rt; pe_c_dump_text(&bytes[..0x40D], 0x400, &mut out), LOCATION);
-    assert_eq!(rt; pe_c_dump_text(&bytes, u64::MAX, &mut out), LOCATION);
+    assert_eq!(rt;
+        pe_c_dump_text(&bytes[..0x403], 0x400, &mut out),
+        DUMP_LOCATION
+    );
+    assert_eq!(rt;
+        pe_c_dump_text(&bytes[..0x40D], 0x400, &mut out),
+        DUMP_LOCATION
+    );
+    assert_eq!(rt; pe_c_dump_text(&bytes, u64::MAX, &mut out), DUMP_LOCATION);
     assert_eq!(rt; of_range(out), UNTOUCHED);
     assert_eq!(rt; pe_c_dump_text(&bytes[..0x40E], 0x400, &mut out), DONE);
     assert_eq!(rt; of_range(out), [0x404, 10]);
     put(&mut bytes, &[(0x400, b"\x09")]);
-    assert_eq!(rt; pe_c_dump_text(&bytes, 0x400, &mut out), TEXT);
+    assert_eq!(rt; pe_c_dump_text(&bytes, 0x400, &mut out), DUMP_TEXT);
     let record = Location {
         size: 30,
         rva: 0x410,
@@ -318,7 +307,7 @@ fn strings_and_locations(rt: HostRuntime) -> Result<(), Fail> {
     assert_eq!(rt; of_range(key.name), [0x428, 6]);
     assert_eq!(rt;
         pe_c_dump_range(&bytes[..0x42D], &record, &mut out),
-        LOCATION
+        DUMP_LOCATION
     );
     assert_eq!(rt; of_range(out), [0x410, 30]);
     Ok(())
@@ -375,12 +364,12 @@ fn threads_by_their_index(rt: HostRuntime) -> Result<(), Fail> {
     );
     assert_eq!(rt;
         pe_c_dump_thread_at(&bytes, &range(0xB0, 99), 0, &mut out),
-        LIST_SIZE
+        DUMP_LIST_SIZE
     );
     let outside = range(0xB0, u64::MAX);
     assert_eq!(rt;
         pe_c_dump_thread_at(&bytes, &outside, 0, &mut out),
-        LOCATION
+        DUMP_LOCATION
     );
     assert_eq!(rt; out, NO_THREAD);
     // With 4 bytes between the number and the first of them.
@@ -428,7 +417,7 @@ fn modules_by_their_index(rt: HostRuntime) -> Result<(), Fail> {
     );
     assert_eq!(rt;
         pe_c_dump_module_at(&bytes, &range(0x118, 111), 0, &mut out),
-        LIST_SIZE
+        DUMP_LIST_SIZE
     );
     assert_eq!(rt; (out.base_of_image, out.spare), (9, 9));
     assert_eq!(rt; pe_c_dump_module_at(&bytes, &stream(1), 0, &mut out), DONE);
@@ -473,7 +462,7 @@ fn names_of_threads_by_their_index(rt: HostRuntime) -> Result<(), Fail> {
     );
     assert_eq!(rt;
         pe_c_dump_thread_name_at(&bytes, &stream(0), 0, &mut out),
-        LIST_SIZE
+        DUMP_LIST_SIZE
     );
     assert_eq!(rt;
         (out.rva_of_thread_name, out.thread_id, out.spare),
@@ -524,12 +513,12 @@ fn unloaded_modules_by_their_index(rt: HostRuntime) -> Result<(), Fail> {
     );
     assert_eq!(rt;
         pe_c_dump_unloaded_at(&bytes, &range(0x310, 35), 0, &mut out),
-        LIST_SIZE
+        DUMP_LIST_SIZE
     );
     put(&mut bytes, &[(0x314, b"\x17")]);
     assert_eq!(rt;
         pe_c_dump_unloaded_at(&bytes, &stream(8), 0, &mut out),
-        ENTRY_SIZE
+        DUMP_ENTRY_SIZE
     );
     assert_eq!(rt; out, untouched);
     Ok(())
@@ -557,7 +546,7 @@ fn thread_infos_by_their_index(rt: HostRuntime) -> Result<(), Fail> {
     );
     assert_eq!(rt;
         pe_c_dump_thread_info_at(&bytes, &stream(8), 0, &mut out),
-        ENTRY_SIZE
+        DUMP_ENTRY_SIZE
     );
     assert_eq!(rt; out, untouched);
     assert_eq!(rt;
@@ -673,7 +662,7 @@ fn exception_of_a_dump(rt: HostRuntime) -> Result<(), Fail> {
     );
     assert_eq!(rt;
         pe_c_dump_exception(&bytes[..0x297], &stream(4), &mut out),
-        LOCATION
+        DUMP_LOCATION
     );
     assert_eq!(rt; (out.thread_id, out.exception_record), (9, 9));
     assert_eq!(rt; pe_c_dump_exception(&bytes, &stream(4), &mut out), DONE);
@@ -848,7 +837,7 @@ fn pieces_of_memory_by_their_index(rt: HostRuntime) -> Result<(), Fail> {
     );
     assert_eq!(rt;
         pe_c_dump_memory_at(&bytes, &range(0x188, 51), 0, &mut out),
-        LIST_SIZE
+        DUMP_LIST_SIZE
     );
     assert_eq!(rt; of_piece(&out), [77; 4]);
     Ok(())
@@ -867,11 +856,11 @@ fn pieces_of_a_full_dump(rt: HostRuntime) -> Result<(), Fail> {
     );
     assert_eq!(rt;
         pe_c_dump_memory64(&bytes, &range(0x1C0, 47), &mut walk),
-        LIST_SIZE
+        DUMP_LIST_SIZE
     );
     assert_eq!(rt;
         pe_c_dump_memory64(&bytes[..0x1EF], &stream(3), &mut walk),
-        LOCATION
+        DUMP_LOCATION
     );
     assert_eq!(rt; (of_range(walk.entries), walk.next), ([7, 7], 7));
     assert_eq!(rt; pe_c_dump_memory64(&bytes, &stream(3), &mut walk), DONE);
@@ -899,7 +888,10 @@ fn pieces_of_a_full_dump(rt: HostRuntime) -> Result<(), Fail> {
     );
     // The sum of the sizes passes the last offset.
     put(&mut bytes, &[(0x1E8, &[0xFF; 8])]);
-    assert_eq!(rt; pe_c_dump_memory64(&bytes, &stream(3), &mut walk), LOCATION);
+    assert_eq!(rt;
+        pe_c_dump_memory64(&bytes, &stream(3), &mut walk),
+        DUMP_LOCATION
+    );
     Ok(())
 }
 
@@ -935,16 +927,19 @@ fn context_of_x64(rt: HostRuntime) -> Result<(), Fail> {
     out = NO_X64;
     assert_eq!(rt;
         pe_c_dump_context(&bytes, &NO_BYTES, &mut out),
-        CONTEXT_SIZE
+        DUMP_CONTEXT_SIZE
     );
     assert_eq!(rt;
         pe_c_dump_context(&bytes[..0x90F], &X64, &mut out),
-        LOCATION
+        DUMP_LOCATION
     );
     put(&mut bytes, &[(0x470, b"\x02")]);
-    assert_eq!(rt; pe_c_dump_context(&bytes, &X64, &mut out), CONTEXT_FLAGS);
+    assert_eq!(rt;
+        pe_c_dump_context(&bytes, &X64, &mut out),
+        DUMP_CONTEXT_FLAGS
+    );
     put(&mut bytes, &[(0x472, b"\x40")]);
-    assert_eq!(rt; pe_c_dump_context(&bytes, &X64, &mut out), MACHINE);
+    assert_eq!(rt; pe_c_dump_context(&bytes, &X64, &mut out), DUMP_MACHINE);
     assert_eq!(rt; (out.registers.rip, out.context_flags), (77, 77));
     Ok(())
 }
@@ -964,7 +959,7 @@ fn context_of_arm64(rt: HostRuntime) -> Result<(), Fail> {
     };
     assert_eq!(rt;
         pe_c_dump_context_arm64(&bytes, &NO_BYTES, &mut out),
-        CONTEXT_SIZE
+        DUMP_CONTEXT_SIZE
     );
     assert_eq!(rt; (out.registers.pc, out.context_flags), (77, 77));
     assert_eq!(rt; pe_c_dump_context_arm64(&bytes, &ARM64, &mut out), DONE);

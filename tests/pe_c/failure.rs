@@ -1,14 +1,11 @@
 //! Why headers are refused: where, and by which number. Offsets are those of winnt.h, and every number is worked out by hand.
 
-use super::made::{BAD_MAGIC, HEADER_POINTER, MAPPED, PERMISSIVE, SHORT, STRICT, in_mode};
+use super::made::{BAD_MAGIC, HEADER_POINTER, MAPPED, PERMISSIVE, SHORT, STRICT, TE_SIZE, in_mode};
 use crate::failure::{Failure, pe_c_image_failure, pe_c_te_failure};
 use crate::image::{Image, pe_c_image};
 use crate::results::{DONE, NOTHING};
 use pe_images::{headers_alone, pointer_below_64, put, te};
 use std::test::Fail;
-
-/// Fewer than 40 bytes were stripped.
-const TE_SIZE: u32 = 31;
 
 const NO_FAILURE: Failure = Failure {
     offset: 9,

@@ -5,8 +5,9 @@ use super::base_relocations::two_blocks;
 use super::exports::{walk_over, with_exports};
 use super::imports::{NO_IMPORT, NO_LIBRARY, with_imports};
 use super::made::{
-    ARM64_CUT, IMPORT_NAME, OVER, RESOURCE_STRING, SHORT, UNWIND_CODE, X64, directory, having,
-    image, lies, of_range, range, sections, untouched,
+    ARM64_CUT, DIRECTORY_NO_ARGUMENT, IMPORT_NAME, OVER, RESOURCE_STRING, SHORT,
+    TREE_NOT_DIRECTORY, UNWIND_CODE, X64, directory, having, image, lies, of_range, range,
+    sections, untouched, view,
 };
 use super::resource_leaves::{NO_LEAF, of_size, with_tree};
 use super::version_blocks::BLOCKS;
@@ -14,7 +15,6 @@ use crate::arm64::codes::{Arm64Code, Arm64CodeWalk};
 use crate::base_relocations::{Relocation, RelocationBlock};
 use crate::export_addresses::{AddressTable, Exported};
 use crate::exports::{Export, Exports};
-use crate::image::Image;
 use crate::imports::{Imports, Libraries};
 use crate::lists::arm64::{pe_c_list_arm64_codes, pe_c_list_arm64_functions};
 use crate::lists::exports::{pe_c_list_export_addresses, pe_c_list_exports};
@@ -27,29 +27,12 @@ use crate::resource_leaves::pe_c_resource_leaves;
 use crate::results::{DONE, ROOM};
 use crate::unwinding::{Code, CodeWalk};
 use crate::version_blocks::VersionBlock;
-use crate::view::View;
-use pe_core::SectionTable;
 use pe_images::put;
 use pe_unwind::{Arm64RuntimeFunction, RuntimeFunction};
 use std::test::Fail;
 
-/// An error of base relocations, as a program in C knows it.
-const NO_ARGUMENT: u32 = 303;
-
-/// An error of a resource tree, as a program in C knows it.
-const NOT_DIRECTORY: u32 = 401;
-
 /// What `written` is before a call.
 const UNWRITTEN: u64 = 77;
-
-fn view<'a>(bytes: &'a [u8], image: &'a Image, sections: &'a [SectionTable]) -> View<'a> {
-    View {
-        bytes,
-        image,
-        sections,
-        index: &[],
-    }
-}
 
 /// Three entries of x64 at offset 1: begins 10h, 20h and 30h, ends 11h, 21h and 31h, unwind RVAs 1, 2 and 3.
 const FUNCTIONS: [u8; 38] = [
@@ -361,7 +344,7 @@ fn leaves_in_lists(rt: HostRuntime) -> Result<(), Fail> {
     );
     for (answer, count, languages) in [
         (DONE, 2, [0x409, 0x407, 3]),
-        (NOT_DIRECTORY, UNWRITTEN, [3; 3]),
+        (TREE_NOT_DIRECTORY, UNWRITTEN, [3; 3]),
         (DONE, 0, [3; 3]),
     ] {
         let mut entries = [NO_LEAF; 3];
@@ -430,7 +413,7 @@ fn relocations_in_lists(rt: HostRuntime) -> Result<(), Fail> {
     let mut walk = range(24, 6);
     for (answer, count, rva, left) in [
         (DONE, 1, 0x5010, [28, 2]),
-        (NO_ARGUMENT, UNWRITTEN, 7, OVER),
+        (DIRECTORY_NO_ARGUMENT, UNWRITTEN, 7, OVER),
         (DONE, 0, 7, OVER),
     ] {
         let mut entries = [none; 2];

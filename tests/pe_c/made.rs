@@ -3,7 +3,9 @@
 use crate::image::Image;
 use crate::ranges::Range;
 use crate::results::NOTHING;
+use crate::view::View;
 use pe_core::{DataDirectory, SectionTable};
+use pe_frame::MemoryPiece;
 use pe_images::image as bytes_of;
 use std::alloc::{AllocError, Global};
 
@@ -14,7 +16,7 @@ pub(crate) const PERMISSIVE: u32 = 1;
 /// Added to a mode: the image is as loaded.
 pub(crate) const MAPPED: u32 = 2;
 
-/// The numbers of refusals, as a program in C knows them.
+/// The numbers of errors, as a program in C knows them.
 pub(crate) const SHORT: u32 = 2;
 
 pub(crate) const BAD_MAGIC: u32 = 3;
@@ -22,6 +24,8 @@ pub(crate) const BAD_MAGIC: u32 = 3;
 pub(crate) const HEADER_POINTER: u32 = 4;
 
 pub(crate) const IMPORT_NAME: u32 = 5;
+
+pub(crate) const STRING_TABLE: u32 = 6;
 
 pub(crate) const CERTIFICATE_REVISION: u32 = 7;
 
@@ -70,6 +74,64 @@ pub(crate) const RESOURCE_BOUNDS: u32 = 28;
 pub(crate) const RESOURCE_CYCLE: u32 = 29;
 
 pub(crate) const RESOURCE_STRING: u32 = 30;
+
+pub(crate) const TE_SIZE: u32 = 31;
+
+pub(crate) const NO_OPTIONAL_HEADER: u32 = 32;
+
+pub(crate) const WRITE_FIT: u32 = 37;
+
+pub(crate) const SIGN_NO_DIRECTORY: u32 = 201;
+
+pub(crate) const SIGN_TABLE_NOT_LAST: u32 = 202;
+
+pub(crate) const SIGN_HEADERS: u32 = 203;
+
+pub(crate) const SIGN_SECTION: u32 = 204;
+
+pub(crate) const SIGN_TABLE_OFFSET: u32 = 205;
+
+pub(crate) const DIRECTORY_BLOCK_SIZE: u32 = 301;
+
+pub(crate) const DIRECTORY_BLOCK_TRUNCATED: u32 = 302;
+
+pub(crate) const DIRECTORY_NO_ARGUMENT: u32 = 303;
+
+pub(crate) const DIRECTORY_VA_BELOW_BASE: u32 = 304;
+
+pub(crate) const DIRECTORY_CLR_HEADER_SIZE: u32 = 305;
+
+pub(crate) const DIRECTORY_STREAM_NAME: u32 = 306;
+
+pub(crate) const DIRECTORY_DELAY_IMPORT_NAME: u32 = 307;
+
+pub(crate) const DIRECTORY_BOUND_IMPORT_NAME: u32 = 308;
+
+pub(crate) const TREE_NOT_DIRECTORY: u32 = 401;
+
+pub(crate) const TREE_NOT_DATA: u32 = 402;
+
+pub(crate) const TREE_NO_ENTRIES: u32 = 403;
+
+pub(crate) const DUMP_SIGNATURE: u32 = 551;
+
+pub(crate) const DUMP_VERSION: u32 = 552;
+
+pub(crate) const DUMP_DIRECTORY: u32 = 553;
+
+pub(crate) const DUMP_LOCATION: u32 = 554;
+
+pub(crate) const DUMP_LIST_SIZE: u32 = 555;
+
+pub(crate) const DUMP_ENTRY_SIZE: u32 = 556;
+
+pub(crate) const DUMP_TEXT: u32 = 557;
+
+pub(crate) const DUMP_CONTEXT_SIZE: u32 = 558;
+
+pub(crate) const DUMP_CONTEXT_FLAGS: u32 = 559;
+
+pub(crate) const DUMP_MACHINE: u32 = 560;
 
 pub(crate) const X64: u16 = 0x8664;
 
@@ -223,6 +285,38 @@ pub(crate) fn section(
         pointer_to_raw_data,
         ..other
     }
+}
+
+/// The image, without an index of its sections.
+pub(crate) fn view<'a>(
+    bytes: &'a [u8],
+    image: &'a Image,
+    sections: &'a [SectionTable],
+) -> View<'a> {
+    View {
+        bytes,
+        image,
+        sections,
+        index: &[],
+    }
+}
+
+/// The bytes of these words.
+pub(crate) fn bytes_of_words(alloc: Global, words: &[u64]) -> Result<Vec<u8>, AllocError> {
+    let mut bytes = Vec::new(alloc);
+    for word in words {
+        bytes.extend_from_slice(&u64::to_le_bytes(*word))?;
+    }
+    Ok(bytes)
+}
+
+/// All bytes as one piece of memory, from this address on.
+pub(crate) fn piece(start: u64, bytes: &[u8]) -> [MemoryPiece; 1] {
+    [MemoryPiece {
+        start,
+        offset: 0,
+        length: bytes.len() as u64,
+    }]
 }
 
 /// Numbers of four bytes, one after the other.

@@ -1,13 +1,12 @@
 //! Which section maps an RVA, and the bytes to which a section maps its RVAs.
 
 use super::made::{
-    MAPPED, PERMISSIVE, STRICT, UNTOUCHED, X64, image, in_mode, of_range, section, untouched,
+    MAPPED, PERMISSIVE, STRICT, UNTOUCHED, X64, image, in_mode, of_range, section, untouched, view,
 };
 use crate::image::Image;
 use crate::map_ranges::{pe_c_range_at, pe_c_rva};
 use crate::maps::{pe_c_section_at, pe_c_section_range};
 use crate::results::{DONE, NOTHING};
-use crate::view::View;
 use pe_core::SectionTable;
 
 fn aligned(file_alignment: u32, mode: u32) -> Image {
@@ -18,12 +17,7 @@ fn aligned(file_alignment: u32, mode: u32) -> Image {
 }
 
 fn index_at(image: &Image, sections: &[SectionTable], rva: u32) -> (u32, u64) {
-    let view = View {
-        bytes: &[],
-        image,
-        sections,
-        index: &[],
-    };
+    let view = view(&[], image, sections);
     let mut out = 9;
     (pe_c_section_at(&view, rva, &mut out), out)
 }
@@ -75,12 +69,7 @@ fn sections_of_rvas(rt: HostRuntime) {
 
 fn range_of(image: &Image, length: usize, section: &SectionTable) -> (u32, [u64; 2]) {
     let bytes = [0; 0x1000];
-    let view = View {
-        bytes: &bytes[..length],
-        image,
-        sections: &[],
-        index: &[],
-    };
+    let view = view(&bytes[..length], image, &[]);
     let mut out = untouched();
     let number = pe_c_section_range(&view, section, &mut out);
     (number, of_range(out))
@@ -134,12 +123,7 @@ fn ranges_of_sections(rt: HostRuntime) {
 }
 
 fn range_at(bytes: &[u8], image: &Image, sections: &[SectionTable], rva: u32) -> (u32, [u64; 2]) {
-    let view = View {
-        bytes,
-        image,
-        sections,
-        index: &[],
-    };
+    let view = view(bytes, image, sections);
     let mut out = untouched();
     (pe_c_range_at(&view, rva, &mut out), of_range(out))
 }
@@ -200,12 +184,7 @@ fn rvas_of_offsets(rt: HostRuntime) {
         section(0xFFFF_FF00, 0x200, 0x2000, 0x200),
     ];
     let rva_of = |image: &Image, offset: u64| {
-        let view = View {
-            bytes: &[],
-            image,
-            sections: &sections,
-            index: &[],
-        };
+        let view = view(&[], image, &sections);
         let mut out = 9;
         (pe_c_rva(&view, offset, &mut out), out)
     };

@@ -1,7 +1,7 @@
 //! The bytes after the headers and the raw data of all sections.
 
 use super::made::{
-    MAPPED, PERMISSIVE, STRICT, UNTOUCHED, X64, image, in_mode, of_range, sections, untouched,
+    self, MAPPED, PERMISSIVE, STRICT, UNTOUCHED, X64, image, in_mode, of_range, sections, untouched,
 };
 use crate::image::Image;
 use crate::overlay::pe_c_overlay;
@@ -17,12 +17,7 @@ fn overlay_of(length: usize, image: &Image, sections: &[SectionTable]) -> (u32, 
 
 /// A section whose raw data are so many bytes from an offset on.
 fn section(pointer_to_raw_data: u32, size_of_raw_data: u32) -> SectionTable {
-    let [first] = sections();
-    SectionTable {
-        pointer_to_raw_data,
-        size_of_raw_data,
-        ..first
-    }
+    made::section(0x1000, 0x1000, pointer_to_raw_data, size_of_raw_data)
 }
 
 /// The raw data of the one section are the first 0x1000 bytes.

@@ -1,8 +1,9 @@
 //! The leaves of a resource tree, one a step.
 
 use super::made::{
-    MAPPED, OVER, PERMISSIVE, RESOURCE_BOUNDS, SHORT, STRICT, UNMAPPED, X64, directory, having,
-    image, in_mode, lies, of_range, range, sections,
+    MAPPED, OVER, PERMISSIVE, RESOURCE_BOUNDS, SHORT, STRICT, TREE_NO_ENTRIES, TREE_NOT_DATA,
+    TREE_NOT_DIRECTORY, UNMAPPED, X64, directory, having, image, in_mode, lies, of_range, range,
+    sections,
 };
 use crate::image::Image;
 use crate::ranges::Range;
@@ -14,13 +15,6 @@ use pe_images::{image as bytes_of, put};
 use pe_resource::ResourceEntry;
 use std::alloc::{AllocError, Global};
 use std::test::Fail;
-
-/// Errors of a resource tree, as a program in C knows them.
-const NOT_DIRECTORY: u32 = 401;
-
-const NOT_DATA: u32 = 402;
-
-const NO_ENTRIES: u32 = 403;
 
 /// The data of the resource directory, 142 bytes at offset 0x20 of 174: a type with the name `AB`, whose name 1 has two
 /// languages, and a type with the id 3, which leads to a data entry. Each byte is where Microsoft's page puts it. The content
@@ -165,7 +159,7 @@ fn leaves_in_turn(rt: HostRuntime) -> Result<(), Fail> {
     let names = [named, [0, 0, 1, 0], [0, 0, 0x407, 0]];
     assert_eq!(rt; flat(leaf), (names, OVER, [UNMAPPED, 0x2000, 6, 0]));
     let (answer, leaf) = step(&bytes, &image, &mut walk);
-    assert_eq!(rt; answer, NOT_DIRECTORY);
+    assert_eq!(rt; answer, TREE_NOT_DIRECTORY);
     assert_eq!(rt; flat(leaf), flat(NO_LEAF));
     let over = ([OVER; 4], [NO_ENTRY, NO_ENTRY]);
     assert_eq!(rt; flat_walk(walk), over);
@@ -241,11 +235,11 @@ fn entries_without_a_leaf(rt: HostRuntime) -> Result<(), Fail> {
     let image = of_size(0x8E);
     for (change, want) in [
         // The second language leads to a directory.
-        ((0x77, 0x80), [DONE, NOT_DATA, NOTHING, NOTHING]),
+        ((0x77, 0x80), [DONE, TREE_NOT_DATA, NOTHING, NOTHING]),
         // Its data entry is truncated.
         ((0x74, 0x7F), [DONE, SHORT, NOTHING, NOTHING]),
         // The directory of languages is empty.
-        ((0x66, 0), [NO_ENTRIES, NOTHING, NOTHING, NOTHING]),
+        ((0x66, 0), [TREE_NO_ENTRIES, NOTHING, NOTHING, NOTHING]),
         // It has more entries than there are bytes.
         ((0x66, 11), [SHORT, NOTHING, NOTHING, NOTHING]),
         // The name is truncated.
@@ -281,7 +275,7 @@ fn walks_that_lie(rt: HostRuntime) -> Result<(), Fail> {
     }
     // Inside the tree any range is legal: these entries of a language are the first directory's.
     let mut inside = walk(tree, none, none, range(16, 8));
-    assert_eq!(rt; step(&bytes, &image, &mut inside).0, NOT_DATA);
+    assert_eq!(rt; step(&bytes, &image, &mut inside).0, TREE_NOT_DATA);
     // Seven bytes have no entry.
     let mut inside = walk(tree, none, none, range(16, 7));
     assert_eq!(rt; step(&bytes, &image, &mut inside).0, NOTHING);

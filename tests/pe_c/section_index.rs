@@ -1,6 +1,6 @@
 //! An index of the sections, and what calls return by it.
 
-use super::made::{MAPPED, STRICT, UNTOUCHED, X64, image, in_mode, of_range, untouched};
+use super::made::{self, MAPPED, STRICT, UNTOUCHED, X64, image, in_mode, of_range, untouched};
 use crate::image::Image;
 use crate::map_ranges::pe_c_range_at;
 use crate::maps::pe_c_section_at;
@@ -17,18 +17,7 @@ const LEFT: IndexEntry = IndexEntry {
 
 /// A section of so many bytes in memory and in the file.
 fn section(rva: u32, offset: u32, size: u32) -> SectionTable {
-    SectionTable {
-        name: [0; 8],
-        virtual_size: size,
-        virtual_address: rva,
-        size_of_raw_data: size,
-        pointer_to_raw_data: offset,
-        pointer_to_relocations: 0,
-        pointer_to_linenumbers: 0,
-        number_of_relocations: 0,
-        number_of_linenumbers: 0,
-        characteristics: 0,
-    }
+    made::section(rva, size, offset, size)
 }
 
 /// The second lies over the end of the first and the start of the third, the fourth over all; the fifth is alone.
@@ -56,10 +45,8 @@ fn view_of<'a>(
     index: &'a [IndexEntry],
 ) -> View<'a> {
     View {
-        bytes,
-        image,
-        sections,
         index,
+        ..made::view(bytes, image, sections)
     }
 }
 

@@ -1,8 +1,8 @@
 //! The COFF string table, and names of sections in it.
 
 use super::made::{
-    MAPPED, PERMISSIVE, SHORT, STRICT, UNTOUCHED, X64, image, in_mode, lies, of_range, range,
-    sections, untouched,
+    MAPPED, PERMISSIVE, SHORT, STRICT, STRING_TABLE, UNTOUCHED, X64, image, in_mode, lies,
+    of_range, range, sections, untouched,
 };
 use crate::ranges::Range;
 use crate::results::{DONE, NOTHING};
@@ -11,9 +11,6 @@ use pe_core::SectionTable;
 use pe_images::{image as bytes_of, put};
 use std::alloc::{AllocError, Global};
 use std::test::Fail;
-
-/// An error of the string table.
-const STRING_TABLE: u32 = 6;
 
 /// The headers of a file with one symbol at 0x60, and the string table after it, of 32 bytes at 0x72.
 fn with_strings(alloc: Global) -> Result<Vec<u8>, AllocError> {

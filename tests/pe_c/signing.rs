@@ -3,8 +3,9 @@
 //! the checksums are those that `osslsigncode verify` 2.9 calculates of the same bytes.
 
 use super::made::{
-    BAD_MAGIC, CERTIFICATE_SIZE, CERTIFICATE_TABLE, HEADER_POINTER, PERMISSIVE, SHORT, STRICT, X64,
-    image, in_mode, of_range, untouched,
+    BAD_MAGIC, CERTIFICATE_SIZE, CERTIFICATE_TABLE, HEADER_POINTER, NO_OPTIONAL_HEADER, PERMISSIVE,
+    SHORT, SIGN_HEADERS, SIGN_NO_DIRECTORY, SIGN_SECTION, SIGN_TABLE_NOT_LAST, SIGN_TABLE_OFFSET,
+    STRICT, WRITE_FIT, X64, image, in_mode, of_range, untouched,
 };
 use crate::results::DONE;
 use crate::signing::{
@@ -14,20 +15,6 @@ use crate::signing::{
 use pe_images::{pointer_below_64, put, with_functions};
 use std::alloc::{AllocError, Global};
 use std::test::Fail;
-
-const NO_OPTIONAL_HEADER: u32 = 32;
-
-const WRITE_FIT: u32 = 37;
-
-const NO_DIRECTORY: u32 = 201;
-
-const TABLE_NOT_LAST: u32 = 202;
-
-const HEADERS: u32 = 203;
-
-const SECTION: u32 = 204;
-
-const TABLE_OFFSET: u32 = 205;
 
 /// The placements: after the others, and in their place.
 const AFTER: u32 = 0;
@@ -334,7 +321,7 @@ fn refused_writes_change_nothing(rt: HostRuntime) -> Result<(), Fail> {
             having(rt.alloc(), 0xC4, &[4])?,
             certificate,
             AFTER,
-            NO_DIRECTORY,
+            SIGN_NO_DIRECTORY,
         ),
         (
             having(rt.alloc(), 0xED, &[1])?,
@@ -346,26 +333,26 @@ fn refused_writes_change_nothing(rt: HostRuntime) -> Result<(), Fail> {
             having(rt.alloc(), 0xEC, &[8])?,
             certificate,
             AFTER,
-            TABLE_NOT_LAST,
+            SIGN_TABLE_NOT_LAST,
         ),
         // The table starts in the headers, and in the section.
         (
             having(rt.alloc(), 0xE8, &[0x10, 0, 0, 0, 0, 4, 0, 0])?,
             certificate,
             AFTER,
-            HEADERS,
+            SIGN_HEADERS,
         ),
         (
             having(rt.alloc(), 0xE8, &[0xF8, 3, 0, 0, 0x18, 0, 0, 0])?,
             certificate,
             AFTER,
-            SECTION,
+            SIGN_SECTION,
         ),
         (
             having(rt.alloc(), 0xE8, &[1, 4, 0, 0, 0xF, 0, 0, 0])?,
             certificate,
             AFTER,
-            TABLE_OFFSET,
+            SIGN_TABLE_OFFSET,
         ),
         (
             having(rt.alloc(), 0xE8, &[1, 4, 0, 0, 0xF, 0, 0, 0])?,
@@ -406,9 +393,9 @@ fn refused_writes_change_nothing(rt: HostRuntime) -> Result<(), Fail> {
         assert!(rt; room.iter().all(|byte| *byte == OLD));
     }
     for (bytes, number) in [
-        (having(rt.alloc(), 0xC4, &[4])?, NO_DIRECTORY),
+        (having(rt.alloc(), 0xC4, &[4])?, SIGN_NO_DIRECTORY),
         (having(rt.alloc(), 0xED, &[1])?, CERTIFICATE_TABLE),
-        (having(rt.alloc(), 0xEC, &[8])?, TABLE_NOT_LAST),
+        (having(rt.alloc(), 0xEC, &[8])?, SIGN_TABLE_NOT_LAST),
     ] {
         let (numbers, lengths, room) = detached(rt.alloc(), &bytes, 0x420)?;
         assert_eq!(rt; (numbers, lengths), ([number; 2], [OLD_LENGTH; 2]));

@@ -1,13 +1,12 @@
 //! Walks of a stack, a frame a call. The image and the stacks are by hand: what is expected is what each function was entered
 //! with.
 
-use super::made::{SHORT, X64, image, lies, range, sections};
+use super::made::{SHORT, X64, bytes_of_words, image, lies, piece, range, sections, view};
 use crate::image::Image;
 use crate::ranges::Range;
 use crate::results::{DONE, MISSING, NOTHING};
 use crate::stack_frames::FrameRegisters;
 use crate::stack_walk::{ModuleView, StackWalk, pe_c_next_frame, pe_c_next_frames};
-use crate::view::View;
 use pe_core::SectionTable;
 use pe_frame::MemoryPiece;
 use pe_images::image as bytes_of;
@@ -68,14 +67,8 @@ fn program(alloc: Global) -> Result<Vec<u8>, AllocError> {
 
 /// The image as a module.
 fn module<'a>(bytes: &'a [u8], image: &'a Image, sections: &'a [SectionTable]) -> ModuleView<'a> {
-    let image = View {
-        bytes,
-        image,
-        sections,
-        index: &[],
-    };
     ModuleView {
-        image,
+        image: view(bytes, image, sections),
         table: TABLE,
         base: BASE,
     }
@@ -110,24 +103,6 @@ fn walk_from(rip: u64, rsp: u64, most: u64) -> StackWalk {
     }
 }
 
-/// The bytes of these words.
-fn bytes_of_words(alloc: Global, words: &[u64]) -> Result<Vec<u8>, AllocError> {
-    let mut bytes = Vec::new(alloc);
-    for word in words {
-        bytes.extend_from_slice(&u64::to_le_bytes(*word))?;
-    }
-    Ok(bytes)
-}
-
-/// Words in one piece from `STACK` on.
-fn piece(bytes: &[u8]) -> [MemoryPiece; 1] {
-    [MemoryPiece {
-        start: STACK,
-        offset: 0,
-        length: bytes.len() as u64,
-    }]
-}
-
 /// Of the frame of a walk its instruction pointer, its stack pointer, how it was found, and whether it has called.
 fn frame_of(walk: &StackWalk) -> ([u64; 2], [u32; 2]) {
     let registers = walk.registers;
@@ -155,7 +130,7 @@ fn a_walk_returns_the_frames(rt: HostRuntime) -> Result<(), Fail> {
         ([AFTER_CALL, STACK + 48], [RECORDS, 1], 0xB1, 7),
     ];
     for (pointers, found, rbx, remaining) in frames {
-        let answer = pe_c_next_frame(&modules, &stack, &piece(&stack), &mut walk);
+        let answer = pe_c_next_frame(&modules, &stack, &piece(STACK, &stack), &mut walk);
         assert_eq!(rt; answer, DONE);
         assert_eq!(rt; frame_of(&walk), (pointers, found));
         let StackWalk {
@@ -171,7 +146,7 @@ fn a_walk_returns_the_frames(rt: HostRuntime) -> Result<(), Fail> {
     }
     // Once it is over, nothing changes any more.
     for _ in 0..2 {
-        let answer = pe_c_next_frame(&modules, &stack, &piece(&stack), &mut walk);
+        let answer = pe_c_next_frame(&modules, &stack, &piece(STACK, &stack), &mut walk);
         assert_eq!(rt; answer, NOTHING);
         assert_eq!(rt; end_of(&walk), ([0, 0], [BOTTOM, 0]));
         assert_eq!(rt; walk.registers.rip, AFTER_CALL);
@@ -186,7 +161,7 @@ fn a_walk_says_why_it_is_over(rt: HostRuntime) -> Result<(), Fail> {
     let modules = [module(&bytes, &headers, &sections)];
     let stack = bytes_of_words(rt.alloc(), &[8, 1])?;
     let mut bounded = walk_from(DISPATCHER, STACK, 1);
-    let pieces = piece(&stack);
+    let pieces = piece(STACK, &stack);
     assert_eq!(rt;
         pe_c_next_frame(&modules, &stack, &pieces, &mut bounded),
         DONE
@@ -227,7 +202,7 @@ fn frames_in_one_call(rt: HostRuntime) -> Result<(), Fail> {
     let modules = [module(&bytes, &headers, &sections)];
     let words = [1, 2, 3, 4, 0xB1, AFTER_CALL, 5, 6, 7, 8, 0xB2, 0];
     let stack = bytes_of_words(rt.alloc(), &words)?;
-    let pieces = piece(&stack);
+    let pieces = piece(STACK, &stack);
     let top = ([JUMPING, STACK], [TOP, 0]);
     let outer = ([AFTER_CALL, STACK + 48], [RECORDS, 1]);
     let mut walk = walk_from(JUMPING, STACK, 9);
@@ -283,7 +258,7 @@ fn a_call_of_a_null_pointer_has_a_caller(rt: HostRuntime) -> Result<(), Fail> {
     let mut walk = walk_from(0, STACK, 9);
     for frame in [([0, STACK], [TOP, 0]), ([AFTER_CALL, STACK + 8], [LEAF, 1])] {
         assert_eq!(rt;
-            pe_c_next_frame(&modules, &stack, &piece(&stack), &mut walk),
+            pe_c_next_frame(&modules, &stack, &piece(STACK, &stack), &mut walk),
             DONE
         );
         assert_eq!(rt; frame_of(&walk), frame);
@@ -291,11 +266,11 @@ fn a_call_of_a_null_pointer_has_a_caller(rt: HostRuntime) -> Result<(), Fail> {
     modules[0].table = range(0, 0);
     let mut walk = walk_from(0, STACK, 9);
     assert_eq!(rt;
-        pe_c_next_frame(&modules, &stack, &piece(&stack), &mut walk),
+        pe_c_next_frame(&modules, &stack, &piece(STACK, &stack), &mut walk),
         DONE
     );
     assert_eq!(rt;
-        pe_c_next_frame(&modules, &stack, &piece(&stack), &mut walk),
+        pe_c_next_frame(&modules, &stack, &piece(STACK, &stack), &mut walk),
         NOTHING
     );
     assert_eq!(rt; end_of(&walk), ([0, 0], [NO_MODULE, 0]));
@@ -313,7 +288,7 @@ fn ranges_that_lie(rt: HostRuntime) -> Result<(), Fail> {
         let mut walk = walk_from(DISPATCHER, STACK, 9);
         // shows: pe_c/src/stack_walk.rt new Short
         assert_eq!(rt;
-            pe_c_next_frame(&modules, &stack, &piece(&stack), &mut walk),
+            pe_c_next_frame(&modules, &stack, &piece(STACK, &stack), &mut walk),
             SHORT
         );
         assert_eq!(rt; [walk.remaining, u64::from(walk.has_returned)], [9, 0]);
@@ -321,7 +296,7 @@ fn ranges_that_lie(rt: HostRuntime) -> Result<(), Fail> {
         let answer = pe_c_next_frames(
             &modules,
             &stack,
-            &piece(&stack),
+            &piece(STACK, &stack),
             &mut walk,
             &mut frames,
             &mut count,

@@ -2,8 +2,8 @@
 //! specification; every number is worked out by hand.
 
 use super::made::{
-    BAD_MAGIC, DEBUG_BOUNDS, MAPPED, SHORT, UNTOUCHED, directory, lies, of_range, range, sections,
-    untouched,
+    BAD_MAGIC, DEBUG_BOUNDS, MAPPED, SHORT, TE_SIZE, UNTOUCHED, directory, lies, of_range, range,
+    sections, untouched,
 };
 use crate::debug_records::{SymbolKey, pe_c_symbol_key_of};
 use crate::ranges::Range;
@@ -16,9 +16,6 @@ use pe_core::DataDirectory;
 use pe_images::{put, te, te_with_debug};
 use pe_records::ImageDebugDirectory;
 use std::test::Fail;
-
-/// Fewer than 40 bytes were stripped.
-const TE_SIZE: u32 = 31;
 
 const NO_IMAGE: TeImage = TeImage {
     image_base: 9,

@@ -1,8 +1,8 @@
 //! The TLS directory of an image, and its callbacks, one a step.
 
 use super::made::{
-    OVER, SHORT, STRICT, UNMAPPED, UNTOUCHED, X64, directory, having, image, in_mode, lies,
-    of_range, range, sections, untouched, words,
+    DIRECTORY_VA_BELOW_BASE, OVER, SHORT, STRICT, UNMAPPED, UNTOUCHED, X64, directory, having,
+    image, in_mode, lies, of_range, range, sections, untouched, words,
 };
 use crate::image::Image;
 use crate::results::{DONE, NOTHING};
@@ -10,9 +10,6 @@ use crate::tls::{pe_c_next_tls_callback, pe_c_tls, pe_c_tls_callbacks};
 use pe_directories::TlsDirectory;
 use std::alloc::{AllocError, Global};
 use std::test::Fail;
-
-/// A virtual address below the image base.
-const VA_BELOW_BASE: u32 = 304;
 
 /// What `out` is before each call.
 const NONE: TlsDirectory = TlsDirectory {
@@ -107,7 +104,7 @@ fn tables_of_callbacks(rt: HostRuntime) -> Result<(), Fail> {
     assert_eq!(rt; callbacks(&bytes, &image, 0), (NOTHING, UNTOUCHED));
     assert_eq!(rt;
         callbacks(&bytes, &image, 0x1_3FFF_FFFF),
-        (VA_BELOW_BASE, UNTOUCHED)
+        (DIRECTORY_VA_BELOW_BASE, UNTOUCHED)
     );
     assert_eq!(rt;
         callbacks(&bytes, &image, 0x1_4000_2000),

@@ -3,7 +3,7 @@
 use super::made::{
     ARM64, FUNCTION_CYCLE, FUNCTION_INDEX, FUNCTION_LINK, OVER, PERMISSIVE, SHORT, STRICT,
     UNMAPPED, UNTOUCHED, UNWIND_VERSION, X64, directory, having, image, images_without_tables,
-    in_mode, lies, of_range, range, sections, untouched, words,
+    in_mode, lies, of_range, range, sections, untouched, view, words,
 };
 use crate::image::Image;
 use crate::lists::x64::pe_c_record_codes;
@@ -13,7 +13,6 @@ use crate::unwinding::{
     Code, CodeWalk, UnwindRecord, pe_c_find_function, pe_c_function_at, pe_c_function_table,
     pe_c_next_scope, pe_c_scope_table, pe_c_unwind_record,
 };
-use crate::view::View;
 use pe_images::put;
 use pe_unwind::{RuntimeFunction, ScopeTableEntry};
 use std::alloc::Global;
@@ -435,12 +434,7 @@ fn scopes_in_turn(rt: HostRuntime) -> Result<(), Fail> {
 fn records_with_their_codes(rt: HostRuntime) -> Result<(), Fail> {
     let bytes = with_records(rt.alloc())?;
     let (image, sections) = (image(X64), sections());
-    let view = View {
-        bytes: &bytes,
-        image: &image,
-        sections: &sections,
-        index: &[],
-    };
+    let view = view(&bytes, &image, &sections);
     let none = Code {
         code_offset: 90,
         operation: 91,

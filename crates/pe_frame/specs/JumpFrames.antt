@@ -30,8 +30,8 @@ abbrev pub IsSorted : ImageStep → Type 0
 IsSorted s = NeverFalls (functions (table_of s.exceptions))
 
 -- what a step returns from these registers, by the records of the function
-abbrev pub StepsIn : ImageStep → List UnwindInfoView → Registers → Result (Registers × Bool) FrameError → Type 0
-StepsIn s plan g answer = StepsInImage s.exceptions s.sections s.options s.memory plan s.start s.rva s.code g answer
+abbrev pub StepReturns : ImageStep → List UnwindInfoView → Registers → Result (Registers × Bool) FrameError → Type 0
+StepReturns s plan g answer = StepsInImage s.exceptions s.sections s.options s.memory plan s.start s.rva s.code g answer
 
 -- the code has these instructions of an epilog left
 abbrev pub HasLeft : ImageStep → List UnwindInfoView → List Instruction → Type 0
@@ -65,5 +65,5 @@ StandsInEpilog s parts before rest g h = IsInEpilog s.memory parts before rest s
 -- each step from the registers h returns the caller of the frame of these parts that has the registers g
 abbrev pub ReturnsCaller : ImageStep → List Part → Registers → Registers → Type 0
 ReturnsCaller s parts g h =
-    (answer : Result (Registers × Bool) FrameError) → StepsIn s (infos parts) h answer →
+    (answer : Result (Registers × Bool) FrameError) → StepReturns s (infos parts) h answer →
     (u : Registers) × (answer ≡ Ok (u, false)) × IsCaller parts None g u

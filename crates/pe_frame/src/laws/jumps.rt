@@ -6,7 +6,7 @@ ghost use Rattle.pe_frame.specs.declared.epilog.Instruction.{Instruction};
 ghost use Rattle.pe_frame.specs.declared.error.FrameError.{FrameError};
 ghost use Rattle.pe_frame.specs.declared.registers.Registers.{Registers};
 ghost use Rattle.pe_frame.specs.Frames.{Part, infos, IsCaller};
-ghost use Rattle.pe_frame.specs.JumpFrames.{HasLeft, ImageStep, IsSorted, JumpsToEntry, JumpsToFrame, LeadsTo, ReturnsCaller, StandsInEpilog, StepsIn};
+ghost use Rattle.pe_frame.specs.JumpFrames.{HasLeft, ImageStep, IsSorted, JumpsToEntry, JumpsToFrame, LeadsTo, ReturnsCaller, StandsInEpilog, StepReturns};
 ghost use Rattle.pe_frame.specs.Steps.{by_kind, limit_of};
 ghost use Rattle.pe_frame.specs.Undoing.{stack_pointer};
 
@@ -19,7 +19,7 @@ pub fn jumps_are_followed()
         (p : Part) (parts : List Part) (g h : Registers) (x : Result (Registers × Bool) FrameError) →
         HasLeft s plan rest → IsSorted s → JumpsToFrame s rest (p ∷ parts) offset g h →
         stack_pointer g ≤ stack_pointer h →
-        StepsIn s plan g x → (u : Registers × Bool) × (x ≡ Ok u)
+        StepReturns s plan g x → (u : Registers × Bool) × (x ≡ Ok u)
         × IsCaller (p ∷ parts) (limit_of (infos (p ∷ parts)) offset) h u.0 }
 {
     pe_unwind::laws::x64::one_record_of_addresses();
@@ -46,11 +46,11 @@ pub fn epilogs_return_to_the_caller_in_images()
 /// in a refusal of codes (`one`).
 pub fn one_result_of_steps_in_images()
     ensures exists { (s : ImageStep) (plan : List UnwindInfoView) (g : Registers) →
-        (x : Result (Registers × Bool) FrameError) × StepsIn s plan g x }
+        (x : Result (Registers × Bool) FrameError) × StepReturns s plan g x }
     ensures one { (s : ImageStep) (plan : List UnwindInfoView) (g : Registers)
         (x y : Result (Registers × Bool) FrameError) → IsSorted s →
-        StepsIn s plan g x →
-        StepsIn s plan g y → by_kind x ≡ by_kind y }
+        StepReturns s plan g x →
+        StepReturns s plan g y → by_kind x ≡ by_kind y }
 {
     pe_unwind::laws::x64::one_record_of_addresses();
 }
