@@ -75,7 +75,7 @@ info_lacks b None = refl
 info_lacks b (Some p) =
     let header = le b p 4 in
     let extension = extension_at b (p + 4) header in
-    outcome_lacks (info_tests b p header extension) (info_with b p header extension) (refl, refl, refl, refl, refl, refl, tt)
+    outcome_lacks (info_tests b p header extension) (info_with b p header extension) (refl, (refl, (refl, (refl, (refl, (refl, tt))))))
 
 codes_are_bytes : (b : List ℕ) (p : ℕ) (i : Arm64InfoView) → All (λ x. x < 256) b → info_at b p ≡ Ok i → All (λ x. x < 256) i.codes
 unfolding info_at
