@@ -218,7 +218,11 @@ fn steps_tell_interrupts(rt: HostRuntime) -> Result<(), Fail> {
     pushed.pc = 0x1_2345;
     for (data, caller) in [(0x1070, pushed), (0x1080, of_caller())] {
         let mut frame = frame_at(data, 9, registers);
-        assert_eq!(rt; step(&bytes, (ENTRY, &stack), &mut frame), DONE, "of {data:#x}");
+        assert_eq!(rt;
+            step(&bytes, (ENTRY, &stack), &mut frame),
+            DONE,
+            "of {data:#x}"
+        );
         assert_eq!(rt;
             fields_of(&frame.registers),
             fields_of(&caller),
@@ -244,7 +248,11 @@ fn steps_undo_packed_data(rt: HostRuntime) -> Result<(), Fail> {
         (0x0081_0102, 0, inside),
     ] {
         let mut frame = frame_at(data, place, registers);
-        assert_eq!(rt; step(&bytes, (ENTRY - 16, &stack), &mut frame), DONE, "at {place}");
+        assert_eq!(rt;
+            step(&bytes, (ENTRY - 16, &stack), &mut frame),
+            DONE,
+            "at {place}"
+        );
         let wanted = left_at(data, place, caller);
         assert_eq!(rt; numbers_of(&frame), numbers_of(&wanted), "at {place}");
     }
@@ -264,7 +272,10 @@ fn missing_memory_is_asked_for(rt: HostRuntime) -> Result<(), Fail> {
     for (first, length, address) in [(0, 0, ENTRY - 16), (0, 23, ENTRY - 16), (8, 24, ENTRY - 32)] {
         frame.address = NO_ADDRESS;
         let piece = &stack[first..first + length];
-        assert_eq!(rt; step(&bytes, (start + first as u64, piece), &mut frame), MISSING);
+        assert_eq!(rt;
+            step(&bytes, (start + first as u64, piece), &mut frame),
+            MISSING
+        );
         let mut wanted = frame_at(0x1020, 3, registers);
         wanted.address = address;
         assert_eq!(rt; numbers_of(&frame), numbers_of(&wanted));

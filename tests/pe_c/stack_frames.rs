@@ -378,7 +378,11 @@ fn steps_that_are_refused(rt: HostRuntime) -> Result<(), Fail> {
     ] {
         let registers = changed(&[(RSP, rsp)]);
         let mut frame = frame_at(unwind, 30, registers);
-        assert_eq!(rt; step(&bytes, (ENTRY, &stack), &mut frame), answer, "of {unwind:#x}");
+        assert_eq!(rt;
+            step(&bytes, (ENTRY, &stack), &mut frame),
+            answer,
+            "of {unwind:#x}"
+        );
         let mut wanted = frame_at(unwind, 30, registers);
         wanted.address = address;
         assert_eq!(rt; numbers_of(&frame), numbers_of(&wanted), "of {unwind:#x}");
@@ -424,7 +428,11 @@ fn chains_have_at_most_32_records(rt: HostRuntime) -> Result<(), Fail> {
         put_chain(&mut bytes, count);
         put(&mut words, &[(8 * count, &[count as u8])]);
         let mut frame = frame_at(0x1100, 20, changed(&[(RSP, 0x1000)]));
-        assert_eq!(rt; step(&bytes, (0x1000, &words), &mut frame), DONE, "of {count}");
+        assert_eq!(rt;
+            step(&bytes, (0x1000, &words), &mut frame),
+            DONE,
+            "of {count}"
+        );
         let found = [frame.registers.rip, frame.registers.general[RSP]];
         let count = count as u64;
         assert_eq!(rt; found, [count, 0x1008 + 8 * count]);

@@ -55,8 +55,7 @@ enough_lacks length_of a (Some f) lack =
 
 some_function : (length_of : Arm64RuntimeFunction → Result ℕ Refusal) (fs : List Arm64RuntimeFunction) (a : ℕ) → ((f : Arm64RuntimeFunction) → Lacks (length_of f)) → (found : Result (Option Arm64RuntimeFunction) Refusal) × FindsArm64 length_of fs a found × Lacks found
 some_function length_of fs a lack =
-    let last = some_start (λ f. f.begin_address) a fs in
-    (
+    let last = some_start (λ f. f.begin_address) a fs in (
       if_long_enough length_of a last.0,
       record { last = last.0; comes = last.1; decides = refl; scanned = λ sorted. ap (if_long_enough length_of a) ((last.1).scanned sorted) },
       enough_lacks length_of a last.0 lack,
