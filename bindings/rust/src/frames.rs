@@ -177,7 +177,13 @@ fn no_image(image: &sys::ImageInfo) -> sys::View {
 }
 
 /// Makes a step of a stack walk, and returns its number. What the view leads to is lent for the call.
-fn step_frame(view: &sys::View, table: &sys::Range, code: &[u8], memory: MemoryList<'_>, frame: &mut sys::Frame) -> u32 {
+fn step_frame(
+    view: &sys::View,
+    table: &sys::Range,
+    code: &[u8],
+    memory: MemoryList<'_>,
+    frame: &mut sys::Frame,
+) -> u32 {
     let (bytes, pieces) = (memory.bytes, memory.pieces);
     // SAFETY: each pointer and length are those of one slice, and the view, the table and the frame are lent for the call.
     unsafe {
