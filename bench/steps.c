@@ -1,6 +1,5 @@
 /* Unwinds a function with a number of chained records through C, a number of times: `steps KIND RECORDS CALLS`. Each record has
- * three codes: sub rsp,32; push rdi; push rbx. KIND is step, after the prolog; epilog, in the function's epilog; pieces, over memory
- * in one piece; or leaf. */
+ * three codes: sub rsp,32; push rdi; push rbx. KIND is step, after the prolog; epilog, in the function's epilog; or leaf. */
 #include <stdio.h>
 #include <stdlib.h>
 #include <string.h>
@@ -16,7 +15,7 @@ int main(int argc, char **argv)
     if (argc != 4)
         return 2;
     /* read here, so that no call pays for it */
-    int is_leaf = !strcmp(argv[1], "leaf"), is_pieces = !strcmp(argv[1], "pieces"), is_epilog = !strcmp(argv[1], "epilog");
+    int is_leaf = !strcmp(argv[1], "leaf"), is_epilog = !strcmp(argv[1], "epilog");
     uint32_t records = (uint32_t)atoi(argv[2]);
     unsigned long calls = strtoul(argv[3], NULL, 10);
     pe_c_section sections[5];
@@ -56,24 +55,19 @@ int main(int argc, char **argv)
     memcpy(bytes + 0x1020, epilog, sizeof epilog);
     pe_c_frame frame = {0};
     uint64_t moved = 0;
-    uint32_t interrupted = 0;
-    pe_c_memory_piece piece = {0x20000, 0, sizeof stack};
+    const pe_c_view view = {bytes, sizeof bytes, &image, sections, 5, NULL, 0};
+    const pe_c_range table = {0x4000, 12};
+    const pe_c_memory_piece piece = {0x20000, 0, sizeof stack};
+    const uint8_t *code = is_epilog ? bytes + 0x1020 : NULL;
+    size_t code_length = is_epilog ? 0xE0 : 0;
     for (unsigned long i = 0; i < calls; i++) {
-        frame.stack_start = frame.registers.general[4] = 0x20000;
+        frame.registers.general[4] = 0x20000;
         frame.rva = 0x1020;
+        frame.leaf = (uint32_t)is_leaf;
         frame.function.begin = 0x1000;
         frame.function.end = 0x1100;
         frame.function.unwind = 0x5000;
-        uint32_t result;
-        if (is_leaf)
-            result = pe_c_leaf(stack, sizeof stack, &frame);
-        else if (is_pieces)
-            result = pe_c_step_pieces(bytes, sizeof bytes, &image, sections, 5, NULL, 0, stack, sizeof stack, &piece, 1,
-                                      &frame, &interrupted);
-        else if (is_epilog)
-            result = pe_c_step(bytes, sizeof bytes, &image, sections, 5, bytes + 0x1020, 0xE0, stack, sizeof stack, &frame);
-        else
-            result = pe_c_step(bytes, sizeof bytes, &image, sections, 5, NULL, 0, stack, sizeof stack, &frame);
+        uint32_t result = pe_c_step(&view, &table, code, code_length, stack, sizeof stack, &piece, 1, &frame);
         if (result != PE_C_DONE) {
             printf("refused %u\n", result);
             return 1;

@@ -81,7 +81,7 @@ int main(int argc, char **argv)
     make_image(records);
     pe_c_module *all = calloc(modules, sizeof *all);
     for (uint32_t i = 0; i < modules; i++) {
-        all[i].image = (pe_c_view){bytes, LENGTH, &image, sections, 5};
+        all[i].image = (pe_c_view){bytes, LENGTH, &image, sections, 5, NULL, 0};
         all[i].table = (pe_c_range){TABLE, 12 * FUNCTIONS};
         all[i].base = 0x10000000 + (uint64_t)i * 0x100000;
     }

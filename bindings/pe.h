@@ -1294,8 +1294,7 @@ uint32_t pe_c_detach(const uint8_t *bytes, size_t length, const pe_c_image_info 
  * chained to another function, whose record continues it. A leaf function needs no entry.
  * https://learn.microsoft.com/cpp/build/exception-handling-x64
  *
- * For the registers of the caller: pe_c_function_table, pe_c_find_function, then pe_c_step, or pe_c_leaf where it returned
- * PE_C_NOTHING; over memory in pieces pe_c_step_pieces and pe_c_leaf_pieces. For the records and codes themselves:
+ * For the registers of the caller: pe_c_function_table, pe_c_find_function, then pe_c_step. For the records and codes themselves:
  * pe_c_plan_from, then pe_c_next_record until PE_C_NOTHING, and pe_c_next_code for each record. */
 
 /* RUNTIME_FUNCTION. */
@@ -1380,10 +1379,13 @@ typedef struct {
  * A step changes `registers`, or after an error `address`. */
 typedef struct {
     pe_c_registers registers;       /* inside the function; after a step those of its caller */
-    uint64_t stack_start;           /* address of the first byte of the stack that is passed */
     uint64_t address;               /* the one that PE_C_MISSING, _BAD_ADDRESS or _NOT_RISING speaks of */
-    pe_c_function function;         /* the one that pe_c_find_function returned; pe_c_leaf does not read it */
-    uint32_t rva;                   /* rip less the address where the image is loaded; pe_c_leaf does not read it */
+    pe_c_function function;         /* the one that pe_c_find_function returned */
+    uint32_t rva;                   /* rip less the address where the image is loaded */
+    uint32_t leaf;                  /* 0, or where pe_c_find_function returned PE_C_NOTHING 1: a leaf function, of which neither
+                                       `function` nor `rva` is read */
+    uint32_t interrupted;           /* after a step 1 where an interrupt stopped the caller: its rip is the instruction that is
+                                       about to run. Else 0: it is a return address */
 } pe_c_frame;
 
 /* A piece of memory, as MINIDUMP_MEMORY_DESCRIPTOR and _DESCRIPTOR64 say it. */
@@ -1504,59 +1506,38 @@ uint32_t pe_c_next_record(const uint8_t *bytes, size_t length, const pe_c_image_
                           pe_c_record *out) PE_C_RESULT(3, 6, 7, 8);
 
 /* Finds the registers of a function's caller, from those inside the function, in its prolog and epilogs too, and writes them
- * over those of the frame. It undoes the records of frame->function, up to the root of their chain, or runs what is left of
- * an epilog. Where that ends with a jump to an RVA, it runs it up to the jump, and undoes the records of the function that the
- * exception table has there, if they can be read: the jump may go on in a part of the function.
+ * over those of the frame. It undoes the records of frame->function, which is of the table, up to the root of their chain, or runs
+ * what is left of an epilog. Where that ends with a jump to an RVA, it runs it up to the jump, and undoes the records of the
+ * function that the table has there, if they can be read: the jump may go on in a part of the function. A leaf function returns to
+ * the word at rsp; of it neither the view nor the table nor the code is read.
  *
- * The stack is one piece of memory: `stack_length` bytes that start at the address frame->stack_start. After PE_C_MISSING
- * a caller reads a piece that has the eight bytes at frame->address, and makes the same call again.
+ * `memory` has the bytes of all pieces of the stack, as a minidump file has, and `pieces` says where each is; a stack in one piece
+ * is a list of one. The byte at an address is that of the first piece that has it, so eight bytes may stand in pieces that touch.
+ * Pieces in ascending order that do not overlap are searched by halving, any others in turn for each byte. Each call tests all
+ * pieces once. After PE_C_MISSING a caller reads a piece that has the eight bytes at frame->address, and makes the same call again.
  *
  * In the top frame, and in one that an interrupt stopped, frame->rva is that of the instruction which is about to run: look
  * the function up by it, and pass in `code` the bytes of the function from it to frame->function.end, as the image has them
  * at pe_c_offset. In every other frame it is that of a return address, which may lie at the end of the function: look the
  * function up by frame->rva - 1, and pass no code. Without code epilogs are not recognized.
  *
- * Errors: those of pe_c_function_table, without PE_C_NOTHING; for each record those of pe_c_unwind_record, and
- * PE_C_LONG_CHAIN where more than 32 are chained, as in each loop. In an epilog for each instruction PE_C_MISSING,
- * PE_C_BAD_ADDRESS. Else, and at the target of its jump, for each record PE_C_SHORT, PE_C_UNWIND_CODE of its codes,
- * PE_C_BAD_OPERATION, PE_C_BAD_ADDRESS of its frame register; for each code PE_C_BAD_OPERATION, PE_C_BAD_ADDRESS,
+ * Errors: PE_C_SHORT where a piece is not inside the memory. Of a leaf function PE_C_MISSING of the return address, and
+ * PE_C_BAD_ADDRESS where it is the last word below 2^64. Of any other PE_C_SHORT where the table is not inside the bytes; for each
+ * record those of pe_c_unwind_record, and PE_C_LONG_CHAIN where more than 32 are chained, as in each loop. In an epilog for each
+ * instruction PE_C_MISSING, PE_C_BAD_ADDRESS. Else, and at the target of its jump, for each record PE_C_SHORT, PE_C_UNWIND_CODE of
+ * its codes, PE_C_BAD_OPERATION, PE_C_BAD_ADDRESS of its frame register; for each code PE_C_BAD_OPERATION, PE_C_BAD_ADDRESS,
  * PE_C_MISSING; then PE_C_MISSING, PE_C_BAD_ADDRESS of the return address. Last PE_C_NOT_RISING, but for interrupts: so a
  * walk ends. */
-uint32_t pe_c_step(const uint8_t *bytes, size_t length, const pe_c_image_info *image, const pe_c_section *sections,
-                   size_t count, const uint8_t *code, size_t code_length, const uint8_t *stack, size_t stack_length,
-                   pe_c_frame *frame) PE_C_RESULT(3, 10);
-
-/* Finds the registers of the caller of a leaf function, one that no function of the table covers: its return address is at
- * rsp. It writes them over those of the frame. The stack is as in pe_c_step.
- * Errors: PE_C_MISSING of the return address; PE_C_BAD_ADDRESS where it is the last word below 2^64. */
-uint32_t pe_c_leaf(const uint8_t *stack, size_t stack_length, pe_c_frame *frame) PE_C_RESULT(3);
-
-/* As pe_c_step, over memory in pieces, and says whether an interrupt stopped the caller.
- *
- * `memory` has the bytes of all pieces, as a minidump file has, and `pieces` says where each is; frame->stack_start is not read.
- * The byte at an address is that of the first piece that has it, so eight bytes may stand in pieces that touch. Pieces in
- * ascending order that do not overlap are searched by halving, any others in turn for each byte. Each call tests all pieces
- * once, so of thousands pass those of the thread's stack.
- *
- * `interrupted` is set to 1 where a record with PE_C_MACHINE_FRAME was undone, so that the caller's rip is the instruction
- * which is about to run; else to 0: it is a return address. An error leaves it unchanged.
- * Errors: PE_C_SHORT where a piece is not inside the memory, before anything is read; then those of pe_c_step. */
-uint32_t pe_c_step_pieces(const uint8_t *bytes, size_t length, const pe_c_image_info *image, const pe_c_section *sections,
-                          size_t count, const uint8_t *code, size_t code_length, const uint8_t *memory,
-                          size_t memory_length, const pe_c_memory_piece *pieces, size_t piece_count, pe_c_frame *frame,
-                          uint32_t *interrupted) PE_C_RESULT(3, 12, 13);
-
-/* As pe_c_leaf, over memory in pieces, as in pe_c_step_pieces. The caller is not interrupted.
- * Errors: PE_C_SHORT where a piece is not inside the memory; then those of pe_c_leaf. */
-uint32_t pe_c_leaf_pieces(const uint8_t *memory, size_t memory_length, const pe_c_memory_piece *pieces,
-                          size_t piece_count, pe_c_frame *frame) PE_C_RESULT(5);
+uint32_t pe_c_step(const pe_c_view *view, const pe_c_range *table, const uint8_t *code, size_t code_length,
+                   const uint8_t *memory, size_t memory_length, const pe_c_memory_piece *pieces, size_t piece_count,
+                   pe_c_frame *frame) PE_C_RESULT(1, 2, 9);
 
 /* Returns the next frame of a stack walk on x64, in the walk: first the top frame, and then the caller of each, through the
  * modules of a process. PE_C_NOTHING where the walk is over: walk->end says why. The caller keeps the walk between two calls,
  * and may copy it.
  *
  * An address is that of the first module that has it: by binary search in modules in ascending order that do not overlap, in any
- * others in turn. `memory` and `pieces` are as in pe_c_step_pieces; a stack in one piece is a list of one. They are tested in each
+ * others in turn. `memory` and `pieces` are as in pe_c_step. They are tested in each
  * call, and may differ from call to call.
  *
  * In each frame the function is looked up by rip, or by the byte before it where the function has called. Its epilogs are known by
@@ -1582,8 +1563,8 @@ uint32_t pe_c_next_frames(const pe_c_module *modules, size_t module_count, const
  * entry if the prolog and epilog are canonical, else it is a record with a byte stream of codes: those of the prolog, and
  * those of each epilog, which a scope locates. The length of a function is in its unwind data.
  *
- * For the registers of the caller: pe_c_arm64_table, pe_c_find_arm64_function, then pe_c_step_arm64, or pe_c_leaf_arm64
- * where it returned PE_C_NOTHING. For a whole stack: pe_c_next_arm64_frame.
+ * For the registers of the caller: pe_c_arm64_table, pe_c_find_arm64_function, then pe_c_step_arm64. For a whole stack:
+ * pe_c_next_arm64_frame.
  * https://learn.microsoft.com/cpp/build/arm64-exception-handling */
 
 /* An entry of the function table. */
@@ -1690,12 +1671,14 @@ typedef struct {
  * A step changes `registers` and `interrupted`, or after an error `address`. */
 typedef struct {
     pe_c_arm64_registers registers; /* inside the function; after a step those of its caller */
-    uint64_t stack_start;           /* address of the first byte of the stack that is passed */
     uint64_t address;               /* the one that PE_C_MISSING, _BAD_ADDRESS or _NOT_RISING speaks of */
     pe_c_arm64_function function;   /* the one that pe_c_find_arm64_function returned */
     uint32_t rva;                   /* pc less the address where the image is loaded */
+    uint32_t leaf;                  /* 0, or where pe_c_find_arm64_function returned PE_C_NOTHING 1: a leaf function, of which
+                                       neither `function` nor `rva` is read */
     uint32_t interrupted;           /* after a step 1 where no call left the caller: its pc is the instruction that is about to
                                        run. Else 0 */
+    uint32_t spare;                 /* 0 */
 } pe_c_arm64_frame;
 
 PE_C_SIZE(pe_c_arm64_function, 8);
@@ -1758,35 +1741,23 @@ uint32_t pe_c_next_arm64_code(const uint8_t *bytes, size_t length, pe_c_arm64_wa
 
 /* Finds the registers of a function's caller, from those inside the function, and writes them over those of the frame. It
  * undoes the codes of frame->function, which are those of its unwind record or what its packed unwind data stand for: after
- * the prolog all of them, inside of it and in an epilog those that are left. It takes a signature off the link register.
+ * the prolog all of them, inside of it and in an epilog those that are left. It takes a signature off the link register. The caller
+ * of a leaf function goes on at the link register; of it neither the view nor the memory is read.
  *
- * The stack is one piece of memory: `stack_length` bytes that start at the address frame->stack_start. After PE_C_MISSING
- * a caller reads a piece that has the eight bytes at frame->address, and makes the same call again.
+ * `memory` and `pieces` are as in pe_c_step. After PE_C_MISSING a caller reads a piece that has the eight bytes at frame->address,
+ * and makes the same call again.
  *
  * In the top frame, and after a step that set frame->interrupted to 1, frame->rva is that of the instruction which is about to run:
  * look the function up by it. In every other frame it is that of a return address, which may lie at the end of the function: look
- * the function up by frame->rva - 4.
- * Where no function covers the address, call pe_c_leaf_arm64, in the top frame alone. A step may leave the stack pointer
+ * the function up by frame->rva - 4. Only the top frame can be one of a leaf function. A step may leave the stack pointer
  * where it is, before a prolog has moved it: end a walk where one does so in any other frame.
  *
- * Errors: those of pe_c_arm64_table, without PE_C_NOTHING; of the record PE_C_UNMAPPED, PE_C_SHORT, PE_C_ARM64_VERSION; then
- * PE_C_ARM64_CUT of a code up to the first PE_C_ARM64_END, in an epilog of its codes too. Or PE_C_BAD_OPERATION where packed
- * unwind data have no canonical prolog. For each code PE_C_BAD_OPERATION, PE_C_BAD_ADDRESS, PE_C_MISSING. Last
- * PE_C_NOT_RISING where the caller's stack pointer is below that of the function. */
-uint32_t pe_c_step_arm64(const uint8_t *bytes, size_t length, const pe_c_image_info *image, const pe_c_section *sections,
-                         size_t count, const uint8_t *stack, size_t stack_length, pe_c_arm64_frame *frame)
-    PE_C_RESULT(3, 8);
-
-/* As pe_c_step_arm64, over memory in pieces, as in pe_c_step_pieces: frame->stack_start is not read.
- * Errors: PE_C_SHORT where a piece is not inside the memory, before anything is read; then those of pe_c_step_arm64. */
-uint32_t pe_c_step_arm64_pieces(const uint8_t *bytes, size_t length, const pe_c_image_info *image,
-                                const pe_c_section *sections, size_t count, const uint8_t *memory, size_t memory_length,
-                                const pe_c_memory_piece *pieces, size_t piece_count, pe_c_arm64_frame *frame)
-    PE_C_RESULT(3, 10);
-
-/* Finds the registers of the caller of a leaf function, one that no function of the table covers, and writes them over those
- * of the frame: the caller goes on at the link register. It always returns PE_C_DONE. */
-uint32_t pe_c_leaf_arm64(pe_c_arm64_frame *frame) PE_C_NOT_NULL(1);
+ * Errors: PE_C_SHORT where a piece is not inside the memory. Of a leaf function no other. Of the record PE_C_UNMAPPED, PE_C_SHORT,
+ * PE_C_ARM64_VERSION; then PE_C_ARM64_CUT of a code up to the first PE_C_ARM64_END, in an epilog of its codes too. Or
+ * PE_C_BAD_OPERATION where packed unwind data have no canonical prolog. For each code PE_C_BAD_OPERATION, PE_C_BAD_ADDRESS,
+ * PE_C_MISSING. Last PE_C_NOT_RISING where the caller's stack pointer is below that of the function. */
+uint32_t pe_c_step_arm64(const pe_c_view *view, const uint8_t *memory, size_t memory_length, const pe_c_memory_piece *pieces,
+                         size_t piece_count, pe_c_arm64_frame *frame) PE_C_RESULT(1, 6);
 
 /* A walk of a stack on ARM64, and the frame that was returned last, as pe_c_stack_walk. */
 typedef struct {

@@ -1,27 +1,23 @@
 #include "pe.h"
 
-/* The registers of the caller of an ARM64 frame, in place: by the image, which is loaded at `base` and has the frame's pc,
- * and a piece of the thread's stack from address frame->stack_start on. `is_call` is 0 in the top frame, and in one that
- * no call left. In every other it is 1: its pc is a return address, so the call before it is looked up. PE_C_NOTHING where no
- * function has made that call, and PE_C_NOT_RISING where a function that called has left the stack pointer where it is. */
-uint32_t arm64_caller_of(const uint8_t *bytes, size_t length, const pe_c_image_info *image, const pe_c_section *sections,
-                         uint64_t base, const uint8_t *stack, size_t stack_length, uint32_t is_call,
+/* The registers of the caller of an ARM64 frame, in place: by the module that has the frame's pc, and a piece of the thread's
+ * stack. `is_call` is 0 in the top frame, and in one that no call left. In every other it is 1: its pc is a return address, so the
+ * call before it is looked up. PE_C_NOTHING where no function has made that call, and PE_C_NOT_RISING where a function that called
+ * has left the stack pointer where it is. */
+uint32_t arm64_caller_of(const pe_c_module *module, const uint8_t *stack, const pe_c_memory_piece *piece, uint32_t is_call,
                          pe_c_arm64_frame *frame)
 {
-    size_t count = image->number_of_sections;
+    const pe_c_view *view = &module->image;
     uint64_t sp = frame->registers.sp;
-    pe_c_range table = PE_C_EMPTY;
-    frame->rva = (uint32_t)(frame->registers.pc - base);
+    frame->rva = (uint32_t)(frame->registers.pc - module->base);
     if (frame->rva < 4 * is_call)
         return PE_C_NOTHING;
-    uint32_t result = pe_c_arm64_table(bytes, length, image, sections, count, &table);
-    if (result == PE_C_DONE)
-        result = pe_c_find_arm64_function(bytes, length, image, sections, count, &table, frame->rva - 4 * is_call,
-                                          &frame->function);
-    if (result == PE_C_NOTHING && !is_call)
-        return pe_c_leaf_arm64(frame);
-    if (result == PE_C_DONE)
-        result = pe_c_step_arm64(bytes, length, image, sections, count, stack, stack_length, frame);
+    uint32_t result = pe_c_find_arm64_function(view->bytes, view->length, view->image, view->sections, view->count,
+                                               &module->table, frame->rva - 4 * is_call, &frame->function);
+    if (result != PE_C_DONE && (result != PE_C_NOTHING || is_call))
+        return result;
+    frame->leaf = result == PE_C_NOTHING;
+    result = pe_c_step_arm64(view, stack, piece->length, piece, 1, frame);
     if (result == PE_C_DONE && is_call && frame->registers.sp == sp)
         return PE_C_NOT_RISING;
     return result;
@@ -53,16 +49,23 @@ int main(int argc, char **argv)
     uint32_t result = pe_c_image(bytes, length, PE_C_PERMISSIVE, &image);
     if (result == PE_C_DONE)
         result = pe_c_sections(bytes, length, &image, sections, 96);
+    pe_c_module module = {{bytes, length, &image, sections, image.number_of_sections, NULL, 0}, {0, 0}, base};
+    if (result == PE_C_DONE)
+        result = pe_c_arm64_table(bytes, length, &image, sections, image.number_of_sections, &module.table);
+    /* Without a table all functions are leaf functions. */
+    if (result == PE_C_NOTHING)
+        result = PE_C_DONE;
+    pe_c_memory_piece piece = {0x20000, 0, stack_length};
     pe_c_arm64_frame frame = PE_C_EMPTY;
     frame.registers.pc = strtoull(argv[3], NULL, 16);
     frame.registers.general[30] = strtoull(argv[4], NULL, 16);
-    frame.registers.sp = frame.stack_start = 0x20000;
+    frame.registers.sp = piece.start;
     for (uint32_t depth = 0; result == PE_C_DONE && depth < 1000; depth++) {
         printf("%" PRIx64 " %" PRIx64 "\n", frame.registers.pc, frame.registers.sp);
         if (frame.registers.pc - base > UINT32_MAX)
             return 0;
         uint32_t is_call = depth > 0 && !frame.interrupted;
-        result = arm64_caller_of(bytes, length, &image, sections, base, stack, stack_length, is_call, &frame);
+        result = arm64_caller_of(&module, stack, &piece, is_call, &frame);
     }
     if (result == PE_C_MISSING)
         printf("memory is missing at %" PRIx64 "\n", frame.address);

@@ -1,31 +1,28 @@
 #include "pe.h"
 
-/* The registers of the caller of an x64 frame, in place: by the image, which is loaded at `base` and has the frame's rip, and
- * a piece of the thread's stack from address frame->stack_start on. `is_call` is 0 in the top frame, and in one that an
- * interrupt stopped. In every other it is 1: its rip is a return address, so the call before it is looked up. PE_C_NOTHING
- * where no function has made that call. */
-uint32_t caller_of(const uint8_t *bytes, size_t length, const pe_c_image_info *image, const pe_c_section *sections,
-                   uint64_t base, const uint8_t *stack, size_t stack_length, uint32_t is_call, pe_c_frame *frame)
+/* The registers of the caller of an x64 frame, in place: by the module that has the frame's rip, and a piece of the thread's
+ * stack. `is_call` is 0 in the top frame, and in one that an interrupt stopped. In every other it is 1: its rip is a return
+ * address, so the call before it is looked up. PE_C_NOTHING where no function has made that call. */
+uint32_t caller_of(const pe_c_module *module, const uint8_t *stack, const pe_c_memory_piece *piece, uint32_t is_call,
+                   pe_c_frame *frame)
 {
-    size_t count = image->number_of_sections, code_length = 0;
+    const pe_c_view *view = &module->image;
+    const uint8_t *code = NULL;
+    size_t code_length = 0;
     uint64_t offset = 0;
-    pe_c_range table = PE_C_EMPTY;
-    frame->rva = (uint32_t)(frame->registers.rip - base);
-    uint32_t result = pe_c_function_table(bytes, length, image, sections, count, &table);
-    if (result == PE_C_DONE)
-        result = pe_c_find_function(bytes, length, &table, frame->rva - is_call, &frame->function);
-    if (result == PE_C_NOTHING && !is_call)
-        return pe_c_leaf(stack, stack_length, frame);
-    if (result != PE_C_DONE)
+    frame->rva = (uint32_t)(frame->registers.rip - module->base);
+    uint32_t result = pe_c_find_function(view->bytes, view->length, &module->table, frame->rva - is_call, &frame->function);
+    if (result != PE_C_DONE && (result != PE_C_NOTHING || is_call))
         return result;
+    frame->leaf = result == PE_C_NOTHING;
     /* The code tells whether the top frame is in an epilog. */
-    if (!is_call && pe_c_offset(image, sections, count, frame->rva, &offset) == PE_C_DONE && offset < length) {
+    if (!frame->leaf && !is_call
+        && pe_c_offset(view->image, view->sections, view->count, frame->rva, &offset) == PE_C_DONE
+        && offset < view->length && frame->function.end - frame->rva <= view->length - offset) {
+        code = view->bytes + offset;
         code_length = frame->function.end - frame->rva;
-        if (code_length > length - offset)
-            code_length = 0;
     }
-    return pe_c_step(bytes, length, image, sections, count, code_length ? bytes + offset : NULL, code_length, stack,
-                     stack_length, frame);
+    return pe_c_step(view, &module->table, code, code_length, stack, piece->length, piece, 1, frame);
 }
 
 #include <inttypes.h>
@@ -54,14 +51,21 @@ int main(int argc, char **argv)
     uint32_t result = pe_c_image(bytes, length, PE_C_PERMISSIVE, &image);
     if (result == PE_C_DONE)
         result = pe_c_sections(bytes, length, &image, sections, 96);
+    pe_c_module module = {{bytes, length, &image, sections, image.number_of_sections, NULL, 0}, {0, 0}, base};
+    if (result == PE_C_DONE)
+        result = pe_c_function_table(bytes, length, &image, sections, image.number_of_sections, &module.table);
+    /* Without a table all functions are leaf functions. */
+    if (result == PE_C_NOTHING)
+        result = PE_C_DONE;
+    pe_c_memory_piece piece = {0x20000, 0, stack_length};
     pe_c_frame frame = PE_C_EMPTY;
     frame.registers.rip = strtoull(argv[3], NULL, 16);
-    frame.registers.general[4] = frame.stack_start = 0x20000;
+    frame.registers.general[4] = piece.start;
     for (uint32_t depth = 0; result == PE_C_DONE && depth < 1000; depth++) {
         printf("%" PRIx64 "\n", frame.registers.rip);
         if (frame.registers.rip - base > UINT32_MAX)
             return 0;
-        result = caller_of(bytes, length, &image, sections, base, stack, stack_length, depth > 0, &frame);
+        result = caller_of(&module, stack, &piece, depth > 0 && !frame.interrupted, &frame);
     }
     if (result == PE_C_MISSING)
         printf("memory is missing at %" PRIx64 "\n", frame.address);

@@ -348,8 +348,9 @@ test('a stack walk comes to its end, and says which', () => {
 test('a step returns the registers of the caller', () => {
   const image = opened('functions'), table = image.call('pe_c_function_table'), stack = stackBytes();
   const found = image.call('pe_c_find_function', { table, rva: 0x500C });
-  const frame = { registers: frameRegisters(), stack_start: ENTRY - 8n, function: found, rva: 0x500C };
-  assert.equal(image.call('pe_c_step', { stack, frame }), true);
+  const frame = { registers: frameRegisters(), function: found, rva: 0x500C };
+  const pieces = [{ start: ENTRY - 8n, offset: 0n, length: BigInt(stack.length) }];
+  assert.equal(image.call('pe_c_step', { table, memory: stack, pieces, frame }), true);
   const { rip, general } = frame.registers;
   assert.deepEqual([rip, general[4], general[5]], [BASE + 0x5020n, ENTRY + 8n, OUTER + 24n]);
 });
@@ -409,21 +410,18 @@ test('calls that take no file', () => {
 });
 
 test('the caller of a leaf function, by its return address', () => {
-  const image = opened('functions'), stack = new Uint8Array(32), view = new DataView(stack.buffer);
+  const image = opened('functions'), memory = new Uint8Array(32), view = new DataView(memory.buffer), table = {};
   view.setBigUint64(8, 0x1122334455667788n, true);
   const registers = { general: Array.from({ length: 16 }, (_, i) => (i === 4 ? 0x1008n : 0n)) };
-  const frame = { registers, stack_start: 0x1000n };
-  image.call('pe_c_leaf', { stack, frame });
+  const frame = { registers, leaf: 1 }, pieces = [{ start: 0x1000n, offset: 0n, length: 32n }];
+  image.call('pe_c_step', { table, memory, pieces, frame });
   assert.deepEqual([frame.registers.rip, frame.registers.general[4]], [0x1122334455667788n, 0x1010n]);
-  const other = { registers }, pieces = [{ start: 0x1000n, offset: 0n, length: 32n }];
-  image.call('pe_c_leaf_pieces', { memory: stack, pieces, frame: other });
-  assert.equal(other.registers.rip, 0x1122334455667788n);
   registers.general[4] = 0x5000n;
-  const outside = { registers, stack_start: 0x1000n };
-  assert.equal(refused(() => image.call('pe_c_leaf', { stack, frame: outside })).constant, 'PE_C_MISSING');
+  const outside = { registers, leaf: 1 };
+  assert.equal(refused(() => image.call('pe_c_step', { table, memory, pieces, frame: outside })).constant, 'PE_C_MISSING');
   assert.equal(outside.address, 0x5000n);
-  const arm64 = { registers: { general: Array.from({ length: 31 }, (_, i) => BigInt(i)) } };
-  image.call('pe_c_leaf_arm64', { frame: arm64 });
+  const arm64 = { registers: { general: Array.from({ length: 31 }, (_, i) => BigInt(i)) }, leaf: 1 };
+  image.call('pe_c_step_arm64', { memory, pieces, frame: arm64 });
   assert.equal(arm64.registers.pc, 30n);
 });
 
@@ -438,10 +436,9 @@ test('functions, records, codes and steps of x64', () => {
     attempt(() => image.call('pe_c_unwind_record', { table, unwind: found.unwind }));
     image.call('pe_c_find_function', { table, rva: found.begin });
     const general = new Array(16).fill(0x1100n);
-    const frame = () => ({ registers: { general }, stack_start: 0x1000n, function: found, rva: found.begin });
-    attempt(() => image.call('pe_c_step', { stack, frame: frame() }));
+    const frame = { registers: { general }, function: found, rva: found.begin };
     const pieces = [{ start: 0x1000n, offset: 0n, length: 4096n }];
-    attempt(() => image.call('pe_c_step_pieces', { memory: stack, pieces, frame: frame() }));
+    attempt(() => image.call('pe_c_step', { table, memory: stack, pieces, frame }));
   }
 });
 
@@ -473,10 +470,9 @@ test('functions, records, codes and steps of ARM64', () => {
       attempt(() => [...image.items('pe_c_next_arm64_code', walk)]);
     }
     const registers = { general: new Array(31).fill(0x1100n), sp: 0x1100n };
-    const frame = () => ({ registers, stack_start: 0x1000n, function: found, rva: found.begin });
+    const frame = { registers, function: found, rva: found.begin };
     const pieces = [{ start: 0x1000n, offset: 0n, length: 4096n }];
-    attempt(() => image.call('pe_c_step_arm64', { stack, frame: frame() }));
-    attempt(() => image.call('pe_c_step_arm64_pieces', { memory: stack, pieces, frame: frame() }));
+    attempt(() => image.call('pe_c_step_arm64', { memory: stack, pieces, frame }));
   }
 });
 

@@ -111,7 +111,6 @@ static pe_c_frame made_frame(const struct file *file, const pe_c_function *funct
     for (int i = 0; i < 32; i++)
         frame.registers.xmm[i] = next_random();
     frame.registers.general[4] = STACK + 0x100 * (uint64_t)way;
-    frame.stack_start = STACK;
     frame.function = *function;
     frame.rva = function->begin;
     if (way)
@@ -120,12 +119,14 @@ static pe_c_frame made_frame(const struct file *file, const pe_c_function *funct
     return frame;
 }
 
-static void step_x64(const struct file *file, const pe_c_function *function, int way)
+static void step_x64(const struct file *file, const pe_c_range *table, const pe_c_function *function, int way)
 {
+    const pe_c_view view = {BYTES, &file->image, sections, file->count, NULL, 0};
     pe_c_frame frame = made_frame(file, function, way), other = frame;
     uint64_t offset = 0;
     size_t code_length = 0;
-    uint32_t interrupted = 7;
+    frame.interrupted = other.interrupted = 7;
+    other.leaf = 1;
     if (way % 2 && IS_DONE(pe_c_offset, offset, &file->image, sections, file->count, frame.rva, &offset)
         && offset < file->length) {
         code_length = (uint32_t)(function->end - frame.rva);
@@ -133,11 +134,8 @@ static void step_x64(const struct file *file, const pe_c_function *function, int
             code_length = 0;
     }
     const uint8_t *code = code_length ? file->bytes + offset : 0;
-    CALL(pe_c_step, frame, IMAGE, code, code_length, stack, sizeof stack, &frame);
-    CALL(pe_c_step_pieces, other, IMAGE, code, code_length, stack, sizeof stack, pieces, 3, &other, &interrupted);
-    add(interrupted);
-    CALL(pe_c_leaf, frame, stack, sizeof stack, &frame);
-    CALL(pe_c_leaf_pieces, other, stack, sizeof stack, pieces, 3, &other);
+    CALL(pe_c_step, frame, &view, table, code, code_length, stack, sizeof stack, pieces, 3, &frame);
+    CALL(pe_c_step, other, &view, table, code, code_length, stack, sizeof stack, pieces, 3, &other);
 }
 
 static void walk_stack(const struct file *file, const pe_c_range *table, const pe_c_function *function, int way)
@@ -188,7 +186,7 @@ static void walk_x64(const struct file *file)
         add(coded);
         CALL(pe_c_unwind_record, record, IMAGE, &table, function.unwind, &record);
         for (int way = 0; way < 4; way++) {
-            step_x64(file, &function, way);
+            step_x64(file, &table, &function, way);
             walk_stack(file, &table, &function, way);
         }
     }
@@ -203,7 +201,6 @@ static pe_c_arm64_frame made_arm64_frame(const struct file *file, const pe_c_arm
     for (int i = 0; i < 31; i++)
         frame.registers.general[i] = STACK + next_random() % 0x4000 * 8;
     frame.registers.sp = STACK + 0x100 * (uint64_t)way;
-    frame.stack_start = STACK;
     frame.function = *function;
     frame.rva = function->begin + (size ? (uint32_t)(next_random() % size) & ~3u : 0);
     frame.registers.pc = file->image.base + frame.rva;
@@ -221,9 +218,9 @@ static void step_arm64(const struct file *file, const pe_c_range *table, pe_c_ar
     same = walk;
     for (int i = 0; i < 6; i++)
         frames[i] = walk;
-    CALL(pe_c_step_arm64, frame, IMAGE, stack, sizeof stack, &frame);
-    CALL(pe_c_step_arm64_pieces, other, IMAGE, stack, sizeof stack, pieces, 3, &other);
-    CALL(pe_c_leaf_arm64, frame, &frame);
+    other.leaf = 1;
+    CALL(pe_c_step_arm64, frame, &modules[0].image, stack, sizeof stack, pieces, 3, &frame);
+    CALL(pe_c_step_arm64, other, &modules[0].image, stack, sizeof stack, pieces, 3, &other);
     WALK(INNER + 1, pe_c_next_arm64_frame, walk, modules, 1, stack, sizeof stack, pieces, 3, &walk) {}
     CALL(pe_c_next_arm64_frames, frames, modules, 1, stack, sizeof stack, pieces, 3, &same, frames, way % 2 ? 6 : 1, &filled);
     add(filled);

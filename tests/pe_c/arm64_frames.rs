@@ -1,15 +1,10 @@
 //! Steps of a stack walk on ARM64. The unwind data are those of the tests of pe_frame: records that clang makes, and packed
 //! data whose prolog llvm-readobj prints. Stacks are by hand: what is expected is the state at the function's entry.
 
-use super::made::{
-    ARM64, ARM64_CUT, ARM64_VERSION, EXCEPTION_SIZE, SHORT, UNMAPPED, directory, having, image,
-    sections,
-};
-use crate::arm64::frames::{
-    Arm64FrameRegisters, Arm64StackFrame, pe_c_leaf_arm64, pe_c_step_arm64, pe_c_step_arm64_pieces,
-};
-use crate::image::Image;
+use super::made::{ARM64, ARM64_CUT, ARM64_VERSION, SHORT, UNMAPPED, image, sections};
+use crate::arm64::frames::{Arm64FrameRegisters, Arm64StackFrame, pe_c_step_arm64};
 use crate::results::{BAD_ADDRESS, BAD_OPERATION, DONE, MISSING, NOT_RISING};
+use crate::view::without_index;
 use pe_frame::MemoryPiece;
 use pe_images::{image as bytes_of, put};
 use pe_unwind::Arm64RuntimeFunction;
@@ -58,33 +53,24 @@ fn changed(sp: u64, changes: &[(usize, u64)]) -> Arm64FrameRegisters {
 }
 
 /// A frame in the function from 0x5000 on with these unwind data, so many instructions in it.
-fn frame_at(
-    unwind_data: u32,
-    place: u32,
-    registers: Arm64FrameRegisters,
-    stack_start: u64,
-) -> Arm64StackFrame {
+fn frame_at(unwind_data: u32, place: u32, registers: Arm64FrameRegisters) -> Arm64StackFrame {
     Arm64StackFrame {
         registers,
-        stack_start,
         address: NO_ADDRESS,
         function: Arm64RuntimeFunction {
             begin_address: 0x5000,
             unwind_data,
         },
         rva: 0x5000 + 4 * place,
+        leaf: 0,
         interrupted: 0x55,
+        spare: 0x66,
     }
 }
 
 /// The same after a step to a caller that has called.
-fn left_at(
-    unwind_data: u32,
-    place: u32,
-    registers: Arm64FrameRegisters,
-    stack_start: u64,
-) -> Arm64StackFrame {
-    let mut frame = frame_at(unwind_data, place, registers, stack_start);
+fn left_at(unwind_data: u32, place: u32, registers: Arm64FrameRegisters) -> Arm64StackFrame {
+    let mut frame = frame_at(unwind_data, place, registers);
     frame.interrupted = 0;
     frame
 }
@@ -99,15 +85,22 @@ fn fields_of(registers: &Arm64FrameRegisters) -> ([u64; 31], [u64; 8], u64, u64)
 }
 
 /// The numbers of a frame.
-fn numbers_of(frame: &Arm64StackFrame) -> (([u64; 31], [u64; 8], u64, u64), [u64; 2], [u32; 4]) {
+fn numbers_of(frame: &Arm64StackFrame) -> (([u64; 31], [u64; 8], u64, u64), u64, [u32; 6]) {
     let Arm64RuntimeFunction {
         begin_address,
         unwind_data,
     } = frame.function;
     (
         fields_of(&frame.registers),
-        [frame.stack_start, frame.address],
-        [begin_address, unwind_data, frame.rva, frame.interrupted],
+        frame.address,
+        [
+            begin_address,
+            unwind_data,
+            frame.rva,
+            frame.leaf,
+            frame.interrupted,
+            frame.spare,
+        ],
     )
 }
 
@@ -146,10 +139,6 @@ fn with_records(alloc: Global) -> Result<Vec<u8>, AllocError> {
     )
 }
 
-fn with_table() -> Image {
-    having(image(ARM64), 3, directory(0x1000, 8))
-}
-
 /// The bytes of these words.
 fn stack_of(alloc: Global, words: &[u64]) -> Result<Vec<u8>, AllocError> {
     let mut bytes = Vec::new(alloc);
@@ -159,8 +148,30 @@ fn stack_of(alloc: Global, words: &[u64]) -> Result<Vec<u8>, AllocError> {
     Ok(bytes)
 }
 
-fn step(bytes: &[u8], stack: &[u8], frame: &mut Arm64StackFrame) -> u32 {
-    pe_c_step_arm64(bytes, &with_table(), &sections(), stack, frame)
+fn piece(start: u64, offset: u64, length: u64) -> MemoryPiece {
+    MemoryPiece {
+        start,
+        offset,
+        length,
+    }
+}
+
+/// A step over pieces of memory. No directory of the image is read.
+fn step_over(
+    bytes: &[u8],
+    memory: &[u8],
+    pieces: &[MemoryPiece],
+    frame: &mut Arm64StackFrame,
+) -> u32 {
+    let (image, sections) = (image(ARM64), sections());
+    let view = without_index(bytes, &image, &sections);
+    pe_c_step_arm64(&view, memory, pieces, frame)
+}
+
+/// A step over the bytes of a stack from an address on.
+fn step(bytes: &[u8], stack: (u64, &[u8]), frame: &mut Arm64StackFrame) -> u32 {
+    let whole = piece(stack.0, 0, stack.1.len() as u64);
+    step_over(bytes, stack.1, &[whole], frame)
 }
 
 /// Every register is that of the caller; nothing else of the frame changes.
@@ -180,18 +191,18 @@ fn steps_undo_a_prolog(rt: HostRuntime) -> Result<(), Fail> {
     let mut registers = changed(start - 512, &[(19, 1), (20, 2), (29, start), (LR, 3)]);
     registers.floats[0] = 4;
     registers.floats[1] = 5;
-    let mut frame = frame_at(0x1010, 5, registers, start);
-    assert_eq!(rt; step(&bytes, &stack, &mut frame), DONE);
-    let wanted = left_at(0x1010, 5, caller, start);
+    let mut frame = frame_at(0x1010, 5, registers);
+    assert_eq!(rt; step(&bytes, (start, &stack), &mut frame), DONE);
+    let wanted = left_at(0x1010, 5, caller);
     assert_eq!(rt; numbers_of(&frame), numbers_of(&wanted));
     // Before the first instruction nothing has run.
-    let mut frame = frame_at(0x1010, 0, changed(ENTRY, &[]), start);
-    assert_eq!(rt; step(&bytes, &[], &mut frame), DONE);
+    let mut frame = frame_at(0x1010, 0, changed(ENTRY, &[]));
+    assert_eq!(rt; step(&bytes, (start, &[]), &mut frame), DONE);
     assert_eq!(rt; fields_of(&frame.registers), fields_of(&caller));
     // Before the last load of an epilog.
     let words = stack_of(rt.alloc(), &[caller.general[19]])?;
-    let mut frame = frame_at(0x1020, 8, changed(ENTRY - 32, &[(19, 1)]), ENTRY - 32);
-    assert_eq!(rt; step(&bytes, &words, &mut frame), DONE);
+    let mut frame = frame_at(0x1020, 8, changed(ENTRY - 32, &[(19, 1)]));
+    assert_eq!(rt; step(&bytes, (ENTRY - 32, &words), &mut frame), DONE);
     assert_eq!(rt; fields_of(&frame.registers), fields_of(&caller));
     Ok(())
 }
@@ -206,8 +217,12 @@ fn steps_tell_interrupts(rt: HostRuntime) -> Result<(), Fail> {
     pushed.sp = 0x7_0000;
     pushed.pc = 0x1_2345;
     for (data, caller) in [(0x1070, pushed), (0x1080, of_caller())] {
-        let mut frame = frame_at(data, 9, registers, ENTRY);
-        assert_eq!(rt; step(&bytes, &stack, &mut frame), DONE, "of {data:#x}");
+        let mut frame = frame_at(data, 9, registers);
+        assert_eq!(rt;
+            step(&bytes, (ENTRY, &stack), &mut frame),
+            DONE,
+            "of {data:#x}"
+        );
         assert_eq!(rt;
             fields_of(&frame.registers),
             fields_of(&caller),
@@ -232,9 +247,13 @@ fn steps_undo_packed_data(rt: HostRuntime) -> Result<(), Fail> {
         (0x0081_0101, 63, changed(ENTRY, &[])),
         (0x0081_0102, 0, inside),
     ] {
-        let mut frame = frame_at(data, place, registers, ENTRY - 16);
-        assert_eq!(rt; step(&bytes, &stack, &mut frame), DONE, "at {place}");
-        let wanted = left_at(data, place, caller, ENTRY - 16);
+        let mut frame = frame_at(data, place, registers);
+        assert_eq!(rt;
+            step(&bytes, (ENTRY - 16, &stack), &mut frame),
+            DONE,
+            "at {place}"
+        );
+        let wanted = left_at(data, place, caller);
         assert_eq!(rt; numbers_of(&frame), numbers_of(&wanted), "at {place}");
     }
     Ok(())
@@ -249,18 +268,19 @@ fn missing_memory_is_asked_for(rt: HostRuntime) -> Result<(), Fail> {
     let stack = stack_of(rt.alloc(), &words)?;
     let registers = changed(ENTRY - 1056, &[(19, 1), (LR, 2)]);
     let start = ENTRY - 32;
-    let mut frame = frame_at(0x1020, 3, registers, start);
+    let mut frame = frame_at(0x1020, 3, registers);
     for (first, length, address) in [(0, 0, ENTRY - 16), (0, 23, ENTRY - 16), (8, 24, ENTRY - 32)] {
         frame.address = NO_ADDRESS;
-        frame.stack_start = start + first as u64;
         let piece = &stack[first..first + length];
-        assert_eq!(rt; step(&bytes, piece, &mut frame), MISSING);
-        let mut wanted = frame_at(0x1020, 3, registers, start + first as u64);
+        assert_eq!(rt;
+            step(&bytes, (start + first as u64, piece), &mut frame),
+            MISSING
+        );
+        let mut wanted = frame_at(0x1020, 3, registers);
         wanted.address = address;
         assert_eq!(rt; numbers_of(&frame), numbers_of(&wanted));
     }
-    frame.stack_start = start;
-    assert_eq!(rt; step(&bytes, &stack, &mut frame), DONE);
+    assert_eq!(rt; step(&bytes, (start, &stack), &mut frame), DONE);
     assert_eq!(rt; fields_of(&frame.registers), fields_of(&caller));
     Ok(())
 }
@@ -284,34 +304,30 @@ fn steps_are_refused(rt: HostRuntime) -> Result<(), Fail> {
         (0x0080_0043, 1, usual, BAD_OPERATION, NO_ADDRESS),
         (0x0060_0041, 1, usual, BAD_OPERATION, NO_ADDRESS),
     ] {
-        let mut frame = frame_at(data, place, registers, 0);
-        assert_eq!(rt; step(&bytes, &[], &mut frame), number, "of {data:#x}");
-        let mut wanted = frame_at(data, place, registers, 0);
+        let mut frame = frame_at(data, place, registers);
+        assert_eq!(rt; step(&bytes, (0, &[]), &mut frame), number, "of {data:#x}");
+        let mut wanted = frame_at(data, place, registers);
         wanted.address = address;
         assert_eq!(rt; numbers_of(&frame), numbers_of(&wanted), "of {data:#x}");
-    }
-    // A table that is no whole number of entries, also where the data are packed.
-    let damaged = having(image(ARM64), 3, directory(0x1000, 12));
-    for data in [0x1010, 0x0081_0101] {
-        let mut frame = frame_at(data, 0, usual, 0);
-        let number = pe_c_step_arm64(&bytes, &damaged, &sections(), &[], &mut frame);
-        assert_eq!(rt; number, EXCEPTION_SIZE);
-        assert_eq!(rt;
-            numbers_of(&frame),
-            numbers_of(&frame_at(data, 0, usual, 0))
-        );
     }
     Ok(())
 }
 
+/// The caller of a leaf goes on at the link register, where any number but 0 says that it is one. The stack is not read, but a
+/// piece outside the memory is refused.
 #[test]
 fn leaves_a_leaf(rt: HostRuntime) {
-    let mut frame = frame_at(7, 8, changed(ENTRY, &[]), 9);
-    assert_eq!(rt; pe_c_leaf_arm64(&mut frame), DONE);
-    assert_eq!(rt;
-        numbers_of(&frame),
-        numbers_of(&left_at(7, 8, of_caller(), 9))
-    );
+    for leaf in [1, u32::MAX] {
+        let mut frame = frame_at(7, 8, changed(ENTRY, &[]));
+        frame.leaf = leaf;
+        let before = frame;
+        assert_eq!(rt; step_over(&[], &[], &[piece(0, 0, 1)], &mut frame), SHORT);
+        assert_eq!(rt; numbers_of(&frame), numbers_of(&before));
+        assert_eq!(rt; step_over(&[], &[], &[], &mut frame), DONE);
+        let mut wanted = left_at(7, 8, of_caller());
+        wanted.leaf = leaf;
+        assert_eq!(rt; numbers_of(&frame), numbers_of(&wanted));
+    }
 }
 
 /// A word may stand in two pieces, in any order. A piece outside the memory is refused before anything else.
@@ -324,11 +340,6 @@ fn steps_read_memory_in_pieces(rt: HostRuntime) -> Result<(), Fail> {
     let mut memory = [0xEE; 40];
     put(&mut memory, &[(30, &stack[..3]), (1, &stack[3..])]);
     let start = ENTRY - 32;
-    let piece = |start, offset, length| MemoryPiece {
-        start,
-        offset,
-        length,
-    };
     let (first, second) = (piece(start, 30, 3), piece(start + 3, 1, 29));
     let registers = changed(ENTRY - 1056, &[(19, 1), (LR, 2)]);
     let cases: [(&[MemoryPiece], u32, u32, u64); 5] = [
@@ -339,20 +350,13 @@ fn steps_read_memory_in_pieces(rt: HostRuntime) -> Result<(), Fail> {
         (&[first, second], 0x1060, ARM64_VERSION, NO_ADDRESS),
     ];
     for (pieces, data, number, address) in cases {
-        let mut frame = frame_at(data, 3, registers, 0);
-        let answer = pe_c_step_arm64_pieces(
-            &bytes,
-            &with_table(),
-            &sections(),
-            &memory,
-            pieces,
-            &mut frame,
-        );
+        let mut frame = frame_at(data, 3, registers);
+        let answer = step_over(&bytes, &memory, pieces, &mut frame);
         assert_eq!(rt; answer, number);
         let mut wanted = if number == DONE {
-            left_at(data, 3, caller, 0)
+            left_at(data, 3, caller)
         } else {
-            frame_at(data, 3, registers, 0)
+            frame_at(data, 3, registers)
         };
         wanted.address = address;
         assert_eq!(rt; numbers_of(&frame), numbers_of(&wanted));

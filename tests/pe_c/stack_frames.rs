@@ -2,14 +2,12 @@
 //! state before the prolog, with the return address popped.
 
 use super::made::{
-    EXCEPTION_SIZE, FUNCTION_LINK, SHORT, UNMAPPED, UNWIND_CODE, UNWIND_VERSION, X64, directory,
-    having, image, sections,
+    FUNCTION_LINK, SHORT, UNMAPPED, UNWIND_CODE, UNWIND_VERSION, X64, image, sections,
 };
-use crate::image::Image;
+use crate::ranges::Range;
 use crate::results::{BAD_ADDRESS, BAD_OPERATION, DONE, LONG_CHAIN, MISSING, NOT_RISING};
-use crate::stack_frames::{
-    FrameRegisters, StackFrame, pe_c_leaf, pe_c_leaf_pieces, pe_c_step, pe_c_step_pieces,
-};
+use crate::stack_frames::{FrameRegisters, StackFrame, pe_c_step};
+use crate::view::without_index;
 use pe_frame::MemoryPiece;
 use pe_images::{image as bytes_of, put};
 use pe_unwind::RuntimeFunction;
@@ -29,6 +27,15 @@ const RBP: usize = 5;
 
 /// What the field `address` is before a call that changes it.
 const NO_ADDRESS: u64 = 0x7777;
+
+/// What the field `interrupted` is before a call that sets it.
+const NOT_SAID: u32 = 7;
+
+/// The range of the function table.
+const TABLE: Range = Range {
+    offset: 0,
+    length: 12,
+};
 
 /// The registers of the caller: each has a number of its own, also each half of an XMM register.
 fn of_caller() -> FrameRegisters {
@@ -60,10 +67,9 @@ fn changed(changes: &[(usize, u64)]) -> FrameRegisters {
 }
 
 /// A frame in the function from 0x5000 to 0x5040, whose record has this unwind RVA, at an offset in it.
-fn frame_at(unwind: u32, offset: u32, registers: FrameRegisters, stack_start: u64) -> StackFrame {
+fn frame_at(unwind: u32, offset: u32, registers: FrameRegisters) -> StackFrame {
     StackFrame {
         registers,
-        stack_start,
         address: NO_ADDRESS,
         function: RuntimeFunction {
             begin_address: 0x5000,
@@ -71,7 +77,23 @@ fn frame_at(unwind: u32, offset: u32, registers: FrameRegisters, stack_start: u6
             unwind_info_address: unwind,
         },
         rva: 0x5000 + offset,
+        leaf: 0,
+        interrupted: NOT_SAID,
     }
+}
+
+/// The same after a step to a caller that no interrupt stopped.
+fn left_at(unwind: u32, offset: u32, registers: FrameRegisters) -> StackFrame {
+    let mut frame = frame_at(unwind, offset, registers);
+    frame.interrupted = 0;
+    frame
+}
+
+/// A frame in a leaf function, of which neither the function nor the RVA is read.
+fn leaf_at(registers: FrameRegisters) -> StackFrame {
+    let mut frame = frame_at(7, 9, registers);
+    frame.leaf = 1;
+    frame
 }
 
 fn fields_of(registers: &FrameRegisters) -> ([u64; 16], [u64; 32], u64) {
@@ -79,7 +101,7 @@ fn fields_of(registers: &FrameRegisters) -> ([u64; 16], [u64; 32], u64) {
 }
 
 /// The numbers of a frame.
-fn numbers_of(frame: &StackFrame) -> (([u64; 16], [u64; 32], u64), [u64; 2], [u32; 4]) {
+fn numbers_of(frame: &StackFrame) -> (([u64; 16], [u64; 32], u64), u64, [u32; 6]) {
     let RuntimeFunction {
         begin_address,
         end_address,
@@ -87,8 +109,15 @@ fn numbers_of(frame: &StackFrame) -> (([u64; 16], [u64; 32], u64), [u64; 2], [u3
     } = frame.function;
     (
         fields_of(&frame.registers),
-        [frame.stack_start, frame.address],
-        [begin_address, end_address, unwind_info_address, frame.rva],
+        frame.address,
+        [
+            begin_address,
+            end_address,
+            unwind_info_address,
+            frame.rva,
+            frame.leaf,
+            frame.interrupted,
+        ],
     )
 }
 
@@ -124,10 +153,6 @@ fn with_records(alloc: Global) -> Result<Vec<u8>, AllocError> {
     )
 }
 
-fn with_table() -> Image {
-    having(image(X64), 3, directory(0x1000, 12))
-}
-
 /// The bytes of these words.
 fn stack_of(alloc: Global, words: &[u64]) -> Result<Vec<u8>, AllocError> {
     let mut bytes = Vec::new(alloc);
@@ -137,9 +162,28 @@ fn stack_of(alloc: Global, words: &[u64]) -> Result<Vec<u8>, AllocError> {
     Ok(bytes)
 }
 
-/// A step without code.
-fn step(bytes: &[u8], stack: &[u8], frame: &mut StackFrame) -> u32 {
-    pe_c_step(bytes, &with_table(), &sections(), &[], stack, frame)
+/// A step over pieces of memory, with this code.
+fn step_over(
+    bytes: &[u8],
+    code: &[u8],
+    memory: &[u8],
+    pieces: &[MemoryPiece],
+    frame: &mut StackFrame,
+) -> u32 {
+    let (image, sections) = (image(X64), sections());
+    let view = without_index(bytes, &image, &sections);
+    pe_c_step(&view, &TABLE, code, memory, pieces, frame)
+}
+
+/// A step over the bytes of a stack from an address on.
+fn step_by(bytes: &[u8], code: &[u8], stack: (u64, &[u8]), frame: &mut StackFrame) -> u32 {
+    let whole = piece(stack.0, 0, stack.1.len() as u64);
+    step_over(bytes, code, stack.1, &[whole], frame)
+}
+
+/// The same without code.
+fn step(bytes: &[u8], stack: (u64, &[u8]), frame: &mut StackFrame) -> u32 {
+    step_by(bytes, &[], stack, frame)
 }
 
 /// Every register is that of the caller, an XMM register by its halves; nothing else of the frame changes.
@@ -164,13 +208,13 @@ fn steps_undo_a_prolog(rt: HostRuntime) -> Result<(), Fail> {
     registers.xmm[12] = 1;
     registers.xmm[13] = 2;
     let start = ENTRY - 72;
-    let mut frame = frame_at(0x1030, 22, registers, start);
-    assert_eq!(rt; step(&bytes, &stack, &mut frame), DONE);
-    let wanted = frame_at(0x1030, 22, caller, start);
+    let mut frame = frame_at(0x1030, 22, registers);
+    assert_eq!(rt; step(&bytes, (start, &stack), &mut frame), DONE);
+    let wanted = left_at(0x1030, 22, caller);
     assert_eq!(rt; numbers_of(&frame), numbers_of(&wanted));
     // Before the first push nothing has run.
-    let mut frame = frame_at(0x1030, 0, changed(&[(RSP, ENTRY)]), start);
-    assert_eq!(rt; step(&bytes, &stack, &mut frame), DONE);
+    let mut frame = frame_at(0x1030, 0, changed(&[(RSP, ENTRY)]));
+    assert_eq!(rt; step(&bytes, (start, &stack), &mut frame), DONE);
     assert_eq!(rt; fields_of(&frame.registers), fields_of(&caller));
     Ok(())
 }
@@ -184,26 +228,26 @@ fn missing_memory_is_asked_for(rt: HostRuntime) -> Result<(), Fail> {
     let stack = stack_of(rt.alloc(), &words)?;
     let registers = changed(&[(RSP, ENTRY - 48), (RBP, 1)]);
     let start = ENTRY - 8;
-    let mut frame = frame_at(0x1050, 5, registers, start);
+    let mut frame = frame_at(0x1050, 5, registers);
     for (length, address) in [(0, ENTRY - 8), (7, ENTRY - 8), (8, ENTRY), (15, ENTRY)] {
         frame.address = NO_ADDRESS;
         assert_eq!(rt;
-            step(&bytes, &stack[..length], &mut frame),
+            step(&bytes, (start, &stack[..length]), &mut frame),
             MISSING,
             "of {length}"
         );
-        let mut wanted = frame_at(0x1050, 5, registers, start);
+        let mut wanted = frame_at(0x1050, 5, registers);
         wanted.address = address;
         assert_eq!(rt; numbers_of(&frame), numbers_of(&wanted), "of {length}");
     }
-    assert_eq!(rt; step(&bytes, &stack, &mut frame), DONE);
+    assert_eq!(rt; step(&bytes, (start, &stack), &mut frame), DONE);
     assert_eq!(rt; fields_of(&frame.registers), fields_of(&caller));
     // A piece that starts later, and one whose end passes the last address.
-    let mut later = frame_at(0x1050, 5, registers, ENTRY);
-    assert_eq!(rt; step(&bytes, &stack[8..], &mut later), MISSING);
+    let mut later = frame_at(0x1050, 5, registers);
+    assert_eq!(rt; step(&bytes, (ENTRY, &stack[8..]), &mut later), MISSING);
     assert_eq!(rt; later.address, ENTRY - 8);
-    let mut last = frame_at(0x1050, 0, changed(&[(RSP, u64::MAX - 6)]), u64::MAX - 6);
-    assert_eq!(rt; step(&bytes, &stack, &mut last), MISSING);
+    let mut last = frame_at(0x1050, 0, changed(&[(RSP, u64::MAX - 6)]));
+    assert_eq!(rt; step(&bytes, (u64::MAX - 6, &stack), &mut last), MISSING);
     assert_eq!(rt; last.address, u64::MAX - 6);
     Ok(())
 }
@@ -237,15 +281,8 @@ fn epilogs_are_known_by_their_code(rt: HostRuntime) -> Result<(), Fail> {
         (5, ENTRY, caller.general[RBP]),
     ] {
         let registers = changed(&[(RSP, rsp), (RBP, rbp)]);
-        let mut frame = frame_at(0x1050, 0x3A + from as u32, registers, start);
-        let answer = pe_c_step(
-            &bytes,
-            &with_table(),
-            &sections(),
-            &code[from..],
-            &stack,
-            &mut frame,
-        );
+        let mut frame = frame_at(0x1050, 0x3A + from as u32, registers);
+        let answer = step_by(&bytes, &code[from..], (start, &stack), &mut frame);
         assert_eq!(rt; answer, DONE);
         assert_eq!(rt;
             fields_of(&frame.registers),
@@ -254,8 +291,8 @@ fn epilogs_are_known_by_their_code(rt: HostRuntime) -> Result<(), Fail> {
         );
     }
     // Without code the codes are undone: the return address is taken 48 bytes above the stack pointer.
-    let mut frame = frame_at(0x1050, 0x3E, changed(&[(RSP, ENTRY - 8)]), start);
-    assert_eq!(rt; step(&bytes, &stack, &mut frame), DONE);
+    let mut frame = frame_at(0x1050, 0x3E, changed(&[(RSP, ENTRY - 8)]));
+    assert_eq!(rt; step(&bytes, (start, &stack), &mut frame), DONE);
     assert_eq!(rt; [frame.registers.rip, frame.registers.general[RBP]], [7, 6]);
     Ok(())
 }
@@ -273,31 +310,9 @@ fn a_jump_is_followed_in_the_image(rt: HostRuntime) -> Result<(), Fail> {
     let registers = changed(&[(RSP, start)]);
     // At 0x5010 jmp 0x5000
     let code = [0xEB, 0xEE];
-    let mut frame = frame_at(0x10C0, 0x10, registers, start);
-    let table = with_table();
-    let answer = pe_c_step(&bytes, &table, &sections(), &code, &stack, &mut frame);
+    let mut frame = frame_at(0x10C0, 0x10, registers);
+    let answer = step_by(&bytes, &code, (start, &stack), &mut frame);
     assert_eq!(rt; answer, DONE);
-    assert_eq!(rt;
-        [frame.registers.rip, frame.registers.general[RBX]],
-        [RETURN_ADDRESS, 0x77]
-    );
-    let piece = MemoryPiece {
-        start,
-        offset: 0,
-        length: 16,
-    };
-    let (mut frame, mut interrupted) = (frame_at(0x10C0, 0x10, registers, start), 7);
-    let answer = pe_c_step_pieces(
-        &bytes,
-        &table,
-        &sections(),
-        &code,
-        &stack,
-        &[piece],
-        &mut frame,
-        &mut interrupted,
-    );
-    assert_eq!(rt; [answer, interrupted], [DONE, 0]);
     assert_eq!(rt;
         [frame.registers.rip, frame.registers.general[RBX]],
         [RETURN_ADDRESS, 0x77]
@@ -315,7 +330,7 @@ fn a_jump_into_another_function_is_followed(rt: HostRuntime) -> Result<(), Fail>
     let words = [1, 2, 3, 4, 5, caller.general[RBP], RETURN_ADDRESS];
     let stack = stack_of(rt.alloc(), &words)?;
     let start = ENTRY - 48;
-    let mut frame = frame_at(0x10C0, 0, changed(&[(RSP, start), (RBP, 9)]), start);
+    let mut frame = frame_at(0x10C0, 0, changed(&[(RSP, start), (RBP, 9)]));
     frame.function.begin_address = 0x6000;
     frame.function.end_address = 0x6010;
     frame.rva = 0x6000;
@@ -323,12 +338,11 @@ fn a_jump_into_another_function_is_followed(rt: HostRuntime) -> Result<(), Fail>
     // At 0x6000 jmp 0x5005, 5 + 0x1000 bytes back, and jmp 0x7005, which is in no function.
     let inside = [0xE9, 0, 0xF0, 0xFF, 0xFF];
     let outside = [0xE9, 0, 0x10, 0, 0];
-    let table = with_table();
-    let answer = pe_c_step(&bytes, &table, &sections(), &inside, &stack, &mut frame);
+    let answer = step_by(&bytes, &inside, (start, &stack), &mut frame);
     assert_eq!(rt; answer, DONE);
     assert_eq!(rt; fields_of(&frame.registers), fields_of(&caller));
     let mut frame = jumping;
-    let answer = pe_c_step(&bytes, &table, &sections(), &outside, &stack, &mut frame);
+    let answer = step_by(&bytes, &outside, (start, &stack), &mut frame);
     assert_eq!(rt; answer, DONE);
     assert_eq!(rt;
         [frame.registers.rip, frame.registers.general[RSP]],
@@ -337,7 +351,7 @@ fn a_jump_into_another_function_is_followed(rt: HostRuntime) -> Result<(), Fail>
     // rbp is not all there.
     let mut frame = jumping;
     let short = &stack[..47];
-    let answer = pe_c_step(&bytes, &table, &sections(), &inside, short, &mut frame);
+    let answer = step_by(&bytes, &inside, (start, short), &mut frame);
     assert_eq!(rt;
         [u64::from(answer), frame.address],
         [u64::from(MISSING), ENTRY - 8]
@@ -363,32 +377,32 @@ fn steps_that_are_refused(rt: HostRuntime) -> Result<(), Fail> {
         (0x1050, high, BAD_ADDRESS, high),
     ] {
         let registers = changed(&[(RSP, rsp)]);
-        let mut frame = frame_at(unwind, 30, registers, ENTRY);
-        assert_eq!(rt; step(&bytes, &stack, &mut frame), answer, "of {unwind:#x}");
-        let mut wanted = frame_at(unwind, 30, registers, ENTRY);
+        let mut frame = frame_at(unwind, 30, registers);
+        assert_eq!(rt;
+            step(&bytes, (ENTRY, &stack), &mut frame),
+            answer,
+            "of {unwind:#x}"
+        );
+        let mut wanted = frame_at(unwind, 30, registers);
         wanted.address = address;
         assert_eq!(rt; numbers_of(&frame), numbers_of(&wanted), "of {unwind:#x}");
     }
     // A frame register below its offset, of which 32 are subtracted.
-    let mut low = frame_at(0x1030, 22, changed(&[(RBP, 31)]), ENTRY);
-    assert_eq!(rt; step(&bytes, &stack, &mut low), BAD_ADDRESS);
+    let mut low = frame_at(0x1030, 22, changed(&[(RBP, 31)]));
+    assert_eq!(rt; step(&bytes, (ENTRY, &stack), &mut low), BAD_ADDRESS);
     assert_eq!(rt; low.address, 31);
     // The caller's stack pointer is ENTRY + 8, below that of the function. After an interrupt it may be.
     let words = [0, 0, 0, 0, 0, 0, 0, 5, 6, RETURN_ADDRESS];
     let saved = stack_of(rt.alloc(), &words)?;
     let sinking = changed(&[(RSP, ENTRY + 8), (RBP, ENTRY - 56)]);
-    let mut frame = frame_at(0x1030, 22, sinking, ENTRY - 72);
-    assert_eq!(rt; step(&bytes, &saved, &mut frame), NOT_RISING);
+    let mut frame = frame_at(0x1030, 22, sinking);
+    assert_eq!(rt; step(&bytes, (ENTRY - 72, &saved), &mut frame), NOT_RISING);
     assert_eq!(rt; frame.address, ENTRY + 8);
     assert_eq!(rt; fields_of(&frame.registers), fields_of(&sinking));
-    let mut frame = frame_at(0x10B0, 0, changed(&[(RSP, ENTRY)]), ENTRY);
-    assert_eq!(rt; step(&bytes, &stack, &mut frame), DONE);
+    let mut frame = frame_at(0x10B0, 0, changed(&[(RSP, ENTRY)]));
+    assert_eq!(rt; step(&bytes, (ENTRY, &stack), &mut frame), DONE);
     let found = [frame.registers.rip, frame.registers.general[RSP]];
     assert_eq!(rt; found, [RETURN_ADDRESS, 0x100]);
-    let odd = having(image(X64), 3, directory(0x1000, 11));
-    let mut frame = frame_at(0x1030, 0, of_caller(), ENTRY);
-    let answer = pe_c_step(&bytes, &odd, &sections(), &[], &stack, &mut frame);
-    assert_eq!(rt; answer, EXCEPTION_SIZE);
     Ok(())
 }
 
@@ -413,57 +427,94 @@ fn chains_have_at_most_32_records(rt: HostRuntime) -> Result<(), Fail> {
         let mut bytes = with_records(rt.alloc())?;
         put_chain(&mut bytes, count);
         put(&mut words, &[(8 * count, &[count as u8])]);
-        let mut frame = frame_at(0x1100, 20, changed(&[(RSP, 0x1000)]), 0x1000);
-        assert_eq!(rt; step(&bytes, &words, &mut frame), DONE, "of {count}");
+        let mut frame = frame_at(0x1100, 20, changed(&[(RSP, 0x1000)]));
+        assert_eq!(rt;
+            step(&bytes, (0x1000, &words), &mut frame),
+            DONE,
+            "of {count}"
+        );
         let found = [frame.registers.rip, frame.registers.general[RSP]];
         let count = count as u64;
         assert_eq!(rt; found, [count, 0x1008 + 8 * count]);
     }
     let mut bytes = with_records(rt.alloc())?;
     put_chain(&mut bytes, 33);
-    let mut frame = frame_at(0x1100, 20, changed(&[(RSP, 0x1000)]), 0x1000);
+    let mut frame = frame_at(0x1100, 20, changed(&[(RSP, 0x1000)]));
     let before = numbers_of(&frame);
-    assert_eq!(rt; step(&bytes, &words, &mut frame), LONG_CHAIN);
+    assert_eq!(rt; step(&bytes, (0x1000, &words), &mut frame), LONG_CHAIN);
     assert_eq!(rt; numbers_of(&frame), before);
     // The second record is chained to the first.
     put(&mut bytes, &[(0x124, &[0x00, 0x11])]);
-    assert_eq!(rt; step(&bytes, &words, &mut frame), LONG_CHAIN);
+    assert_eq!(rt; step(&bytes, (0x1000, &words), &mut frame), LONG_CHAIN);
     // The tenth, the second and then the first are chained to one that is not mapped.
     put(
         &mut bytes,
         &[(0x124, &[0x28, 0x11]), (0x1C4, &[0x00, 0x31])],
     );
-    assert_eq!(rt; step(&bytes, &words, &mut frame), UNMAPPED);
+    assert_eq!(rt; step(&bytes, (0x1000, &words), &mut frame), UNMAPPED);
     put(&mut bytes, &[(0x124, &[0x00, 0x31])]);
-    assert_eq!(rt; step(&bytes, &words, &mut frame), UNMAPPED);
+    assert_eq!(rt; step(&bytes, (0x1000, &words), &mut frame), UNMAPPED);
     put(&mut bytes, &[(0x110, &[0x00, 0x31])]);
-    assert_eq!(rt; step(&bytes, &words, &mut frame), UNMAPPED);
+    assert_eq!(rt; step(&bytes, (0x1000, &words), &mut frame), UNMAPPED);
     assert_eq!(rt; numbers_of(&frame), before);
     Ok(())
 }
 
-/// The return address of a leaf function is at the stack pointer.
+/// The return address of a leaf function is at the stack pointer. Any number but 0 says that it is one.
 #[test]
 fn leaf_functions_return(rt: HostRuntime) -> Result<(), Fail> {
     let stack = stack_of(rt.alloc(), &[RETURN_ADDRESS])?;
     let registers = changed(&[(RSP, ENTRY)]);
-    let mut frame = frame_at(7, 9, registers, ENTRY);
-    assert_eq!(rt; pe_c_leaf(&stack[..7], &mut frame), MISSING);
-    let mut wanted = frame_at(7, 9, registers, ENTRY);
-    wanted.address = ENTRY;
-    assert_eq!(rt; numbers_of(&frame), numbers_of(&wanted));
-    assert_eq!(rt; pe_c_leaf(&stack, &mut frame), DONE);
-    wanted.registers = of_caller();
-    assert_eq!(rt; numbers_of(&frame), numbers_of(&wanted));
+    for leaf in [1, u32::MAX] {
+        let mut frame = leaf_at(registers);
+        frame.leaf = leaf;
+        let mut wanted = frame;
+        assert_eq!(rt; step(&[], (ENTRY, &stack[..7]), &mut frame), MISSING);
+        wanted.address = ENTRY;
+        assert_eq!(rt; numbers_of(&frame), numbers_of(&wanted));
+        assert_eq!(rt; step(&[], (ENTRY, &stack), &mut frame), DONE);
+        wanted.registers = of_caller();
+        wanted.interrupted = 0;
+        assert_eq!(rt; numbers_of(&frame), numbers_of(&wanted));
+    }
     let high = u64::MAX - 7;
-    let mut frame = frame_at(7, 9, changed(&[(RSP, high)]), high);
-    assert_eq!(rt; pe_c_leaf(&stack, &mut frame), BAD_ADDRESS);
+    let mut frame = leaf_at(changed(&[(RSP, high)]));
+    assert_eq!(rt; step(&[], (high, &stack), &mut frame), BAD_ADDRESS);
     assert_eq!(rt; frame.address, high);
     Ok(())
 }
 
-/// What `interrupted` is before a call that sets it.
-const NOT_SAID: u32 = 7;
+/// A table that does not lie in the bytes is refused once the pieces are in the memory. Of a leaf it is not read.
+#[test]
+fn tables_outside_the_bytes_are_refused(rt: HostRuntime) -> Result<(), Fail> {
+    let bytes = with_records(rt.alloc())?;
+    let stack = stack_of(rt.alloc(), &[of_caller().general[RBP], RETURN_ADDRESS])?;
+    let (image, sections) = (image(X64), sections());
+    let view = without_index(&bytes, &image, &sections);
+    let pieces = [piece(ENTRY - 8, 0, 16)];
+    let before = frame_at(0x1050, 5, changed(&[(RSP, ENTRY - 48)]));
+    let last = u64::MAX;
+    for (offset, length, wanted) in [
+        (0x401, 0, SHORT),
+        (0x3FF, 2, SHORT),
+        (1, last, SHORT),
+        (last, 1, SHORT),
+        (0x400, 0, DONE),
+        (0, 0x400, DONE),
+    ] {
+        let table = Range { offset, length };
+        let mut frame = before;
+        let answer = pe_c_step(&view, &table, &[], &stack, &pieces, &mut frame);
+        assert_eq!(rt; answer, wanted, "at {offset} of {length}");
+        if answer == SHORT {
+            assert_eq!(rt; numbers_of(&frame), numbers_of(&before));
+        }
+        let mut frame = leaf_at(changed(&[(RSP, ENTRY)]));
+        let answer = pe_c_step(&view, &table, &[], &stack, &pieces, &mut frame);
+        assert_eq!(rt; answer, DONE);
+    }
+    Ok(())
+}
 
 /// A step over pieces without code, and what it says of an interrupt.
 fn step_pieces(
@@ -472,18 +523,8 @@ fn step_pieces(
     pieces: &[MemoryPiece],
     frame: &mut StackFrame,
 ) -> [u32; 2] {
-    let (image, mut interrupted) = (with_table(), NOT_SAID);
-    let answer = pe_c_step_pieces(
-        bytes,
-        &image,
-        &sections(),
-        &[],
-        memory,
-        pieces,
-        frame,
-        &mut interrupted,
-    );
-    [answer, interrupted]
+    let answer = step_over(bytes, &[], memory, pieces, frame);
+    [answer, frame.interrupted]
 }
 
 fn piece(start: u64, offset: u64, length: u64) -> MemoryPiece {
@@ -510,8 +551,8 @@ fn steps_read_memory_in_pieces(rt: HostRuntime) -> Result<(), Fail> {
     let caller = of_caller();
     let start = ENTRY - 8;
     let (first, second) = (piece(start, 20, 5), piece(start + 5, 4, 11));
-    let inside = frame_at(0x1050, 5, changed(&[(RSP, ENTRY - 48), (RBP, 1)]), 0);
-    let wanted = frame_at(0x1050, 5, caller, 0);
+    let inside = frame_at(0x1050, 5, changed(&[(RSP, ENTRY - 48), (RBP, 1)]));
+    let wanted = left_at(0x1050, 5, caller);
     for pieces in [[first, second], [second, first]] {
         let mut frame = inside;
         let answer = step_pieces(&bytes, &memory, &pieces, &mut frame);
@@ -541,14 +582,14 @@ fn steps_read_memory_in_pieces(rt: HostRuntime) -> Result<(), Fail> {
         assert_eq!(rt; numbers_of(&frame), numbers_of(&wanted));
     }
     // A leaf function's return address.
-    let mut frame = frame_at(7, 9, changed(&[(RSP, ENTRY)]), 0);
+    let mut frame = leaf_at(changed(&[(RSP, ENTRY)]));
     let pieces = [first, second];
     assert_eq!(rt;
-        pe_c_leaf_pieces(&memory, &pieces[..1], &mut frame),
+        step_over(&[], &[], &memory, &pieces[..1], &mut frame),
         MISSING
     );
     assert_eq!(rt; frame.address, ENTRY);
-    assert_eq!(rt; pe_c_leaf_pieces(&memory, &pieces, &mut frame), DONE);
+    assert_eq!(rt; step_over(&[], &[], &memory, &pieces, &mut frame), DONE);
     assert_eq!(rt; fields_of(&frame.registers), fields_of(&caller));
     Ok(())
 }
@@ -571,17 +612,20 @@ fn pieces_outside_the_memory_are_refused(rt: HostRuntime) -> Result<(), Fail> {
             (last, 1),
             (last, last),
         ] {
-            let before = frame_at(unwind, 5, changed(&[(RSP, ENTRY - 48)]), 0);
+            let before = frame_at(unwind, 5, changed(&[(RSP, ENTRY - 48)]));
             let mut frame = before;
             let pieces = [first, second, piece(0, offset, length)];
             let answer = step_pieces(&bytes, &memory, &pieces, &mut frame);
             assert_eq!(rt; answer, [SHORT, NOT_SAID], "at {offset} of {length}");
-            assert_eq!(rt; pe_c_leaf_pieces(&memory, &pieces, &mut frame), SHORT);
+            assert_eq!(rt; numbers_of(&frame), numbers_of(&before));
+            let before = leaf_at(changed(&[(RSP, ENTRY)]));
+            let mut frame = before;
+            assert_eq!(rt; step_over(&[], &[], &memory, &pieces, &mut frame), SHORT);
             assert_eq!(rt; numbers_of(&frame), numbers_of(&before));
         }
     }
     // At its end none is.
-    let mut frame = frame_at(0x1050, 5, changed(&[(RSP, ENTRY - 48)]), 0);
+    let mut frame = frame_at(0x1050, 5, changed(&[(RSP, ENTRY - 48)]));
     let pieces = [piece(0, 32, 0), piece(1, 0, 32), first, second];
     assert_eq!(rt;
         step_pieces(&bytes, &memory, &pieces, &mut frame),
@@ -597,30 +641,20 @@ fn steps_say_what_an_interrupt_left(rt: HostRuntime) -> Result<(), Fail> {
     let words = [RETURN_ADDRESS, 0x33, 0, 0x100, 0x2B];
     let stack = stack_of(rt.alloc(), &words)?;
     let pieces = [piece(ENTRY, 0, 40)];
-    let mut frame = frame_at(0x10B0, 0, changed(&[(RSP, ENTRY)]), 0);
+    let mut frame = frame_at(0x10B0, 0, changed(&[(RSP, ENTRY)]));
     assert_eq!(rt; step_pieces(&bytes, &stack, &pieces, &mut frame), [DONE, 1]);
     let found = [frame.registers.rip, frame.registers.general[RSP]];
     assert_eq!(rt; found, [RETURN_ADDRESS, 0x100]);
     // Of a chain with too many records none is undone.
     let mut chained = with_records(rt.alloc())?;
     put_chain(&mut chained, 33);
-    let mut frame = frame_at(0x1100, 20, changed(&[(RSP, ENTRY)]), 0);
+    let mut frame = frame_at(0x1100, 20, changed(&[(RSP, ENTRY)]));
     let answer = step_pieces(&chained, &stack, &pieces, &mut frame);
     assert_eq!(rt; answer, [LONG_CHAIN, NOT_SAID]);
     // In an epilog the return address is popped, and no record is undone.
-    let (image, mut interrupted) = (with_table(), NOT_SAID);
-    let mut frame = frame_at(0x10B0, 0, changed(&[(RSP, ENTRY)]), 0);
-    let answer = pe_c_step_pieces(
-        &bytes,
-        &image,
-        &sections(),
-        &[0xC3],
-        &stack,
-        &pieces,
-        &mut frame,
-        &mut interrupted,
-    );
-    assert_eq!(rt; [answer, interrupted], [DONE, 0]);
+    let mut frame = frame_at(0x10B0, 0, changed(&[(RSP, ENTRY)]));
+    let answer = step_over(&bytes, &[0xC3], &stack, &pieces, &mut frame);
+    assert_eq!(rt; [answer, frame.interrupted], [DONE, 0]);
     assert_eq!(rt; frame.registers.general[RSP], ENTRY + 8);
     Ok(())
 }

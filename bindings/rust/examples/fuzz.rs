@@ -535,24 +535,26 @@ fn read_by_lies(bytes: &[u8], random: &mut Random, seen: &mut Seen) {
     walk_of_image!(pe_c_next_record(started; &range), Record);
     let mut frame = sys::Frame {
         registers: sys::Registers { general: [random.edge(number); 16], xmm: [index; 32], rip: few.into() },
-        stack_start: random.edge(number),
-        address: 0,
         function: sys::Function { begin: few % 64, end: few, unwind: directory.virtual_address },
         rva: few % 96,
+        ..sys::Frame::default()
     };
     let (first, count) = (sections.as_ptr(), sections.len());
-    // SAFETY: as above. The bytes of the image stand for the code and for the stack.
-    unsafe {
-        let step = sys::pe_c_step(start, length, &image, first, count, start, length, start, length, &mut frame);
-        let leaf = sys::pe_c_leaf(start, length, &mut frame);
-        seen.refusals += u64::from(step != 0) + u64::from(leaf != 0);
-    }
     let none = std::ptr::null();
     let view = sys::View { bytes: start, length, image: &image, sections: first, count, index: none, entries: 0 };
     let table = call_of_image!(pe_c_function_table(), Range);
     let piece = sys::MemoryPiece { start: random.edge(number), offset: 0, length: length as u64 };
     let lie = sys::MemoryPiece { offset: range.offset, length: range.length, ..piece };
     for (table, pieces) in [(table, [piece; 2]), (range, [piece; 2]), (table, [piece, lie])] {
+        // SAFETY: as above. The bytes of the image stand for the code and for the stack.
+        unsafe {
+            let (list, many) = (pieces.as_ptr(), pieces.len());
+            frame.leaf = 0;
+            let step = sys::pe_c_step(&view, &table, start, length, start, length, list, many, &mut frame);
+            frame.leaf = few;
+            let leaf = sys::pe_c_step(&view, &table, start, length, start, length, list, many, &mut frame);
+            seen.refusals += u64::from(step != 0) + u64::from(leaf != 0);
+        }
         let modules = [sys::Module { image: view, table, base: image.base }; 2];
         let registers = sys::Registers { rip: image.base.wrapping_add(u64::from(few % 96)), ..frame.registers };
         let mut walk = sys::StackWalk { registers, remaining: u64::from(few % 32), way: few % 8, ..Default::default() };
@@ -575,19 +577,21 @@ fn read_by_lies(bytes: &[u8], random: &mut Random, seen: &mut Seen) {
             sp: index,
             pc: few.into(),
         },
-        stack_start: random.edge(number),
         function: sys::Arm64Function { begin: few % 64, unwind: directory.virtual_address },
         rva: few % 96,
         ..sys::Arm64Frame::default()
     };
-    // SAFETY: as above.
-    unsafe {
-        let step = sys::pe_c_step_arm64(start, length, &image, first, count, start, length, &mut frame);
-        let leaf = sys::pe_c_leaf_arm64(&mut frame);
-        seen.refusals += u64::from(step != 0) + u64::from(leaf != 0);
-    }
     let table = call_of_image!(pe_c_arm64_table(), Range);
     for (table, pieces) in [(table, [piece; 2]), (range, [piece; 2]), (table, [piece, lie])] {
+        // SAFETY: as above.
+        unsafe {
+            let (list, many) = (pieces.as_ptr(), pieces.len());
+            frame.leaf = 0;
+            let step = sys::pe_c_step_arm64(&view, start, length, list, many, &mut frame);
+            frame.leaf = few;
+            let leaf = sys::pe_c_step_arm64(&view, start, length, list, many, &mut frame);
+            seen.refusals += u64::from(step != 0) + u64::from(leaf != 0);
+        }
         let modules = [sys::Module { image: view, table, base: image.base }; 2];
         let registers = sys::Arm64Registers { pc: image.base.wrapping_add(u64::from(few % 96)), ..frame.registers };
         let mut walk =

@@ -8,7 +8,7 @@ use crate::image::{Error, Image};
 use crate::stack_walk::{Frame, Way};
 use crate::sys::{self, Arm64Function, Arm64Registers, Function, MemoryPiece, Registers};
 use crate::x64::Functions;
-use core::fmt;
+use core::{fmt, ptr};
 
 /// A piece of a thread's memory: bytes, and the address of the first.
 #[derive(Clone, Copy, Debug)]
@@ -17,6 +17,13 @@ pub struct Stack<'s> {
     pub start: u64,
     /// The bytes.
     pub bytes: &'s [u8],
+}
+
+impl Stack<'_> {
+    /// The piece that it is of its bytes.
+    fn piece(&self) -> [MemoryPiece; 1] {
+        [MemoryPiece { start: self.start, offset: 0, length: self.bytes.len() as u64 }]
+    }
 }
 
 /// Memory of a thread in pieces, as a minidump lists it: the bytes of the file, and for each piece its address and where in the
@@ -146,10 +153,7 @@ impl Registers {
     ///
     /// [`StepError::Missing`] of the return address; [`StepError::Address`] where it is the last word below 2^64.
     pub fn leaf(&self, stack: Stack<'_>) -> Result<Registers, StepError> {
-        let mut frame = sys::Frame { registers: *self, stack_start: stack.start, ..Default::default() };
-        // SAFETY: the pointer and the length are those of one slice, and the frame is lent for the call.
-        let number = unsafe { sys::pe_c_leaf(stack.bytes.as_ptr(), stack.bytes.len(), &mut frame) };
-        stepped(number, frame.registers, frame.address)
+        self.leaf_pieces(MemoryList { bytes: stack.bytes, pieces: &stack.piece() })
     }
 
     /// The same over memory in pieces.
@@ -158,13 +162,50 @@ impl Registers {
     ///
     /// Those of [`leaf`](Registers::leaf).
     pub fn leaf_pieces(&self, memory: MemoryList<'_>) -> Result<Registers, StepError> {
-        let mut frame = sys::Frame { registers: *self, ..Default::default() };
-        let (bytes, pieces) = (memory.bytes, memory.pieces);
-        // SAFETY: the pointers and the lengths are those of two slices, and the frame is lent for the call.
-        let number =
-            unsafe { sys::pe_c_leaf_pieces(bytes.as_ptr(), bytes.len(), pieces.as_ptr(), pieces.len(), &mut frame) };
+        let mut frame = sys::Frame { registers: *self, leaf: 1, ..Default::default() };
+        // Neither is read of a leaf function.
+        let (image, table) = (sys::ImageInfo::default(), sys::Range::default());
+        let number = step_frame(&no_image(&image), &table, &[], memory, &mut frame);
         stepped(number, frame.registers, frame.address)
     }
+}
+
+/// An image without bytes.
+fn no_image(image: &sys::ImageInfo) -> sys::View {
+    let (bytes, sections, index) = (ptr::null(), ptr::null(), ptr::null());
+    sys::View { bytes, length: 0, image, sections, count: 0, index, entries: 0 }
+}
+
+/// Makes a step of a stack walk, and returns its number. What the view leads to is lent for the call.
+fn step_frame(
+    view: &sys::View,
+    table: &sys::Range,
+    code: &[u8],
+    memory: MemoryList<'_>,
+    frame: &mut sys::Frame,
+) -> u32 {
+    let (bytes, pieces) = (memory.bytes, memory.pieces);
+    // SAFETY: each pointer and length are those of one slice, and the view, the table and the frame are lent for the call.
+    unsafe {
+        sys::pe_c_step(
+            view,
+            table,
+            code.as_ptr(),
+            code.len(),
+            bytes.as_ptr(),
+            bytes.len(),
+            pieces.as_ptr(),
+            pieces.len(),
+            frame,
+        )
+    }
+}
+
+/// The same on ARM64.
+fn step_arm64_frame(view: &sys::View, memory: MemoryList<'_>, frame: &mut sys::Arm64Frame) -> u32 {
+    let (bytes, pieces) = (memory.bytes, memory.pieces);
+    // SAFETY: as above.
+    unsafe { sys::pe_c_step_arm64(view, bytes.as_ptr(), bytes.len(), pieces.as_ptr(), pieces.len(), frame) }
 }
 
 impl Functions<'_, '_> {
@@ -188,10 +229,8 @@ impl Functions<'_, '_> {
         registers: &Registers,
         stack: Stack<'_>,
     ) -> Result<Registers, StepError> {
-        let registers = *registers;
-        let mut frame = sys::Frame { registers, stack_start: stack.start, address: 0, function, rva };
-        let number = self.image().step_frame(code, stack.bytes, &mut frame);
-        stepped(number, frame.registers, frame.address)
+        let memory = MemoryList { bytes: stack.bytes, pieces: &stack.piece() };
+        self.step_pieces(function, rva, code, registers, memory).map(|frame| frame.registers)
     }
 
     /// The frame of a function's caller over memory in pieces: its registers, as [`step`](Functions::step) returns them, and how
@@ -210,11 +249,10 @@ impl Functions<'_, '_> {
         memory: MemoryList<'_>,
     ) -> Result<Frame, StepError> {
         let registers = *registers;
-        let mut frame = sys::Frame { registers, stack_start: 0, address: 0, function, rva };
-        let mut interrupted = 0;
-        let number = self.image().step_pieces(code, memory, &mut frame, &mut interrupted);
+        let mut frame = sys::Frame { registers, function, rva, ..Default::default() };
+        let number = step_frame(&self.image().view(), self.table(), code, memory, &mut frame);
         let registers = stepped(number, frame.registers, frame.address)?;
-        let (way, has_called) = if interrupted == 0 { (Way::Records, true) } else { (Way::Interrupt, false) };
+        let (way, has_called) = if frame.interrupted == 0 { (Way::Records, true) } else { (Way::Interrupt, false) };
         Ok(Frame { registers, way, has_called })
     }
 }
@@ -233,9 +271,10 @@ impl Arm64Registers {
     /// The registers of the caller of a leaf function, one that no function of its image covers: it goes on at the link
     /// register. Only the top frame can be one of a leaf function.
     pub fn leaf(&self) -> Arm64Registers {
-        let mut frame = sys::Arm64Frame { registers: *self, ..Default::default() };
-        // SAFETY: the frame is lent for the call, which always succeeds.
-        let _ = unsafe { sys::pe_c_leaf_arm64(&mut frame) };
+        let mut frame = sys::Arm64Frame { registers: *self, leaf: 1, ..Default::default() };
+        // No image is read of a leaf function, and the call always succeeds.
+        let image = sys::ImageInfo::default();
+        let _ = step_arm64_frame(&no_image(&image), MemoryList::empty(), &mut frame);
         frame.registers
     }
 }
@@ -278,10 +317,8 @@ impl Arm64Functions<'_, '_> {
         registers: &Arm64Registers,
         stack: Stack<'_>,
     ) -> Result<Arm64Registers, StepError> {
-        let registers = *registers;
-        let mut frame = sys::Arm64Frame { registers, stack_start: stack.start, function, rva, ..Default::default() };
-        let number = self.image().step_arm64_frame(stack.bytes, &mut frame);
-        stepped(number, frame.registers, frame.address)
+        let memory = MemoryList { bytes: stack.bytes, pieces: &stack.piece() };
+        self.step_pieces(function, rva, registers, memory).map(|frame| frame.registers)
     }
 
     /// The frame of a function's caller over memory in pieces: its registers, as [`step`](Arm64Functions::step) returns them, and
@@ -299,7 +336,7 @@ impl Arm64Functions<'_, '_> {
     ) -> Result<Frame<Arm64Registers>, StepError> {
         let registers = *registers;
         let mut frame = sys::Arm64Frame { registers, function, rva, ..Default::default() };
-        let number = self.image().step_arm64_pieces(memory, &mut frame);
+        let number = step_arm64_frame(&self.image().view(), memory, &mut frame);
         let registers = stepped(number, frame.registers, frame.address)?;
         let (way, has_called) = if frame.interrupted == 0 { (Way::Records, true) } else { (Way::Interrupt, false) };
         Ok(Frame { registers, way, has_called })

@@ -5,7 +5,6 @@
 //! those of Microsoft's [PE Format](https://learn.microsoft.com/windows/win32/debug/pe-format). Most calls of the
 //! library are made here and in `walk`.
 
-use crate::frames::MemoryList;
 use crate::sys::{self, Directory, Headers, ImageInfo, IndexEntry, Section};
 use alloc::vec::Vec;
 use core::fmt;
@@ -668,90 +667,5 @@ impl<'a> Image<'a> {
         walk: &mut W,
     ) -> Result<Option<T>, Error> {
         self.look_with(call, more, walk)
-    }
-
-    /// Makes a step of a stack walk, and returns its number.
-    pub(crate) fn step_frame(&self, code: &[u8], stack: &[u8], frame: &mut sys::Frame) -> u32 {
-        let (bytes, sections) = (self.bytes, &self.sections);
-        let (first, count) = (sections.as_ptr(), sections.len());
-        let (code, code_length) = (code.as_ptr(), code.len());
-        let (stack, stack_length) = (stack.as_ptr(), stack.len());
-        // SAFETY: as above; the two further slices and the frame are lent for the call.
-        unsafe {
-            sys::pe_c_step(
-                bytes.as_ptr(),
-                bytes.len(),
-                &self.info,
-                first,
-                count,
-                code,
-                code_length,
-                stack,
-                stack_length,
-                frame,
-            )
-        }
-    }
-
-    /// Makes a step of a stack walk over memory in pieces, and returns its number.
-    pub(crate) fn step_pieces(
-        &self,
-        code: &[u8],
-        memory: MemoryList<'_>,
-        frame: &mut sys::Frame,
-        interrupted: &mut u32,
-    ) -> u32 {
-        let (bytes, sections) = (self.bytes, &self.sections);
-        let (memory, pieces) = (memory.bytes(), memory.pieces());
-        // SAFETY: as above; the three further slices, the frame and the number are lent for the call.
-        unsafe {
-            sys::pe_c_step_pieces(
-                bytes.as_ptr(),
-                bytes.len(),
-                &self.info,
-                sections.as_ptr(),
-                sections.len(),
-                code.as_ptr(),
-                code.len(),
-                memory.as_ptr(),
-                memory.len(),
-                pieces.as_ptr(),
-                pieces.len(),
-                frame,
-                interrupted,
-            )
-        }
-    }
-
-    /// Makes a step of a stack walk on ARM64 over memory in pieces, and returns its number.
-    pub(crate) fn step_arm64_pieces(&self, memory: MemoryList<'_>, frame: &mut sys::Arm64Frame) -> u32 {
-        let (bytes, sections) = (self.bytes, &self.sections);
-        let (memory, pieces) = (memory.bytes(), memory.pieces());
-        // SAFETY: as above; the two further slices and the frame are lent for the call.
-        unsafe {
-            sys::pe_c_step_arm64_pieces(
-                bytes.as_ptr(),
-                bytes.len(),
-                &self.info,
-                sections.as_ptr(),
-                sections.len(),
-                memory.as_ptr(),
-                memory.len(),
-                pieces.as_ptr(),
-                pieces.len(),
-                frame,
-            )
-        }
-    }
-
-    /// Makes a step of a stack walk on ARM64, and returns its number.
-    pub(crate) fn step_arm64_frame(&self, stack: &[u8], frame: &mut sys::Arm64Frame) -> u32 {
-        let (bytes, sections) = (self.bytes, &self.sections);
-        let (first, count) = (sections.as_ptr(), sections.len());
-        let (stack, stack_length) = (stack.as_ptr(), stack.len());
-        // SAFETY: as above; the further slice and the frame are lent for the call.
-        unsafe {
-            sys::pe_c_step_arm64(bytes.as_ptr(), bytes.len(), &self.info, first, count, stack, stack_length, frame)
-        }
     }
 }

@@ -563,14 +563,16 @@ record!(
 Frame, 424 {
     /// Inside the function; after a step those of its caller.
     registers: Registers,
-    /// Address of the first byte of the stack that is passed.
-    stack_start: u64,
     /// The address that an error speaks of.
     address: u64,
-    /// The function that lookup found; [`pe_c_leaf`] does not read it.
+    /// The function that lookup found.
     function: Function,
-    /// `rip` less the address where the image is loaded; [`pe_c_leaf`] does not read it.
+    /// `rip` less the address where the image is loaded.
     rva: u32,
+    /// 1 in a leaf function, which lookup did not find, else 0.
+    leaf: u32,
+    /// After a step 1 where an interrupt stopped the caller, else 0.
+    interrupted: u32,
 });
 /// A module of a process: its image, which has as many bytes where it is loaded as `size_of_image` says. What the view leads to
 /// stays readable as long as the record is passed.
@@ -720,16 +722,18 @@ record!(
 Arm64Frame, 360 {
     /// Inside the function; after a step those of its caller.
     registers: Arm64Registers,
-    /// Address of the first byte of the stack that is passed.
-    stack_start: u64,
     /// The address that an error speaks of.
     address: u64,
-    /// The function that lookup found; [`pe_c_leaf_arm64`] does not read it.
+    /// The function that lookup found.
     function: Arm64Function,
-    /// `pc` less the address where the image is loaded; [`pe_c_leaf_arm64`] does not read it.
+    /// `pc` less the address where the image is loaded.
     rva: u32,
+    /// 1 in a leaf function, which lookup did not find, else 0.
+    leaf: u32,
     /// After a step 1 where no call left the caller, else 0.
     interrupted: u32,
+    /// 0.
+    spare: u32,
 });
 record!(
 /// A walk of a stack on ARM64, and the frame that was returned last.
@@ -2088,24 +2092,8 @@ extern "C" {
     pub fn pe_c_plan_from(unwind: u32, out: *mut Plan) -> u32;
     /// Finds the registers of an x64 function's caller, and writes them over those of the frame.
     pub fn pe_c_step(
-        bytes: *const u8,
-        length: usize,
-        image: *const ImageInfo,
-        sections: *const Section,
-        count: usize,
-        code: *const u8,
-        code_length: usize,
-        stack: *const u8,
-        stack_length: usize,
-        frame: *mut Frame,
-    ) -> u32;
-    /// The same over memory in pieces, and whether an interrupt stopped the caller.
-    pub fn pe_c_step_pieces(
-        bytes: *const u8,
-        length: usize,
-        image: *const ImageInfo,
-        sections: *const Section,
-        count: usize,
+        view: *const View,
+        table: *const Range,
         code: *const u8,
         code_length: usize,
         memory: *const u8,
@@ -2113,7 +2101,6 @@ extern "C" {
         pieces: *const MemoryPiece,
         piece_count: usize,
         frame: *mut Frame,
-        interrupted: *mut u32,
     ) -> u32;
     /// Returns the next frame of a stack walk on x64, in the walk.
     pub fn pe_c_next_frame(
@@ -2163,38 +2150,12 @@ extern "C" {
     ) -> u32;
     /// Finds the registers of an ARM64 function's caller, and writes them over those of the frame.
     pub fn pe_c_step_arm64(
-        bytes: *const u8,
-        length: usize,
-        image: *const ImageInfo,
-        sections: *const Section,
-        count: usize,
-        stack: *const u8,
-        stack_length: usize,
-        frame: *mut Arm64Frame,
-    ) -> u32;
-    /// The same over memory in pieces.
-    pub fn pe_c_step_arm64_pieces(
-        bytes: *const u8,
-        length: usize,
-        image: *const ImageInfo,
-        sections: *const Section,
-        count: usize,
+        view: *const View,
         memory: *const u8,
         memory_length: usize,
         pieces: *const MemoryPiece,
         piece_count: usize,
         frame: *mut Arm64Frame,
-    ) -> u32;
-    /// Finds the registers of the caller of a leaf function, by the bytes of its stack, and writes them over those of the
-    /// frame.
-    pub fn pe_c_leaf(stack: *const u8, stack_length: usize, frame: *mut Frame) -> u32;
-    /// The same over memory in pieces.
-    pub fn pe_c_leaf_pieces(
-        memory: *const u8,
-        memory_length: usize,
-        pieces: *const MemoryPiece,
-        piece_count: usize,
-        frame: *mut Frame,
     ) -> u32;
     /// Writes the file with a certificate to the start of an array, and returns its length.
     pub fn pe_c_attach(
@@ -2258,8 +2219,6 @@ extern "C" {
     ) -> u32;
     /// Returns the fields of packed unwind data.
     pub fn pe_c_arm64_packed_fields(function: *const Arm64Function, out: *mut Arm64Packed) -> u32;
-    /// Finds the registers of the caller of an ARM64 leaf function, and writes them over those of the frame.
-    pub fn pe_c_leaf_arm64(frame: *mut Arm64Frame) -> u32;
 }
 
 calls_of_bytes! {

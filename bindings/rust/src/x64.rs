@@ -241,6 +241,11 @@ impl<'i, 'a> Functions<'i, 'a> {
         self.image
     }
 
+    /// The range of the table.
+    pub(crate) fn table(&self) -> &sys::Range {
+        &self.table
+    }
+
     /// The number of functions.
     pub fn len(&self) -> u64 {
         self.table.length / 12

@@ -192,35 +192,37 @@ fn frames_that_lie() {
     let file = made::with_functions();
     let image = image_of(&file);
     let (bytes, sections) = (image.bytes(), image.sections());
+    let view = sys::View {
+        bytes: bytes.as_ptr(),
+        length: bytes.len(),
+        image: image.info(),
+        sections: sections.as_ptr(),
+        count: sections.len(),
+        index: std::ptr::null(),
+        entries: 0,
+    };
     let numbers = [0, 1, 7, 8, 0x5000, u64::from(u32::MAX), 1 << 63, u64::MAX - 7, u64::MAX];
     for number in numbers {
         for start in numbers {
             for length in [0, 1, 8, 64] {
-                let mut frame = sys::Frame { stack_start: start, rva: number as u32, ..Default::default() };
+                let mut frame = sys::Frame { rva: number as u32, ..Default::default() };
                 frame.registers = Registers { general: [number; 16], xmm: [number; 32], rip: number };
                 frame.function = sys::Function { begin: start as u32, end: number as u32, unwind: number as u32 };
                 let (stack, code) = (&bytes[..length], &bytes[length..2 * length]);
-                let before = frame;
-                // SAFETY: each pointer and length are those of one slice, and the frame is lent for the call.
-                let (step, leaf) = unsafe {
-                    let step = sys::pe_c_step(
-                        bytes.as_ptr(),
-                        bytes.len(),
-                        image.info(),
-                        sections.as_ptr(),
-                        sections.len(),
-                        code.as_ptr(),
-                        code.len(),
-                        stack.as_ptr(),
-                        stack.len(),
-                        &mut frame,
-                    );
-                    let kept = sys::Frame { registers: frame.registers, address: frame.address, ..before };
-                    assert_eq!(frame, kept);
+                let table = sys::Range { offset: start, length: number };
+                let whole = MemoryPiece { start, offset: 0, length: length as u64 };
+                for leaf in [0, 1, u32::MAX] {
+                    let before = sys::Frame { leaf, interrupted: 7, ..frame };
                     frame = before;
-                    (step, sys::pe_c_leaf(stack.as_ptr(), stack.len(), &mut frame))
-                };
-                assert!(step != sys::NOTHING && leaf != sys::NOTHING);
+                    // SAFETY: each pointer and length are those of one slice, and the records are lent for the call.
+                    let number = unsafe {
+                        let (code, memory) = (code.as_ptr(), stack.as_ptr());
+                        sys::pe_c_step(&view, &table, code, length, memory, length, &whole, 1, &mut frame)
+                    };
+                    let sys::Frame { registers, address, interrupted, .. } = frame;
+                    assert_eq!(frame, sys::Frame { registers, address, interrupted, ..before });
+                    assert!(number != sys::NOTHING && (interrupted == 7) == (number != sys::DONE));
+                }
             }
         }
     }
@@ -625,11 +627,14 @@ fn pieces_lie_in_the_memory() {
         let pieces = [piece(0, 0, 16), MemoryPiece { start: 0, offset, length }];
         assert_eq!(MemoryList::new(&memory, &pieces).unwrap_err(), Error::SHORT);
         // The library says so too, and reads nothing.
-        let mut frame = sys::Frame::default();
-        // SAFETY: the pointers and the lengths are those of two slices, and the frame is lent for the call.
-        let number =
-            unsafe { sys::pe_c_leaf_pieces(memory.as_ptr(), memory.len(), pieces.as_ptr(), pieces.len(), &mut frame) };
-        assert_eq!((number, frame), (Error::SHORT.number(), sys::Frame::default()));
+        let before = sys::Frame { leaf: 1, ..Default::default() };
+        let (mut frame, image, table) = (before, sys::ImageInfo::default(), sys::Range::default());
+        let (bytes, sections, index) = (std::ptr::null(), std::ptr::null(), std::ptr::null());
+        let view = sys::View { bytes, length: 0, image: &image, sections, count: 0, index, entries: 0 };
+        let (start, many, code) = (memory.as_ptr(), pieces.len(), std::ptr::null());
+        // SAFETY: the pointers and the lengths are those of two slices, and the records are lent for the call.
+        let number = unsafe { sys::pe_c_step(&view, &table, code, 0, start, 16, pieces.as_ptr(), many, &mut frame) };
+        assert_eq!((number, frame), (Error::SHORT.number(), before));
     }
     for (offset, length) in [(16, 0), (0, 16), (15, 1)] {
         assert!(MemoryList::new(&memory, &[MemoryPiece { start: u64::MAX, offset, length }]).is_ok());

@@ -45,7 +45,6 @@ pub mod WalkFrames
 pub mod Arm64WalkFrames
 pub mod NextFrames
 pub mod FrameRuns
-pub mod StackSteps
 pub mod FilledLists
 pub mod ListRuns
 pub mod ResourceEdits

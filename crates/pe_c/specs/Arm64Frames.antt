@@ -1,27 +1,24 @@
 -- One step of a stack walk on ARM64: the registers of a function's caller, by the function's unwind data in an image.
-use Rattle.std.specs.Prelude.{◌≡◌, ℕ, ◌-◌, ◌/◌, Bool, if◌then◌else◌, List, Option, Some, None, Result, Ok, Err}
+use Rattle.std.specs.Prelude.{◌≡◌, ℕ, zero, suc, ◌-◌, ◌/◌, Bool, if◌then◌else◌, List, Option, Some, None, Result, Ok, Err}
 use Rattle.pe_core.specs.Refusals.{Refusal, ◌>>=◌}
-use Rattle.pe_core.specs.declared.section_table.SectionTable.{SectionTable}
 use Rattle.pe_unwind.specs.Arm64Record.{Arm64InfoView}
 use Rattle.pe_unwind.specs.Arm64Unwinding.{info_of_function}
-use Rattle.pe_unwind.specs.ExceptionTable.{exception_at}
+use Rattle.pe_unwind.specs.ExceptionTable.{ExceptionView}
 use Rattle.pe_unwind.specs.declared.arm64.function.Arm64RuntimeFunction.{Arm64RuntimeFunction}
 use Rattle.pe_frame.specs.Arm64Steps.{StepsOutArm64}
 use Rattle.pe_frame.specs.Arm64Undoing.{put_pc, link_register}
 use Rattle.pe_frame.specs.Arm64Walks.{stepped_out_packed}
-use Rattle.pe_frame.specs.Memory.{stack_word}
 use Rattle.pe_frame.specs.MemoryLists.{memory_of}
 use Rattle.pe_frame.specs.declared.arm64.registers.Arm64Registers.{Arm64Registers}
 use Rattle.pe_frame.specs.declared.error.FrameError.{FrameError}
 use Rattle.pe_frame.specs.declared.memory_list.MemoryPiece.{MemoryPiece}
 use Rattle.pe_c.specs.HandsOut.{result_number}
-use Rattle.pe_c.specs.Images.{exception_directory}
 use Rattle.pe_c.specs.Modes.{options_of}
 use Rattle.pe_c.specs.StackFrames.{OverPieces, error_number, error_address}
 use Rattle.pe_c.specs.declared.arm64.frames.Arm64FrameRegisters.{Arm64FrameRegisters}
 use Rattle.pe_c.specs.declared.arm64.frames.Arm64StackFrame.{Arm64StackFrame}
-use Rattle.pe_c.specs.declared.image.Image.{Image}
 use Rattle.pe_c.specs.declared.results.TheConstants.{DONE}
+use Rattle.pe_c.specs.declared.view.View.{View}
 
 -- ---- unwind data
 
@@ -30,11 +27,14 @@ abbrev pub if_present : {X : Type 0} → Option (Result X Refusal) → Result (O
 if_present None = Ok None
 if_present (Some item) = item >>= λ x. Ok (Some x)
 
--- the unwind record of a function in an image, none where its unwind data are packed; or what refuses the table or it
-abbrev pub arm64_info_of : List ℕ → Image → List SectionTable → ℕ → Arm64RuntimeFunction → Result (Option Arm64InfoView) Refusal
-arm64_info_of b image sections mode f =
-    exception_at 8 b (exception_directory image) sections image.file_alignment (options_of mode)
-    >>= λ v. if_present (info_of_function v sections (options_of mode) f)
+-- the exception data of an image without its function table, which no record of a function is found by
+abbrev pub arm64_exceptions_of : View → ExceptionView
+arm64_exceptions_of v =
+    record { content = v.bytes.now; start = 0; size = 0; alignment = (v.image.now).file_alignment }
+
+-- the unwind record of a function in an image, none where its unwind data are packed; or what refuses it
+abbrev pub arm64_info_of : View → Arm64RuntimeFunction → Result (Option Arm64InfoView) Refusal
+arm64_info_of v f = if_present (info_of_function (arm64_exceptions_of v) v.sections.now (options_of (v.image.now).mode) f)
 
 -- ---- registers
 
@@ -75,20 +75,19 @@ HandsOutArm64By memory number old new (Ok (Some info)) =
     × StepsOutArm64 memory info (place_of old) (arm64_registers_of old.registers) left
     × HandsOutArm64Left number old new left
 
--- what a call for a step returns, and the frame after it, over one piece of memory
-abbrev pub HandsOutArm64Step : List ℕ → Image → List SectionTable → List ℕ → ℕ → Arm64StackFrame → Arm64StackFrame → Type 0
-HandsOutArm64Step b image sections stack number old new =
-    HandsOutArm64By (stack_word stack old.stack_start) number old new (arm64_info_of b image sections image.mode old.function)
-
--- the same over pieces of memory
-abbrev pub HandsOutArm64StepPieces : List ℕ → Image → List SectionTable → List ℕ → List MemoryPiece → ℕ → Arm64StackFrame → Arm64StackFrame → Type 0
-HandsOutArm64StepPieces b image sections memory pieces number old new =
-    OverPieces (new ≡ old) number
-    (λ word. HandsOutArm64By word number old new (arm64_info_of b image sections image.mode old.function))
-    (memory_of memory pieces)
-
 -- a frame after a leaf function has returned: its caller goes on at the link register
 abbrev pub left_arm64 : Arm64StackFrame → Arm64StackFrame
 left_arm64 frame =
     let g = arm64_registers_of frame.registers in
     record frame { registers = flat_arm64_registers (put_pc g (link_register g)); interrupted = 0 }
+
+-- What a step over this memory returns, and the frame after it: 0 says that lookup found the frame's function, any other number that
+-- it is a leaf.
+abbrev pub HandsOutArm64Over : ℕ → View → (ℕ → Option ℕ) → ℕ → Arm64StackFrame → Arm64StackFrame → Type 0
+HandsOutArm64Over zero image memory number old new = HandsOutArm64By memory number old new (arm64_info_of image old.function)
+HandsOutArm64Over (suc n) image memory number old new = (number ≡ DONE) × (new ≡ left_arm64 old)
+
+-- what a call for a step returns, and the frame after it
+abbrev pub HandsOutArm64Step : View → List ℕ → List MemoryPiece → ℕ → Arm64StackFrame → Arm64StackFrame → Type 0
+HandsOutArm64Step image memory pieces number old new =
+    OverPieces (new ≡ old) number (λ word. HandsOutArm64Over old.leaf image word number old new) (memory_of memory pieces)

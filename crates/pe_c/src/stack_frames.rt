@@ -2,23 +2,21 @@
 //! and the memory of its stack. A walk makes it again and again, from the innermost frame outwards.
 //! https://learn.microsoft.com/cpp/build/exception-handling-x64
 
-ghost use Rattle.std.specs.Prelude.{◌≡◌, ◌<◌, ℕ, Bool, Result, Ok, length};
+ghost use Rattle.std.specs.Prelude.{◌≡◌, ◌<◌, ℕ, Ok, Err, length};
+ghost use Rattle.pe_core.specs.Refusals.{Returns};
 ghost use Rattle.pe_core.specs.Rows.{each};
-ghost use Rattle.pe_frame.specs.Memory.{stack_word};
 ghost use Rattle.pe_frame.specs.InPlace.{changed_with};
-ghost use Rattle.pe_frame.specs.declared.error.FrameError.{FrameError};
-ghost use Rattle.pe_frame.specs.declared.registers.Registers.{Registers};
 ghost use Rattle.pe_frame.specs.Undoing.{popped};
-ghost use Rattle.pe_c.specs.Unwinding.{image_exceptions};
-ghost use Rattle.pe_c.specs.StackFrames.{whole_xmm, half_xmm, registers_of, flat_registers, error_number, error_address, at_address, IsLeft, StepsOf, StepsIn, HandsOutAlone, HandsOutLeafPieces, HandsOutLeftOr, HandsOutLeftStep, HandsOutPopped, HandsOutStep, HandsOutStepPieces};
+ghost use Rattle.pe_c.specs.StackFrames.{whole_xmm, half_xmm, registers_of, flat_registers, error_number, error_address, at_address, exceptions_by, StepsOf, StepsIn, HandsOutLeft, HandsOutLeftOr, HandsOutOver, HandsOutPopped, HandsOutStep};
 
-use crate::image::{EXCEPTION_TABLE, Image, directory};
+use crate::ranges::Range;
 use crate::results::{
     BAD_ADDRESS, BAD_OPERATION, DONE, LONG_CHAIN, MISSING, NOT_RISING, number_of, options,
 };
-use pe_core::SectionTable;
+use crate::view::View;
+use pe_core::{ByteRange, Result};
 use pe_frame::{
-    FrameError, ImageFunctions, Memory, MemoryList, MemoryPiece, Registers, Stack,
+    FrameError, ImageFunctions, Memory, MemoryList, MemoryPiece, Registers,
     step_in_function_in_place,
 };
 use pe_unwind::{ExceptionData, RuntimeFunction};
@@ -50,14 +48,16 @@ pub struct FrameRegisters {
 pub struct StackFrame {
     /// The registers inside the function; after the step those of its caller.
     pub registers: FrameRegisters,
-    /// The address of the first byte of the stack that is passed.
-    pub stack_start: u64,
     /// The address that an error speaks of.
     pub address: u64,
     /// The function that lookup found.
     pub function: RuntimeFunction,
     /// The instruction pointer less the address where the image is loaded.
     pub rva: u32,
+    /// 0 in a function that lookup found. Any other number in a leaf function, which no function of the table covers.
+    pub leaf: u32,
+    /// After a step 1 if an interrupt left the registers of the caller, else 0.
+    pub interrupted: u32,
 }
 
 /// An XMM register of its halves.
@@ -218,210 +218,132 @@ fn pop_in_place<M: Memory>(memory: &M, frame: &mut StackFrame) -> u32
     };
     frame.registers.general[RSP] = above;
     frame.registers.rip = address;
+    frame.interrupted = 0;
     DONE
 }
 
-/// Finds the registers of the caller of a leaf function, which no function of the table covers, and writes them over those
-/// of `frame`: it pops the return address. `stack` is memory from `stack_start` on.
-///
-/// Errors: `MISSING` if the return address is not there, `BAD_ADDRESS` if it is the last word below 2^64. Both set `address`.
-#[unsafe(no_mangle)]
-pub extern "C" fn pe_c_leaf(stack: &[u8], frame: &mut StackFrame) -> u32
-    ensures { HandsOutPopped result frame.old frame.new
-        (popped (stack_word stack.now frame.old.stack_start) (registers_of frame.old.registers)) }
-{
-    let memory = Stack {
-        start: frame.stack_start,
-        bytes: stack,
-    };
-    pop_in_place(&memory, frame)
-}
-
-/// Writes the caller's registers to a frame, if a step left any.
+/// Writes the caller's registers to a frame, if a step left any, and whether an interrupt left them, or the address that an error
+/// speaks of.
 fn put_caller(
-    left: Result<bool, FrameError>,
+    left: std::result::Result<bool, FrameError>,
     registers: &Registers,
     frame: &mut StackFrame,
-) -> Result<bool, FrameError>
-    ensures { IsLeft (Ok result) frame.old frame.new (Ok (changed_with left registers.now)) }
+) -> u32
+    ensures { HandsOutLeft result frame.old frame.new (changed_with left registers.now) }
 {
     match left {
         Ok(is_interrupted) => {
             frame.registers = flat_registers(registers);
-            Ok(is_interrupted)
+            frame.interrupted = u32::from(is_interrupted);
+            DONE
         }
-        Err(error) => Err(error),
+        Err(error) => report(&error, frame),
     }
 }
 
-/// A step by the records of the frame's function in an image: it writes the registers of the caller over those of the frame and
-/// returns whether an interrupt left them, or the number of what refuses the records.
+/// A step by the records of the frame's function in an image, and its number.
 fn step_of<M: Memory>(
     functions: &ImageFunctions<'_>,
     code: &[u8],
     memory: &M,
     frame: &mut StackFrame,
-) -> Result<Result<bool, FrameError>, u32>
+) -> u32
     ensures { StepsOf functions.now.exceptions.now functions.now.sections.now functions.now.opts
-        code.now (M.word memory.now) frame.old (IsLeft result frame.old frame.new) }
+        code.now (M.word memory.now) frame.old (HandsOutLeftOr result frame.old frame.new) }
 {
     let (function, rva, mut caller) = (frame.function, frame.rva, registers_of(&frame.registers));
     match step_in_function_in_place(functions, function, rva, code, &mut caller, memory) {
-        Ok(Some(left)) => Ok(put_caller(left, &caller, frame)),
-        Ok(None) => Err(LONG_CHAIN),
-        Err(error) => Err(number_of(&error)),
-    }
-}
-
-/// The same by the exception data of an image.
-fn step_by_table<M: Memory>(
-    bytes: &[u8],
-    image: &Image,
-    sections: &[SectionTable],
-    code: &[u8],
-    memory: &M,
-    frame: &mut StackFrame,
-) -> Result<Result<bool, FrameError>, u32>
-    ensures { StepsIn (image_exceptions bytes.now image.now sections.now image.now.mode)
-        sections.now image.now.mode code.now (M.word memory.now) frame.old
-        (IsLeft result frame.old frame.new) }
-{
-    let opts = options(image.mode);
-    let table = directory(image, EXCEPTION_TABLE);
-    let alignment = image.file_alignment;
-    match ExceptionData::parse_with_opts(bytes, table, sections, alignment, &opts) {
-        Ok(exceptions) => {
-            let functions = ImageFunctions {
-                exceptions: &exceptions,
-                sections,
-                opts,
-            };
-            step_of(&functions, code, memory, frame)
-        }
-        Err(error) => Err(number_of(&error)),
-    }
-}
-
-/// The number of a step that is done; it writes the address that an error speaks of to its frame.
-#[tactic(auto, using(crate::proofs::StackSteps::done_alone, crate::proofs::StackSteps::failed_alone, crate::proofs::StackSteps::refused_alone))]
-fn hand_out_step(left: Result<Result<bool, FrameError>, u32>, frame: &mut StackFrame) -> u32
-    ensures { (old : StackFrame) (x : Result (Result (Registers × Bool) FrameError) ℕ) →
-        IsLeft left old frame.old x → HandsOutAlone result old frame.new x }
-{
-    match left {
-        Ok(Ok(_)) => DONE,
-        Ok(Err(error)) => report(&error, frame),
-        Err(number) => number,
-    }
-}
-
-/// The same; it says whether an interrupt left the registers.
-#[tactic(auto, using(crate::proofs::StackSteps::done_left, crate::proofs::StackSteps::failed_left, crate::proofs::StackSteps::refused_left))]
-fn hand_out_left(
-    left: Result<Result<bool, FrameError>, u32>,
-    frame: &mut StackFrame,
-    interrupted: &mut u32,
-) -> u32
-    ensures { (old : StackFrame) (x : Result (Result (Registers × Bool) FrameError) ℕ) →
-        IsLeft left old frame.old x →
-        HandsOutLeftOr result old frame.new interrupted.old interrupted.new x }
-{
-    match left {
-        Ok(Ok(is_interrupted)) => {
-            *interrupted = u32::from(is_interrupted);
-            DONE
-        }
-        Ok(Err(error)) => report(&error, frame),
-        Err(number) => number,
-    }
-}
-
-/// Finds the registers of a function's caller, from those inside the function, and writes them over those of `frame`. It is
-/// `step_in_image` of pe_frame by the records of the frame's function, which is the one that lookup found: by
-/// the RVA in the top frame and after an interrupt, by the RVA less one in every other. `code` has the function's bytes from
-/// the RVA to its end there, and is empty where the RVA is a return address. `stack` is memory from `stack_start` on. Where an
-/// epilog ends with a jump, the function at its target is looked up in the exception table, and its records are undone.
-///
-/// Errors: those of `pe_c_function_table`; then for each record those of `pe_c_unwind_record`, and `LONG_CHAIN` where more
-/// than 32 are chained. Then those of `step_in_image`: `SHORT` or `UNWIND_CODE` of a code, `BAD_OPERATION`, `BAD_ADDRESS`,
-/// `MISSING` and `NOT_RISING`. Of these `BAD_ADDRESS`, `MISSING` and `NOT_RISING` set `address`; nothing else of the frame
-/// changes. With more memory the same call can be made again.
-#[unsafe(no_mangle)]
-pub extern "C" fn pe_c_step(
-    bytes: &[u8],
-    image: &Image,
-    sections: &[SectionTable],
-    code: &[u8],
-    stack: &[u8],
-    frame: &mut StackFrame,
-) -> u32
-    ensures { HandsOutStep
-        bytes.now image.now sections.now code.now stack.now result frame.old frame.new }
-{
-    let memory = Stack {
-        start: frame.stack_start,
-        bytes: stack,
-    };
-    let left = step_by_table(bytes, image, sections, code, &memory, frame);
-    hand_out_step(left, frame)
-}
-
-/// A step over the stack of a frame by the records of its function: its number, and whether an interrupt left the registers.
-fn step_over<M: Memory>(
-    bytes: &[u8],
-    image: &Image,
-    sections: &[SectionTable],
-    code: &[u8],
-    memory: &M,
-    frame: &mut StackFrame,
-    interrupted: &mut u32,
-) -> u32
-    ensures { HandsOutLeftStep bytes.now image.now sections.now code.now
-        (M.word memory.now) result frame.old frame.new interrupted.old interrupted.new }
-{
-    let left = step_by_table(bytes, image, sections, code, memory, frame);
-    hand_out_left(left, frame, interrupted)
-}
-
-/// As `pe_c_step`, over memory in pieces: `memory` has their bytes, as a minidump file has, and `pieces` says where each is.
-/// `stack_start` is not read. A byte is that of the first piece that has its address: by binary search in pieces in ascending
-/// order that do not overlap, in any others in turn. `interrupted` is set to 1 if an interrupt left the registers of the
-/// caller, which is then at the instruction that is about to run, else to 0.
-///
-/// Errors: first `SHORT` if a piece does not lie in `memory`, then those of `pe_c_step`. They leave `interrupted` unchanged.
-#[unsafe(no_mangle)]
-pub extern "C" fn pe_c_step_pieces(
-    bytes: &[u8],
-    image: &Image,
-    sections: &[SectionTable],
-    code: &[u8],
-    memory: &[u8],
-    pieces: &[MemoryPiece],
-    frame: &mut StackFrame,
-    interrupted: &mut u32,
-) -> u32
-    ensures { HandsOutStepPieces bytes.now image.now sections.now code.now memory.now
-        pieces.now result frame.old frame.new interrupted.old interrupted.new }
-{
-    match MemoryList::new(memory, pieces) {
-        Ok(memory) => step_over(bytes, image, sections, code, &memory, frame, interrupted),
+        Ok(Some(left)) => put_caller(left, &caller, frame),
+        Ok(None) => LONG_CHAIN,
         Err(error) => number_of(&error),
     }
 }
 
-/// As `pe_c_leaf`, over memory in pieces, as in `pe_c_step_pieces`.
+/// The exception data of an image whose function table is at a range. Error: `Short` if the table does not lie in the bytes.
+fn exceptions_by<'a>(image: &View<'a>, table: &Range) -> Result<ExceptionData<'a>>
+    ensures { Returns result (exceptions_by image.now table.now) }
+{
+    let table = ByteRange {
+        offset: table.offset as usize,
+        length: table.length as usize,
+    };
+    ExceptionData::of_table(image.bytes, table, image.image.file_alignment)
+}
+
+/// The same by the function table of an image.
+fn step_by_table<M: Memory>(
+    image: &View<'_>,
+    table: &Range,
+    code: &[u8],
+    memory: &M,
+    frame: &mut StackFrame,
+) -> u32
+    ensures { StepsIn (exceptions_by image.now table.now) image.now.sections.now
+        image.now.image.now.mode code.now (M.word memory.now) frame.old
+        (HandsOutLeftOr result frame.old frame.new) }
+{
+    match exceptions_by(image, table) {
+        Ok(exceptions) => {
+            let functions = ImageFunctions {
+                exceptions: &exceptions,
+                sections: image.sections,
+                opts: options(image.image.mode),
+            };
+            step_of(&functions, code, memory, frame)
+        }
+        Err(error) => number_of(&error),
+    }
+}
+
+/// A step over the stack of a frame, by the records of its function or as a leaf, and its number.
+fn step_over<M: Memory>(
+    image: &View<'_>,
+    table: &Range,
+    code: &[u8],
+    memory: &M,
+    frame: &mut StackFrame,
+) -> u32
+    ensures { HandsOutOver frame.old.leaf image.now table.now code.now (M.word memory.now)
+        result frame.old frame.new }
+{
+    if frame.leaf != 0 {
+        return pop_in_place(memory, frame);
+    }
+    step_by_table(image, table, code, memory, frame)
+}
+
+/// Finds the registers of a function's caller, from those inside the function, and writes them over those of `frame`. It is
+/// `step_in_function` of pe_frame by the records of the frame's function, which is the one that lookup found in `table`: by
+/// the RVA in the top frame and after an interrupt, by the RVA less one in every other. Where lookup found none, `leaf` of the
+/// frame is 1, and the return address is popped: then the image, the table, the code, the function and the RVA are not read.
 ///
-/// Errors: first `SHORT` if a piece does not lie in `memory`, then those of `pe_c_leaf`.
+/// `code` has the function's bytes from the RVA to its end there, and is empty where the RVA is a return address. Where an
+/// epilog ends with a jump, the function at its target is looked up in the table, and its records are undone. `memory` has the
+/// bytes of the stack, and `pieces` says where each is. A byte is that of the first piece that has its address: by binary search in
+/// pieces in ascending order that do not overlap, in any others in turn.
+///
+/// `interrupted` of the frame is set to 1 if an interrupt left the registers of the caller, which is then at the instruction that
+/// is about to run, else to 0.
+///
+/// Errors: `SHORT` if a piece does not lie in `memory`; `SHORT` if the table does not lie in the bytes; then for each record those
+/// of `pe_c_unwind_record`, and `LONG_CHAIN` where more than 32 are chained. Then those of `step_in_image`: `SHORT` or
+/// `UNWIND_CODE` of a code, `BAD_OPERATION`, `BAD_ADDRESS`, `MISSING` and `NOT_RISING`. Of a leaf `MISSING` if the return address
+/// is not there, `BAD_ADDRESS` if it is the last word below 2^64. `BAD_ADDRESS`, `MISSING` and `NOT_RISING` set `address`; nothing
+/// else of the frame changes. With more memory the same call can be made again.
 #[unsafe(no_mangle)]
-pub extern "C" fn pe_c_leaf_pieces(
+pub extern "C" fn pe_c_step(
+    view: &View<'_>,
+    table: &Range,
+    code: &[u8],
     memory: &[u8],
     pieces: &[MemoryPiece],
     frame: &mut StackFrame,
 ) -> u32
-    ensures { HandsOutLeafPieces memory.now pieces.now result frame.old frame.new }
+    ensures { HandsOutStep view.now table.now code.now memory.now pieces.now
+        result frame.old frame.new }
 {
     match MemoryList::new(memory, pieces) {
-        Ok(list) => pop_in_place(&list, frame),
+        Ok(memory) => step_over(view, table, code, &memory, frame),
         Err(error) => number_of(&error),
     }
 }

@@ -353,7 +353,7 @@ impl WalkRecord for StackWalk {
 /// of pe_frame does. `NOTHING` where the walk is over: `end` of the walk says why.
 ///
 /// The first module that has an address is that of the address: by binary search in modules in ascending order that do not overlap,
-/// in any others in turn. `memory` has the bytes of the stack, and `pieces` says where each is, as in `pe_c_step_pieces`.
+/// in any others in turn. `memory` has the bytes of the stack, and `pieces` says where each is, as in `pe_c_step`.
 ///
 /// Errors, which change nothing: `SHORT` if the function table of a module does not lie in its bytes, or a piece not in `memory`.
 #[unsafe(no_mangle)]

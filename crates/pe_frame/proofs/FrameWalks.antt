@@ -62,30 +62,30 @@ module _ {P F : Type 0} (Calls : P → F → Result F WalkEnd → Type 0) where
 
   -- ---- there is a walk from each state, where each frame has a caller or a reason why not
 
-  abbrev pub HasCallers : Type 0
-  HasCallers = (p : P) (s : F) → (answer : Result F WalkEnd) × Calls p s answer
+  abbrev pub HasCallers : P → Type 0
+  HasCallers p = (s : F) → (answer : Result F WalkEnd) × Calls p s answer
 
-  some_following : HasCallers → (returned : Bool) (w : FrameWalk P F) → (answer : Result F WalkEnd) × FollowsBy Calls returned w answer
-  some_following has true w = has w.process w.frame
-  some_following has false w = (Ok w.frame, refl)
+  some_following : (returned : Bool) (w : FrameWalk P F) → HasCallers w.process → (answer : Result F WalkEnd) × FollowsBy Calls returned w answer
+  some_following true w has = has w.frame
+  some_following false w has = (Ok w.frame, refl)
 
   abbrev Walk : ℕ → FrameWalk P F → Type 0
   Walk n w = (frames : List F) × (end : WalkEnd) × IsWalkBy Calls n w frames end
 
-  by_following : (n : ℕ) (w : FrameWalk P F) → ((v : FrameWalk P F) → Walk n v) → (answer : Result F WalkEnd) → Follows Calls w answer → Walk (suc n) w
+  by_following : (n : ℕ) (w : FrameWalk P F) → ((s : F) → Walk n (walk_after w (Ok s))) → (answer : Result F WalkEnd) → Follows Calls w answer → Walk (suc n) w
   by_following n w more (Ok s) follows =
-      let rest = more (walk_after w (Ok s)) in
+      let rest = more s in
       (s ∷ rest.0, rest.1, (follows, rest.2))
   by_following n w more (Err end) follows = ([], end, follows)
 
-  from : HasCallers → (n : ℕ) (w : FrameWalk P F) → Walk n w
-  from has zero w = ([], w.end, (refl, refl))
-  from has (suc n) w =
-      let next = some_following has w.has_returned w in
-      by_following n w (λ v. from has n v) next.0 next.1
+  from : (n : ℕ) (w : FrameWalk P F) → HasCallers w.process → Walk n w
+  from zero w has = ([], w.end, (refl, refl))
+  from (suc n) w has =
+      let next = some_following w.has_returned w has in
+      by_following n w (λ s. from n (walk_after w (Ok s)) has) next.0 next.1
 
-  pub some_walk : HasCallers → (w : FrameWalk P F) → (frames : List F) × (end : WalkEnd) × IsWalk Calls w frames end
-  some_walk has w = from has w.remaining w
+  pub some_walk : (w : FrameWalk P F) → HasCallers w.process → (frames : List F) × (end : WalkEnd) × IsWalk Calls w frames end
+  some_walk w has = from w.remaining w has
 
   -- ---- and one alone, up to the numbers in a refusal, where each frame has one caller
 

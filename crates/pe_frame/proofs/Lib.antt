@@ -11,6 +11,7 @@ pub mod Undone
 pub mod Begun
 pub mod PiecesShow
 pub mod ListsShow
+pub mod OnePiece
 pub mod NoCode
 pub mod FrameSteps
 pub mod OneShortPlan
@@ -43,4 +44,5 @@ pub mod Arm64Frames
 pub mod Arm64Epilogs
 pub mod Arm64Found
 pub mod Arm64Walks
+pub mod SomeArm64Walk
 pub mod Arm64Samples

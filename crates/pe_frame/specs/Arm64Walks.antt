@@ -1,5 +1,5 @@
 -- Walks of a stack on ARM64: from the frame of a function to that of its caller, through the modules of a process.
-use Rattle.std.specs.Prelude.{◌≡◌, ℕ, ◌+◌, ◌-◌, ◌/◌, ◌==◌, ◌&&◌, Bool, true, false, if◌then◌else◌, List, Option, Some, None, Result, Ok, Err}
+use Rattle.std.specs.Prelude.{◌≡◌, ℕ, ◌+◌, ◌-◌, ◌/◌, ◌<◌, ◌==◌, ◌&&◌, All, Bool, true, false, if◌then◌else◌, List, Option, Some, None, Result, Ok, Err}
 use Rattle.std.specs.Option.{option_map, option_map_or, option_or}
 use Rattle.pe_core.specs.Refusals.{Refusal, ◌>>=◌}
 use Rattle.pe_core.specs.SectionMap.{map_view, rounded_up}
@@ -173,3 +173,16 @@ IsSortedModule m = HasSortedTable (option_map (λ e. e.now) m.exceptions)
 
 abbrev pub AreSortedModules : List Module → Type 0
 AreSortedModules modules = AllByRecursion IsSortedModule modules
+
+-- ---- bytes
+
+-- the bytes of each module that has exception data are numbers below 256, as those of a slice are
+abbrev pub HasBytes : Option ExceptionView → Type 0
+HasBytes None = Unit {0}
+HasBytes (Some e) = All (λ x. x < 256) e.content
+
+abbrev pub IsModuleOfBytes : Module → Type 0
+IsModuleOfBytes m = HasBytes (option_map (λ e. e.now) m.exceptions)
+
+abbrev pub AreModulesOfBytes : List Module → Type 0
+AreModulesOfBytes modules = AllByRecursion IsModuleOfBytes modules

@@ -1,18 +1,18 @@
 //! Memory as a minidump lists it: the bytes of the file, and of each piece of memory its address and where in the file it is.
 //! https://learn.microsoft.com/windows/win32/api/minidumpapiset/ns-minidumpapiset-minidump_memory_descriptor
 
-ghost use Rattle.std.specs.Prelude.{◌≡◌, ◌+◌, ◌-◌, ℕ, List, ◌∷◌, [], Some, IsTrue, slice_index};
+ghost use Rattle.std.specs.Prelude.{◌≡◌, ◌≤◌, ◌<◌, ◌+◌, ◌-◌, ◌^◌, ℕ, List, ◌∷◌, [], Some, IsTrue, length, slice_index};
 ghost use Rattle.std.specs.Option.{option_map};
 ghost use Rattle.std.specs.List.{find};
-ghost use Rattle.pe_core.specs.Bytes.{holds};
+ghost use Rattle.pe_core.specs.Bytes.{holds, le};
 ghost use Rattle.pe_core.specs.Refusals.{Short, answer_by, answer_of, outcome};
 ghost use Rattle.pe_frame.specs.AddressRanges.{AreAscending};
 ghost use Rattle.pe_frame.specs.MemoryLists.{are_inside, listed_byte, lists_byte, memory_of};
 ghost use Rattle.pe_frame.specs.declared.memory_list.MemoryPiece.{MemoryPiece};
 
-use crate::address_ranges::{AddressRange, first_overlap, first_with};
-use crate::memory::{KnownBytes, Memory, known_word};
-use pe_core::{Result, slice_at};
+use crate::address_ranges::{AddressRange, first_overlap, first_with, range_with};
+use crate::memory::{KnownBytes, Memory, SIZE_OF_WORD, known_word};
+use pe_core::{Result, slice_at, u64_at};
 
 /// A piece of memory: its address, and where its bytes are.
 #[repr(C)]
@@ -86,14 +86,24 @@ impl<'a> MemoryList<'a> {
     }
 }
 
+/// Where in some bytes that of a piece at an address is.
+fn index_of(bytes: &[u8], piece: &MemoryPiece, address: u64) -> usize
+    requires has { IsTrue (lists_byte address piece.now) }
+    requires inside { IsTrue (holds bytes.now piece.now.offset piece.now.length) }
+    ensures index { result ≡ piece.now.offset + (address - piece.now.start) }
+    ensures within { result < length bytes.now }
+{
+    let index = piece.offset + (address - piece.start);
+    index as usize
+}
+
 /// The byte of a piece at an address that it has.
 fn byte_of(bytes: &[u8], piece: &MemoryPiece, address: u64) -> Option<u8>
     requires has { IsTrue (lists_byte address piece.now) }
     requires inside { IsTrue (holds bytes.now piece.now.offset piece.now.length) }
     ensures { result ≡ Some (slice_index bytes.now (piece.now.offset + (address - piece.now.start))) }
 {
-    let index = piece.offset + (address - piece.start);
-    Some(bytes[index as usize])
+    Some(bytes[index_of(bytes, piece, address)])
 }
 
 impl<'a> KnownBytes for MemoryList<'a> {
@@ -107,12 +117,39 @@ impl<'a> KnownBytes for MemoryList<'a> {
     }
 }
 
+/// Whether a piece that has a byte at an address has the eight from there on.
+fn has_word(piece: &MemoryPiece, address: u64) -> bool
+    requires { IsTrue (lists_byte address piece.now) }
+    ensures { IsTrue result → (address + 8 ≤ piece.now.start + piece.now.length) × (address + 8 ≤ 2 ^ 64) }
+{
+    address <= u64::MAX - (SIZE_OF_WORD - 1)
+        && piece.length - (address - piece.start) >= SIZE_OF_WORD
+}
+
+/// The number of the eight bytes of a piece from an address on.
+fn word_of(bytes: &[u8], piece: &MemoryPiece, address: u64) -> Option<u64>
+    requires has { IsTrue (lists_byte address piece.now) }
+    requires whole { address + 8 ≤ piece.now.start + piece.now.length }
+    requires inside { IsTrue (holds bytes.now piece.now.offset piece.now.length) }
+    ensures { result ≡ Some (le bytes.now (piece.now.offset + (address - piece.now.start)) 8) }
+{
+    u64_at(bytes, index_of(bytes, piece, address)).ok()
+}
+
 impl<'a> Memory for MemoryList<'a> {
     ghost use Rattle.pe_frame.specs.MemoryLists.{listed_word};
 
     ghost word = { λ s. listed_word s.bytes.now s.pieces.now };
 
+    /// In pieces that ascend one lookup finds a word that stands in one of them.
     fn u64_at(&self, address: u64) -> Option<u64> {
+        if self.is_ascending {
+            if let Some(piece) = range_with(self.pieces, address) {
+                if has_word(piece, address) {
+                    return word_of(self.bytes, piece, address);
+                }
+            }
+        }
         known_word(self, address)
     }
 }

@@ -7,15 +7,15 @@ ghost use Rattle.std.specs.Option.{option_map};
 ghost use Rattle.pe_core.specs.Refusals.{answer_by};
 ghost use Rattle.pe_unwind.specs.Arm64Record.{info_view};
 ghost use Rattle.pe_frame.specs.Arm64Walks.{stepped_out_packed};
-ghost use Rattle.pe_c.specs.Arm64Frames.{arm64_registers_of, flat_arm64_registers, arm64_info_of, HandsOutArm64By, HandsOutArm64Left, HandsOutArm64Step, HandsOutArm64StepPieces, left_arm64};
+ghost use Rattle.pe_c.specs.Arm64Frames.{arm64_registers_of, flat_arm64_registers, arm64_info_of, HandsOutArm64By, HandsOutArm64Left, HandsOutArm64Over, HandsOutArm64Step, left_arm64};
 
-use crate::image::{EXCEPTION_TABLE, Image, directory};
 use crate::results::{DONE, number_of, options};
 use crate::stack_frames::reported;
-use pe_core::{Error, SectionTable};
+use crate::view::View;
+use pe_core::{ByteRange, Error};
 use pe_frame::{
-    Arm64Registers, FrameError, Memory, MemoryList, MemoryPiece, Stack, leaf_arm64,
-    step_arm64_packed, step_out_arm64,
+    Arm64Registers, FrameError, Memory, MemoryList, MemoryPiece, leaf_arm64, step_arm64_packed,
+    step_out_arm64,
 };
 use pe_unwind::{Arm64RuntimeFunction, Arm64UnwindInfo, ExceptionData};
 
@@ -39,16 +39,18 @@ pub struct Arm64FrameRegisters {
 pub struct Arm64StackFrame {
     /// The registers inside the function; after the step those of its caller.
     pub registers: Arm64FrameRegisters,
-    /// The address of the first byte of the stack that is passed.
-    pub stack_start: u64,
     /// The address that an error speaks of.
     pub address: u64,
     /// The function that lookup found.
     pub function: Arm64RuntimeFunction,
     /// The instruction pointer less the address where the image is loaded.
     pub rva: u32,
+    /// 0 in a function that lookup found. Any other number in a leaf function, which no function of the table covers.
+    pub leaf: u32,
     /// After a step 1 if no call left the registers of the caller, else 0.
     pub interrupted: u32,
+    /// 0.
+    pub spare: u32,
 }
 
 /// The registers that a caller passes.
@@ -77,21 +79,24 @@ pub fn flat_registers(registers: &Arm64Registers) -> Arm64FrameRegisters
 
 /// The unwind record of a function in an image, if its unwind data are not packed.
 fn info_of<'a>(
-    bytes: &'a [u8],
-    image: &Image,
-    sections: &[SectionTable],
+    image: &View<'a>,
     function: Arm64RuntimeFunction,
 ) -> Result<Option<Arm64UnwindInfo<'a>>, Error>
-    ensures { answer_by (option_map info_view) result
-        ≡ arm64_info_of bytes.entry.now image.now sections.now image.now.mode function }
+    ensures { answer_by (option_map info_view) result ≡ arm64_info_of image.now function }
 {
-    let opts = options(image.mode);
-    let alignment = image.file_alignment;
-    let table = directory(image, EXCEPTION_TABLE);
-    let exceptions = ExceptionData::parse_arm64_with_opts(
-        bytes, table, sections, alignment, &opts,
-    )?;
-    match exceptions.get_unwind_info_arm64_with_opts(function, sections, &opts) {
+    let View {
+        bytes,
+        image,
+        sections,
+        ..
+    } = *image;
+    // A record is found by its RVA, without the function table.
+    let no_table = ByteRange {
+        offset: 0,
+        length: 0,
+    };
+    let exceptions = ExceptionData::of_table(bytes, no_table, image.file_alignment)?;
+    match exceptions.get_unwind_info_arm64_with_opts(function, sections, &options(image.mode)) {
         None => Ok(None),
         Some(Ok(info)) => Ok(Some(info)),
         Some(Err(error)) => Err(error),
@@ -138,18 +143,12 @@ fn hand_out_left(
 }
 
 /// A step over the stack of a frame by the unwind data of its function, and its number.
-fn step_over<M: Memory>(
-    bytes: &[u8],
-    image: &Image,
-    sections: &[SectionTable],
-    memory: &M,
-    frame: &mut Arm64StackFrame,
-) -> u32
+fn step_by_data<M: Memory>(image: &View<'_>, memory: &M, frame: &mut Arm64StackFrame) -> u32
     ensures { HandsOutArm64By (M.word memory.now) result frame.old frame.new
-        (arm64_info_of bytes.now image.now sections.now image.now.mode frame.old.function) }
+        (arm64_info_of image.now frame.old.function) }
 {
     let function = frame.function;
-    let info = match info_of(bytes, image, sections, function) {
+    let info = match info_of(image, function) {
         Ok(info) => info,
         Err(error) => return number_of(&error),
     };
@@ -162,62 +161,48 @@ fn step_over<M: Memory>(
     hand_out_left(left, frame)
 }
 
-/// Finds the registers of a function's caller, from those inside the function, and writes them over those of `frame`. It is
-/// `step_out_arm64` of pe_frame by the unwind record of the frame's function, or `step_arm64_packed` where its unwind data are
-/// packed. The function is the one that lookup found: by the RVA in the top frame and where `interrupted` is 1, by the RVA less
-/// four in every other. `interrupted` of the frame is set to 1 if no call left the registers of the caller, which is then at the
-/// instruction that is about to run, else to 0. `stack` is memory from `stack_start` on.
-///
-/// Errors: those of `pe_c_arm64_table`, then those of `pe_c_arm64_unwind_record`. Then `ARM64_CUT` of a code,
-/// `BAD_OPERATION`, `BAD_ADDRESS`, `MISSING` and `NOT_RISING`. Of these `BAD_ADDRESS`, `MISSING` and `NOT_RISING` set
-/// `address`; nothing else of the frame changes. With more memory the same call can be made again.
-#[unsafe(no_mangle)]
-pub extern "C" fn pe_c_step_arm64(
-    bytes: &[u8],
-    image: &Image,
-    sections: &[SectionTable],
-    stack: &[u8],
-    frame: &mut Arm64StackFrame,
-) -> u32
-    ensures { HandsOutArm64Step
-        bytes.now image.now sections.now stack.now result frame.old frame.new }
-{
-    let memory = Stack {
-        start: frame.stack_start,
-        bytes: stack,
-    };
-    step_over(bytes, image, sections, &memory, frame)
-}
-
-/// As `pe_c_step_arm64`, over memory in pieces, as in `pe_c_step_pieces`: `stack_start` is not read.
-///
-/// Errors: first `SHORT` if a piece does not lie in `memory`, then those of `pe_c_step_arm64`.
-#[unsafe(no_mangle)]
-pub extern "C" fn pe_c_step_arm64_pieces(
-    bytes: &[u8],
-    image: &Image,
-    sections: &[SectionTable],
-    memory: &[u8],
-    pieces: &[MemoryPiece],
-    frame: &mut Arm64StackFrame,
-) -> u32
-    ensures { HandsOutArm64StepPieces bytes.now image.now
-        sections.now memory.now pieces.now result frame.old frame.new }
-{
-    match MemoryList::new(memory, pieces) {
-        Ok(memory) => step_over(bytes, image, sections, &memory, frame),
-        Err(error) => number_of(&error),
-    }
-}
-
-/// Finds the registers of the caller of a leaf function, which no function of the table covers, and writes them over those
-/// of `frame`: the caller goes on at the link register. Always returns `DONE`.
-#[unsafe(no_mangle)]
-pub extern "C" fn pe_c_leaf_arm64(frame: &mut Arm64StackFrame) -> u32
+/// Writes the registers of the caller of a leaf function to a frame: it goes on at the link register.
+fn leave_leaf(frame: &mut Arm64StackFrame) -> u32
     ensures done { result ≡ DONE }
     ensures caller { frame.new ≡ left_arm64 frame.old }
 {
     frame.registers = flat_registers(&leaf_arm64(registers_of(&frame.registers)));
     frame.interrupted = 0;
     DONE
+}
+
+/// A step over the stack of a frame, by the unwind data of its function or as a leaf, and its number.
+fn step_over<M: Memory>(image: &View<'_>, memory: &M, frame: &mut Arm64StackFrame) -> u32
+    ensures { HandsOutArm64Over frame.old.leaf image.now (M.word memory.now)
+        result frame.old frame.new }
+{
+    if frame.leaf != 0 {
+        return leave_leaf(frame);
+    }
+    step_by_data(image, memory, frame)
+}
+
+/// Finds the registers of a function's caller, from those inside the function, and writes them over those of `frame`. It is
+/// `step_out_arm64` of pe_frame by the unwind record of the frame's function, or `step_arm64_packed` where its unwind data are
+/// packed. The function is the one that lookup found: by the RVA in the top frame and where `interrupted` is 1, by the RVA less
+/// four in every other. Where lookup found none, `leaf` of the frame is 1, and the caller goes on at the link register: then the
+/// image, the function, the RVA and the stack are not read. `interrupted` of the frame is set to 1 if no call left the registers of
+/// the caller, which is then at the instruction that is about to run, else to 0. `memory` and `pieces` are as in `pe_c_step`.
+///
+/// Errors: `SHORT` if a piece does not lie in `memory`. Then those of `pe_c_arm64_unwind_record` without those of the table, then
+/// `ARM64_CUT` of a code, `BAD_OPERATION`, `BAD_ADDRESS`, `MISSING` and `NOT_RISING`. Of these `BAD_ADDRESS`, `MISSING` and
+/// `NOT_RISING` set `address`; nothing else of the frame changes. With more memory the same call can be made again.
+#[unsafe(no_mangle)]
+pub extern "C" fn pe_c_step_arm64(
+    view: &View<'_>,
+    memory: &[u8],
+    pieces: &[MemoryPiece],
+    frame: &mut Arm64StackFrame,
+) -> u32
+    ensures { HandsOutArm64Step view.now memory.now pieces.now result frame.old frame.new }
+{
+    match MemoryList::new(memory, pieces) {
+        Ok(memory) => step_over(view, &memory, frame),
+        Err(error) => number_of(&error),
+    }
 }

@@ -7,7 +7,7 @@ ghost use Rattle.pe_unwind.specs.declared.arm64.function.Arm64RuntimeFunction.{A
 ghost use Rattle.pe_frame.specs.Arm64Packed.{stepped_arm64_packed};
 ghost use Rattle.pe_frame.specs.Arm64Steps.{StepsOutArm64};
 ghost use Rattle.pe_frame.specs.Arm64Undoing.{link_register};
-ghost use Rattle.pe_frame.specs.Arm64Walks.{AreSortedModules, Calls, CallsByInfo, has_called, caller_of_leaf, caller_outside, place_of, walk_of, without_records};
+ghost use Rattle.pe_frame.specs.Arm64Walks.{AreModulesOfBytes, AreSortedModules, Calls, CallsByInfo, has_called, caller_of_leaf, caller_outside, place_of, walk_of, without_records};
 ghost use Rattle.pe_frame.specs.FrameWalks.{FrameWalk, IsWalk, Process};
 ghost use Rattle.pe_frame.specs.Walks.{end_kind};
 ghost use Rattle.pe_frame.specs.declared.arm64.registers.Arm64Registers.{Arm64Registers};
@@ -30,9 +30,14 @@ pub fn arm64_walks_return_the_frames<M: Memory + 'static>()
         × (length frames ≤ s.position.remaining) × (u.position.remaining ≡ 0) }
 {}
 
-/// From each state there is at most one walk, up to the numbers in a refusal, where the function tables of the modules are sorted.
+/// There is a walk from each state over modules whose bytes are numbers below 256 (`exists`), whatever their function tables are: the
+/// frames from the state on, and why it is over after them. Where the tables are sorted there is one alone, up to the numbers in a
+/// refusal (`one`).
 pub fn one_result_of_arm64_walks()
-    ensures { (w : FrameWalk Process Arm64StackFrame)
+    ensures exists { (w : FrameWalk Process Arm64StackFrame) →
+        AreModulesOfBytes (w.process).modules →
+        (frames : List Arm64StackFrame) × (end : WalkEnd) × IsWalk Calls w frames end }
+    ensures one { (w : FrameWalk Process Arm64StackFrame)
         (frames others : List Arm64StackFrame) (end other : WalkEnd) →
         AreSortedModules (w.process).modules →
         IsWalk Calls w frames end → IsWalk Calls w others other →

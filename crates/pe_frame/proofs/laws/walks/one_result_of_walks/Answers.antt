@@ -14,6 +14,6 @@ returns c =
       no_memory = c.one_record_of_addresses.ensures.no_memory;
     } in
     record {
-      exists = some_walk Calls (some_caller law);
+      exists = λ w. some_walk Calls w (some_caller law w.process);
       one = λ w frames others end other sorted h k. one_walk Calls w frames others end other (one_caller law w.process sorted) h k;
     }
