@@ -136,10 +136,8 @@ FILE, OF_IMAGE, OF_PROCESS = IMAGE[:2], (*IMAGE[2:], "view"), ("modules", "modul
 # Calls that it makes in ways of its own.
 OWN_WAYS = re.compile(r"pe_c_(image|sections|text|abi_\d+)")
 # Calls that it does not have: it has iterators in place of those that fill an array with what a walk returns, walks stacks on x64
-# alone, has no index of sections, and reads no signatures and no minidumps.
-NOT_IN_JS = re.compile(r"pe_c_(next_(?:arm64_)?frames|next_arm64_frame|index|record_codes|list_\w+|signature|next_element"
-                       r"|algorithm_identifier|indirect_data|image_data|signer|attribute|opus_info|x509|extension|key_usage|name|next_name_attribute"
-                       r"|time|time_stamp|dump|dump_\w+|next_memory64)")
+# alone, has no index of sections, and reads no minidumps.
+NOT_IN_JS = re.compile(r"pe_c_(next_(?:arm64_)?frames|next_arm64_frame|index|record_codes|list_\w+|dump|dump_\w+|next_memory64)")
 
 
 # What a call reads and changes, of what it does not fill alone.

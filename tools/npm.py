@@ -10,7 +10,7 @@ from targets import BINDINGS, run
 
 SOURCES = os.path.join(BINDINGS, "js")
 # What of the sources is in the package; the rest makes it or tests it.
-FILES = ["index.mjs", "browser.mjs", "library.mjs", "memory.mjs", "calls.mjs", "image.mjs", "symbols.mjs", "objects.mjs",
+FILES = ["index.mjs", "browser.mjs", "library.mjs", "memory.mjs", "calls.mjs", "image.mjs", "symbols.mjs", "signatures.mjs", "objects.mjs",
          "process.mjs", "resources.mjs", "facts.mjs", "facts.d.ts", "pe-js.mjs", "README.md"]
 
 
