@@ -3,6 +3,7 @@
 // 2^53 are BigInt.
 import { PeError, constants } from './library.mjs';
 import * as names from './names.mjs';
+import { signerOf } from './signatures.mjs';
 
 const utf8 = new TextDecoder('utf-8', { fatal: true });
 const CODE_AND_WRITABLE = 0xA0000000, PERMISSIONS = [[0x40000000, 'r'], [0x80000000, 'w'], [0x20000000, 'x']];
@@ -304,7 +305,7 @@ function debug(image) {
 
 function certificates(image) {
   const said = list('certificates', image.certificates(), (it) => (
-    { size: it.length, revision: it.revision, type: named(it.type, names.CERTIFICATE_TYPES) }));
+    { size: it.length, revision: it.revision, type: named(it.type, names.CERTIFICATE_TYPES), signer: signerOf(image, it) }));
   return said.certificates.length || said.certificates_error ? said : { ...said, certificates: null };
 }
 

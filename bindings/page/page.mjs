@@ -134,13 +134,15 @@ function exported(to, facts) {
     it.names.map(textOf).join(', '), textOf(it.forwarder)]), [0, 1]));
 }
 
+const signer = (it) => (it ? escaped(it.subject ?? `number ${it.serial_hex} of ${it.issuer}`) : '');
 const label = (it) => (it.name === null ? `#${it.id}` : escaped(it.name));
 
 function others(to, facts) {
   const lists = [
     ['Data directories', facts.headers.directories, null, ['Directory', 'Start', 'Size'], (it) => [it.name,
       it.rva === null ? `file offset ${hex(it.file_offset)}` : `RVA ${hex(it.rva)}`, hex(it.size)], [2]],
-    ['Certificates', facts.certificates, facts.certificates_error, ['Type', 'Size'], (it) => [named(it.type), it.size], [1]],
+    ['Certificates, not verified', facts.certificates, facts.certificates_error, ['Type', 'Size', 'Signer', 'Time stamp'], (it) => [
+      named(it.type), it.size, signer(it.signer), it.signer?.time_stamp ?? ''], [1]],
     ['Resources', facts.resources, facts.resources_error, ['Type', 'Name', 'RVA', 'Size'], (it) => [label(it.type),
       label(it.name), hex(it.rva), it.size], [2, 3]],
     ['Debug entries', facts.debug.entries, null, ['Type', 'Size', 'RVA', 'File offset'], (it) => [named(it.type), it.size,

@@ -211,7 +211,8 @@ fn tables_of(facts: &Facts, page: &mut Page) {
     }
     more_of(facts, page);
     for certificate in facts.certificates.iter().filter_map(Part::present).flat_map(|it| &it.entries) {
-        let signer = certificate.signer.as_ref().map_or(String::new(), |it| format!(", by {}", escaped(it)));
+        let signer =
+            certificate.signer.as_ref().map_or(String::new(), |it| format!(", by {}", escaped(&it.to_string())));
         let (kind, size) = (&certificate.r#type, certificate.size);
         page.row("certificate", format_args!("{kind}, {size} bytes{signer}, not verified"));
     }

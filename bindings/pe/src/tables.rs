@@ -1,5 +1,6 @@
 //! The parts of an image as rows and tables of text. `show` lays them out as text, and `html` on its page.
 
+use crate::escape::escaped;
 use crate::facts::all_headers::{AllHeaders, Coff};
 use crate::facts::bound_imports::{self, Bound};
 use crate::facts::certificates::Certificate;
@@ -319,8 +320,13 @@ pub fn pogo_parts(pogo: &Pogo) -> Table {
 
 pub fn certificates(certificates: &List<Certificate>) -> Table {
     let rows = certificates.entries.iter();
-    let rows = rows.map(|it| vec![it.r#type.to_string(), format!("{:#06x}", it.revision), it.size.to_string()]);
-    Table::new(&[text("type"), number("revision"), number("bytes")], rows)
+    let rows = rows.map(|it| {
+        let signer = it.signer.as_ref().map_or(String::new(), |it| escaped(&it.to_string()));
+        let stamp = it.signer.as_ref().and_then(|it| it.time_stamp.clone()).unwrap_or_default();
+        vec![it.r#type.to_string(), format!("{:#06x}", it.revision), it.size.to_string(), signer, stamp]
+    });
+    let columns = [text("type"), number("revision"), number("bytes"), text("signer"), text("time stamp")];
+    Table::new(&columns, rows)
 }
 
 pub fn functions(functions: &Functions) -> Table {

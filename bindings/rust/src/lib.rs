@@ -140,8 +140,9 @@ pub use resource_edit::{ResourceContent, ResourceEditor, ResourceKey, ResourcePl
 pub use resources::{ResourceLeaf, ResourceLeaves, ResourceName};
 pub use rich_header::{RichEntries, RichEntry, RichHeader};
 pub use signatures::{
-    Algorithm, Algorithms, Attribute, Attributes, Extension, Extensions, IndirectData, KeyPurposes, KnownOid, Name, NameAttribute,
-    NameAttributes, Oid, OpusInfo, Signature, SignatureError, Signer, Signers, Time, TimeStamp, X509s, X509,
+    Algorithm, Algorithms, Attribute, Attributes, Extension, Extensions, IndirectData, KeyPurposes, KnownOid, Name,
+    NameAttribute, NameAttributes, Oid, OpusInfo, Signature, SignatureError, Signer, Signers, Time, TimeStamp, X509s,
+    X509,
 };
 pub use signing::{Checksum, DigestRanges, Placement};
 pub use stack_walk::{End, Frame, Frames, MachineRegisters, Module, Way};

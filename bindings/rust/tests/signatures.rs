@@ -66,6 +66,7 @@ fn who_signed() {
     assert_eq!(signer.signature(), &bytes[770..841]);
     assert_eq!(signer.signed_bytes(), Some((0x31, &bytes[567..756])));
     assert_eq!(signer.message_digest().unwrap(), bytes.get(673..705));
+    assert_eq!(signer.content_type().unwrap().map(|it| it.to_string()).as_deref(), Some("1.3.6.1.4.1.311.2.1.4"));
     assert!(time("2026-11-27T01:00:04Z")(signer.signing_time().unwrap().unwrap()));
     let opus = signer.opus_info().unwrap().unwrap();
     assert_eq!(opus.program_name().as_deref(), Some("Probe"));
@@ -97,6 +98,10 @@ fn certificates() {
     assert_eq!(extensions.len(), 2);
     assert_eq!(extensions[1].kind(), KnownOid::EXTENDED_KEY_USAGE);
     assert!(extensions[0].is_critical() && !extensions[1].is_critical());
+    // `X509v3 Extended Key Usage: Code Signing`; the certificate has no key identifiers.
+    let purposes: Vec<_> = certificate.key_purposes().unwrap().unwrap().map(|it| it.unwrap().to_string()).collect();
+    assert_eq!(purposes, ["1.3.6.1.5.5.7.3.3"]);
+    assert_eq!((certificate.key_identifier().unwrap(), certificate.issuer_key_identifier().unwrap()), (None, None));
 }
 
 #[test]
@@ -204,14 +209,14 @@ fn with_certificates(certificates: &[u8]) -> Vec<u8> {
     der(0x30, &[kind, der(0xA0, &der(0x30, &parts))].concat())
 }
 
-/// Lists cost what their bytes cost: 300,000 empty elements, and elements in elements 10,000 deep.
+/// Lists cost what their bytes cost: a million empty elements, and elements in elements 10,000 deep. `bench/elements` counts it.
 #[test]
 fn wide_and_deep() {
-    let bytes = with_certificates(&[0x30, 0].repeat(300_000));
+    let bytes = with_certificates(&[0x30, 0].repeat(1_000_000));
     let signature = Signature::parse(&bytes).unwrap();
     assert!(signature.content().is_none() && signature.digested().is_none());
     assert_eq!(signature.content_type(), KnownOid::DATA);
-    assert_eq!(signature.certificates().filter(Result::is_err).count(), 300_000);
+    assert_eq!(signature.certificates().filter(Result::is_err).count(), 1_000_000);
     let mut deep = Vec::new();
     for _ in 0..10_000 {
         deep = der(0x30, &deep);
@@ -223,6 +228,9 @@ fn wide_and_deep() {
     let long = [&[0x30, 0x88, 0x80][..], &[0; 20]].concat();
     let error = Signature::parse(&long).unwrap_err();
     assert_eq!((error.error, error.value), (Error::SIGNATURE_LENGTH_OCTETS, 8));
+    // So is one that is indefinite.
+    let error = Signature::parse(&[0x30, 0x80, 0, 0]).unwrap_err();
+    assert_eq!((error.error, error.offset), (Error::SIGNATURE_INDEFINITE_LENGTH, 0));
 }
 
 /// A certificate that is refused does not cost the others.

@@ -2,13 +2,15 @@
 //! the parser lists of an image once a certificate is attached to it. The laws of `pe_sign::laws::calls` are called with what
 //! the calls took and returned.
 
-ghost use Rattle.std.specs.Prelude.{◌≡◌, ◌-◌, ◌%◌, ◌≤◌, ◌++◌, ℕ, List, IfOk, Ok, false, true, flat_map, length, take};
-ghost use Rattle.pe_core.specs.Bytes.{AreBytes, le};
+ghost use Rattle.std.specs.Prelude.{◌≡◌, ◌+◌, ◌-◌, ◌%◌, ◌≤◌, ◌++◌, ℕ, List, IfOk, Ok, false, true, flat_map, length, take};
+ghost use Rattle.pe_core.specs.Bytes.{AreBytes, le, range};
 ghost use Rattle.pe_core.specs.Directories.{absent_directory};
 ghost use Rattle.pe_core.specs.Header.{HeaderView, header_at, header_view};
 ghost use Rattle.pe_core.specs.Offsets.{bytes_in};
+ghost use Rattle.pe_core.specs.SectionMap.{rounded_up};
 ghost use Rattle.pe_core.specs.Sections.{sections_offset};
 ghost use Rattle.pe_core.specs.declared.options.ParseMode.TheVariants.{Strict};
+ghost use Rattle.pe_pkcs7.specs.Later.{IsToldAt};
 ghost use Rattle.pe_records.specs.Certificates.{CertificateView, IsListing};
 ghost use Rattle.pe_sign.specs.Attaching.{attached_of, before_table, is_signed, table_start, with_both_fields};
 ghost use Rattle.pe_sign.specs.Checksum.{checksum_of};
@@ -169,4 +171,26 @@ pub fn attached_certificates_are_listed()
 {
     pe_sign::laws::written_tables_have_the_certificate();
     pe_records::laws::certificates::joined_tables_are_listed();
+}
+
+/// What is attached is told as it was: of every part of the certificates that were given, as the signature in one of them, what
+/// pe_pkcs7 reads of the file, by the offsets of the file, is what it reads of that part alone, each element and each error as many
+/// bytes further on. The part stands in the file where the certificates do: after those that the image had and their padding, or from
+/// where the certificate table starts.
+pub fn attached_signatures_are_told()
+    ensures after { (b : List ℕ) (h : HeaderView) (certificate f : List ℕ) (l : LeftOut) (p n : ℕ) →
+        left_out_of h ≡ Ok l → attached_of Placement.After b h certificate ≡ Ok f → is_signed l ≡ true →
+        p + n ≤ length certificate → IsToldAt f (range certificate p n)
+        (l.certificates.offset + rounded_up l.certificates.length 8 + p) }
+    ensures first { (b : List ℕ) (h : HeaderView) (certificate f : List ℕ) (l : LeftOut) (p n : ℕ) →
+        left_out_of h ≡ Ok l → attached_of Placement.After b h certificate ≡ Ok f → is_signed l ≡ false →
+        p + n ≤ length certificate →
+        IsToldAt f (range certificate p n) (table_start Placement.After l (length b) + p) }
+    ensures in_place { (b : List ℕ) (h : HeaderView) (certificate f : List ℕ) (l : LeftOut) (p n : ℕ) →
+        left_out_of h ≡ Ok l → attached_of Placement.InPlace b h certificate ≡ Ok f →
+        p + n ≤ length certificate →
+        IsToldAt f (range certificate p n) (table_start Placement.InPlace l (length b) + p) }
+{
+    pe_sign::laws::written_tables_have_the_certificate();
+    pe_pkcs7::laws::signatures_are_told_where_they_stand();
 }

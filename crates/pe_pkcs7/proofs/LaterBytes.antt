@@ -3,6 +3,9 @@ use Rattle.std.proofs.Common.{◌≡◌, ℕ, zero, suc, ◌+◌, ◌-◌, ◌*�
 use Rattle.std.proofs.lemmas.Bool.Decides.{nat_tests}
 use Rattle.std.proofs.lemmas.List.{length-append, length-take, places, same_lists, get_or-take, get_or_past}
 use Rattle.std.specs.Prelude.{slice_index, nat_le, nat_lt, ◌==◌}
+use Rattle.pe_core.proofs.Ranges.{byte_of_range}
+use Rattle.pe_core.specs.Bytes.{range}
+use Rattle.pe_core.specs.Offsets.{StandAt}
 use Rattle.pe_core.specs.Refusals.{outcome, ◌>>=◌}
 use Rattle.pe_pkcs7.specs.Der.{be, unless, lacks, octets_after, head_tests, length_octets, content_length, is_longer, length_tests, element_of, element_at}
 use Rattle.pe_pkcs7.specs.Fields.{up_to_end, any_field, any_optional, with_tag, field, optional, after, ends_at, part_of, only_element, only_if_there, only_with_tag, content_bytes, element_bytes}
@@ -21,8 +24,23 @@ pub record StandLater (k : ℕ) (s t : List ℕ) : Type 0 where
 byte_at : (k : ℕ) (s t : List ℕ) → StandLater k s t → (p q : ℕ) → q ≡ p + k → slice_index t q ≡ slice_index s p
 byte_at k s t l p q e = rw e (l.byte p)
 
-pub front : (f b : List ℕ) → StandLater (length f) b (f ++ b)
-front f b = record { size = omega (arith, length-append f b); byte = λ i. grind (arith, places) }
+-- those that stand in a file
+stand_byte : (f b : List ℕ) (k i : ℕ) (test : Bool) → StandAt f k b → nat_lt i (length b) ≡ test → slice_index (take (k + length b) f) (i + k) ≡ slice_index b i
+stand_byte f b k i true h test =
+    let lt : i < length b = grind (arith, nat_tests, test) in
+    let place : i + k ≡ k + i = omega arith in
+    let taken : slice_index (take (k + length b) f) (i + k) ≡ slice_index f (i + k) = get_or-take (k + length b) f (i + k) 0 (omega (arith, lt)) in
+    let same : slice_index f (k + i) ≡ slice_index (range f k (length b)) i = byte_of_range f k (length b) i lt in
+    taken ∙ ap (λ (n : ℕ). slice_index f n) place ∙ same ∙ ap (λ (xs : List ℕ). slice_index xs i) h.here
+stand_byte f b k i false h test =
+    let le : length b ≤ i = grind (arith, nat_tests, test) in
+    get_or_past (take (k + length b) f) (i + k) 0 (omega (arith, le, length-take (k + length b) f)) ∙ sym (get_or_past b i 0 le)
+
+pub stands : (f b : List ℕ) (k : ℕ) → StandAt f k b → StandLater k b (take (k + length b) f)
+stands f b k h = record {
+  size = omega (arith, length-take (k + length b) f, h.inside);
+  byte = λ i. stand_byte f b k i (nat_lt i (length b)) h refl;
+}
 
 -- ---- tests
 
@@ -132,6 +150,10 @@ from_later k s t l o = same_lists _ _ (grind (arith, places, l.size)) (λ j d lt
 pub content_later : (k : ℕ) (s t : List ℕ) → StandLater k s t → (x : Element) → content_bytes t (later k x) ≡ content_bytes s x
 unfolding content_bytes
 content_later k s t l x = from_later k (take x.end s) (take (x.end + k) t) (cut k s t l x.end) x.content
+
+pub octets_of_later : (k : ℕ) (s t : List ℕ) → StandLater k s t → (x : Element) → element_bytes t (later k x) ≡ element_bytes s x
+unfolding element_bytes
+octets_of_later k s t l x = from_later k (take x.end s) (take (x.end + k) t) (cut k s t l x.end) x.offset
 
 -- ---- fields
 

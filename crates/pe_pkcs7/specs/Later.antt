@@ -1,6 +1,13 @@
--- What is read of bytes that other bytes stand before: the same, further on. `k` is how many stand before.
-use Rattle.std.specs.Prelude.{◌≡◌, ℕ, ◌+◌, List, ◌++◌, length, Option, Some, None, Result, Ok, Err}
-use Rattle.std.specs.Option.{option_map}
+-- What is read of bytes that stand later in a file: the same, further on. `k` is how many bytes of the file stand before.
+use Rattle.std.specs.Prelude.{◌≡◌, ℕ, ◌+◌, List, length, take, Option, Some, None, Result, Ok, Err}
+use Rattle.pe_pkcs7.specs.Certificates.{certificate, extension, key_usage, to_be_signed, validity}
+use Rattle.pe_pkcs7.specs.Der.{element_at}
+use Rattle.pe_pkcs7.specs.Fields.{content_bytes, element_bytes}
+use Rattle.pe_pkcs7.specs.Names.{attribute_at}
+use Rattle.pe_pkcs7.specs.SignedDatas.{algorithm_identifier, content_info, digest_info, encapsulated_content, signed_data, spc_indirect_data, spc_pe_image_data, spc_sp_opus_info, type_and_value}
+use Rattle.pe_pkcs7.specs.Signers.{attribute, issuer_and_serial, signer_info}
+use Rattle.pe_pkcs7.specs.Times.{time_of}
+use Rattle.pe_pkcs7.specs.TimeStamps.{tst_info}
 use Rattle.pe_pkcs7.specs.declared.der.Element.{Element}
 use Rattle.pe_pkcs7.specs.declared.error.SignatureError.{SignatureError}
 use Rattle.pe_pkcs7.specs.declared.error.SignatureError.TheVariants.{Truncated, TagNumber, IndefiniteLength, LengthOctets, LengthForm, PastParent, Missing, Tag, Trailing, ContentType, BadTime}
@@ -50,16 +57,6 @@ later_error k (BadTime p) = BadTime (p + k)
 abbrev pub later_result : {Y : Type 0} → (Y → Y) → ℕ → Result Y SignatureError → Result Y SignatureError
 later_result further k (Ok y) = Ok (further y)
 later_result further k (Err e) = Err (later_error k e)
-
--- ---- what is read of them
-
--- of an element where these bytes stand before the others, as many further on
-abbrev pub ReadsLater : {Y : Type 0} → (List ℕ → Element → Result Y SignatureError) → (ℕ → Y → Y) → Type 0
-ReadsLater read further = (front b : List ℕ) (x : Element) → read (front ++ b) (later (length front) x) ≡ later_result (further (length front)) (length front) (read b x)
-
--- what has no offset stays
-abbrev pub the_same : {Y : Type 0} → ℕ → Y → Y
-the_same k y = y
 
 -- ---- records of elements: each of them further on
 
@@ -155,3 +152,41 @@ later_tst_info k r = record {
 abbrev pub later_name_attribute : ℕ → NameAttribute × (ℕ × ℕ) → NameAttribute × (ℕ × ℕ)
 later_name_attribute k r =
     (record { kind = later k r.0.kind; value = later k r.0.value; starts_rdn = r.0.starts_rdn }, (r.1.0 + k, r.1.1 + k))
+
+-- ---- what is read of a file
+
+-- what a definition reads of an element of the file f, up to the end of the bytes b that stand in it at k, is what it reads of b
+abbrev pub ReadsLater : {Y : Type 0} → (List ℕ → Element → Result Y SignatureError) → (ℕ → Y → Y) → List ℕ → List ℕ → ℕ → Type 0
+ReadsLater read further f b k = (x : Element) → read (take (k + length b) f) (later k x) ≡ later_result (further k) k (read b x)
+
+-- what has no offset stays
+abbrev pub the_same : {Y : Type 0} → ℕ → Y → Y
+the_same k y = y
+
+-- so does every definition, of a signature b; with the octets of elements, which are the same. The attributes of a name are read from
+-- where one starts to the end of its relative distinguished name, which is 0 before the first
+pub record IsToldAt (f b : List ℕ) (k : ℕ) : Type 0 where
+  pub element : (p : ℕ) → element_at (take (k + length b) f) (p + k) ≡ later_result (later k) k (element_at b p)
+  pub contents : (x : Element) → content_bytes (take (k + length b) f) (later k x) ≡ content_bytes b x
+  pub octets : (x : Element) → element_bytes (take (k + length b) f) (later k x) ≡ element_bytes b x
+  pub info : ReadsLater content_info later_content_info f b k
+  pub signed : (c : ContentInfo) → signed_data (take (k + length b) f) (later_content_info k c) ≡ later_result (later_signed_data k) k (signed_data b c)
+  pub encapsulated : ReadsLater encapsulated_content later_encapsulated_content f b k
+  pub algorithm : ReadsLater algorithm_identifier later_algorithm_identifier f b k
+  pub typed_value : ReadsLater type_and_value later_type_and_value f b k
+  pub digest : ReadsLater digest_info later_digest_info f b k
+  pub indirect_data : ReadsLater spc_indirect_data later_indirect_data f b k
+  pub image_data : ReadsLater spc_pe_image_data later_image_data f b k
+  pub opus_info : ReadsLater spc_sp_opus_info later_opus_info f b k
+  pub signer : ReadsLater signer_info later_signer_info f b k
+  pub signer_name : ReadsLater issuer_and_serial later_issuer_and_serial f b k
+  pub signer_attribute : ReadsLater attribute later_attribute f b k
+  pub x509 : ReadsLater certificate later_certificate f b k
+  pub x509_fields : ReadsLater to_be_signed later_to_be_signed f b k
+  pub valid : ReadsLater validity later_validity f b k
+  pub x509_extension : ReadsLater extension later_extension f b k
+  pub usage : ReadsLater key_usage the_same f b k
+  pub time : ReadsLater time_of the_same f b k
+  pub stamp : ReadsLater tst_info later_tst_info f b k
+  pub name : (e p : ℕ) → attribute_at (take (k + length b) f) (e + k) (p + k) ≡ later_result (later_name_attribute k) k (attribute_at b e p)
+  pub name_start : (p : ℕ) → attribute_at (take (k + length b) f) 0 (p + k) ≡ later_result (later_name_attribute k) k (attribute_at b 0 p)

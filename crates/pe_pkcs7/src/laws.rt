@@ -1,20 +1,19 @@
 //! What the contracts say together.
 
-ghost use Rattle.std.specs.Prelude.{◌≡◌, ◌<◌, ◌≤◌, ◌%◌, ◌^◌, ◌++◌, ℕ, List, length, take, drop, Result, Ok};
+ghost use Rattle.std.specs.Prelude.{◌≡◌, ◌+◌, ◌<◌, ◌≤◌, ◌%◌, ◌^◌, ◌++◌, ℕ, List, length, take, drop, Result, Ok};
 ghost use Rattle.std.specs.Iterator.{Drains};
-ghost use Rattle.pe_core.specs.Bytes.{AreBytes};
+ghost use Rattle.pe_core.specs.Bytes.{AreBytes, range};
+ghost use Rattle.pe_core.specs.Offsets.{StandAt};
 ghost use Rattle.pe_pkcs7.specs.Fields.{first_element, elements_left, content_bytes, element_bytes};
 ghost use Rattle.pe_pkcs7.specs.Names.{first_name_attribute, name_left};
-ghost use Rattle.pe_pkcs7.specs.Signers.{attribute, issuer_and_serial, signed_octets, signer_info};
+ghost use Rattle.pe_pkcs7.specs.Signers.{signed_octets};
 ghost use Rattle.pe_pkcs7.specs.Walks.{ItemsLeft, HasOneList};
 ghost use Rattle.pe_pkcs7.specs.declared.error.SignatureError.{SignatureError};
 ghost use Rattle.pe_pkcs7.specs.declared.fields.Elements.{Elements};
 ghost use Rattle.pe_pkcs7.specs.declared.name.NameAttribute.{NameAttribute};
 ghost use Rattle.pe_pkcs7.specs.declared.name.NameAttributes.{NameAttributes};
 ghost use Rattle.pe_pkcs7.specs.Der.{element_at};
-ghost use Rattle.pe_pkcs7.specs.Later.{ReadsLater, later_algorithm_identifier, later_attribute, later_certificate, later_content_info, later_digest_info, later_encapsulated_content, later_extension, later_indirect_data, later_issuer_and_serial, later_signed_data, later_signer_info, later_type_and_value};
-ghost use Rattle.pe_pkcs7.specs.Certificates.{certificate, extension};
-ghost use Rattle.pe_pkcs7.specs.SignedDatas.{algorithm_identifier, content_info, digest_info, encapsulated_content, signed_data_fields, spc_indirect_data, type_and_value};
+ghost use Rattle.pe_pkcs7.specs.Later.{IsToldAt};
 ghost use Rattle.pe_pkcs7.specs.Encoding.{der, content_in, octets_in};
 ghost use Rattle.pe_pkcs7.specs.declared.der.Element.{Element};
 
@@ -67,21 +66,13 @@ pub fn walks_return_the_list()
     ensures name { HasOneList first_name_attribute }
 {}
 
-/// A signature is told the same wherever it stands: what is read of bytes that others stand before is what is read of them, each
-/// element and each error as many bytes further on. So what is read of a file up to the end of a certificate, by the offsets of the
-/// file, is what is read of the certificate alone.
-#[tactic(auto, using(crate::proofs::LaterParts::content_info_later, crate::proofs::LaterParts::signed_data_later, crate::proofs::LaterParts::encapsulated_later, crate::proofs::LaterParts::algorithm_later, crate::proofs::LaterParts::type_and_value_later, crate::proofs::LaterParts::digest_info_later, crate::proofs::LaterParts::indirect_data_later, crate::proofs::LaterParts::signer_info_later, crate::proofs::LaterParts::issuer_and_serial_later, crate::proofs::LaterParts::attribute_later, crate::proofs::LaterParts::certificate_later, crate::proofs::LaterParts::extension_later))]
-pub fn parts_stand_later()
-    ensures content_info { ReadsLater content_info later_content_info }
-    ensures signed_data { ReadsLater signed_data_fields later_signed_data }
-    ensures encapsulated { ReadsLater encapsulated_content later_encapsulated_content }
-    ensures algorithm { ReadsLater algorithm_identifier later_algorithm_identifier }
-    ensures type_and_value { ReadsLater type_and_value later_type_and_value }
-    ensures digest_info { ReadsLater digest_info later_digest_info }
-    ensures indirect_data { ReadsLater spc_indirect_data later_indirect_data }
-    ensures signer_info { ReadsLater signer_info later_signer_info }
-    ensures issuer_and_serial { ReadsLater issuer_and_serial later_issuer_and_serial }
-    ensures attribute { ReadsLater attribute later_attribute }
-    ensures certificate { ReadsLater certificate later_certificate }
-    ensures extension { ReadsLater extension later_extension }
+/// A signature is told the same wherever it stands: what is read of a file in which its bytes stand, up to their end and by the
+/// offsets of the file, is what is read of them alone, each element and each error as many bytes further on. So is a part of bytes
+/// that stand in a file, as the body in the entry of a certificate: the signature in a certificate that `attach` of pe_sign writes is
+/// that of the certificate that it was given.
+#[tactic(auto, using(crate::proofs::LaterParts::told))]
+pub fn signatures_are_told_where_they_stand()
+    ensures whole { (f b : List ℕ) (k : ℕ) → StandAt f k b → IsToldAt f b k }
+    ensures part { (f b : List ℕ) (k p n : ℕ) → StandAt f k b → p + n ≤ length b →
+        IsToldAt f (range b p n) (k + p) }
 {}

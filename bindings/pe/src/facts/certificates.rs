@@ -1,9 +1,9 @@
 //! The attribute certificates, and by whom those that are signatures are. Nothing is verified here: `pe verify` does that.
 
-use super::signatures::text_of;
+use super::signatures::{algorithm_of, text_of};
 use super::{entry, hex_of, List, Named, Part};
 use crate::names::CERTIFICATE_TYPES;
-use pe_c::{Image, SignatureError};
+use pe_c::{Image, SignatureError, Time};
 use serde::Serialize;
 
 #[derive(Clone, Debug, Serialize)]
@@ -12,20 +12,52 @@ pub struct Certificate {
     pub size: u32,
     pub revision: u16,
     pub r#type: Named,
-    /// By whom the signature is: the subject of the first signer's certificate, or where that is not in the file its issuer and
-    /// serial number. `None` of what is no signature.
-    #[serde(skip)]
-    pub signer: Option<String>,
+    /// Of a signature its first signer. Null where it is refused, and of what is no signature.
+    pub signer: Option<CertificateSigner>,
+}
+
+/// By whom a signature is, as it says.
+#[derive(Clone, Debug, Serialize)]
+pub struct CertificateSigner {
+    /// Of the signer's certificate, as RFC 4514 has it. Null where that is not in the file.
+    pub subject: Option<String>,
+    /// Issuer and serial number of the certificate.
+    pub issuer: String,
+    pub serial_hex: String,
+    pub digest_algorithm: String,
+    /// What the first time stamp says, by RFC 3339. Null without one, and where it is refused.
+    pub time_stamp: Option<String>,
+}
+
+impl std::fmt::Display for CertificateSigner {
+    fn fmt(&self, f: &mut std::fmt::Formatter<'_>) -> std::fmt::Result {
+        match &self.subject {
+            Some(subject) => f.write_str(subject),
+            None => write!(f, "number {} of {}", self.serial_hex, self.issuer),
+        }
+    }
 }
 
 entry!(Certificate, "certificates");
 
-fn signer_of(certificate: &pe_c::Certificate<'_>) -> Result<Option<String>, SignatureError> {
+/// What the first time stamp of a signer says. A counter-signature comes first.
+fn time_stamp_of(signer: &pe_c::Signer<'_>) -> Result<Option<Time>, SignatureError> {
+    if let Some(stamp) = signer.counter_signatures().next() {
+        return stamp?.signing_time();
+    }
+    let Some(token) = signer.time_stamps().next() else { return Ok(None) };
+    token?.time_stamp()?.map(|it| it.time()).transpose()
+}
+
+fn signer_of(certificate: &pe_c::Certificate<'_>) -> Result<Option<CertificateSigner>, SignatureError> {
     let Some(signature) = certificate.signature()? else { return Ok(None) };
     let Some(signer) = signature.signers().next().transpose()? else { return Ok(None) };
-    Ok(Some(match signature.certificate_of(&signer) {
-        Some(certificate) => text_of(certificate.subject()),
-        None => format!("number {} of {}", hex_of(signer.serial()), text_of(signer.issuer())),
+    Ok(Some(CertificateSigner {
+        subject: signature.certificate_of(&signer).map(|it| text_of(it.subject())),
+        issuer: text_of(signer.issuer()),
+        serial_hex: hex_of(signer.serial()),
+        digest_algorithm: algorithm_of(signer.digest_algorithm().oid()),
+        time_stamp: time_stamp_of(&signer).ok().flatten().map(|it| it.to_string()),
     }))
 }
 

@@ -29,8 +29,10 @@ fn version_of(facts: &Facts) -> Vec<Row> {
 fn signed_of(facts: &Facts) -> Option<Row> {
     let is_signed = facts.hardening.as_ref()?.signed;
     let entries = facts.certificates.as_ref().map_or(&[][..], Part::entries);
-    let signer =
-        entries.iter().find_map(|it| it.signer.as_deref()).map_or(String::new(), |it| format!(" by {}", escaped(it)));
+    let signer = entries
+        .iter()
+        .find_map(|it| it.signer.as_ref())
+        .map_or(String::new(), |it| format!(" by {}", escaped(&it.to_string())));
     Some(match (is_signed, entries.len()) {
         (true, 1) => ("signed", format!("yes{signer}, not verified"), ""),
         (true, count) => ("signed", format!("yes{signer}, {count} certificates, not verified"), ""),

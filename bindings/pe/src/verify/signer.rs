@@ -84,8 +84,7 @@ impl Stamp {
     fn good_time(&self) -> Option<Time> {
         let digests = [&self.digest, &self.message_digest];
         let checks = [&self.signature, &self.trust, &self.content_type, &self.key_purpose];
-        let is_good =
-            checks.iter().all(|it| **it == Checked::Good) && digests.iter().all(|it| **it == Compared::Equal);
+        let is_good = checks.iter().all(|it| **it == Checked::Good) && digests.iter().all(|it| **it == Compared::Equal);
         self.stamped.filter(|_| is_good && self.error.is_none())
     }
 }
@@ -165,7 +164,6 @@ impl<'a> Signed<'a> {
             error,
         }
     }
-
 
     /// The time stamps of a signer, of both kinds.
     fn time_stamps<'s>(&'s self, signer: &Signer<'a>, roots: Option<&'s Roots>) -> impl Iterator<Item = Stamp> + 's {
