@@ -19,14 +19,14 @@ whole_splice : (old s : List ℕ) → length s ≡ length old → splice old 0 s
 unfolding splice
 whole_splice old s e = ap (λ (l : List ℕ). s ++ l) (drop_all (0 + length s) old (omega (arith, e))) ∙ append-nil s
 
-written_by : (fits : Bool) (n m : ℕ) (x y : List ℕ) → outcome ((fits, Image WriteFit) ∷ []) (n, x) ≡ Ok (m, y) → x ≡ y
-written_by true n m x y h = let same : (n, x) ≡ (m, y) = cc in ap (λ (p : ℕ × List ℕ). p.1) same
-written_by false n m x y h = absurd cc
+written_by : (fits : Bool) (x y : ℕ × List ℕ) → outcome ((fits, Image WriteFit) ∷ []) x ≡ Ok y → x.1 ≡ y.1
+written_by true x y h = let same : x ≡ y = cc in ap (λ (p : ℕ × List ℕ). p.1) same
+written_by false x y h = absurd cc
 
 pub made_by : (made : Result (List ℕ) VersionRefusal) (old new : List ℕ) (n m : ℕ) → length_of made ≡ Ok n → length old ≡ n → written made old ≡ Ok (m, new) → made ≡ Ok new
 made_by (Ok s) old new n m size room h =
     let is : length s ≡ n = cc in
-    ap (λ (l : List ℕ). Ok l) (sym (whole_splice old s (is ∙ sym room)) ∙ written_by (nat_le (length s) (length old)) (length s) m (splice old 0 s) new h)
+    ap (λ (l : List ℕ). Ok l) (sym (whole_splice old s (is ∙ sym room)) ∙ written_by (nat_le (length s) (length old)) (length s, splice old 0 s) (m, new) h)
 made_by (Err e) old new n m size room h = absurd cc
 
 no_refusal : (fits : Bool) (x : ℕ × List ℕ) (r : VersionRefusal) → fits ≡ true → outcome ((fits, Image WriteFit) ∷ []) x ≡ Err r → ⊥
@@ -64,15 +64,16 @@ stops [] b x y r h = absurd cc
 stops ((true, q) ∷ a) b x y r h = stops a b x y r h
 stops ((false, q) ∷ a) b x y r h = cc
 
-pub one_made : {X : Type 0} (tests : X → List (Bool × VersionRefusal)) (bytes : X → List ℕ) (done s : List ℕ) (i : ℕ) (xs : List X) (d : X) → i < length xs →
-    outcome (tests (get_or xs i d)) (bytes (get_or xs i d)) ≡ Ok s → Made tests bytes done i xs → Made tests bytes (done ++ s) (i + 1) xs
-one_made {X} tests bytes done s i xs d h e m =
+pub one_made : {X : Type 0} (tests : X → List (Bool × VersionRefusal)) (bytes : X → List ℕ) (done s now : List ℕ) (i : ℕ) (xs : List X) (d : X) → i < length xs →
+    outcome (tests (get_or xs i d)) (bytes (get_or xs i d)) ≡ Ok s → now ≡ done ++ s → Made tests bytes done i xs → Made tests bytes now (i + 1) xs
+one_made {X} tests bytes done s now i xs d h e f m =
     let x : X = get_or xs i d in
     let rest : List X = drop (i + 1) xs in
     let here : drop i xs ≡ x ∷ rest = drop_more xs i d h in
     let is : bytes x ≡ s = value_same (tests x) (bytes x) s e in
     record {
-      is = ap (λ (l : List ℕ). outcome (flat_map tests rest) l) (append_assoc done s (flat_map bytes rest) ∙ ap (λ (l : List ℕ). done ++ (l ++ flat_map bytes rest)) (sym is))
+      is = ap (λ (l : List ℕ). outcome (flat_map tests rest) (l ++ flat_map bytes rest)) f
+          ∙ ap (λ (l : List ℕ). outcome (flat_map tests rest) l) (append_assoc done s (flat_map bytes rest) ∙ ap (λ (l : List ℕ). done ++ (l ++ flat_map bytes rest)) (sym is))
           ∙ sym (passes (tests x) (flat_map tests rest) (bytes x) s (done ++ (bytes x ++ flat_map bytes rest)) e)
           ∙ ap (λ (l : List X). outcome (flat_map tests l) (done ++ flat_map bytes l)) (sym here) ∙ m.is;
     }

@@ -22,6 +22,14 @@ pub failed_by : (kind : VersionRefusal) (a b : Result (List ℕ) VersionRefusal)
 failed_by kind a b f (inl m) = inl m
 failed_by kind a b f (inr e) = inr (f e)
 
+pub ok_is : (x y : List ℕ) → ◌≡◌ {A = Result (List ℕ) VersionRefusal} (Ok x) (Ok y) → y ≡ x
+ok_is x y e = cc
+
+-- what is always made is refused for memory alone
+pub never_failed : (kind : VersionRefusal) (x : List ℕ) (b : Result (List ℕ) VersionRefusal) → (kind ≡ Image Memory) ⊎ (◌≡◌ {A = Result (List ℕ) VersionRefusal} (Ok x) (Err kind)) → (kind ≡ Image Memory) ⊎ (b ≡ Err kind)
+never_failed kind x b (inl m) = inl m
+never_failed kind x b (inr e) = absurd cc
+
 -- ---- a table
 
 texts_tests : (ss : List VersionText) → flat_map block_tests (map text_block (map text_view ss)) ≡ flat_map text_tests ss
