@@ -1,7 +1,11 @@
 //! Blocks of version information that are written: their bytes, by Microsoft's page on VS_VERSIONINFO and its children, and
 //! refusals.
 
-use pe_version::{NewBlock, VersionError, block_len, write_block};
+use pe_resource::{Translation, VsFixedFileInfo};
+use pe_version::{
+    NewBlock, StringTable, VersionError, VersionText, VersionValue, block_len, version_bytes,
+    write_block,
+};
 use std::test::Fail;
 
 /// What a byte of a buffer is before a call.
@@ -99,5 +103,105 @@ fn refusals(rt: HostRuntime) -> Result<(), Fail> {
         return Err("a block is written past the end".into());
     };
     assert_eq!(rt; out, [OLD; 15]);
+    Ok(())
+}
+
+/// What windres 2.40 makes of two tables and two translations. Each of its blocks has a multiple of four bytes, so that it does not
+/// matter that it counts no zeros after the last one.
+const WHOLE: &[&[u8]] = &[
+    b"\x5c\x014\0\0\0V\0S\0_\0V\0E\0R\0S\0I\0O\0N\0_\0",
+    b"I\0N\0F\0O\0\0\0\0\0",
+    b"\xbd\x04\xef\xfe\0\0\x01\0\x02\0\x01\0\x04\0\x03\0\x06\0\x05\0\x08\0\x07\0?\0\0\0",
+    b"\x02\0\0\0\x04\0\x04\0\x01\0\0\0\0\0\0\0\0\0\0\0\0\0\0\0",
+    b"\xb8\0\0\0\x01\0S\0t\0r\0i\0n\0g\0F\0i\0l\0e\0I\0",
+    b"n\0f\0o\0\0\0",
+    b"T\0\0\0\x01\00\04\00\09\00\04\0B\00\0\0\0",
+    b"(\0\x04\0\x01\0C\0o\0m\0p\0a\0n\0y\0N\0a\0m\0e\0",
+    b"\0\0\0\0A\0b\0c\0\0\0",
+    b"\x14\0\x02\0\x01\0O\0w\0n\0\0\0\0\0x\0\0\0",
+    b"@\0\0\0\x01\00\04\00\07\0A\0B\0C\0D\0\0\0",
+    b"(\0\x04\0\x01\0F\0i\0l\0e\0V\0e\0r\0s\0i\0o\0n\0",
+    b"\0\0\0\01\0.\02\0\0\0",
+    b"H\0\0\0\x01\0V\0a\0r\0F\0i\0l\0e\0I\0n\0f\0o\0",
+    b"\0\0\0\0",
+    b"(\0\x08\0\0\0T\0r\0a\0n\0s\0l\0a\0t\0i\0o\0n\0",
+    b"\0\0\0\0\x09\x04\xb0\x04\x07\x04\xcd\xab",
+];
+
+#[test]
+fn bytes_of_version_information(rt: HostRuntime) -> Result<(), Fail> {
+    let fixed = VsFixedFileInfo {
+        signature: 0xFEEF_04BD,
+        struct_version: 0x10000,
+        file_version_ms: 0x10002,
+        file_version_ls: 0x30004,
+        product_version_ms: 0x50006,
+        product_version_ls: 0x70008,
+        file_flags_mask: 0x3F,
+        file_flags: 2,
+        file_os: 0x40004,
+        file_type: 1,
+        ..VsFixedFileInfo::default()
+    };
+    let translations = [
+        Translation {
+            language: 0x409,
+            code_page: 1200,
+        },
+        Translation {
+            language: 0x407,
+            code_page: 0xABCD,
+        },
+    ];
+    let english = [
+        VersionText {
+            name: b"C\0o\0m\0p\0a\0n\0y\0N\0a\0m\0e\0",
+            text: b"A\0b\0c\0\0\0",
+        },
+        VersionText {
+            name: b"O\0w\0n\0",
+            text: b"x\0\0\0",
+        },
+    ];
+    let german = [VersionText {
+        name: b"F\0i\0l\0e\0V\0e\0r\0s\0i\0o\0n\0",
+        text: b"1\0.\02\0\0\0",
+    }];
+    let tables = [
+        StringTable {
+            translation: translations[0],
+            strings: &english,
+        },
+        StringTable {
+            translation: translations[1],
+            strings: &german,
+        },
+    ];
+    let value = VersionValue {
+        fixed,
+        tables: &tables,
+        translations: &translations,
+    };
+    let mut wanted = Vec::new(rt.alloc());
+    for part in WHOLE {
+        wanted.extend_from_slice(part)?;
+    }
+    let made = version_bytes(rt.alloc(), &value)?;
+    assert_eq!(rt; made.as_slice(), wanted.as_slice());
+    let odd = [VersionText {
+        name: b"A\0",
+        text: b"x",
+    }];
+    let tables = [StringTable {
+        translation: translations[0],
+        strings: &odd,
+    }];
+    let value = VersionValue {
+        tables: &tables,
+        ..value
+    };
+    let Err(VersionError::Text) = version_bytes(rt.alloc(), &value) else {
+        return Err("half a code unit is accepted".into());
+    };
     Ok(())
 }

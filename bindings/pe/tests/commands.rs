@@ -341,7 +341,7 @@ fn icons_are_changed() {
             let words = ["extract", image, "resource", "--type", "3", "--name", id, "--language", language];
             run(&[&words[..], &[&path(&format!("{image}{id}{language}").replace('/', "-"))]].concat()).2 == 0
         };
-        ["1", "2", "3", "4"].iter().filter(of_id).count()
+        ["1", "2", "3", "4"].into_iter().filter(of_id).count()
     };
     let counts = ["b.exe", "c.exe"].map(|it| (ids(&path(it), "0x407"), ids(&path(it), "0x409")));
     assert_eq!(counts, [(3, 0), (1, 0)]);

@@ -4,3 +4,5 @@ pub mod Tests
 pub mod Calls
 pub mod VersionsRead
 pub mod OneText
+pub mod Making
+pub mod Whole

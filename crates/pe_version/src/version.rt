@@ -2,13 +2,13 @@
 //! translations. See Microsoft's [VS_VERSIONINFO](https://learn.microsoft.com/windows/win32/menurc/vs-versioninfo). pe_resource's
 //! walks read what is there, of which a caller makes such a value, and changes a text of it: all others stay.
 
-ghost use Rattle.std.specs.Prelude.{◌≡◌, ◌<◌, [], ◌∷◌, Ok, codes, map};
+ghost use Rattle.std.specs.Prelude.{◌≡◌, ◌<◌, [], ◌∷◌, Ok, codes};
 ghost use Rattle.std.specs.List.{flat_map};
 ghost use Rattle.pe_core.specs.Bytes.{bytes_of};
 ghost use Rattle.pe_core.specs.Refusals.{outcome};
 ghost use Rattle.pe_version.specs.VersionRefusals.{block_of, block_tests, block_view};
-ghost use Rattle.pe_version.specs.VersionValues.{blocks_of_table, fixed_bytes, hex_digit, key_of, table_block, table_blocks, text_block, text_blocks, parent, translation_block, translation_bytes, utf16, variables_block, version_of};
-ghost use Rattle.pe_version.specs.VersionViews.{Makes, table_view, text_view, value_view};
+ghost use Rattle.pe_version.specs.VersionValues.{fixed_bytes, hex_digit, key_of, parent, translation_block, translation_bytes, utf16, variables_block, version_of};
+ghost use Rattle.pe_version.specs.VersionViews.{Makes, each_made, table_bytes, table_tests, text_bytes, text_tests, value_view};
 ghost use Rattle.pe_version.specs.WrittenBlocks.{padded_block};
 
 use crate::block::{NewBlock, block_len, write_block};
@@ -58,24 +58,33 @@ fn bytes_of_block<A: Allocator + Copy + Drop>(
     Ok(made)
 }
 
+/// The block of a string.
+#[tactic(auto, unfolding(crate::specs::VersionViews::text_tests, crate::specs::VersionViews::text_bytes))]
+fn bytes_of_text<A: Allocator + Copy + Drop>(
+    alloc: A,
+    string: &VersionText<'_>,
+) -> Result<Vec<u8, A>, VersionError>
+    ensures { Makes (λ v. v.items) result (outcome (text_tests string.now) (text_bytes string.now)) }
+{
+    let block = NewBlock {
+        key: string.name,
+        is_text: true,
+        value: string.text,
+        children: &[],
+    };
+    bytes_of_block(alloc, &block)
+}
+
 /// The blocks of some strings, one after the other.
 fn bytes_of_texts<A: Allocator + Copy + Drop>(
     alloc: A,
     strings: &[VersionText<'_>],
 ) -> Result<Vec<u8, A>, VersionError>
-    ensures { Makes (λ v. v.items) result (outcome
-        (flat_map block_tests (map text_block (map text_view strings.now)))
-        (text_blocks (map text_view strings.now))) }
+    ensures { Makes (λ v. v.items) result (each_made text_tests text_bytes strings.now) }
 {
     let mut blocks = Vec::new(alloc);
     for string in strings {
-        let block = NewBlock {
-            key: string.name,
-            is_text: true,
-            value: string.text,
-            children: &[],
-        };
-        let bytes = bytes_of_block(alloc, &block)?;
+        let bytes = bytes_of_text(alloc, string)?;
         blocks.extend_from_slice(&bytes)?;
     }
     Ok(blocks)
@@ -136,9 +145,7 @@ fn bytes_of_table<A: Allocator + Copy + Drop>(
     alloc: A,
     table: &StringTable<'_>,
 ) -> Result<Vec<u8, A>, VersionError>
-    ensures { Makes (λ v. v.items) result (outcome
-        (flat_map block_tests (blocks_of_table (table_view table.now)))
-        (padded_block (table_block (table_view table.now)))) }
+    ensures { Makes (λ v. v.items) result (outcome (table_tests table.now) (table_bytes table.now)) }
 {
     let strings = bytes_of_texts(alloc, table.strings)?;
     let key = key_of(table.translation);
@@ -150,9 +157,7 @@ fn bytes_of_tables<A: Allocator + Copy + Drop>(
     alloc: A,
     tables: &[StringTable<'_>],
 ) -> Result<Vec<u8, A>, VersionError>
-    ensures { Makes (λ v. v.items) result (outcome
-        (flat_map block_tests (flat_map blocks_of_table (map table_view tables.now)))
-        (table_blocks (map table_view tables.now))) }
+    ensures { Makes (λ v. v.items) result (each_made table_tests table_bytes tables.now) }
 {
     let mut blocks = Vec::new(alloc);
     for table in tables {
@@ -163,6 +168,7 @@ fn bytes_of_tables<A: Allocator + Copy + Drop>(
 }
 
 /// Languages and code pages, four bytes each.
+#[tactic(auto, unfolding(pe_core::specs::Bytes::bytes_of), using(std::proofs::lemmas::Grind::common_steps))]
 fn bytes_of_translations<A: Allocator + Copy + Drop>(
     alloc: A,
     translations: &[Translation],
@@ -178,6 +184,7 @@ fn bytes_of_translations<A: Allocator + Copy + Drop>(
 }
 
 /// Numbers of four bytes each.
+#[tactic(auto, unfolding(pe_core::specs::Bytes::bytes_of), using(std::proofs::lemmas::Grind::common_steps))]
 fn bytes_of_numbers<A: Allocator + Copy + Drop>(
     alloc: A,
     numbers: &[u32],
