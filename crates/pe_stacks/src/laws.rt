@@ -1,9 +1,6 @@
 //! What the definitions that contracts cite say together.
 
-ghost use Rattle.std.specs.Prelude.{◌≡◌, ℕ, ◌≤◌, false, List, length, None, Ok, Some};
-ghost use Rattle.std.specs.Iterator.{YieldsThen};
-ghost use Rattle.pe_frame.specs.FrameWalks.{IsWalk, Process, state_of};
-ghost use Rattle.pe_core.specs.Header.{HeaderView, header_at};
+ghost use Rattle.std.specs.Prelude.{◌≡◌, ℕ, List, None, Ok, Result, Some};
 ghost use Rattle.pe_core.specs.declared.options.ParseOptions.{ParseOptions};
 ghost use Rattle.pe_minidump.specs.Dumps.{DumpView};
 ghost use Rattle.pe_minidump.specs.Refusals.{DumpRefusal};
