@@ -16,8 +16,8 @@ use Rattle.pe_stacks.specs.ThreadContexts.{context_at, first_of, or_else, raised
 abbrev parts : List ℕ → ParseOptions → HeaderView → Bool → Result (Option ModuleImageView) Refusal
 parts b opts h fits =
     if fits then
-      (sections_of b h >>= λ s. exceptions_of b h s opts >>= λ e.
-      Ok (Some (record { bytes = b; sections = s; exceptions = e; opts = opts })))
+    (sections_of b h >>= λ s. exceptions_of b h s opts >>= λ e.
+    Ok (Some (record { bytes = b; sections = s; exceptions = e; opts = opts })))
     else Ok None
 
 fits_by : (b : List ℕ) (opts : ParseOptions) (h : HeaderView) (fits : Bool) (i : ModuleImageView) → parts b opts h fits ≡ Ok (Some i) → fits ≡ true

@@ -1,5 +1,5 @@
 -- All frames of a walk, as the calls of `next` return them.
-use Rattle.std.proofs.Common.{◌≡◌, ℕ, ◌≤◌, List, length, Option, None, Result, ap, sym, subst, arith}
+use Rattle.std.proofs.Common.{◌≡◌, ℕ, ◌≤◌, List, length, Option, None, Result, sym, subst}
 use Rattle.std.specs.Iterator.{Yields}
 use Rattle.pe_frame.specs.FrameWalks.{Advances, FrameWalk, IsWalk, Process, starting_walk}
 use Rattle.pe_frame.specs.declared.walk.WalkEnd.{WalkEnd}

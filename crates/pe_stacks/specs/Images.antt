@@ -51,8 +51,8 @@ abbrev pub image_of : List ℕ → ParseOptions → Module → Result (Option Mo
 image_of b opts m =
     header_at b opts.parse_mode >>= λ h.
     if is_image_of h m then
-      (sections_of b h >>= λ s. exceptions_of b h s opts >>= λ e.
-      Ok (Some (record { bytes = b; sections = s; exceptions = e; opts = opts })))
+    (sections_of b h >>= λ s. exceptions_of b h s opts >>= λ e.
+    Ok (Some (record { bytes = b; sections = s; exceptions = e; opts = opts })))
     else Ok None
 
 -- the headers of these bytes are those of the image of a module

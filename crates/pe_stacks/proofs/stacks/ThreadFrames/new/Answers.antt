@@ -1,7 +1,5 @@
-use Rattle.pe_frame.specs.FrameWalks.{Process}
+use Rattle.pe_stacks.specs.ThreadWalks.{process_of}
 use Rattle.pe_stacks.proofs.stacks.ThreadFrames.new.Goals as goal
 
 pub returns : goal.returns
-returns g c =
-    let p : Process = record { memory = g.M.Memory.word c.args.memory.now; modules = g.L.LoadedModules.modules c.args.modules.now } in
-    c.starting.ensures p
+returns g c = c.starting.ensures (process_of g.L.LoadedModules.modules g.M.Memory.word c.args.modules.now c.args.memory.now)
