@@ -50,8 +50,11 @@ fn first_piece_counts_and_gaps_are_none(rt: HostRuntime) -> Result<(), Fail> {
     let memory = IndexedMemory::new(rt.alloc(), &bytes, &pieces)?;
     assert_eq!(rt; memory.byte_at(0x100), Some(1));
     assert_eq!(rt; memory.byte_at(0x106), Some(9));
-    assert_eq!(rt; (memory.byte_at(0x109), memory.byte_at(0x10A)), (Some(12), None));
-    assert_eq!(rt; memory.u64_at(0x101), Some(0x0A09_0605_0403_0302 + 0x0100_0000_0000_0000));
+    assert_eq!(rt;
+        (memory.byte_at(0x109), memory.byte_at(0x10A)),
+        (Some(12), None)
+    );
+    assert_eq!(rt; memory.u64_at(0x101), Some(0x0B0A_0906_0504_0302));
     assert_eq!(rt; (memory.u64_at(0x103), memory.u64_at(0x110)), (None, None));
     assert!(rt; IndexedMemory::new(rt.alloc(), &bytes, &[piece(0, 9, 4)]).is_err());
     Ok(())
@@ -75,7 +78,10 @@ fn a_walk_goes_through_modules_in_any_order(rt: HostRuntime) -> Result<(), Fail>
     ];
     let modules = IndexedModules::new(alloc, &modules)?;
     assert_eq!(rt; modules.find(LIB + 0x70).map(|it| it.base), Some(LIB));
-    assert_eq!(rt; modules.find(LIB + u64::from(SIZE)).map(|it| it.base), Some(LIB + 0x10));
+    assert_eq!(rt;
+        modules.find(LIB + u64::from(SIZE)).map(|it| it.base),
+        Some(LIB + 0x10)
+    );
     assert!(rt; modules.find(LIB - 1).is_none());
     let bytes = file(alloc)?;
     let pieces = [
@@ -127,7 +133,8 @@ fn pieces_of_both_lists(rt: HostRuntime) -> Result<(), Fail> {
     let pieces = memory_pieces(alloc, &Dump::parse(&bytes)?)?;
     assert_eq!(rt; (pieces.len(), pieces[0]), (1, piece(0x1000, 32, 4)));
     // Two pieces of a full dump: the second is truncated.
-    let list = b"\x02\0\0\0\0\0\0\0\x2C\0\0\0\0\0\0\0\0\x10\0\0\0\0\0\0\x08\0\0\0\0\0\0\0\0\x20\0\0\0\0\0\0\0\x10\0\0\0\0\0\0";
+    let list =
+        b"\x02\0\0\0\0\0\0\0\x2C\0\0\0\0\0\0\0\0\x10\0\0\0\0\0\0\x08\0\0\0\0\0\0\0\0\x20\0\0\0\0\0\0\0\x10\0\0\0\0\0\0";
     let bytes = with_stream(alloc, 9, list)?;
     let pieces = memory_pieces(alloc, &Dump::parse(&bytes)?)?;
     assert_eq!(rt; (pieces.len(), pieces[0]), (2, piece(0x1000, 44, 8)));
@@ -185,11 +192,12 @@ fn images_are_those_of_modules(rt: HostRuntime) -> Result<(), Fail> {
     assert!(rt; !is_image_of(&header, &dump_module(stamp, size + 1)));
     let found = ModuleImage::parse(alloc, &bytes, &opts, &own)?.ok_or("an image")?;
     let loaded = found.loaded(&own);
-    assert_eq!(rt; (loaded.base, loaded.size, loaded.sections.len()), (APP, size, 1));
-    assert!(rt; loaded.exceptions.is_some());
-    assert!(rt;
-        ModuleImage::parse(alloc, &bytes, &opts, &dump_module(stamp + 1, size))?.is_none()
+    assert_eq!(rt;
+        (loaded.base, loaded.size, loaded.sections.len()),
+        (APP, size, 1)
     );
+    assert!(rt; loaded.exceptions.is_some());
+    assert!(rt; ModuleImage::parse(alloc, &bytes, &opts, &dump_module(stamp + 1, size))?.is_none());
     assert!(rt; ModuleImage::parse(alloc, &bytes[..60], &opts, &own).is_err());
     Ok(())
 }

@@ -105,7 +105,10 @@ fn flat() -> ParseOptions {
 }
 
 /// The exception data of an image with so many functions.
-pub(crate) fn exceptions(bytes: &[u8], functions: u32) -> Result<ExceptionData<'_>, pe_core::Error> {
+pub(crate) fn exceptions(
+    bytes: &[u8],
+    functions: u32,
+) -> Result<ExceptionData<'_>, pe_core::Error> {
     let table = DataDirectory {
         virtual_address: 0,
         size: 12 * functions,
@@ -113,7 +116,11 @@ pub(crate) fn exceptions(bytes: &[u8], functions: u32) -> Result<ExceptionData<'
     ExceptionData::parse_with_opts(bytes, table, &[], 0x200, &flat())
 }
 
-pub(crate) fn module<'a>(base: u64, bytes: &'a [u8], exceptions: &'a ExceptionData<'a>) -> Module<'a> {
+pub(crate) fn module<'a>(
+    base: u64,
+    bytes: &'a [u8],
+    exceptions: &'a ExceptionData<'a>,
+) -> Module<'a> {
     Module {
         base,
         size: SIZE,
