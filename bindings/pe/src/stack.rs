@@ -68,10 +68,12 @@ pub fn is_dump(bytes: &[u8]) -> bool {
     bytes.starts_with(b"MDMP")
 }
 
-/// The texts of a dump, of which records may share one: they are shown up to a bound.
+/// The texts of a dump, of which records may share one: they are read and shown up to a bound.
 struct Texts<'d> {
     dump: &'d Dump<'d>,
     budget: Budget,
+    /// Whether a text was past the bound: none is read after it.
+    is_over: bool,
 }
 
 impl Texts<'_> {
@@ -82,8 +84,12 @@ impl Texts<'_> {
 
     /// The same of a text that is shown so many times.
     fn shown(&mut self, rva: u64, times: usize) -> Option<String> {
+        if self.is_over {
+            return None;
+        }
         let text = self.dump.text_lossy(rva, UNITS).ok().filter(|it| !it.is_empty())?;
-        self.budget.takes(text.len().saturating_mul(times)).then_some(text)
+        self.is_over = !self.budget.takes(text.len().saturating_mul(times));
+        Some(text).filter(|_| !self.is_over)
     }
 }
 
@@ -113,7 +119,7 @@ impl Loaded<'_> {
 }
 
 fn told_of(dump: &Dump<'_>, path: &Path, known: &Known, asked: Asked) -> Told {
-    let mut texts = Texts { dump, budget: Budget::without_rvas(dump.bytes()) };
+    let mut texts = Texts { dump, budget: Budget::without_rvas(dump.bytes()), is_over: false };
     let modules: Vec<DumpModule> = dump.modules().into_iter().flatten().flatten().collect();
     let paths: Vec<Option<String>> = modules.iter().map(|it| texts.shown(it.module_name_rva.into(), TIMES)).collect();
     let names = paths.iter().map(|it| it.as_deref().map_or("", name_of));
