@@ -86,6 +86,8 @@ mod signatures;
 #[cfg(test)]
 mod signing;
 #[cfg(test)]
+mod stacks;
+#[cfg(test)]
 mod symbols;
 #[cfg(test)]
 mod table_texts;

@@ -16,18 +16,18 @@ use std::process::Abort;
 use std::test::Fail;
 
 /// Where the modules are loaded.
-const APP: u64 = 0x1_4000_0000;
+pub(crate) const APP: u64 = 0x1_4000_0000;
 
-const LIB: u64 = 0x1_8000_0000;
+pub(crate) const LIB: u64 = 0x1_8000_0000;
 
-const NT: u64 = 0x7FF8_0000_0000;
+pub(crate) const NT: u64 = 0x7FF8_0000_0000;
 
 /// How many bytes each of them has.
-const SIZE: u32 = 0xA0;
+pub(crate) const SIZE: u32 = 0xA0;
 
-const RBX: usize = 3;
+pub(crate) const RBX: usize = 3;
 
-const RSP: usize = 4;
+pub(crate) const RSP: usize = 4;
 
 const RBP: usize = 5;
 
@@ -56,7 +56,7 @@ const ENDLESS: [u8; 16] = [0x21, 0, 0, 0, 0x90, 0, 0, 0, 0xA0, 0, 0, 0, 0x38, 0,
 
 /// Two functions that push rbx, at 0x40 and 0x80, and one between them. The first one ends with a call, the last one with its
 /// epilog, at 0x9A.
-fn app(alloc: Global) -> Result<Vec<u8>, AllocError> {
+pub(crate) fn app(alloc: Global) -> Result<Vec<u8>, AllocError> {
     let table = [
         0x40, 0, 0, 0, 0x60, 0, 0, 0, 0x24, 0, 0, 0, 0x60, 0, 0, 0, 0x80, 0, 0, 0, 0x2C, 0, 0, 0,
         0x80, 0, 0, 0, 0xA0, 0, 0, 0, 0x24, 0, 0, 0,
@@ -73,7 +73,7 @@ fn app(alloc: Global) -> Result<Vec<u8>, AllocError> {
 
 /// A function that pushes rbx at 0x40, with a call that ends at 0x50, one that sets a frame register at 0x80, and two whose
 /// records are refused after it.
-fn lib(alloc: Global) -> Result<Vec<u8>, AllocError> {
+pub(crate) fn lib(alloc: Global) -> Result<Vec<u8>, AllocError> {
     let table = [
         0x40, 0, 0, 0, 0x60, 0, 0, 0, 0x68, 0, 0, 0, 0x80, 0, 0, 0, 0x88, 0, 0, 0, 0x30, 0, 0, 0,
         0x88, 0, 0, 0, 0x90, 0, 0, 0, 0x60, 0, 0, 0, 0x90, 0, 0, 0, 0xA0, 0, 0, 0, 0x38, 0, 0, 0,
@@ -90,7 +90,7 @@ fn lib(alloc: Global) -> Result<Vec<u8>, AllocError> {
 }
 
 /// A function at 0x40 that an interrupt entered, with a call that ends at 0x50.
-fn nt(alloc: Global) -> Result<Vec<u8>, AllocError> {
+pub(crate) fn nt(alloc: Global) -> Result<Vec<u8>, AllocError> {
     let table = [0x40, 0, 0, 0, 0x60, 0, 0, 0, 0x0C, 0, 0, 0];
     let parts: [(usize, &[u8]); 3] = [(0, &table), (0x0C, &IS_INTERRUPTED), (0x4B, &CALL)];
     image(alloc, SIZE as usize, &parts)
@@ -105,7 +105,10 @@ fn flat() -> ParseOptions {
 }
 
 /// The exception data of an image with so many functions.
-fn exceptions(bytes: &[u8], functions: u32) -> Result<ExceptionData<'_>, pe_core::Error> {
+pub(crate) fn exceptions(
+    bytes: &[u8],
+    functions: u32,
+) -> Result<ExceptionData<'_>, pe_core::Error> {
     let table = DataDirectory {
         virtual_address: 0,
         size: 12 * functions,
@@ -113,7 +116,11 @@ fn exceptions(bytes: &[u8], functions: u32) -> Result<ExceptionData<'_>, pe_core
     ExceptionData::parse_with_opts(bytes, table, &[], 0x200, &flat())
 }
 
-fn module<'a>(base: u64, bytes: &'a [u8], exceptions: &'a ExceptionData<'a>) -> Module<'a> {
+pub(crate) fn module<'a>(
+    base: u64,
+    bytes: &'a [u8],
+    exceptions: &'a ExceptionData<'a>,
+) -> Module<'a> {
     Module {
         base,
         size: SIZE,
@@ -125,7 +132,7 @@ fn module<'a>(base: u64, bytes: &'a [u8], exceptions: &'a ExceptionData<'a>) -> 
 }
 
 /// Registers that are 0, but for these.
-fn registers(rip: u64, rsp: u64) -> Registers {
+pub(crate) fn registers(rip: u64, rsp: u64) -> Registers {
     let mut registers = Registers {
         general: [0; 16],
         xmm: [0; 16],
@@ -141,7 +148,7 @@ fn text<T: Display>(alloc: Global, value: &T) -> Result<String, AllocError> {
 
 /// From address 0x1000 on: the return address of a leaf function of the library, the frame of the function that called it,
 /// which saved rbx, and that of a function that an interrupt entered, with the machine frame.
-const INNER: [u64; 20] = [
+pub(crate) const INNER: [u64; 20] = [
     LIB + 0x50,
     0,
     0,
@@ -166,10 +173,10 @@ const INNER: [u64; 20] = [
 
 /// From address 0x2000 on: rbx and the return address of a function that is about to pop rbx in its epilog, and the frame of
 /// the function that called it by its last instruction, which saved rbx too. That one's return address is 0.
-const OUTER: [u64; 8] = [0xB2, APP + 0x60, 0, 0, 0, 0, 0xB3, 0];
+pub(crate) const OUTER: [u64; 8] = [0xB2, APP + 0x60, 0, 0, 0, 0, 0xB3, 0];
 
 /// The frames, from the top frame outwards: rip, rsp, rbx and the way.
-const FRAMES: [(u64, u64, u64, Way); 5] = [
+pub(crate) const FRAMES: [(u64, u64, u64, Way); 5] = [
     (LIB + 0x70, 0x1000, 0xB0, Way::Top),
     (LIB + 0x50, 0x1008, 0xB0, Way::Leaf),
     (NT + 0x50, 0x1038, 0xB1, Way::Records),

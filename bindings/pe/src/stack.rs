@@ -23,6 +23,8 @@ use told::{Exception, Memory, Process, System, Thread, Unloaded};
 
 /// How many UTF-16 code units of a text are shown. A path under Windows has mostly less than 260.
 const UNITS: usize = 1024;
+/// How many times a module shows its path or the name in it.
+const TIMES: usize = 4;
 /// How many characters of a module's name a frame shows, and how many bytes of a record that names a PDB are read.
 const NAME: usize = 64;
 const PDB_RECORD: usize = 2048;
@@ -66,17 +68,28 @@ pub fn is_dump(bytes: &[u8]) -> bool {
     bytes.starts_with(b"MDMP")
 }
 
-/// The texts of a dump, of which records may share one: they are shown up to a bound.
+/// The texts of a dump, of which records may share one: they are read and shown up to a bound.
 struct Texts<'d> {
     dump: &'d Dump<'d>,
     budget: Budget,
+    /// Whether a text was past the bound: none is read after it.
+    is_over: bool,
 }
 
 impl Texts<'_> {
     /// The text at an offset. Null of one that is empty, cannot be read, or is past the bound.
     fn at(&mut self, rva: u64) -> Option<String> {
+        self.shown(rva, 1)
+    }
+
+    /// The same of a text that is shown so many times.
+    fn shown(&mut self, rva: u64, times: usize) -> Option<String> {
+        if self.is_over {
+            return None;
+        }
         let text = self.dump.text_lossy(rva, UNITS).ok().filter(|it| !it.is_empty())?;
-        self.budget.takes(text.len()).then_some(text)
+        self.is_over = !self.budget.takes(text.len().saturating_mul(times));
+        Some(text).filter(|_| !self.is_over)
     }
 }
 
@@ -106,9 +119,9 @@ impl Loaded<'_> {
 }
 
 fn told_of(dump: &Dump<'_>, path: &Path, known: &Known, asked: Asked) -> Told {
-    let mut texts = Texts { dump, budget: Budget::without_rvas(dump.bytes()) };
+    let mut texts = Texts { dump, budget: Budget::without_rvas(dump.bytes()), is_over: false };
     let modules: Vec<DumpModule> = dump.modules().into_iter().flatten().flatten().collect();
-    let paths: Vec<Option<String>> = modules.iter().map(|it| texts.at(it.module_name_rva.into())).collect();
+    let paths: Vec<Option<String>> = modules.iter().map(|it| texts.shown(it.module_name_rva.into(), TIMES)).collect();
     let names = paths.iter().map(|it| it.as_deref().map_or("", name_of));
     let files = known.read(modules.into_iter().zip(names));
     let images = DumpImages::new(dump, |module| files.bytes_of(module));

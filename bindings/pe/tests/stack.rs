@@ -8,6 +8,7 @@ mod running;
 use running::{run, Folder};
 use serde_json::{json, Value};
 use std::fs;
+use std::process::Command;
 
 /// What is said of a dump, with these arguments after it, and the status.
 fn said_of(test: &str, bytes: &[u8], more: &[&str]) -> (Value, i32) {
@@ -162,4 +163,35 @@ fn json_is_the_golden_line() {
         fs::write(path, &said).unwrap();
     }
     assert_eq!(said, fs::read_to_string(path).unwrap());
+}
+
+/// What a traced call opens, relative to the folder that it runs in. The loader's files and the system's are absolute.
+fn opened_by(line: &str) -> Option<&str> {
+    let (call, rest) = line.split_once('(')?;
+    let path = rest.split('"').nth(1)?;
+    (call.contains("open") && !path.starts_with('/')).then_some(path)
+}
+
+#[test]
+fn no_path_of_a_dump_is_opened() {
+    let folder = Folder::new("stack-opened");
+    // The name of the module is `a.exe`, and this is its image.
+    folder.file("a.exe", &made::with_functions());
+    folder.file("a.dmp", &made::full_dump(made::X64));
+    fs::create_dir(folder.0.join("images")).unwrap();
+    folder.file("images/other.exe", &made::with_functions());
+    let words =
+        ["-f", "-qq", "-e", "trace=open,openat,openat2,connect,execve", "-o", "calls", env!("CARGO_BIN_EXE_pe")];
+    for command in [["stack", "a.dmp", "--json"], ["report", "a.dmp", "page.html"]] {
+        let mut traced = Command::new("strace");
+        traced.args(words).args(command).args(["--images", "images"]).current_dir(&folder.0);
+        match traced.output() {
+            Ok(ran) if ran.status.success() => (),
+            _ => return eprintln!("Debian's package strace is missing, or may not trace: what is opened is not tried"),
+        }
+        let calls = fs::read_to_string(folder.0.join("calls")).unwrap();
+        let opened: Vec<&str> = calls.lines().filter_map(opened_by).filter(|it| *it != "page.html").collect();
+        assert_eq!(opened, ["a.dmp", "images", "images/other.exe", "images/other.exe"]);
+        assert_eq!((calls.matches("execve(").count(), calls.matches("connect(").count()), (1, 0));
+    }
 }

@@ -1,11 +1,9 @@
 -- Lookup by an index is lookup in turn.
-use Rattle.std.proofs.Common.{◌≡◌, ℕ, zero, suc, ◌+◌, ◌<◌, Bool, true, false, cond, List, [], ◌∷◌, ◌++◌, length, map, get_or, take, Option, Some, None, refl, ap, sym, ◌∙◌, subst, arith}
-use Rattle.std.proofs.lemmas.List.{map-append, take_more}
+use Rattle.std.proofs.Common.{◌≡◌, ℕ, suc, ◌+◌, ◌<◌, Bool, true, false, cond, List, [], ◌∷◌, length, get_or, Some, None, refl, arith}
 use Rattle.std.specs.List.{find}
 use Rattle.pe_frame.specs.AddressRanges.{has_address}
 use Rattle.pe_minidump.specs.AddressIndexes.{first_index}
-use Rattle.pe_minidump.specs.declared.address_index.AddressRange.{AddressRange}
-use Rattle.pe_stacks.specs.Lookups.{addresses, all_addresses}
+use Rattle.pe_stacks.specs.Lookups.{all_addresses}
 
 module _ {X : Type 0} (start size : X → ℕ) (a : ℕ) where
   -- what is found, by the index of a range in a list that starts with the index o

@@ -1,1 +1,3 @@
 pub mod Founds
+pub mod Headline
+pub mod Walked

@@ -1,20 +1,18 @@
 //! What the definitions that contracts cite say together.
 
-ghost use Rattle.std.specs.Prelude.{◌≡◌, ℕ, ◌≤◌, false, List, length, None, Ok, Some};
-ghost use Rattle.std.specs.Iterator.{YieldsThen};
-ghost use Rattle.pe_frame.specs.FrameWalks.{IsWalk, Process, state_of};
-ghost use Rattle.pe_core.specs.Header.{HeaderView, header_at};
+ghost use Rattle.std.specs.Prelude.{◌≡◌, ℕ, List, None, Ok, Some};
 ghost use Rattle.pe_core.specs.declared.options.ParseOptions.{ParseOptions};
+ghost use Rattle.pe_minidump.specs.Contexts.{context_arm64, context_x64};
 ghost use Rattle.pe_minidump.specs.Dumps.{DumpView};
-ghost use Rattle.pe_minidump.specs.Refusals.{DumpRefusal};
+ghost use Rattle.pe_minidump.specs.declared.context_arm64.ContextArm64.{ContextArm64};
+ghost use Rattle.pe_minidump.specs.declared.context_x64.ContextX64.{ContextX64};
 ghost use Rattle.pe_minidump.specs.declared.location.Location.{Location};
 ghost use Rattle.pe_minidump.specs.declared.module.Module.{Module};
 ghost use Rattle.pe_minidump.specs.declared.thread.Thread.{Thread};
 ghost use Rattle.pe_stacks.specs.Images.{Fits, ModuleImageView, image_of};
 ghost use Rattle.pe_stacks.specs.ThreadContexts.{context_at, raised_at, thread_context};
 
-/// An image is taken only if its time stamp and its size are those of the module; and whatever else is in its bytes, another one is
-/// never taken.
+/// An image is taken only if its time stamp and its size are those of the module.
 pub fn images_match()
     ensures { (b : List ℕ) (opts : ParseOptions) (m : Module) (i : ModuleImageView) →
         image_of b opts m ≡ Ok (Some i) → Fits b opts m }
@@ -23,8 +21,12 @@ pub fn images_match()
 /// The registers of a thread are those of the exception, where it names the thread and they can be read (`raised`); and its own where
 /// it does not name the thread (`own`).
 pub fn exceptions_come_first()
-    ensures raised { {C : Type 0} (read : List ℕ → Result C DumpRefusal) (d : DumpView) (t : Thread) (l : Location) (c : C) →
-        raised_at d t ≡ Some l → context_at read d l ≡ Ok c → thread_context read d t ≡ Ok c }
-    ensures own { {C : Type 0} (read : List ℕ → Result C DumpRefusal) (d : DumpView) (t : Thread) →
-        raised_at d t ≡ None → thread_context read d t ≡ context_at read d t.thread_context }
+    ensures raised { (d : DumpView) (t : Thread) (l : Location) (c : ContextX64) →
+        raised_at d t ≡ Some l → context_at context_x64 d l ≡ Ok c → thread_context context_x64 d t ≡ Ok c }
+    ensures own { (d : DumpView) (t : Thread) →
+        raised_at d t ≡ None → thread_context context_x64 d t ≡ context_at context_x64 d t.thread_context }
+    ensures raised_arm64 { (d : DumpView) (t : Thread) (l : Location) (c : ContextArm64) →
+        raised_at d t ≡ Some l → context_at context_arm64 d l ≡ Ok c → thread_context context_arm64 d t ≡ Ok c }
+    ensures own_arm64 { (d : DumpView) (t : Thread) →
+        raised_at d t ≡ None → thread_context context_arm64 d t ≡ context_at context_arm64 d t.thread_context }
 {}

@@ -92,11 +92,7 @@ pub struct IndexedMemory<'a, A: Allocator + Drop> {
 
 impl<'a, A: Allocator + Copy + Drop> IndexedMemory<'a, A> {
     /// Memory in these pieces of the bytes of a file. Errors: `Short` if a piece does not lie in the bytes; `Memory`.
-    pub fn new(
-        alloc: A,
-        bytes: &'a [u8],
-        pieces: &'a [MemoryPiece],
-    ) -> Result<IndexedMemory<'a, A>>
+    pub fn new(alloc: A, bytes: &'a [u8], pieces: &'a [MemoryPiece]) -> Result<IndexedMemory<'a, A>>
         ensures { ReturnsUnlessMemory {Y = List ℕ × List MemoryPiece}
             (λ m. (m.bytes.now, m.pieces.ranges.now)) result
             (memory_of bytes.entry.now pieces.entry.now) }

@@ -1,10 +1,11 @@
 //! The frames of threads, over the modules and the memory of their process, with a bound on all of them together: in a dump many
 //! threads may share one deep stack.
 
-ghost use Rattle.std.specs.Prelude.{◌≡◌, ◌+◌, ◌≤◌, ℕ, Option, length, min, IfOk, OnOk};
+ghost use Rattle.std.specs.Prelude.{◌≡◌, ◌+◌, length, min, IfOk};
 ghost use Rattle.std.specs.Iterator.{at_most};
 ghost use Rattle.std.specs.Option.{option_map};
-ghost use Rattle.pe_frame.specs.FrameWalks.{Advances, FrameWalk, IsWalk, Process, end_of, starting_walk, state_of};
+ghost use Rattle.pe_frame.specs.FrameWalks.{Advances, IsWalk, end_of, starting_walk};
+ghost use Rattle.pe_stacks.specs.ThreadWalks.{process_of, walk_at};
 
 use pe_frame::{LoadedModules, Memory, WalkEnd, WalkFrame, WalkPosition};
 use std::alloc::{AllocError, Allocator};
@@ -20,8 +21,8 @@ pub struct ThreadFrames<'s, F, L, M> {
 impl<'s, F: WalkFrame, L: LoadedModules, M: Memory> ThreadFrames<'s, F, L, M> {
     /// A walk of at most `most` frames, from the top frame of a thread.
     pub fn new(modules: &'s L, memory: &'s M, top: F, most: usize) -> ThreadFrames<'s, F, L, M>
-        ensures { state_of {P = Process} (record { memory = M.word result.memory.now; modules = L.modules result.modules.now }) result.position
-            ≡ starting_walk {P = Process} (record { memory = M.word memory.entry.now; modules = L.modules modules.entry.now }) top most }
+        ensures { walk_at (L.modules) (M.word) result
+            ≡ starting_walk (process_of (L.modules) (M.word) modules.entry.now memory.entry.now) top most }
     {
         ThreadFrames {
             modules,
@@ -32,8 +33,7 @@ impl<'s, F: WalkFrame, L: LoadedModules, M: Memory> ThreadFrames<'s, F, L, M> {
 
     /// Why the walk is over. `None` while a frame may follow.
     pub fn end(&self) -> Option<&WalkEnd>
-        ensures { option_map (λ e. e.now) result
-            ≡ end_of {P = Process} (state_of {P = Process} (record { memory = M.word self.now.memory.now; modules = L.modules self.now.modules.now }) self.now.position) }
+        ensures { option_map (λ e. e.now) result ≡ end_of (walk_at (L.modules) (M.word) self.now) }
     {
         if self.position.remaining == 0 {
             Some(&self.position.end)
@@ -47,8 +47,7 @@ impl<'s, F: WalkFrame, L: LoadedModules, M: Memory> Iterator for ThreadFrames<'s
     type Item = F;
 
     ghost next_gives = { λ s r t. Advances F.Calls
-        (state_of {P = Process} (record { memory = M.word s.memory.now; modules = L.modules s.modules.now }) s.position) r
-        (state_of {P = Process} (record { memory = M.word t.memory.now; modules = L.modules t.modules.now }) t.position) };
+        (walk_at (L.modules) (M.word) s) r (walk_at (L.modules) (M.word) t) };
 
     ghost remaining = { λ s. at_most s.position.remaining };
 
@@ -103,7 +102,7 @@ impl<'s, L: LoadedModules, M: Memory> Stacks<'s, L, M> {
         most: usize,
     ) -> Result<ThreadStack<F, A>, AllocError>
         ensures walk { IfOk result (λ s. IsWalk F.Calls
-            (starting_walk {P = Process} (record { memory = M.word self.old.memory.now; modules = L.modules self.old.modules.now }) top (min most self.old.left))
+            (starting_walk (process_of (L.modules) (M.word) self.old.modules.now self.old.memory.now) top (min most self.old.left))
             s.frames.items s.end) }
         ensures left { IfOk result (λ s. length s.frames.items + self.new.left ≡ self.old.left) }
         ensures modules { self.new.modules ≡ self.old.modules }

@@ -1,0 +1,252 @@
+//! The stacks of minidumps: modules and memory in any order, contexts, images of modules. The modules and the stacks of the walks
+//! are those of `walks`.
+
+use crate::frames::bytes_of;
+use crate::images::image;
+use crate::minidumps::with_stream;
+use crate::walks::{
+    APP, FRAMES, INNER, LIB, NT, OUTER, RBX, RSP, SIZE, app, exceptions, lib, module, nt, registers,
+};
+use pe_core::{Header, ParseOptions};
+use pe_frame::{Memory, MemoryPiece, StackFrame, WalkEnd, Way};
+use pe_minidump::{Dump, DumpError, FixedFileInfo, Location, MemoryDescriptor, Module, Thread};
+use pe_stacks::{
+    IndexedMemory, IndexedModules, ModuleImage, Stacks, ThreadFrames, is_image_of, memory_pieces,
+    thread_context_arm64, thread_context_x64,
+};
+use std::alloc::{AllocError, Global};
+use std::test::Fail;
+
+fn piece(start: u64, offset: u64, length: u64) -> MemoryPiece {
+    MemoryPiece {
+        start,
+        offset,
+        length,
+    }
+}
+
+/// The bytes of both stacks, and after them 16 others.
+fn file(alloc: Global) -> Result<Vec<u8>, AllocError> {
+    let mut bytes = bytes_of(alloc, &INNER)?;
+    for byte in &bytes_of(alloc, &OUTER)? {
+        bytes.push(*byte)?;
+    }
+    for _ in 0..16 {
+        bytes.push(0xEE)?;
+    }
+    Ok(bytes)
+}
+
+/// The first of the pieces that have an address counts; a gap is none.
+#[test]
+fn first_piece_counts_and_gaps_are_none(rt: HostRuntime) -> Result<(), Fail> {
+    let bytes = [1, 2, 3, 4, 5, 6, 7, 8, 9, 10, 11, 12];
+    let pieces = [
+        piece(0x106, 8, 4),
+        piece(0x100, 0, 8),
+        piece(0x110, 0, 4),
+        piece(0x100, 11, 1),
+    ];
+    let memory = IndexedMemory::new(rt.alloc(), &bytes, &pieces)?;
+    assert_eq!(rt; memory.byte_at(0x100), Some(1));
+    assert_eq!(rt; memory.byte_at(0x106), Some(9));
+    assert_eq!(rt;
+        (memory.byte_at(0x109), memory.byte_at(0x10A)),
+        (Some(12), None)
+    );
+    assert_eq!(rt; memory.u64_at(0x101), Some(0x0B0A_0906_0504_0302));
+    assert_eq!(rt; (memory.u64_at(0x103), memory.u64_at(0x110)), (None, None));
+    assert!(rt; IndexedMemory::new(rt.alloc(), &bytes, &[piece(0, 9, 4)]).is_err());
+    Ok(())
+}
+
+/// Modules and pieces that descend, with one piece too many after those of the stack.
+#[test]
+fn a_walk_goes_through_modules_in_any_order(rt: HostRuntime) -> Result<(), Fail> {
+    let alloc = rt.alloc();
+    let (app, lib, nt) = (app(alloc)?, lib(alloc)?, nt(alloc)?);
+    let (app_data, lib_data, nt_data) = (
+        exceptions(&app, 3)?,
+        exceptions(&lib, 4)?,
+        exceptions(&nt, 1)?,
+    );
+    let modules = [
+        module(NT, &nt, &nt_data),
+        module(LIB, &lib, &lib_data),
+        module(APP, &app, &app_data),
+        module(LIB + 0x10, &app, &app_data),
+    ];
+    let modules = IndexedModules::new(alloc, &modules)?;
+    assert_eq!(rt; modules.find(LIB + 0x70).map(|it| it.base), Some(LIB));
+    assert_eq!(rt;
+        modules.find(LIB + u64::from(SIZE)).map(|it| it.base),
+        Some(LIB + 0x10)
+    );
+    assert!(rt; modules.find(LIB - 1).is_none());
+    let bytes = file(alloc)?;
+    let pieces = [
+        piece(0x2000, 160, 64),
+        piece(0x1044, 68, 92),
+        piece(0x1000, 0, 72),
+        piece(0x1000, 224, 16),
+    ];
+    let memory = IndexedMemory::new(alloc, &bytes, &pieces)?;
+    let mut registers = registers(LIB + 0x70, 0x1000);
+    registers.general[RBX] = 0xB0;
+    let top = StackFrame {
+        registers,
+        way: Way::Top,
+        has_called: false,
+    };
+    let mut frames = ThreadFrames::new(&modules, &memory, top, 9);
+    for (rip, rsp, rbx, way) in FRAMES {
+        assert!(rt; frames.end().is_none());
+        let found = frames.next().ok_or("a frame")?;
+        let general = found.registers.general;
+        assert_eq!(rt;
+            (found.registers.rip, general[RSP], general[RBX], found.way),
+            (rip, rsp, rbx, way)
+        );
+    }
+    assert!(rt; frames.next().is_none());
+    assert!(rt; matches!(frames.end(), Some(&WalkEnd::Bottom)));
+
+    let mut stacks = Stacks::new(&modules, &memory, 8);
+    let whole = stacks.walk(alloc, top, 9)?;
+    assert_eq!(rt; (whole.frames.len(), stacks.left()), (5, 3));
+    assert!(rt; matches!(whole.end, WalkEnd::Bottom));
+    let few = stacks.walk(alloc, top, 2)?;
+    assert_eq!(rt; (few.frames.len(), stacks.left()), (2, 1));
+    let last = stacks.walk(alloc, top, 9)?;
+    assert_eq!(rt; (last.frames.len(), stacks.left()), (1, 0));
+    assert!(rt; matches!(last.end, WalkEnd::Bound));
+    assert_eq!(rt; stacks.walk(alloc, top, 9)?.frames.len(), 0);
+    Ok(())
+}
+
+/// Both lists of memory, those of the memory list first. Entries of 16 bytes: address, size and RVA; address and size.
+#[test]
+fn pieces_of_both_lists(rt: HostRuntime) -> Result<(), Fail> {
+    let alloc = rt.alloc();
+    let list = b"\x01\0\0\0\0\x10\0\0\0\0\0\0\x04\0\0\0\x20\0\0\0";
+    let bytes = with_stream(alloc, 5, list)?;
+    let pieces = memory_pieces(alloc, &Dump::parse(&bytes)?)?;
+    assert_eq!(rt; (pieces.len(), pieces[0]), (1, piece(0x1000, 32, 4)));
+    // Two pieces of a full dump: the second is truncated.
+    let list =
+        b"\x02\0\0\0\0\0\0\0\x2C\0\0\0\0\0\0\0\0\x10\0\0\0\0\0\0\x08\0\0\0\0\0\0\0\0\x20\0\0\0\0\0\0\0\x10\0\0\0\0\0\0";
+    let bytes = with_stream(alloc, 9, list)?;
+    let pieces = memory_pieces(alloc, &Dump::parse(&bytes)?)?;
+    assert_eq!(rt; (pieces.len(), pieces[0]), (2, piece(0x1000, 44, 8)));
+    assert_eq!(rt; pieces[1], piece(0x2000, 52, 40));
+    // A list that is refused has none.
+    let bytes = with_stream(alloc, 5, b"\x02\0\0\0")?;
+    assert!(rt; memory_pieces(alloc, &Dump::parse(&bytes)?)?.is_empty());
+    Ok(())
+}
+
+fn dump_module(time_date_stamp: u32, size_of_image: u32) -> Module {
+    let none = Location { size: 0, rva: 0 };
+    Module {
+        base_of_image: APP,
+        size_of_image,
+        check_sum: 7,
+        time_date_stamp,
+        module_name_rva: 0,
+        version_info: FixedFileInfo {
+            signature: 0,
+            struc_version: 0,
+            file_version_ms: 0,
+            file_version_ls: 0,
+            product_version_ms: 0,
+            product_version_ls: 0,
+            file_flags_mask: 0,
+            file_flags: 0,
+            file_os: 0,
+            file_type: 0,
+            file_subtype: 0,
+            file_date_ms: 0,
+            file_date_ls: 0,
+        },
+        cv_record: none,
+        misc_record: none,
+    }
+}
+
+/// An image is taken by its stamp and its size, and not by its checksum.
+#[test]
+fn images_are_those_of_modules(rt: HostRuntime) -> Result<(), Fail> {
+    let alloc = rt.alloc();
+    let bytes = pe_images::with_functions(alloc)?;
+    let opts = ParseOptions::default();
+    let header = Header::parse_with_opts(&bytes, &opts)?;
+    let stamp = header.coff_header.time_date_stamp;
+    let size = header
+        .optional_header
+        .ok_or("an optional header")?
+        .windows_fields
+        .size_of_image;
+    let own = dump_module(stamp, size);
+    assert!(rt; is_image_of(&header, &own));
+    assert!(rt; !is_image_of(&header, &dump_module(stamp + 1, size)));
+    assert!(rt; !is_image_of(&header, &dump_module(stamp, size + 1)));
+    let found = ModuleImage::parse(alloc, &bytes, &opts, &own)?.ok_or("an image")?;
+    let loaded = found.loaded(&own);
+    assert_eq!(rt;
+        (loaded.base, loaded.size, loaded.sections.len()),
+        (APP, size, 1)
+    );
+    assert!(rt; loaded.exceptions.is_some());
+    assert!(rt; ModuleImage::parse(alloc, &bytes, &opts, &dump_module(stamp + 1, size))?.is_none());
+    assert!(rt; ModuleImage::parse(alloc, &bytes[..60], &opts, &own).is_err());
+    Ok(())
+}
+
+/// A thread with this ID, whose context of x64 stands there.
+fn thread(thread_id: u32, rva: u32) -> Thread {
+    let none = Location { size: 0, rva: 0 };
+    Thread {
+        thread_id,
+        suspend_count: 0,
+        priority_class: 0,
+        priority: 0,
+        teb: 0,
+        stack: MemoryDescriptor {
+            start_of_memory_range: 0,
+            memory: none,
+        },
+        thread_context: Location { size: 1232, rva },
+    }
+}
+
+/// The exception of thread 5, with a context of x64 after it whose rip is 0x1122, and one whose rip is 0x33.
+fn crashed(alloc: Global, flags: u8) -> Result<Vec<u8>, AllocError> {
+    let mut stream = image(alloc, 168 + 2 * 1232, &[(0, &[5])])?;
+    let contexts: [(usize, &[u8]); 5] = [
+        (160, b"\xD0\x04\0\0\xD4\0\0\0"),
+        (168 + 48, &[flags, 0, 0x10]),
+        (168 + 248, b"\x22\x11"),
+        (168 + 1232 + 48, &[3, 0, 0x10]),
+        (168 + 1232 + 248, &[0x33]),
+    ];
+    crate::images::put(&mut stream, &contexts);
+    with_stream(alloc, 6, &stream)
+}
+
+#[test]
+fn context_of_the_exception_counts_first(rt: HostRuntime) -> Result<(), Fail> {
+    let alloc = rt.alloc();
+    let own = 44 + 168 + 1232;
+    let bytes = crashed(alloc, 3)?;
+    let dump = Dump::parse(&bytes)?;
+    assert_eq!(rt; thread_context_x64(&dump, &thread(5, own))?.rip, 0x1122);
+    // Another thread, and an exception whose context lacks the registers.
+    assert_eq!(rt; thread_context_x64(&dump, &thread(6, own))?.rip, 0x33);
+    let bytes = crashed(alloc, 1)?;
+    let dump = Dump::parse(&bytes)?;
+    assert_eq!(rt; thread_context_x64(&dump, &thread(5, own))?.rip, 0x33);
+    // What is said of a refusal is the thread's own.
+    let refused = thread_context_arm64(&dump, &thread(5, own)).err();
+    assert_eq!(rt; refused, Some(DumpError::Machine(0)));
+    Ok(())
+}
