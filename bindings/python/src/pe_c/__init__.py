@@ -1,4 +1,4 @@
-"""Reads Windows executables (PE images) by a proved library for C.
+"""Reads Windows executables (PE images), COFF objects, TE images and minidumps by a proved library for C.
 
     import pe_c
 

@@ -1,0 +1,91 @@
+/* What bench/python compares the Python module with: the same calls in C alone. `python_loop FILE` prints the seconds of a processor
+ * that the names and the unwind codes of an image take, the least of so many runs, and how many there are. */
+#define _POSIX_C_SOURCE 199309L
+#include <stdio.h>
+#include <stdlib.h>
+#include <time.h>
+#include "pe.h"
+
+enum { RUNS = 25 };
+static const uint8_t *bytes;
+static size_t length;
+static pe_c_image_info image;
+static pe_c_section *sections;
+static uint64_t sum;
+#define IMAGE bytes, length, &image, sections, image.number_of_sections
+
+static uint64_t names(void)
+{
+    pe_c_libraries libraries = PE_C_EMPTY;
+    pe_c_library library = PE_C_EMPTY;
+    pe_c_import import = PE_C_EMPTY;
+    pe_c_exports exports = PE_C_EMPTY;
+    pe_c_address_table table = PE_C_EMPTY;
+    pe_c_export export = PE_C_EMPTY;
+    pe_c_exported entry = PE_C_EMPTY;
+    uint64_t count = 0;
+    if (pe_c_import_libraries(IMAGE, &libraries) == PE_C_DONE)
+        while (pe_c_next_library(IMAGE, &libraries, &library) == PE_C_DONE)
+            for (pe_c_imports walk = library.imports; pe_c_next_import(IMAGE, &walk, &import) == PE_C_DONE; count++)
+                sum += import.name.length;
+    if (pe_c_export_addresses(IMAGE, &table) == PE_C_DONE && pe_c_export_tables(IMAGE, &exports) == PE_C_DONE)
+        while (pe_c_next_export(IMAGE, &exports, &export) == PE_C_DONE) {
+            if (pe_c_export_at(IMAGE, &table, export.index, &entry) == PE_C_DONE)
+                sum += export.name.length + entry.rva;
+            count++;
+        }
+    return count;
+}
+
+static uint64_t codes(void)
+{
+    pe_c_range table = PE_C_EMPTY;
+    pe_c_function function = PE_C_EMPTY;
+    pe_c_record record = PE_C_EMPTY;
+    pe_c_code code = PE_C_EMPTY;
+    uint64_t count = 0;
+    if (pe_c_function_table(IMAGE, &table) != PE_C_DONE)
+        return 0;
+    for (uint64_t i = 0; pe_c_function_at(bytes, length, &table, i, &function) == PE_C_DONE; i++) {
+        pe_c_plan plan = PE_C_EMPTY;
+        pe_c_plan_from(function.unwind, &plan);
+        while (pe_c_next_record(IMAGE, &table, &plan, &record) == PE_C_DONE)
+            for (pe_c_walk walk = record.codes; pe_c_next_code(bytes, length, &walk, &code) == PE_C_DONE; count++)
+                sum += code.value;
+    }
+    return count;
+}
+
+static void least(const char *name, uint64_t (*call)(void))
+{
+    double best = 1e9;
+    uint64_t count = 0;
+    for (int i = 0; i < RUNS; i++) {
+        struct timespec start, end;
+        clock_gettime(CLOCK_PROCESS_CPUTIME_ID, &start);
+        count = call();
+        clock_gettime(CLOCK_PROCESS_CPUTIME_ID, &end);
+        double seconds = (double)(end.tv_sec - start.tv_sec) + (double)(end.tv_nsec - start.tv_nsec) / 1e9;
+        best = seconds < best ? seconds : best;
+    }
+    printf("%s %.9f %llu\n", name, best, (unsigned long long)count);
+}
+
+int main(int argc, char **argv)
+{
+    FILE *file = argc == 2 ? fopen(argv[1], "rb") : NULL;
+    if (!file || fseek(file, 0, SEEK_END) != 0)
+        return 2;
+    length = (size_t)ftell(file);
+    rewind(file);
+    uint8_t *room = malloc(length + 1);
+    if (!room || fread(room, 1, length, file) != length || pe_c_image(room, length, PE_C_PERMISSIVE, &image) != PE_C_DONE)
+        return 2;
+    bytes = room;
+    sections = calloc(image.number_of_sections + 1u, sizeof *sections);
+    if (!sections || pe_c_sections(bytes, length, &image, sections, image.number_of_sections) != PE_C_DONE)
+        return 2;
+    least("names", names);
+    least("codes", codes);
+    return sum == 1;
+}
