@@ -262,6 +262,13 @@ fn certificates_are_attached_and_detached() {
     assert_eq!(said["certificates"], json!([{"size": 13, "revision": 0x200, "type": pkcs7}]));
     assert_eq!(run(&["extract", &signed, "certificate", "-"]).0.as_bytes(), [0x30, 1, 2, 3, 4]);
     assert_eq!(run(&["extract", &signed, "certificate", "--number", "2", "-"]).2, 1);
+    // All entries are what attach takes.
+    let (all, again) = (path("all"), path("again.exe"));
+    assert_eq!(run(&["extract", &signed, "certificates", &all]).2, 0);
+    assert_eq!(fs::read(&all).unwrap(), b"\x0d\0\0\0\0\x02\x02\0\x30\x01\x02\x03\x04\0\0\0");
+    assert_eq!(run(&["attach", &bare, &all, &again]).2, 0);
+    assert_eq!(fs::read(&again).unwrap(), fs::read(&signed).unwrap());
+    assert_eq!(run(&["extract", &bare, "certificates", "-"]).2, 1);
     // What a signature covers stays.
     assert_eq!(run(&["digest", &signed]).0[..64], run(&["digest", &bare]).0[..64]);
     assert_eq!(run(&["attach", &bare, &data, &signed]).2, 3, "the file exists");
