@@ -168,7 +168,7 @@ mod tests {
         let structure = Structure { bytes: &bytes, is_64: true };
         assert_eq!(structure.place(IAT_ENTRIES), (Some(0x1_4000_2000), Some(3)));
         assert_eq!(structure.place(CONTINUATIONS), (Some(0), Some(0)));
-        let structure = Structure { bytes: &bytes[..271], is_64: true };
+        let structure = Structure { bytes: &bytes[..279], is_64: true };
         assert_eq!(structure.place(CONTINUATIONS), (Some(0), None));
         let structure = Structure { bytes: &bytes[..115], is_64: false };
         assert_eq!((structure.place(IAT_ENTRIES), structure.place(LONG_JUMPS)), ((Some(0), Some(0)), (None, None)));
