@@ -1,7 +1,9 @@
 // What an image is, as the program pe says it in JSON (bindings/pe/docs/JSON.md): the same names, values and errors
 // of these parts, without hashes, entropy, what an overlay is, and all that needs more than the image. Numbers above
 // 2^53 are BigInt.
+import { guards } from './guards.mjs';
 import { PeError, constants } from './library.mjs';
+import { Tables } from './metadata.mjs';
 import * as names from './names.mjs';
 import { signerOf } from './signatures.mjs';
 
@@ -265,6 +267,12 @@ function guid(bytes) {
   return digits(order);
 }
 
+/** The digits of a GUID as Windows writes them. */
+function hyphenated(all) {
+  const cut = [0, 8, 12, 16, 20, 32];
+  return `{${cut.slice(1).map((end, i) => all.slice(cut[i], end)).join('-')}}`;
+}
+
 /** The record of the first debug entry of a type, by the call that reads it. */
 function recordOf(image, type, call) {
   const entry = image.debugEntry(type);
@@ -280,8 +288,8 @@ function debug(image) {
     ...part('pdb', () => {
       const key = image.call('pe_c_symbol_key');
       if (!key) return null;
-      const all = guid(key.guid), cut = [0, 8, 12, 16, 20, 32], parts = cut.slice(1).map((end, i) => all.slice(cut[i], end));
-      return { name: name(untilZero(image.slice(key.name))), guid: `{${parts.join('-')}}`, age: key.age,
+      const all = guid(key.guid);
+      return { name: name(untilZero(image.slice(key.name))), guid: hyphenated(all), age: key.age,
         key: `${all}${key.age.toString(16).toUpperCase()}` };
     }),
     ...part('repro', () => {
@@ -379,6 +387,88 @@ function relocations(image) {
   });
 }
 
+/** A field of a load configuration, or null where its structure is too short. */
+const fieldOf = (config, name) => (config[`has_${name}`] ? number(config[name]) : null);
+
+function loadConfig(image) {
+  return part('load_config', () => {
+    const config = image.call('pe_c_load_config');
+    if (!config) return null;
+    const stamp = fieldOf(config, 'time_date_stamp'), guardFlags = fieldOf(config, 'guard_flags');
+    return {
+      size: config.size, ...time(stamp ?? 0), time_date_stamp: stamp,
+      ...Object.fromEntries(['major_version', 'minor_version', 'dependent_load_flags'].map((it) => [it, fieldOf(config, it)])),
+      security_cookie_va: fieldOf(config, 'security_cookie'),
+      se_handler_table_va: fieldOf(config, 'se_handler_table'), se_handler_count: fieldOf(config, 'se_handler_count'),
+      guard_cf_check_function_pointer_va: fieldOf(config, 'guard_cf_check_function_pointer'),
+      guard_cf_dispatch_function_pointer_va: fieldOf(config, 'guard_cf_dispatch_function_pointer'),
+      guard_cf_function_table_va: fieldOf(config, 'guard_cf_function_table'),
+      guard_cf_function_count: fieldOf(config, 'guard_cf_function_count'),
+      guard_flags: guardFlags === null ? null : flags(guardFlags, names.GUARD_FLAGS),
+      ...Object.assign({}, ...guards(image, config).map(([key, read]) => guardList(key, read))),
+    };
+  });
+}
+
+function guardList(key, read) {
+  const said = part(key, read), found = said[key];
+  const of = (it) => (key === 'se_handlers' ? it.rva
+    : { rva: it.rva, flags: it.flags === null ? null : flags(it.flags, names.GUARDED_FLAGS) });
+  const short = found && !found.isWhole ? { number: constants.PE_C_SHORT, name: 'SHORT', text: 'truncated' } : null;
+  return { [key]: found && found.entries.map(of), [`${key}_error`]: said[`${key}_error`] ?? short, [`${key}_is_limited`]: false };
+}
+
+const CLR_DIRECTORIES = ['metadata', 'resources', 'strong_name_signature', 'code_manager_table', 'vtable_fixups',
+  'export_address_table_jumps', 'managed_native_header'];
+
+function clr(image) {
+  return part('clr', () => {
+    const header = image.call('pe_c_clr_header');
+    return header && {
+      size: header.cb, runtime_version: `${header.major_runtime_version}.${header.minor_runtime_version}`,
+      flags: flags(header.flags, names.CLR_FLAGS), entry_point_token: header.entry_point_token,
+      directories: CLR_DIRECTORIES.map((it) => ({ name: it.replaceAll('_', ' '), rva: header[it].virtual_address,
+        size: header[it].size })).filter((it) => it.rva || it.size),
+      ...part('metadata', () => metadata(image, image.call('pe_c_clr_metadata', { header }))),
+    };
+  });
+}
+
+function metadata(image, found) {
+  const contents = new Map();
+  const streams = list('streams', image.metadataStreams(), (it) => {
+    const own = image.utf8(it.name);
+    if (!contents.has(own)) contents.set(own, it.has_content ? image.slice(it.content) : new Uint8Array());
+    return { name: name(image.slice(it.name)), offset: it.offset, size: it.size, is_there: Boolean(it.has_content) };
+  });
+  return {
+    version: name(untilZero(image.slice(found.version))), format_version: `${found.major_version}.${found.minor_version}`,
+    ...streams, ...part('tables', () => metadataTables(contents, Number(found.streams.metadata.length))),
+  };
+}
+
+function metadataTables(contents, length) {
+  const heap = (key) => contents.get(key) ?? new Uint8Array();
+  const bytes = [...contents].find(([key]) => key === '#~' || key === '#-')?.[1];
+  if (!bytes) return null;
+  const tables = new Tables({ tables: bytes, texts: heap('#Strings'), guids: heap('#GUID'), blobs: heap('#Blob') });
+  const named = ({ name: own, culture }) => ({ name: name(own), culture: culture.length ? name(culture) : null });
+  let left = length * READINGS;
+  const references = list('references', tables.references(), (it) => {
+    const cost = ITEM + it.name.length + it.culture.length;
+    if (cost > left) return null;
+    left -= cost;
+    return { version: it.version, has_public_key: it.has_public_key, ...named(it),
+      public_key_token_hex: it.token && hex(it.token) };
+  });
+  const { module, assembly } = tables;
+  return {
+    module: module && { name: name(module.name), mvid: module.mvid && hyphenated(guid(module.mvid)) },
+    assembly: assembly && { version: assembly.version, has_public_key: assembly.has_public_key, ...named(assembly) },
+    ...references,
+  };
+}
+
 function rich(image) {
   return part('rich', () => {
     const header = image.call('pe_c_rich_header');
@@ -403,7 +493,7 @@ export function facts(image, fileName = '') {
     file: fileName, file_size: image.length, error: null,
     headers: headers(image, fileName), hardening: hardening(image), sections: sections(image),
     ...imports(image), ...exports(image), debug: debug(image), ...certificates(image), version: version(image), ...tls(image),
-    ...relocations(image), ...delayImports(image), ...rich(image), ...resources(image),
+    ...relocations(image), ...delayImports(image), ...loadConfig(image), ...clr(image), ...rich(image), ...resources(image),
   };
 }
 

@@ -8,6 +8,7 @@ use crate::Status;
 use clap::{Args, ValueEnum};
 use pe_c::{Error, Image, ResourceLeaf, ResourceName};
 use std::borrow::Cow;
+use std::collections::HashMap;
 use std::path::Path;
 
 #[derive(Clone, Copy, Debug, PartialEq, Eq, ValueEnum)]
@@ -16,6 +17,8 @@ pub enum ExtractedPart {
     Manifest,
     /// The first certificate of type PKCS #7, without its header, or the one with a number
     Certificate,
+    /// All certificates: the entries of their table, as attach takes them
+    Certificates,
     /// A resource as it is in the image, by its type, its name and its language
     Resource,
     /// An icon as an .ico file, by its name and its language
@@ -88,18 +91,29 @@ fn word_at(bytes: &[u8], at: usize) -> Option<u16> {
     Some(u16::from_le_bytes(bytes.get(at..at + 2)?.try_into().ok()?))
 }
 
+/// The resource with each identifier: the first in a language, or the first of all where there is none in it.
+fn by_id<'a>(leaves: Vec<ResourceLeaf<'a>>, language: ResourceName<'_>) -> HashMap<u16, ResourceLeaf<'a>> {
+    let mut found: HashMap<u16, ResourceLeaf<'a>> = HashMap::new();
+    for leaf in leaves {
+        let ResourceName::Id(id) = leaf.name else { continue };
+        let is_better = found.get(&id).map_or(true, |it| it.language != language && leaf.language == language);
+        if is_better {
+            found.insert(id, leaf);
+        }
+    }
+    found
+}
+
 /// A file of the images of a group, those that are there: what a group says of each, and the resource with its identifier in the
 /// language of the group.
 fn file_of_group(image: &Image<'_>, group: &ResourceLeaf<'_>, kind: u16) -> Result<Option<Vec<u8>>, Error> {
     let content = group.content()?;
     let any = Which { kind: None, name: None, language: None, number: None };
-    let parts = leaves_of(image, &any, Some(kind))?;
+    let parts = by_id(leaves_of(image, &any, Some(kind))?, group.language);
     let mut images = Vec::new();
     let mut left = image.bytes().len();
     for entry in content.get(HEADER..).unwrap_or_default().chunks_exact(GROUP_ENTRY) {
-        let id = ResourceName::Id(word_at(entry, GROUP_ENTRY - 2).unwrap_or_default());
-        let of_id = || parts.iter().filter(|it| it.name == id);
-        let Some(leaf) = of_id().find(|it| it.language == group.language).or(of_id().next()) else { continue };
+        let Some(leaf) = parts.get(&word_at(entry, GROUP_ENTRY - 2).unwrap_or_default()) else { continue };
         let bytes = leaf.content()?;
         // Entries may share an image: the file has no more bytes than the executable.
         let Some(rest) = left.checked_sub(bytes.len()) else { break };
@@ -153,6 +167,7 @@ impl ExtractedPart {
         let kind = match self {
             ExtractedPart::Manifest => return Ok(image.manifest()?.map(Cow::from)),
             ExtractedPart::Certificate => return certificate_of(image, which.number),
+            ExtractedPart::Certificates => return certificates_of(image),
             ExtractedPart::Resource => {
                 let leaves = leaves_of(image, which, None)?;
                 return leaves.first().map(|it| it.content().map(Cow::from)).transpose();
@@ -191,4 +206,21 @@ fn certificate_of<'a>(image: &Image<'a>, number: Option<u32>) -> Result<Option<C
         }
     }
     Ok(None)
+}
+
+/// What each entry of a certificate table starts and ends at is a multiple of this.
+const ALIGNMENT: usize = 8;
+
+/// The entries of the certificate table, one after the other, each filled up with zeros.
+fn certificates_of<'a>(image: &Image<'a>) -> Result<Option<Cow<'a, [u8]>>, Error> {
+    let mut table = Vec::new();
+    for certificate in image.certificates() {
+        let certificate = certificate?;
+        table.extend(certificate.length.to_le_bytes());
+        table.extend(certificate.revision.to_le_bytes());
+        table.extend(certificate.kind.to_le_bytes());
+        table.extend(certificate.body);
+        table.resize(table.len().next_multiple_of(ALIGNMENT), 0);
+    }
+    Ok((!table.is_empty()).then(|| Cow::from(table)))
 }

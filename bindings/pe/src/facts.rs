@@ -2,6 +2,7 @@
 //! value comes from a call of the crate `pe_c`.
 
 pub mod all_headers;
+pub mod assembly;
 pub mod bound_imports;
 pub mod certificates;
 pub mod clr;
@@ -10,6 +11,7 @@ pub mod delay_imports;
 pub mod entropy;
 pub mod exports;
 pub mod functions;
+pub mod guards;
 pub mod hardening;
 pub mod hashes;
 pub mod headers;
@@ -771,12 +773,19 @@ impl<'a> Facts<'a> {
             let bound = part.present().into_iter().flat_map(|it| &it.entries);
             found.extend(bound.filter_map(|it| it.forwarders.list_refusal()).map(|it| ("bound imports", it)));
         }
-        found.extend(self.load_config.iter().filter_map(Part::refusal).map(|it| ("load configuration", it)));
+        if let Some(part) = &self.load_config {
+            found.extend(part.refusal().map(|it| ("load configuration", it)));
+            found.extend(part.present().into_iter().flat_map(|it| it.guards.refusals()));
+        }
         if let Some(part) = &self.clr {
             let metadata = part.present().map(|it| &it.metadata);
-            let streams = metadata.and_then(|it| it.present()).and_then(|it| it.streams.list_refusal());
+            let root = metadata.and_then(|it| it.present());
+            let streams = root.and_then(|it| it.streams.list_refusal());
             let refusal = part.refusal().or(metadata.and_then(|it| it.refusal())).or(streams);
             found.extend(refusal.map(|it| ("CLR header", it)));
+            let references = root.and_then(|it| it.tables.present()).and_then(|it| it.references.list_refusal());
+            let refusal = root.and_then(|it| it.tables.refusal()).or(references);
+            found.extend(refusal.map(|it| ("metadata tables", it)));
         }
         found.extend(self.rich.iter().filter_map(Part::refusal).map(|it| ("Rich header", it)));
         if let Some(part) = &self.resources {
@@ -794,6 +803,7 @@ impl<'a> Facts<'a> {
             ("exports", self.exports.as_ref().and_then(Part::present).map(|it| it.is_limited)),
             ("delay imports", self.delay_imports.as_ref().and_then(Part::present).map(delay_imports::is_limited)),
             ("bound imports", self.bound_imports.as_ref().and_then(Part::present).map(bound_imports::is_limited)),
+            ("references", self.clr.as_ref().and_then(Part::present).map(clr::is_limited)),
             ("resources", self.resources.as_ref().and_then(Part::present).map(|it| it.is_limited)),
             ("symbols", self.symbols.as_ref().and_then(Part::present).map(|it| it.is_limited)),
         ];

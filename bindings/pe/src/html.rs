@@ -191,9 +191,13 @@ fn more_parts(facts: &Facts, html: &mut Html) {
     }
     if let Some(config) = facts.load_config.as_ref().and_then(Part::present) {
         list("config", "Load configuration", tables::load_config(config), html);
+        for (id, title, rows) in tables::guards(&config.guards) {
+            table(id, title, &rows, html);
+        }
     }
     if let Some(clr) = facts.clr.as_ref().and_then(Part::present) {
         list("clr", "CLR header", tables::clr(clr), html);
+        table("references", "References to assemblies", &tables::clr_references(clr), html);
         table("clr-directories", "Directories of the CLR header", &tables::clr_directories(clr), html);
         table("streams", "Streams of metadata", &tables::clr_streams(clr), html);
     }

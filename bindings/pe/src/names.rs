@@ -194,6 +194,10 @@ pub const GUARD_FLAGS: &Names = &[
     (0x200_0000, "MEMCPY_PRESENT"),
 ];
 
+/// `IMAGE_GUARD_FLAG_`, of an entry of the lists that a load configuration leads to
+pub const GUARDED_FLAGS: &Names =
+    &[(1, "FID_SUPPRESSED"), (2, "EXPORT_SUPPRESSED"), (4, "FID_LANGEXCPTHANDLER"), (8, "FID_XFG")];
+
 /// `COMIMAGE_FLAGS_`, of corhdr.h
 pub const CLR_FLAGS: &Names = &[
     (0x1, "ILONLY"),

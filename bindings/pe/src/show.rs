@@ -216,6 +216,10 @@ fn bound_imports_of(bound: &List<Bound>, page: &mut Page) {
 fn load_config_of(config: &LoadConfig, page: &mut Page) {
     page.heading("Load configuration");
     rows(tables::load_config(config), page);
+    for (_, title, table) in tables::guards(&config.guards) {
+        page.heading(title);
+        page.table(&table);
+    }
 }
 
 fn clr_of(clr: &Clr, page: &mut Page) {
@@ -223,6 +227,12 @@ fn clr_of(clr: &Clr, page: &mut Page) {
     rows(tables::clr(clr), page);
     page.table(&tables::clr_directories(clr));
     page.table(&tables::clr_streams(clr));
+    let references = tables::clr_references(clr);
+    if !references.rows.is_empty() {
+        page.heading("References");
+        page.table(&references);
+    }
+    more(references.is_limited, page);
 }
 
 fn rich_of(rich: &Rich, page: &mut Page) {

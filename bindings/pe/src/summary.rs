@@ -4,9 +4,10 @@ use crate::escape::escaped;
 use crate::facts::hardening::word;
 use crate::facts::headers::Headers;
 use crate::facts::sections::Section;
-use crate::facts::{count_of, counted, others, Facts, Part};
+use crate::facts::{clr, count_of, counted, others, Facts, Part};
 use crate::page::{Page, Style};
 use crate::show::time_of;
+use crate::tables::identity;
 
 /// How many DLLs a summary names.
 const LIBRARIES: usize = 12;
@@ -230,11 +231,19 @@ fn more_of(facts: &Facts, page: &mut Page) {
     }
     if let Some(config) = facts.load_config.as_ref().and_then(Part::present) {
         let flags = config.guard_flags.as_ref().map_or(String::new(), |it| format!(", guard flags {it}"));
-        page.row("load config", format_args!("{} bytes{flags}", config.size));
+        let guarded = config.guards.functions.present().map(|it| counted(it.entries.len(), "guarded function"));
+        let guarded = guarded.map_or(String::new(), |count| format!(", {count}"));
+        page.row("load config", format_args!("{} bytes{guarded}{flags}", config.size));
     }
     if let Some(clr) = facts.clr.as_ref().and_then(Part::present) {
         let version = clr.metadata.present().map_or(String::new(), |it| format!(", made for {}", it.version));
         page.row(".NET", format_args!("runtime {}{version}", clr.runtime_version));
+        let tables = clr.metadata.present().and_then(|it| it.tables.present());
+        if let Some(assembly) = tables.and_then(|it| it.assembly.as_ref()) {
+            let references = tables.map_or(0, |it| it.references.entries().len());
+            let more = if clr::is_limited(clr) { " and more" } else { "" };
+            page.row("assembly", format_args!("{}, {}{more}", identity(assembly), counted(references, "reference")));
+        }
     }
     if let Some(rich) = facts.rich.as_ref().and_then(Part::present) {
         let key = if rich.key == rich.checksum { "" } else { ", whose key is not its checksum" };

@@ -2,12 +2,14 @@
 
 use crate::escape::escaped;
 use crate::facts::all_headers::{AllHeaders, Coff};
+use crate::facts::assembly::{Assembly, Tables};
 use crate::facts::bound_imports::{self, Bound};
 use crate::facts::certificates::Certificate;
-use crate::facts::clr::{Clr, Metadata};
+use crate::facts::clr::{self, Clr, Metadata};
 use crate::facts::debug::{Debug, Entry, Pogo};
 use crate::facts::exports::Exports;
 use crate::facts::functions::Functions;
+use crate::facts::guards::{Guards, Target};
 use crate::facts::hardening::{word, Hardening};
 use crate::facts::hashes::Hashes;
 use crate::facts::headers::{Directory, Headers};
@@ -400,15 +402,67 @@ pub fn load_config(config: &LoadConfig) -> Vec<Row> {
     rows.into_iter().filter_map(|(label, value)| Some((label, value?))).collect()
 }
 
+/// The lists of code that a load configuration leads to, but for those that are absent.
+pub fn guards(guards: &Guards) -> Vec<(&'static str, &'static str, Table)> {
+    let handlers = guards.handlers.present().map(|list| {
+        let rows = list.entries.iter().map(|it| vec![format!("{:#x}", it.0)]);
+        ("handlers", "Exception handlers", Table::new(&[number("RVA")], rows))
+    });
+    let targets = [
+        ("guarded", "Functions that may be called indirectly", targets(&guards.functions)),
+        ("guarded-imports", "Guarded entries of the import address table", targets(&guards.iat_entries)),
+        ("long-jumps", "Targets of long jumps", targets(&guards.long_jumps)),
+        ("continuations", "Continuations of exceptions", targets(&guards.continuations)),
+    ];
+    let targets = targets.into_iter().filter_map(|(id, title, table)| Some((id, title, table?)));
+    handlers.into_iter().chain(targets).collect()
+}
+
+fn targets<const LIST: usize>(targets: &Part<List<Target<LIST>>>) -> Option<Table> {
+    let rows = targets.present()?.entries.iter().map(|it| {
+        let flags = it.flags.filter(|flags| flags.number != 0);
+        vec![format!("{:#x}", it.rva), flags.map_or(String::new(), |flags| flags.to_string())]
+    });
+    Some(Table::new(&[number("RVA"), text("flags")], rows))
+}
+
 /// The CLR header, and the root of its metadata.
 pub fn clr(clr: &Clr) -> Vec<Row> {
     let mut rows = vec![("runtime", clr.runtime_version.clone())];
     if let Part::Present(Metadata { version, format_version, .. }) = &clr.metadata {
         rows.push(("made for", format!("{version}, metadata of format {format_version}")));
     }
+    rows.extend(clr.metadata.present().and_then(|it| it.tables.present()).into_iter().flat_map(assembly));
     rows.push(("flags", clr.flags.to_string()));
     rows.push(("entry token", format!("{:#010x}", clr.entry_point_token)));
     rows
+}
+
+/// What the assembly and its module are called.
+fn assembly(tables: &Tables) -> Vec<Row> {
+    let assembly = tables.assembly.as_ref().map(|it| ("assembly", identity(it)));
+    let module = tables.module.as_ref().map(|it| {
+        let mvid = it.mvid.as_ref().map_or(String::new(), |mvid| format!(", {mvid}"));
+        ("module", format!("{}{mvid}", it.name))
+    });
+    assembly.into_iter().chain(module).collect()
+}
+
+/// The name and version of an assembly.
+pub fn identity(assembly: &Assembly) -> String {
+    let culture = assembly.culture.map_or(String::new(), |it| format!(", {it}"));
+    format!("{} {}{culture}", assembly.name, assembly.version)
+}
+
+pub fn clr_references(clr: &Clr) -> Table {
+    let tables = clr.metadata.present().and_then(|it| it.tables.present());
+    let rows = tables.into_iter().flat_map(|it| it.references.entries()).map(|it| {
+        let culture = it.assembly.culture.map_or(String::new(), |culture| culture.to_string());
+        let token = it.public_key_token_hex.clone().unwrap_or_default();
+        vec![it.assembly.name.to_string(), it.assembly.version.clone(), culture, token]
+    });
+    Table::new(&[text("assembly"), text("version"), text("culture"), text("public key token")], rows)
+        .limited(clr::is_limited(clr))
 }
 
 pub fn clr_directories(clr: &Clr) -> Table {

@@ -262,6 +262,13 @@ fn certificates_are_attached_and_detached() {
     assert_eq!(said["certificates"], json!([{"size": 13, "revision": 0x200, "type": pkcs7}]));
     assert_eq!(run(&["extract", &signed, "certificate", "-"]).0.as_bytes(), [0x30, 1, 2, 3, 4]);
     assert_eq!(run(&["extract", &signed, "certificate", "--number", "2", "-"]).2, 1);
+    // All entries are what attach takes.
+    let (all, again) = (path("all"), path("again.exe"));
+    assert_eq!(run(&["extract", &signed, "certificates", &all]).2, 0);
+    assert_eq!(fs::read(&all).unwrap(), b"\x0d\0\0\0\0\x02\x02\0\x30\x01\x02\x03\x04\0\0\0");
+    assert_eq!(run(&["attach", &bare, &all, &again]).2, 0);
+    assert_eq!(fs::read(&again).unwrap(), fs::read(&signed).unwrap());
+    assert_eq!(run(&["extract", &bare, "certificates", "-"]).2, 1);
     // What a signature covers stays.
     assert_eq!(run(&["digest", &signed]).0[..64], run(&["digest", &bare]).0[..64]);
     assert_eq!(run(&["attach", &bare, &data, &signed]).2, 3, "the file exists");
@@ -913,4 +920,123 @@ fn symbols_of_images_are_shown_where_they_are_named() {
     );
     let (out, _, _) = run(&["show", &folder.file("b.exe", &made::with_exports()), "symbols"]);
     assert!(out.ends_with("\n  symbols       none\n"), "{out}");
+}
+
+fn put(bytes: &mut [u8], offset: usize, part: &[u8]) {
+    bytes[offset..offset + part.len()].copy_from_slice(part);
+}
+
+/// An image whose load configuration has 280 bytes, with a byte of flags in each entry of its tables, which follow it.
+fn with_guard_tables() -> Vec<u8> {
+    let mut made = made::Made::new(made::X64);
+    let mut config = vec![0; 280];
+    let start = made.put(&[]);
+    let va = |offset: u32| (0x1_8000_0000u64 + u64::from(start + offset)).to_le_bytes();
+    let table = |config: &mut [u8], field: usize, offset: u32, count: u64| {
+        put(config, field, &va(offset));
+        put(config, field + 8, &count.to_le_bytes());
+    };
+    put(&mut config, 0, &280u32.to_le_bytes());
+    put(&mut config, 144, &0x1000_0500u32.to_le_bytes());
+    table(&mut config, 128, 280, 2);
+    table(&mut config, 160, 290, 1);
+    // Below the image's base, in no section, and past the end of the file.
+    put(&mut config, 176, &[1]);
+    put(&mut config, 184, &[1]);
+    table(&mut config, 264, 0x8000, 1);
+    put(&mut config, 96, &va(295));
+    put(&mut config, 104, &[255; 8]);
+    let address = made.put(&config);
+    made.put(b"\x10\x20\0\0\x01\x30\x20\0\0\x08\x40\x20\0\0\0\x50\x20\0\0");
+    made.directory(10, address, 280);
+    made.image()
+}
+
+#[test]
+fn lists_of_guarded_functions_are_shown() {
+    let folder = Folder::new("guards");
+    let file = folder.file("a.exe", &with_guard_tables());
+    let (out, error, status) = run(&["--json", &file]);
+    assert_eq!((error.as_str(), status), ("", 1));
+    let said = serde_json::from_str::<Value>(&out).unwrap()["load_config"].clone();
+    let flags = |number: u8| {
+        let names = ["FID_SUPPRESSED", "EXPORT_SUPPRESSED", "FID_LANGEXCPTHANDLER", "FID_XFG"];
+        let flags: Value = (0..4usize).map(|bit| (names[bit].to_string(), json!(number >> bit & 1 != 0))).collect();
+        json!({"number": number, "flags": flags})
+    };
+    let functions = [json!({"rva": 0x2010, "flags": flags(1)}), json!({"rva": 0x2030, "flags": flags(8)})];
+    assert_eq!((&said["guarded_functions"], &said["guarded_functions_error"]), (&json!(functions), &json!(null)));
+    assert_eq!(said["guarded_iat_entries"], json!([{"rva": 0x2040, "flags": flags(0)}]));
+    assert_eq!((&said["long_jump_targets"], &said["eh_continuations"]), (&json!(null), &json!(null)));
+    assert_eq!(said["long_jump_targets_error"]["name"], "DIRECTORY_VA_BELOW_BASE");
+    assert_eq!(said["eh_continuations_error"]["name"], "UNMAPPED");
+    // The handlers have no flags; they end with the file.
+    assert_eq!((&said["se_handlers"][0], &said["se_handlers_error"]["name"]), (&json!(0x2050), &json!("SHORT")));
+    let (out, error, status) = run(&["show", &file, "load-config"]);
+    let head = "Functions that may be called indirectly\n  RVA     flags\n  0x2010  0x1: FID_SUPPRESSED\n";
+    assert!(out.contains(head), "{out}");
+    assert!(out.contains("long jumps: virtual address below the image base"), "{out}");
+    assert_eq!((error.as_str(), status), ("", 1));
+}
+
+/// An image for .NET with a module, an assembly and two references, by ECMA-335, II.22.
+fn with_assembly() -> Vec<u8> {
+    let mut tables = b"\0\0\0\0\x02\0\0\x01\x01\0\0\0\x09\0\0\0\0\0\0\0\0\0\0\0\x01\0\0\0\x01\0\0\0\x02\0\0\0".to_vec();
+    tables.extend(b"\0\0\x01\0\x01\0\0\0\0\0");
+    tables.extend(b"\x04\x80\0\0\x01\0\x02\0\x03\0\x04\0\0\0\0\0\0\0\x07\0\0\0");
+    tables.extend(b"\x04\0\0\0\0\0\0\0\0\0\0\0\x01\0\x0B\0\0\0\0\0");
+    tables.extend(b"\x05\0\x06\0\0\0\0\0\x01\0\0\0\x01\0\x0B\0\x11\0\0\0");
+    let texts = b"\0m.dll\0Own\0Other\0de\0";
+    let (blobs, guids) = (b"\0\x08\x01\x02\x03\x04\x05\x06\x07\x08", (0..16).collect::<Vec<u8>>());
+    let mut root = b"BSJB\x01\0\x01\0\0\0\0\0\x0C\0\0\0v4.0.30319\0\0\0\0\x04\0".to_vec();
+    let streams: [(&[u8], &[u8]); 4] =
+        [(b"#~\0\0", &tables), (b"#Strings\0\0\0\0", texts), (b"#Blob\0\0\0", blobs), (b"#GUID\0\0\0", &guids)];
+    let mut offset = root.len() + streams.iter().map(|(name, _)| 8 + name.len()).sum::<usize>();
+    for (name, content) in streams {
+        root.extend((offset as u32).to_le_bytes());
+        root.extend((content.len() as u32).to_le_bytes());
+        root.extend(name);
+        offset += content.len();
+    }
+    streams.iter().for_each(|(_, content)| root.extend(*content));
+    let mut made = made::Made::new(made::X64);
+    let start = made.put(&root);
+    let mut header = vec![0; 72];
+    put(&mut header, 0, &72u32.to_le_bytes());
+    put(&mut header, 8, &start.to_le_bytes());
+    put(&mut header, 12, &(root.len() as u32).to_le_bytes());
+    let address = made.put(&header);
+    made.directory(14, address, 72);
+    made.image()
+}
+
+#[test]
+fn assemblies_have_names_and_references() {
+    let said = json_of("assembly", &with_assembly())["clr"]["metadata"]["tables"].clone();
+    let own = json!({"name": "Own", "version": "1.2.3.4", "culture": null, "has_public_key": false});
+    assert_eq!((&said["assembly"], &said["module"]["name"]), (&own, &json!("m.dll")));
+    assert_eq!(said["module"]["mvid"], "{03020100-0504-0706-0809-0A0B0C0D0E0F}");
+    let other = |version: &str, culture: Value, token: Value| json!({"name": "Other", "version": version, "culture": culture, "has_public_key": true, "public_key_token_hex": token});
+    let whole_key = other("5.6.0.0", json!("de"), json!(null));
+    assert_eq!(said["references"], json!([other("4.0.0.0", json!(null), json!("0102030405060708")), whole_key]));
+    let folder = Folder::new("assembly-text");
+    let file = folder.file("a.dll", &with_assembly());
+    assert!(run(&[&file]).0.contains("  assembly      Own 1.2.3.4, 2 references\n"));
+    assert!(run(&["show", &file, "clr"]).0.contains("  Other     5.6.0.0  de\n"));
+    // A reference whose name is not in the heap ends the list, and an assembly without a name is refused.
+    let at = |bytes: &[u8], part: &[u8]| bytes.windows(part.len()).position(|it| it == part).unwrap();
+    let mut bytes = with_assembly();
+    let second = at(&bytes, b"\x05\0\x06\0");
+    bytes[second + 14] = 0xFF;
+    let (out, _, status) = run(&["--json", &folder.file("b.dll", &bytes)]);
+    let said = serde_json::from_str::<Value>(&out).unwrap()["clr"]["metadata"]["tables"].clone();
+    assert_eq!(
+        (said["references"].as_array().unwrap().len(), &said["references_error"]["name"], status),
+        (1, &json!("SHORT"), 1)
+    );
+    let mut bytes = with_assembly();
+    let own = at(&bytes, b"\x04\x80\0\0");
+    bytes[own + 18] = 0xFF;
+    let (_, error, status) = run(&[&folder.file("c.dll", &bytes)]);
+    assert_eq!((error.as_str(), status), ("", 1));
 }

@@ -1,5 +1,6 @@
-//! The CLR header of an image for the .NET runtime, and the streams of its metadata.
+//! The CLR header of an image for the .NET runtime, the streams of its metadata, and the assembly by their tables.
 
+use super::assembly::{self, Tables};
 use super::{entry, field, Flags, List, Name, Part};
 use crate::names::CLR_FLAGS;
 use pe_c::{Image, Metadata as FoundMetadata, MetadataStream};
@@ -39,6 +40,8 @@ pub struct Metadata<'a> {
     pub format_version: String,
     #[serde(flatten)]
     pub streams: Part<List<Stream<'a>>>,
+    #[serde(flatten)]
+    pub tables: Part<Tables<'a>>,
 }
 
 field!(Metadata<'_>, "metadata");
@@ -65,6 +68,7 @@ fn metadata_of(found: FoundMetadata<'_>) -> Metadata<'_> {
         version: Name(found.version()),
         format_version: format!("{}.{}", found.major_version, found.minor_version),
         streams: Part::Present(List::of(found.streams(), stream_of)),
+        tables: assembly::of(&found),
     }
 }
 
@@ -92,4 +96,10 @@ fn clr_of<'a>(clr: pe_c::Clr<'_, 'a>) -> Clr<'a> {
 
 pub fn of<'a>(image: &'a Image<'_>) -> Part<Clr<'a>> {
     image.clr().map(|found| found.map(clr_of)).into()
+}
+
+/// Whether more assemblies are referred to than stand here.
+pub fn is_limited(clr: &Clr) -> bool {
+    let tables = clr.metadata.present().and_then(|it| it.tables.present());
+    tables.and_then(|it| it.references.present()).is_some_and(|it| it.is_limited)
 }

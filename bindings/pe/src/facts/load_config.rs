@@ -1,5 +1,7 @@
-//! The load configuration: what guards an image against attacks, as far as its structure goes.
+//! The load configuration: what guards an image against attacks, by its structure up to the guard flags, and by
+//! the lists of code that it leads to.
 
+use super::guards::{self, Guards};
 use super::{field, Flags, Part, Stamp};
 use crate::names::GUARD_FLAGS;
 use pe_c::Image;
@@ -28,6 +30,8 @@ pub struct LoadConfig {
     pub guard_cf_function_count: Option<u64>,
     /// `IMAGE_GUARD_`
     pub guard_flags: Option<Flags>,
+    #[serde(flatten)]
+    pub guards: Guards,
 }
 
 field!(LoadConfig, "load_config");
@@ -49,6 +53,7 @@ pub fn of(image: &Image<'_>) -> Part<LoadConfig> {
             guard_cf_function_table_va: config.guard_cf_function_table,
             guard_cf_function_count: config.guard_cf_function_count,
             guard_flags: config.guard_flags.map(|flags| Flags::of(flags, GUARD_FLAGS)),
+            guards: guards::of(image, &config),
         })
     });
     found.into()
