@@ -192,6 +192,13 @@ GUARD_FLAGS: dict[int, str] = {
     33554432: "MEMCPY_PRESENT",
 }
 
+GUARDED_FLAGS: dict[int, str] = {
+    1: "FID_SUPPRESSED",
+    2: "EXPORT_SUPPRESSED",
+    4: "FID_LANGEXCPTHANDLER",
+    8: "FID_XFG",
+}
+
 CLR_FLAGS: dict[int, str] = {
     1: "ILONLY",
     2: "32BITREQUIRED",
