@@ -4,7 +4,7 @@ use Rattle.pe_core.specs.Bytes.{le, holds}
 use Rattle.pe_core.specs.Directories.{kept}
 use Rattle.pe_core.specs.Header.{directories_offset, is_pe32_plus}
 use Rattle.pe_core.specs.Options.{is_permissive}
-use Rattle.pe_core.specs.Refusals.{BadMagic, HeaderPointer, Refusal, TeSize}
+use Rattle.pe_core.specs.Refusals.{BadMagic, HeaderPointer, Refusal, Short, TeSize}
 use Rattle.pe_core.specs.declared.options.ParseMode.{ParseMode}
 use Rattle.pe_c.specs.HandsOut.{result_number}
 use Rattle.pe_c.specs.Modes.{mode_of_number}
@@ -16,9 +16,9 @@ use Rattle.pe_core.specs.declared.optional_header.TheConstants.{MAGIC_32}
 abbrev pub failure_at : ℕ → ℕ → ℕ → ℕ → Failure
 failure_at number p n value = record { offset = p; needed = n; value = value; result = number; spare = 0 }
 
--- n bytes are needed at an offset, and the bytes end before: number 2
+-- n bytes are needed at an offset, and the bytes end before
 abbrev pub truncated_at : ℕ → ℕ → Failure
-truncated_at p n = failure_at 2 p n 0
+truncated_at p n = failure_at (result_number Short) p n 0
 
 -- the number in the n bytes at an offset is refused, by the result with this number
 abbrev pub refused_at : ℕ → List ℕ → ℕ → ℕ → Failure

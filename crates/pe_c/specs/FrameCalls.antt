@@ -114,15 +114,15 @@ module _ {W F : Type 0} (Calls : Process → F → Result F WalkEnd → Type 0) 
   -- the walk comes to these states in turn, each by a call that returns a frame, and is then in the last of them
   abbrev pub ComesTo : Process → W → List W → W → Type 0
   ComesTo p w [] last = last ≡ w
-  ComesTo p w (x ∷ xs) last = HandsOutNext p 0 w x × ComesTo p x xs last
+  ComesTo p w (x ∷ xs) last = HandsOutNext p DONE w x × ComesTo p x xs last
 
   -- ---- a whole walk
 
   -- calls return these frames in turn, and then nothing; the walk is then as the last call left it
   abbrev pub ReturnsFrames : Process → W → List F → W → Type 0
-  ReturnsFrames p w [] last = HandsOutNext p 100 w last
+  ReturnsFrames p w [] last = HandsOutNext p NOTHING w last
   ReturnsFrames p w (s ∷ frames) last =
-      (next : W) × HandsOutNext p 0 w next × (s ≡ m.frame next) × ReturnsFrames p next frames last
+      (next : W) × HandsOutNext p DONE w next × (s ≡ m.frame next) × ReturnsFrames p next frames last
 
 -- The first n slots have these states, the others what they had. Where some are left, the walk is over.
 pub record FillsFrames {W F : Type 0} (Calls : Process → F → Result F WalkEnd → Type 0) (m : WalkRecords W F) (p : Process) (n : ℕ) (slots filled : List W) (old new : W) : Type 0 where
@@ -131,7 +131,7 @@ pub record FillsFrames {W F : Type 0} (Calls : Process → F → Result F WalkEn
   pub others : drop n filled ≡ drop n slots
   pub within : n ≤ length slots
   pub same : length filled ≡ length slots
-  pub ending : ((n ≡ length slots) × (new ≡ reached)) ⊎ ((n < length slots) × HandsOutNext Calls m p 100 reached new)
+  pub ending : ((n ≡ length slots) × (new ≡ reached)) ⊎ ((n < length slots) × HandsOutNext Calls m p NOTHING reached new)
 
 -- a walk that no call has ended
 abbrev pub IsOpen : {W F : Type 0} → WalkRecords W F → W → Type 0

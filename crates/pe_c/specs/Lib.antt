@@ -56,3 +56,4 @@ pub mod DumpLaws
 pub mod RecordCodes
 pub mod SectionIndexes
 pub mod Views
+pub mod WalkStarts

@@ -70,6 +70,12 @@ ReportsLibraries b image sections walk items reported rs =
     ReturnsItems (StepsLibraries (map_of_image image sections) (entry_size (image.width == 64)) b) walk items
     × AllZip (ReportsLibrary (map_of_image image sections) (entry_size (image.width == 64)) b) reported rs
 
+-- a walk over the libraries of an image returns some, and then this error
+abbrev pub ReportsLibrariesUntil : List ℕ → Image → List SectionTable → Libraries → Refusal → Type 0
+ReportsLibrariesUntil b image sections walk refusal =
+    (reported : List Library) × (rs : List ImportRecordView)
+    × ReportsLibraries b image sections walk (map (λ x. Ok x) reported ++ Err refusal ∷ []) reported rs
+
 -- the imports of records are those of the first, followed by those of the others
 abbrev pub ImportsInTurn : Type 0
 ImportsInTurn =

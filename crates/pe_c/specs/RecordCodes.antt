@@ -5,13 +5,14 @@ use Rattle.pe_unwind.specs.Links.{Table}
 use Rattle.pe_c.specs.HandsOut.{result_number}
 use Rattle.pe_c.specs.Lists.{HandsOutList, Numbered}
 use Rattle.pe_c.specs.Unwinding.{FollowsToRecord, StepsCodes}
+use Rattle.pe_c.specs.declared.results.TheConstants.{DONE}
 use Rattle.pe_c.specs.declared.unwinding.Code.{Code}
 use Rattle.pe_c.specs.declared.unwinding.CodeWalk.{CodeWalk}
 use Rattle.pe_c.specs.declared.unwinding.UnwindRecord.{UnwindRecord}
 
 -- the record with the walk that its codes have after a list of them, where that was returned; else what was there
 abbrev pub record_after : ℕ → UnwindRecord → UnwindRecord → CodeWalk → UnwindRecord
-record_after number old r left = if number == 0 then record r { codes = left } else old
+record_after number old r left = if number == DONE then record r { codes = left } else old
 
 -- what a call returns of a record: the list of its codes, and the record with what is left of them; nothing where either is refused
 abbrev pub PutsRecordCodes : List ℕ → Result UnwindRecord Refusal → ℕ → UnwindRecord → UnwindRecord → List Code → List Code → ℕ → ℕ → Type 0

@@ -7,6 +7,7 @@
 
 ghost use Rattle.std.specs.Prelude.{◌≡◌};
 ghost use Rattle.pe_core.specs.Refusals.{answer_of};
+ghost use Rattle.pe_records.specs.declared.debug.constants.TheConstants.{IMAGE_DEBUG_TYPE_CODEVIEW, IMAGE_DEBUG_TYPE_EX_DLLCHARACTERISTICS, IMAGE_DEBUG_TYPE_POGO, IMAGE_DEBUG_TYPE_REPRO, IMAGE_DEBUG_TYPE_VC_FEATURE};
 ghost use Rattle.pe_c.specs.Debug.{characteristics_of, debug_entries_range, features_of, first_entry, key_of, pdb20_of, pogo_of, read_first, repro_of};
 ghost use Rattle.pe_c.specs.HandsOut.{HandsOutIf};
 
@@ -95,7 +96,7 @@ pub extern "C" fn pe_c_first_debug_entry(
 }
 
 fn first_key(bytes: &[u8], image: &Image, sections: &[SectionTable]) -> Result<Option<SymbolKey>>
-    ensures { answer_of result ≡ read_first key_of 2 bytes.now image.now sections.now }
+    ensures { answer_of result ≡ read_first key_of IMAGE_DEBUG_TYPE_CODEVIEW bytes.now image.now sections.now }
 {
     match first_entry(bytes, image, sections, IMAGE_DEBUG_TYPE_CODEVIEW)? {
         Some(entry) => key_of(bytes, image.mode, &entry),
@@ -115,13 +116,13 @@ pub extern "C" fn pe_c_symbol_key(
     out: &mut SymbolKey,
 ) -> u32
     ensures { HandsOutIf result out.old out.new
-        (read_first key_of 2 bytes.now image.now sections.now) }
+        (read_first key_of IMAGE_DEBUG_TYPE_CODEVIEW bytes.now image.now sections.now) }
 {
     hand_out_some(first_key(bytes, image, sections), out)
 }
 
 fn first_pdb20(bytes: &[u8], image: &Image, sections: &[SectionTable]) -> Result<Option<Pdb20>>
-    ensures { answer_of result ≡ read_first pdb20_of 2 bytes.now image.now sections.now }
+    ensures { answer_of result ≡ read_first pdb20_of IMAGE_DEBUG_TYPE_CODEVIEW bytes.now image.now sections.now }
 {
     match first_entry(bytes, image, sections, IMAGE_DEBUG_TYPE_CODEVIEW)? {
         Some(entry) => pdb20_of(bytes, image.mode, &entry),
@@ -141,7 +142,7 @@ pub extern "C" fn pe_c_debug_pdb20(
     out: &mut Pdb20,
 ) -> u32
     ensures { HandsOutIf result out.old out.new
-        (read_first pdb20_of 2 bytes.now image.now sections.now) }
+        (read_first pdb20_of IMAGE_DEBUG_TYPE_CODEVIEW bytes.now image.now sections.now) }
 {
     hand_out_some(first_pdb20(bytes, image, sections), out)
 }
@@ -151,7 +152,8 @@ fn first_features(
     image: &Image,
     sections: &[SectionTable],
 ) -> Result<Option<VCFeatureInfo>>
-    ensures { answer_of result ≡ read_first features_of 12 bytes.now image.now sections.now }
+    ensures { answer_of result
+        ≡ read_first features_of IMAGE_DEBUG_TYPE_VC_FEATURE bytes.now image.now sections.now }
 {
     match first_entry(bytes, image, sections, IMAGE_DEBUG_TYPE_VC_FEATURE)? {
         Some(entry) => features_of(bytes, image.mode, &entry),
@@ -170,7 +172,7 @@ pub extern "C" fn pe_c_debug_vc_features(
     out: &mut VCFeatureInfo,
 ) -> u32
     ensures { HandsOutIf result out.old out.new
-        (read_first features_of 12 bytes.now image.now sections.now) }
+        (read_first features_of IMAGE_DEBUG_TYPE_VC_FEATURE bytes.now image.now sections.now) }
 {
     hand_out_some(first_features(bytes, image, sections), out)
 }
@@ -180,7 +182,8 @@ fn first_characteristics(
     image: &Image,
     sections: &[SectionTable],
 ) -> Result<Option<u32>>
-    ensures { answer_of result ≡ read_first characteristics_of 20 bytes.now image.now sections.now }
+    ensures { answer_of result
+        ≡ read_first characteristics_of IMAGE_DEBUG_TYPE_EX_DLLCHARACTERISTICS bytes.now image.now sections.now }
 {
     match first_entry(
         bytes,
@@ -205,13 +208,13 @@ pub extern "C" fn pe_c_debug_characteristics(
     out: &mut u32,
 ) -> u32
     ensures { HandsOutIf result out.old out.new
-        (read_first characteristics_of 20 bytes.now image.now sections.now) }
+        (read_first characteristics_of IMAGE_DEBUG_TYPE_EX_DLLCHARACTERISTICS bytes.now image.now sections.now) }
 {
     hand_out_some(first_characteristics(bytes, image, sections), out)
 }
 
 fn first_repro(bytes: &[u8], image: &Image, sections: &[SectionTable]) -> Result<Option<Repro>>
-    ensures { answer_of result ≡ read_first repro_of 16 bytes.now image.now sections.now }
+    ensures { answer_of result ≡ read_first repro_of IMAGE_DEBUG_TYPE_REPRO bytes.now image.now sections.now }
 {
     match first_entry(bytes, image, sections, IMAGE_DEBUG_TYPE_REPRO)? {
         Some(entry) => repro_of(bytes, image.mode, &entry),
@@ -230,13 +233,13 @@ pub extern "C" fn pe_c_debug_repro(
     out: &mut Repro,
 ) -> u32
     ensures { HandsOutIf result out.old out.new
-        (read_first repro_of 16 bytes.now image.now sections.now) }
+        (read_first repro_of IMAGE_DEBUG_TYPE_REPRO bytes.now image.now sections.now) }
 {
     hand_out_some(first_repro(bytes, image, sections), out)
 }
 
 fn first_pogo(bytes: &[u8], image: &Image, sections: &[SectionTable]) -> Result<Option<Pogo>>
-    ensures { answer_of result ≡ read_first pogo_of 13 bytes.now image.now sections.now }
+    ensures { answer_of result ≡ read_first pogo_of IMAGE_DEBUG_TYPE_POGO bytes.now image.now sections.now }
 {
     match first_entry(bytes, image, sections, IMAGE_DEBUG_TYPE_POGO)? {
         Some(entry) => pogo_of(bytes, image.mode, &entry),
@@ -256,7 +259,7 @@ pub extern "C" fn pe_c_debug_pogo(
     out: &mut Pogo,
 ) -> u32
     ensures { HandsOutIf result out.old out.new
-        (read_first pogo_of 13 bytes.now image.now sections.now) }
+        (read_first pogo_of IMAGE_DEBUG_TYPE_POGO bytes.now image.now sections.now) }
 {
     hand_out_some(first_pogo(bytes, image, sections), out)
 }

@@ -21,7 +21,7 @@ ghost use Rattle.pe_c.specs.DebugWalks.{StepsPogoEntries, entries_reported};
 ghost use Rattle.pe_c.specs.ExportAddresses.{address_table, addresses_in, exported_with, exported_at};
 ghost use Rattle.pe_c.specs.Exports.{StepsExports, count_of, tables_or_short, reported_entry, reported_from, walk_over, with_tables};
 ghost use Rattle.pe_c.specs.Imports.{libraries_at};
-ghost use Rattle.pe_c.specs.Parts.{HasTables, ImportsInTurn, ReportsExport, ReportsLibraries, import_records_at};
+ghost use Rattle.pe_c.specs.Parts.{HasTables, ImportsInTurn, ReportsExport, ReportsLibraries, ReportsLibrariesUntil, import_records_at};
 ghost use Rattle.pe_c.specs.Modes.{options_of};
 ghost use Rattle.pe_c.specs.Plans.{HandsOutAfter, ReturnsInTurn, ReportsUnwindRecord, ending_of, plan_from};
 ghost use Rattle.pe_c.specs.Ranges.{IsPart, IsRange, bytes_at};
@@ -282,8 +282,7 @@ pub fn walks_report_the_imports()
         (walk : Libraries) (refusal : Refusal) → AreBytes b → length b ≤ 2 ^ 63 →
         libraries_at image sections ≡ Ok (Some walk) →
         import_records_at b image sections ≡ Err refusal →
-        (reported : List Library) × (rs : List ImportRecordView)
-        × ReportsLibraries b image sections walk (map (λ x. Ok x) reported ++ Err refusal ∷ []) reported rs }
+        ReportsLibrariesUntil b image sections walk refusal }
     ensures in_turn { ImportsInTurn }
 {}
 

@@ -11,7 +11,7 @@ ghost use Rattle.pe_core.specs.SectionMap.{rounded_up};
 ghost use Rattle.pe_core.specs.Sections.{sections_offset};
 ghost use Rattle.pe_core.specs.declared.options.ParseMode.TheVariants.{Strict};
 ghost use Rattle.pe_pkcs7.specs.Later.{IsToldAt};
-ghost use Rattle.pe_records.specs.Certificates.{CertificateView, IsListing};
+ghost use Rattle.pe_records.specs.Certificates.{CertificateView, IsListing, IsListingFrom};
 ghost use Rattle.pe_sign.specs.Attaching.{attached_of, before_table, is_signed, table_start, with_both_fields};
 ghost use Rattle.pe_sign.specs.Checksum.{checksum_of};
 ghost use Rattle.pe_sign.specs.Digest.{covered_bytes, digest_of, left_out_of, ranges_view};
@@ -154,20 +154,17 @@ pub fn attached_certificates_are_listed()
         attached_of Placement.After b h certificate ≡ Ok f → is_signed l ≡ true →
         IsListing b l.certificates.offset l.certificates.length cs →
         IsListing certificate 0 (length certificate) ds →
-        IsListing f (table_start Placement.After l (length b))
-        (length f - table_start Placement.After l (length b)) (cs ++ ds) }
+        IsListingFrom f (table_start Placement.After l (length b)) (cs ++ ds) }
     ensures first { (b : List ℕ) (h : HeaderView) (certificate f : List ℕ) (l : LeftOut)
         (ds : List CertificateView) → left_out_of h ≡ Ok l →
         attached_of Placement.After b h certificate ≡ Ok f → is_signed l ≡ false →
         IsListing certificate 0 (length certificate) ds →
-        IsListing f (table_start Placement.After l (length b))
-        (length f - table_start Placement.After l (length b)) ds }
+        IsListingFrom f (table_start Placement.After l (length b)) ds }
     ensures in_place { (b : List ℕ) (h : HeaderView) (certificate f : List ℕ) (l : LeftOut)
         (ds : List CertificateView) → left_out_of h ≡ Ok l →
         attached_of Placement.InPlace b h certificate ≡ Ok f →
         IsListing certificate 0 (length certificate) ds →
-        IsListing f (table_start Placement.InPlace l (length b))
-        (length f - table_start Placement.InPlace l (length b)) ds }
+        IsListingFrom f (table_start Placement.InPlace l (length b)) ds }
 {
     pe_sign::laws::written_tables_have_the_certificate();
     pe_records::laws::certificates::joined_tables_are_listed();

@@ -14,6 +14,7 @@ use Rattle.pe_directories.specs.declared.clr.ClrMetadata.{ClrMetadata}
 use Rattle.pe_directories.specs.declared.clr.ReadyToRunHeader.{ReadyToRunHeader}
 use Rattle.pe_directories.specs.declared.clr.ClrStream.{ClrStream}
 use Rattle.pe_directories.specs.declared.clr.ClrStreams.{ClrStreams}
+use Rattle.pe_directories.specs.declared.clr.TheConstants.{METADATA_MAGIC, READY_TO_RUN_MAGIC}
 
 -- ---- the header
 
@@ -45,7 +46,7 @@ clr_header i d =
 -- none if it has another signature
 unfoldable pub ready_to_run_of : List ℕ → Result (Option ReadyToRunHeader) DirectoryRefusal
 ready_to_run_of b =
-    if holds b 0 4 && le b 0 4 == 0x525452
+    if holds b 0 4 && le b 0 4 == READY_TO_RUN_MAGIC
     then outcome ((holds b 0 16, Image Short) ∷ []) (Some (record { major_version = le b 4 2; minor_version = le b 6 2; flags = le b 8 4; number_of_sections = le b 12 4 }))
     else Ok None
 
@@ -93,7 +94,7 @@ metadata_at b n = record {
 unfoldable pub metadata_of : List ℕ → Result Metadata DirectoryRefusal
 metadata_of b =
     outcome (
-    (holds b 0 16, Image Short) ∷ (le b 0 4 == 0x424A5342, Image BadMagic) ∷ (holds b 16 (le b 12 4 + 4), Image Short) ∷ []
+    (holds b 0 16, Image Short) ∷ (le b 0 4 == METADATA_MAGIC, Image BadMagic) ∷ (holds b 16 (le b 12 4 + 4), Image Short) ∷ []
     ) (metadata_at b (le b 12 4))
 
 -- the metadata root of a CLR header

@@ -6,6 +6,7 @@ use Rattle.pe_core.specs.Refusals.{◌>>=◌}
 use Rattle.pe_core.specs.SectionMap.{SectionMapView, map_view, section_map, mapped}
 use Rattle.pe_core.specs.declared.byte_range.ByteRange.{ByteRange}
 use Rattle.pe_core.specs.declared.data_directories.DataDirectory.{DataDirectory}
+use Rattle.pe_core.specs.declared.optional_header.TheConstants.{MAGIC_64}
 use Rattle.pe_core.specs.declared.options.ParseOptions.{ParseOptions}
 use Rattle.pe_core.specs.declared.section_table.SectionTable.{SectionTable}
 use Rattle.pe_directories.specs.DirectoryRefusals.{DirectoryRefusal, VaBelowBase, of_image}
@@ -39,7 +40,7 @@ image_with b h headers o = record {
   sections = headers;
   file_alignment = h.windows_fields.file_alignment;
   image_base = h.windows_fields.image_base;
-  is_64 = h.standard_fields.magic == 0x20B;
+  is_64 = h.standard_fields.magic == MAGIC_64;
   opts = o;
 }
 

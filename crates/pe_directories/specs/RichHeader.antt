@@ -8,6 +8,7 @@ use Rattle.pe_core.specs.Bytes.{le, range}
 use Rattle.pe_core.specs.Rows.{each}
 use Rattle.pe_directories.specs.declared.rich_header.RichEntry.{RichEntry}
 use Rattle.pe_directories.specs.declared.rich_header.RichHeader.{RichHeader}
+use Rattle.pe_directories.specs.declared.rich_header.TheConstants.{DANS, RICH}
 
 -- the word of 4 bytes with an index
 abbrev pub word : List ℕ → ℕ → ℕ
@@ -16,7 +17,7 @@ word b k = le b (4 * k) 4
 -- the index of the first word Rich among the n words from index k on
 unfoldable pub next_rich : List ℕ → ℕ → ℕ → Option ℕ
 next_rich b k zero = None
-next_rich b k (suc n) = if word b k == 0x68636952 then Some k else next_rich b (suc k) n
+next_rich b k (suc n) = if word b k == RICH then Some k else next_rich b (suc k) n
 
 -- what callers see of the header: also the bytes before it, and its entries as they are in the file
 pub record Rich : Type 0 where
@@ -31,7 +32,7 @@ rich_view h = record { key = h.key; before = h.before.now; entries = h.entry_byt
 -- the words from index start on are DanS and three zeros, XORed with the key
 abbrev pub starts_with : List ℕ → ℕ → ℕ → Bool
 starts_with b key start =
-    word b start == bit_xor 0x536E6144 key && word b (start + 1) == key && word b (start + 2) == key && word b (start + 3) == key
+    word b start == bit_xor DANS key && word b (start + 1) == key && word b (start + 2) == key && word b (start + 3) == key
 
 -- a header starts at the word with index start and has its word Rich at index end: whole entries are between
 abbrev pub is_rich : List ℕ → ℕ → ℕ → Bool

@@ -8,6 +8,7 @@
 ghost use Rattle.std.specs.Prelude.{◌≡◌, ◌+◌, ◌*◌, ◌/◌, ◌<◌, ◌≤◌, ◌==◌, bit_xor, length, if◌then◌else◌, IfSome, Some};
 ghost use Rattle.std.specs.Option.{option_map};
 ghost use Rattle.pe_core.specs.Bytes.{le};
+ghost use Rattle.pe_directories.specs.declared.rich_header.TheConstants.{RICH};
 ghost use Rattle.pe_directories.specs.RichHeader.{word, starts_with, is_rich, rich_view, rich_from, rich_header, rich_entry, rich_entry_at, stub_share, stub_sum, entry_share, rich_checksum};
 
 use pe_core::read_u32;
@@ -86,7 +87,7 @@ fn is_rich(bytes: &[u8], start: usize, end: usize) -> bool
 /// The index of the first word `Rich` from the word with this index on, where `next` is that of the first one after it.
 fn next_rich(bytes: &[u8], index: usize, next: Option<usize>) -> Option<usize>
     requires { 4 * index + 4 ≤ length bytes.now }
-    ensures { result ≡ (if word bytes.now index == 0x68636952 then Some index else next) }
+    ensures { result ≡ (if word bytes.now index == RICH then Some index else next) }
 {
     if word(bytes, index) == RICH {
         return Some(index);

@@ -4,6 +4,7 @@ use Rattle.std.specs.Prelude.{ℕ, ◌/◌, ◌%◌, ◌==◌, Bool, false, Opti
 use Rattle.pe_core.specs.Directories.{present}
 use Rattle.pe_core.specs.Header.{HeaderView, OptionalHeaderView}
 use Rattle.pe_core.specs.declared.data_directories.DataDirectory.{DataDirectory}
+use Rattle.pe_core.specs.declared.header.TheConstants.{IMAGE_FILE_DLL}
 use Rattle.pe_core.specs.declared.optional_header.TheConstants.{MAGIC_64}
 
 -- the directory with this number, if the image has it; without an optional header it has none
@@ -33,4 +34,4 @@ image_base (Some o) = o.windows_fields.image_base
 
 -- the image is a DLL: bit 13 of the characteristics
 abbrev pub is_library : HeaderView → Bool
-is_library h = h.coff_header.characteristics / 0x2000 % 2 == 1
+is_library h = h.coff_header.characteristics / IMAGE_FILE_DLL % 2 == 1

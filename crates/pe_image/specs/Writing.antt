@@ -77,6 +77,10 @@ sections_written b sections unit offset old =
 abbrev pub certificate_directory : OptionalHeaderView → Option DataDirectory
 certificate_directory o = present o.data_directories 4
 
+-- the image has an optional header, and in it this certificate directory
+abbrev pub HasCertificateDirectory : ImageView → DataDirectory → Type 0
+HasCertificateDirectory x d = (o : OptionalHeaderView) × (x.header.optional_header ≡ Some o) × (certificate_directory o ≡ Some d)
+
 -- certificates over the old bytes, in this directory
 abbrev pub certificates_over : Option DataDirectory → List CertificateView → List ℕ → Result (ℕ × List ℕ) Refusal
 certificates_over d cs old =

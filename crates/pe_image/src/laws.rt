@@ -24,7 +24,7 @@ ghost use Rattle.pe_image.specs.Headline.{AreDerived, IsPermissive};
 ghost use Rattle.pe_image.specs.Image.{HasLibraries, ImageView, core_part, AreResourcesOf, IsImage, certificates_of, debug_of, exceptions_of, image_view, libraries_of, relocations_of};
 ghost use Rattle.pe_image.specs.Overlay.{EndsInZeros, LeavesOverlay, Piece, all_fit, longest, overlay};
 ghost use Rattle.pe_image.specs.Pieces.{all_certificate_pieces, all_section_pieces};
-ghost use Rattle.pe_image.specs.Writing.{AreAligned, ReturnsWritten, certificate_directory, certificates_written, clash, image_length, image_pieces, image_written, padded_pieces, sections_written, whole_length, whole_written};
+ghost use Rattle.pe_image.specs.Writing.{AreAligned, HasCertificateDirectory, ReturnsWritten, certificate_directory, certificates_written, clash, image_length, image_pieces, image_written, padded_pieces, sections_written, whole_length, whole_written};
 ghost use Rattle.pe_image.specs.WritingSteps.{put_in_turn};
 ghost use Rattle.pe_image.specs.declared.pe.PE.{PE};
 
@@ -189,10 +189,9 @@ pub fn clashing_sections_share_a_byte()
 /// Certificates that are the unchanged listing of their table, at an offset that is a multiple of eight, are listed
 /// again after a successful `write_certificates` into a buffer that contains the range of the table.
 pub fn written_certificates_are_listed_again()
-    ensures { (b old new : List ℕ) (x : ImageView)
-        (o : OptionalHeaderView) (d : DataDirectory) (n : ℕ) → x.header.optional_header ≡ Some o →
-        certificate_directory o ≡ Some d → d.virtual_address % 8 ≡ 0 →
-        AreBytes b → IsListing b d.virtual_address d.size x.certificates →
+    ensures { (b old new : List ℕ) (x : ImageView) (d : DataDirectory) (n : ℕ) →
+        HasCertificateDirectory x d → d.virtual_address % 8 ≡ 0 → AreBytes b →
+        IsListing b d.virtual_address d.size x.certificates →
         d.virtual_address + d.size ≤ length old → certificates_written x old ≡ Ok (n, new) →
         IsListing new d.virtual_address d.size x.certificates }
 {

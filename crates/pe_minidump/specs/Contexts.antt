@@ -5,14 +5,16 @@ use Rattle.pe_core.specs.Refusals.{outcome}
 use Rattle.pe_core.specs.Rows.{each}
 use Rattle.pe_minidump.specs.Refusals.{DumpRefusal, ContextFlags, ContextSize, Machine}
 use Rattle.pe_minidump.specs.declared.context_arm64.ContextArm64.{ContextArm64}
+use Rattle.pe_minidump.specs.declared.context_arm64.TheConstants.{CONTEXT_ARM64}
 use Rattle.pe_minidump.specs.declared.context_x64.ContextX64.{ContextX64}
+use Rattle.pe_minidump.specs.declared.context_x64.TheConstants.{CONTEXT_AMD64}
 
 -- x64: the registers by their numbers, rax first, and the XMM registers if bit 3 of the flags says that they were saved
 unfoldable pub context_x64 : List ℕ → Result ContextX64 DumpRefusal
 context_x64 b =
     outcome (
     (holds b 0 1232, ContextSize)
-    ∷ (le b 48 4 / 0x100000 % 2 == 1, Machine)
+    ∷ (le b 48 4 / CONTEXT_AMD64 % 2 == 1, Machine)
     ∷ (le b 48 4 % 4 == 3, ContextFlags) ∷ []
     ) (record {
       context_flags = le b 48 4;
@@ -27,7 +29,7 @@ unfoldable pub context_arm64 : List ℕ → Result ContextArm64 DumpRefusal
 context_arm64 b =
     outcome (
     (holds b 0 912, ContextSize)
-    ∷ (le b 0 4 / 0x400000 % 2 == 1, Machine)
+    ∷ (le b 0 4 / CONTEXT_ARM64 % 2 == 1, Machine)
     ∷ (le b 0 4 % 4 == 3, ContextFlags) ∷ []
     ) (record {
       context_flags = le b 0 4;

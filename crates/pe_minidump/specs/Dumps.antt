@@ -9,6 +9,7 @@ use Rattle.pe_minidump.specs.Tables.{record_of, records}
 use Rattle.pe_minidump.specs.declared.dump.DirectoryEntry.{DirectoryEntry}
 use Rattle.pe_minidump.specs.declared.dump.Dump.{Dump}
 use Rattle.pe_minidump.specs.declared.dump.DumpHeader.{DumpHeader}
+use Rattle.pe_minidump.specs.declared.dump.TheConstants.{MINIDUMP_SIGNATURE, MINIDUMP_VERSION}
 
 -- what callers see of a dump: the bytes of the file, the header, the bytes of the directory
 pub record DumpView : Type 0 where
@@ -28,8 +29,8 @@ unfoldable pub dump_of : List ℕ → Result DumpView DumpRefusal
 dump_of b =
     outcome (
     (holds b 0 32, Short)
-    ∷ (le b 0 4 == 0x504D444D, Signature)
-    ∷ (le b 4 4 % 65536 == 0xA793, Version)
+    ∷ (le b 0 4 == MINIDUMP_SIGNATURE, Signature)
+    ∷ (le b 4 4 % 65536 == MINIDUMP_VERSION, Version)
     ∷ (holds b (le b 12 4) (12 * le b 8 4), Directory) ∷ []
     ) (record { bytes = b; header = dump_header b 0; directory = range b (le b 12 4) (12 * le b 8 4) })
 

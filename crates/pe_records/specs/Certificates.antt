@@ -36,14 +36,14 @@ type_number TsStackSigned = 4
 
 -- the number is that of a revision, and that of a type
 abbrev pub is_revision : ℕ → Bool
-is_revision n = n == 0x0100 || n == 0x0200
+is_revision n = n == revision_number Revision1_0 || n == revision_number Revision2_0
 
 abbrev pub is_type : ℕ → Bool
 is_type n = n == 1 || n == 2 || n == 3 || n == 4
 
 -- the revision, and the type, of a number that has one
 abbrev pub revision_of : ℕ → AttributeCertificateRevision
-revision_of n = if n == 0x0100 then Revision1_0 else Revision2_0
+revision_of n = if n == revision_number Revision1_0 then Revision1_0 else Revision2_0
 
 abbrev pub type_of : ℕ → AttributeCertificateType
 type_of n = if n == 1 then X509 else (if n == 2 then PkcsSignedData else (if n == 3 then Reserved1 else TsStackSigned))
@@ -113,6 +113,14 @@ pub record IsListing (b : List ℕ) (address size : ℕ) (cs : List CertificateV
   pub first : offset 0 ≡ address
   pub stand : Stand b (address + size) offset cs
   pub last : address + size ≤ offset (length cs)
+
+-- the same of the table that starts at this offset and ends with the file
+abbrev pub IsListingFrom : List ℕ → ℕ → List CertificateView → Type 0
+IsListingFrom b address cs = IsListing b address (length b - address) cs
+
+-- the size of a table of this size and, after its padding, of these bytes with theirs
+abbrev pub joined_size : ℕ → List ℕ → ℕ
+joined_size size more = rounded_up size 8 + rounded_up (length more) 8
 
 -- a listing can't go on: its first certificates are there, but none is at the offset after them, which is before the
 -- end

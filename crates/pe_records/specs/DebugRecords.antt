@@ -15,6 +15,7 @@ use Rattle.pe_records.specs.declared.debug.ImageDebugDirectory.{ImageDebugDirect
 use Rattle.pe_records.specs.declared.debug.DebugData as declared
 use Rattle.pe_records.specs.declared.debug.codeview.CodeviewPDB70DebugInfo.{CodeviewPDB70DebugInfo}
 use Rattle.pe_records.specs.declared.debug.codeview.CodeviewPDB20DebugInfo.{CodeviewPDB20DebugInfo}
+use Rattle.pe_records.specs.declared.debug.constants.TheConstants.{CODEVIEW_PDB20_MAGIC, CODEVIEW_PDB70_MAGIC, IMAGE_DEBUG_POGO_SIGNATURE_LTCG, IMAGE_DEBUG_POGO_SIGNATURE_PGU, IMAGE_DEBUG_TYPE_CODEVIEW, IMAGE_DEBUG_TYPE_EX_DLLCHARACTERISTICS, IMAGE_DEBUG_TYPE_POGO, IMAGE_DEBUG_TYPE_REPRO, IMAGE_DEBUG_TYPE_VC_FEATURE}
 use Rattle.pe_records.specs.declared.debug.pogo.POGOInfo.{POGOInfo}
 use Rattle.pe_records.specs.declared.debug.records.ExDllCharacteristicsInfo.{ExDllCharacteristicsInfo}
 use Rattle.pe_records.specs.declared.debug.records.ReproInfo.{ReproInfo}
@@ -59,7 +60,7 @@ pdb70_at b p size = record {
 -- the record at offset p in this many bytes, none, or its first refusal
 unfoldable pub pdb70_record : ParseMode → List ℕ → ℕ → ℕ → Result (Option Pdb70) Refusal
 pdb70_record mode b p size =
-    of_least_size mode 24 size (signed (λ n. n == 0x53445352) b p
+    of_least_size mode 24 size (signed (λ n. n == CODEVIEW_PDB70_MAGIC) b p
     (outcome ((holds b (p + 4) 20, Short) ∷ (holds b (p + 24) (size - 24), DebugData) ∷ []) (Some (pdb70_at b p size))))
 
 -- ---- PDB 2.0
@@ -89,7 +90,7 @@ pdb20_at b p size = record {
 -- the record at offset p in this many bytes, none, or its first refusal
 unfoldable pub pdb20_record : ParseMode → List ℕ → ℕ → ℕ → Result (Option Pdb20) Refusal
 pdb20_record mode b p size =
-    of_least_size mode 16 size (signed (λ n. n == 0x3031424E) b p
+    of_least_size mode 16 size (signed (λ n. n == CODEVIEW_PDB20_MAGIC) b p
     (outcome ((holds b (p + 4) 12, Short) ∷ (holds b (p + 16) (size - 16), DebugData) ∷ []) (Some (pdb20_at b p size))))
 
 -- ---- VC feature and characteristics, of fixed size
@@ -144,7 +145,7 @@ pogo_view r = record { signature = r.signature; bytes = r.bytes.now }
 -- a signature of 4 bytes, and the bytes after it
 unfoldable pub pogo_record : List ℕ → ℕ → ℕ → Result (Option Pogo) Refusal
 pogo_record b p size =
-    signed (λ n. n == 0x4C544347 || n == 0x50475500) b p
+    signed (λ n. n == IMAGE_DEBUG_POGO_SIGNATURE_LTCG || n == IMAGE_DEBUG_POGO_SIGNATURE_PGU) b p
     (outcome ((nat_lt 4 size, PogoSize) ∷ (holds b (p + 4) (size - 4), DebugData) ∷ []) (Some (record { signature = le b p 4; bytes = range b (p + 4) (size - 4) })))
 
 -- ---- the records of entries
@@ -218,12 +219,12 @@ no_debug_data = record { table = []; fixup = 0; pdb70 = None; pdb20 = None; feat
 -- the records of a table, or the first refusal
 unfoldable pub records : ParseOptions → List ℕ → ℕ → List ℕ → Result DebugFields Refusal
 records o b fixup t = do
-  pdb70 ← of_entry (pdb70_of o b) (first_of_type fixup 2 t)
-  pdb20 ← of_entry (pdb20_of o b) (first_of_type fixup 2 t)
-  features ← some_of_entry (features_of o b) (first_of_type fixup 12 t)
-  characteristics ← some_of_entry (characteristics_of o b) (first_of_type fixup 20 t)
-  repro ← some_of_entry (repro_of o b) (first_of_type fixup 16 t)
-  pogo ← of_entry (pogo_of o b) (first_of_type fixup 13 t)
+  pdb70 ← of_entry (pdb70_of o b) (first_of_type fixup IMAGE_DEBUG_TYPE_CODEVIEW t)
+  pdb20 ← of_entry (pdb20_of o b) (first_of_type fixup IMAGE_DEBUG_TYPE_CODEVIEW t)
+  features ← some_of_entry (features_of o b) (first_of_type fixup IMAGE_DEBUG_TYPE_VC_FEATURE t)
+  characteristics ← some_of_entry (characteristics_of o b) (first_of_type fixup IMAGE_DEBUG_TYPE_EX_DLLCHARACTERISTICS t)
+  repro ← some_of_entry (repro_of o b) (first_of_type fixup IMAGE_DEBUG_TYPE_REPRO t)
+  pogo ← of_entry (pogo_of o b) (first_of_type fixup IMAGE_DEBUG_TYPE_POGO t)
   Ok (record { table = t; fixup = fixup; pdb70 = pdb70; pdb20 = pdb20; features = features; characteristics = characteristics; repro = repro; pogo = pogo })
 
 -- the debug data of a directory, or the first refusal

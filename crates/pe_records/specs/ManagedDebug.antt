@@ -8,6 +8,7 @@ use Rattle.pe_records.specs.DebugRecords.{record_offset}
 use Rattle.pe_records.specs.declared.debug.ImageDebugDirectory.{ImageDebugDirectory}
 use Rattle.pe_records.specs.declared.debug.managed.EmbeddedPdb.{EmbeddedPdb}
 use Rattle.pe_records.specs.declared.debug.managed.PdbChecksum.{PdbChecksum}
+use Rattle.pe_records.specs.declared.debug.managed.TheConstants.{EMBEDDED_PDB_MAGIC}
 
 -- ---- the embedded PDB
 
@@ -22,7 +23,7 @@ embedded_view r = record { uncompressed_size = r.uncompressed_size; compressed =
 -- the record at offset p in this many bytes: MPDB, the size of the PDB, and the PDB, compressed
 unfoldable pub embedded_record : List ℕ → ℕ → ℕ → Result Embedded Refusal
 embedded_record b p size =
-    outcome ((nat_le 8 size, DebugSize) ∷ (holds b p 8, Short) ∷ (le b p 4 == 0x4244504D, BadMagic) ∷ (holds b (p + 8) (size - 8), DebugData) ∷ [])
+    outcome ((nat_le 8 size, DebugSize) ∷ (holds b p 8, Short) ∷ (le b p 4 == EMBEDDED_PDB_MAGIC, BadMagic) ∷ (holds b (p + 8) (size - 8), DebugData) ∷ [])
     (record { uncompressed_size = le b (p + 4) 4; compressed = range b (p + 8) (size - 8) })
 
 -- ---- the checksum of the PDB

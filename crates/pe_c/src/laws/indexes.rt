@@ -10,7 +10,7 @@ ghost use Rattle.pe_c.specs.declared.view.View.{View};
 
 /// Where a view has an index of its sections, as `pe_c_index` writes it, its map of RVAs is that of the sections: so every call
 /// whose definition takes a map returns what it returns without the index. The section of an RVA and the bytes from it on are the
-/// same too.
+/// same too. Each clause is a field of `IsIndexOf`, said of the view.
 pub fn indexes_change_nothing()
     ensures maps { (v : View) → IsIndexOf v.image.now v.sections.now v.index.now →
         map_of v ≡ map_of_image v.image.now v.sections.now }

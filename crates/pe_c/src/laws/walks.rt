@@ -8,13 +8,12 @@ ghost use Rattle.pe_core.specs.Rows.{entry_items};
 ghost use Rattle.pe_core.specs.declared.section_table.SectionTable.{SectionTable};
 ghost use Rattle.pe_directories.specs.BaseRelocations.{Block, first_block, first_relocation};
 ghost use Rattle.pe_directories.specs.BoundImports.{Bound, bound_forwarder_at, bound_table, first_bound_import};
-ghost use Rattle.pe_directories.specs.Clr.{Stream, clr_metadata, first_stream};
+ghost use Rattle.pe_directories.specs.Clr.{Stream, first_stream};
 ghost use Rattle.pe_directories.specs.Clr as roots;
-ghost use Rattle.pe_directories.specs.DelayImports.{first_delay_import, lookup_table};
+ghost use Rattle.pe_directories.specs.DelayImports.{first_delay_import};
 ghost use Rattle.pe_directories.specs.DirectoryRefusals.{DirectoryRefusal};
 ghost use Rattle.pe_directories.specs.DirectoryRefusals as refusals;
-ghost use Rattle.pe_directories.specs.ImageParts.{ImageView, walk_table};
-ghost use Rattle.pe_directories.specs.Tls.{callback_table};
+ghost use Rattle.pe_directories.specs.ImageParts.{ImageView};
 ghost use Rattle.pe_directories.specs.VaTables.{first_va};
 ghost use Rattle.pe_directories.specs.Walks.{Items};
 ghost use Rattle.pe_directories.specs.declared.base_relocation.BaseRelocation.{BaseRelocation};
@@ -24,14 +23,14 @@ ghost use Rattle.pe_directories.specs.declared.tls.TlsDirectory.{TlsDirectory};
 ghost use Rattle.pe_resource.specs.Leaves.{TreeRefusal};
 ghost use Rattle.pe_resource.specs.declared.leaves.ResourceLeaf as trees;
 ghost use Rattle.pe_c.specs.BoundImports.{bound_imports_at};
-ghost use Rattle.pe_c.specs.Clr.{clr_metadata_at, streams_in};
-ghost use Rattle.pe_c.specs.DelayImports.{entry_with, function_of, functions_of, library_of};
+ghost use Rattle.pe_c.specs.Clr.{streams_in};
+ghost use Rattle.pe_c.specs.DelayImports.{entry_with};
 ghost use Rattle.pe_c.specs.DirectoryRuns.{HasBlock, HasBound, StepsBlocks, StepsBoundImports, StepsCallbacks, StepsDelayLibraries, StepsDelayedFunctions, StepsForwarders, StepsRelocations, StepsStreams, forwarders_reported, relocations_reported, ReturnsBlocks, ReturnsBounds, ReturnsStreams};
-ghost use Rattle.pe_c.specs.Directories.{callbacks_at, image_parts, table_at};
-ghost use Rattle.pe_c.specs.Images.{directory};
+ghost use Rattle.pe_c.specs.Directories.{image_parts};
 ghost use Rattle.pe_c.specs.Ranges.{bytes_at};
 ghost use Rattle.pe_c.specs.ResourceLeaves.{StartsTree, StepsLeaves, item_reported, items_left};
-ghost use Rattle.pe_c.specs.Runs.{ReturnsItems, read_items};
+ghost use Rattle.pe_c.specs.Runs.{ReturnsItems};
+ghost use Rattle.pe_c.specs.WalkStarts.{ReturnsDelayLibraries, ReturnsFunctions, StartsCallbacks, StartsFunctions, StartsStreams, StartsTable};
 ghost use Rattle.pe_c.specs.declared.base_relocations.RelocationBlock.{RelocationBlock};
 ghost use Rattle.pe_c.specs.declared.bound_imports.BoundImport.{BoundImport};
 ghost use Rattle.pe_c.specs.declared.clr.Metadata.{Metadata};
@@ -48,8 +47,7 @@ pub fn walks_give_the_callbacks()
     ensures of_image { (b : List ℕ) (image : Image) (sections : List SectionTable)
         (tls : TlsDirectory) (walk : Range) (table : List ℕ)
         (items : List (Result ℕ DirectoryRefusal)) → 0 < length b →
-        callbacks_at b image sections tls ≡ Ok (Some walk) →
-        callback_table (image_parts b image sections) tls ≡ Ok (Some table) →
+        StartsCallbacks b image sections tls walk table →
         Items (first_va (image.width == 64)) table items →
         ReturnsItems (StepsCallbacks image b) walk items }
     ensures numbers { (b : List ℕ) (image : Image) (walk : Range) (bytes : List ℕ)
@@ -67,9 +65,7 @@ pub fn walks_give_the_callbacks()
 pub fn walks_give_the_relocations()
     ensures of_image { (b : List ℕ) (image : Image) (sections : List SectionTable) (walk : Range)
         (table : List ℕ) (items : List (Result Block DirectoryRefusal)) →
-        table_at 5 b image sections ≡ Ok (Some walk) →
-        walk_table (image_parts b image sections) (directory image 5) ≡ Ok (Some table) →
-        Items first_block table items →
+        StartsTable 5 b image sections walk table → Items first_block table items →
         ReturnsBlocks b walk items }
     ensures blocks { (b : List ℕ) (walk : Range) (bytes : List ℕ)
         (items : List (Result Block DirectoryRefusal)) → bytes_at b walk ≡ Ok bytes →
@@ -98,8 +94,7 @@ pub fn walks_give_the_streams()
     ensures of_image { (b : List ℕ) (image : Image) (sections : List SectionTable)
         (header : ClrHeader) (root : Metadata) (metadata : roots.Metadata)
         (items : List (Result Stream DirectoryRefusal)) →
-        clr_metadata_at b image sections header ≡ Ok (Some root) →
-        clr_metadata (image_parts b image sections) header ≡ Ok metadata →
+        StartsStreams b image sections header root metadata →
         Items first_stream (metadata.number_of_streams, metadata.stream_headers) items →
         ReturnsStreams b metadata.bytes root.streams items }
     ensures streams { (b : List ℕ) (walk : MetadataStreams) (metadata headers : List ℕ)
@@ -118,31 +113,25 @@ pub fn walks_give_the_streams()
 pub fn walks_give_the_delay_imports()
     ensures of_image { (b : List ℕ) (image : Image) (sections : List SectionTable) (walk : Range)
         (table : List ℕ) (items : List (Result DelayImport DirectoryRefusal)) →
-        table_at 13 b image sections ≡ Ok (Some walk) →
-        walk_table (image_parts b image sections) (directory image 13) ≡ Ok (Some table) →
-        Items first_delay_import table items →
-        ReturnsItems (StepsDelayLibraries (image_parts b image sections)) walk
-        (read_items (library_of (image_parts b image sections)) items) }
+        StartsTable 13 b image sections walk table → Items first_delay_import table items →
+        ReturnsDelayLibraries (image_parts b image sections) walk items }
     ensures libraries { (image : ImageView) (walk : Range) (bytes : List ℕ)
         (items : List (Result DelayImport DirectoryRefusal)) →
         bytes_at image.bytes walk ≡ Ok bytes → Items first_delay_import bytes items →
-        ReturnsItems (StepsDelayLibraries image) walk (read_items (library_of image) items) }
+        ReturnsDelayLibraries image walk items }
     ensures libraries_outside { (image : ImageView) (walk : Range) (refusal : Refusal) →
         bytes_at image.bytes walk ≡ Err refusal → ReturnsItems (StepsDelayLibraries image) walk
         (Err (refusals.Image refusal) ∷ []) }
     ensures of_library { (b : List ℕ) (image : Image) (sections : List SectionTable)
         (entry : DelayImport) (walk : DelayedFunctions) (table : List ℕ)
         (items : List (Result ℕ DirectoryRefusal)) → 0 < length b →
-        functions_of (image_parts b image sections) entry ≡ Ok walk →
-        lookup_table (image_parts b image sections) entry ≡ Ok (Some table) →
+        StartsFunctions b image sections entry walk table →
         Items (first_va (image.width == 64)) table items →
-        ReturnsItems (StepsDelayedFunctions image (image_parts b image sections)) walk
-        (read_items (function_of (image_parts b image sections) entry) items) }
+        ReturnsFunctions image (image_parts b image sections) entry walk items }
     ensures functions { (image : Image) (i : ImageView) (walk : DelayedFunctions) (bytes : List ℕ)
         (items : List (Result ℕ DirectoryRefusal)) → 0 < walk.left.offset + walk.left.length →
         bytes_at i.bytes walk.left ≡ Ok bytes → Items (first_va (image.width == 64)) bytes items →
-        ReturnsItems (StepsDelayedFunctions image i) walk
-        (read_items (function_of i (entry_with walk.attributes)) items) }
+        ReturnsFunctions image i (entry_with walk.attributes) walk items }
     ensures functions_outside { (image : Image) (i : ImageView) (walk : DelayedFunctions)
         (refusal : Refusal) → 0 < walk.left.offset + walk.left.length →
         bytes_at i.bytes walk.left ≡ Err refusal →

@@ -5,6 +5,7 @@ ghost use Rattle.std.specs.Prelude.{◌≡◌, ◌==◌, [], ◌∷◌};
 ghost use Rattle.std.specs.Option.{option_or};
 ghost use Rattle.std.specs.List.{find};
 ghost use Rattle.pe_records.specs.DebugDirectory.{first_of_type};
+ghost use Rattle.pe_records.specs.declared.debug.constants.TheConstants.{IMAGE_DEBUG_TYPE_CODEVIEW, IMAGE_DEBUG_TYPE_EX_DLLCHARACTERISTICS, IMAGE_DEBUG_TYPE_POGO, IMAGE_DEBUG_TYPE_REPRO, IMAGE_DEBUG_TYPE_VC_FEATURE};
 
 use crate::debug::ImageDebugDirectory;
 use crate::debug::constants::{
@@ -36,11 +37,12 @@ impl FirstEntries {
     /// The first entries of a table, whose entries are read once, from the first to the last.
     #[tactic(auto, unfolding(crate::specs::DebugDirectory::whole_debug_entries, pe_core::specs::Rows::each))]
     pub(crate) fn of_table(table: &[u8], fixup: u32) -> FirstEntries
-        ensures codeview { result.codeview ≡ first_of_type fixup 2 table.now }
-        ensures features { result.features ≡ first_of_type fixup 12 table.now }
-        ensures characteristics { result.characteristics ≡ first_of_type fixup 20 table.now }
-        ensures repro { result.repro ≡ first_of_type fixup 16 table.now }
-        ensures pogo { result.pogo ≡ first_of_type fixup 13 table.now }
+        ensures codeview { result.codeview ≡ first_of_type fixup IMAGE_DEBUG_TYPE_CODEVIEW table.now }
+        ensures features { result.features ≡ first_of_type fixup IMAGE_DEBUG_TYPE_VC_FEATURE table.now }
+        ensures characteristics { result.characteristics
+            ≡ first_of_type fixup IMAGE_DEBUG_TYPE_EX_DLLCHARACTERISTICS table.now }
+        ensures repro { result.repro ≡ first_of_type fixup IMAGE_DEBUG_TYPE_REPRO table.now }
+        ensures pogo { result.pogo ≡ first_of_type fixup IMAGE_DEBUG_TYPE_POGO table.now }
     {
         let mut codeview = None;
         let mut features = None;

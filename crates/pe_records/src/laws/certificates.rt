@@ -4,7 +4,7 @@ ghost use Rattle.std.specs.Prelude.{◌≡◌, ℕ, ◌+◌, ◌%◌, ◌≤◌,
 ghost use Rattle.pe_core.specs.Bytes.{AreBytes, range, splice};
 ghost use Rattle.pe_core.specs.Refusals.{Refusal};
 ghost use Rattle.pe_core.specs.SectionMap.{rounded_up};
-ghost use Rattle.pe_records.specs.Certificates.{CertificateView, certificate_at, certificates_at, IsListing, IsRefused};
+ghost use Rattle.pe_records.specs.Certificates.{CertificateView, certificate_at, certificates_at, IsListing, IsRefused, joined_size};
 ghost use Rattle.pe_core.specs.Offsets.{StandAt};
 ghost use Rattle.pe_records.specs.CertificateWriting.{IsWhole, spell_certificate, padding, written_length, written_certificate, written_certificates};
 
@@ -79,7 +79,7 @@ pub fn joined_tables_are_listed()
         length b ≡ address + size → IsListing b address size cs →
         IsListing more 0 (length more) ds → StandAt file address (range b address size) →
         StandAt file (address + rounded_up size 8) more →
-        n ≡ rounded_up size 8 + rounded_up (length more) 8 → address + n ≤ length file →
+        n ≡ joined_size size more → address + n ≤ length file →
         IsListing file address n (cs ++ ds) }
     ensures moved { (more file : List ℕ) (p n : ℕ) (ds : List CertificateView) → p % 8 ≡ 0 →
         IsListing more 0 (length more) ds → StandAt file p more →

@@ -15,4 +15,4 @@ pub returns-clause-relocations_outside : goal.returns-clause-relocations_outside
 returns-clause-relocations_outside c = relocations_outside
 
 pub returns-clause-of_image : goal.returns-clause-of_image
-returns-clause-of_image c = blocks_of_image
+returns-clause-of_image c = λ b image sections walk table items is. blocks_of_image b image sections walk table items is.started is.read

@@ -1,0 +1,50 @@
+-- Walks that a call starts for an image, each with the bytes that pe_directories reads there.
+use Rattle.std.specs.Prelude.{◌≡◌, ℕ, List, Some, Result, Ok}
+use Rattle.pe_core.specs.declared.section_table.SectionTable.{SectionTable}
+use Rattle.pe_directories.specs.Clr.{clr_metadata}
+use Rattle.pe_directories.specs.Clr as roots
+use Rattle.pe_directories.specs.DelayImports.{lookup_table}
+use Rattle.pe_directories.specs.DirectoryRefusals.{DirectoryRefusal}
+use Rattle.pe_directories.specs.ImageParts.{ImageView, walk_table}
+use Rattle.pe_directories.specs.Tls.{callback_table}
+use Rattle.pe_directories.specs.declared.clr.ClrHeader.{ClrHeader}
+use Rattle.pe_directories.specs.declared.delay_import.DelayImport.{DelayImport}
+use Rattle.pe_directories.specs.declared.tls.TlsDirectory.{TlsDirectory}
+use Rattle.pe_c.specs.Clr.{clr_metadata_at}
+use Rattle.pe_c.specs.DelayImports.{function_of, functions_of, library_of}
+use Rattle.pe_c.specs.Directories.{callbacks_at, image_parts, table_at}
+use Rattle.pe_c.specs.DirectoryRuns.{StepsDelayLibraries, StepsDelayedFunctions}
+use Rattle.pe_c.specs.Images.{directory}
+use Rattle.pe_c.specs.Runs.{ReturnsItems, read_items}
+use Rattle.pe_c.specs.declared.clr.Metadata.{Metadata}
+use Rattle.pe_c.specs.declared.delay_imports.DelayedFunctions.{DelayedFunctions}
+use Rattle.pe_c.specs.declared.image.Image.{Image}
+use Rattle.pe_c.specs.declared.ranges.Range.{Range}
+
+-- the walk over the directory with this index, and the bytes of its table
+pub record StartsTable (index : ℕ) (b : List ℕ) (image : Image) (sections : List SectionTable) (walk : Range) (table : List ℕ) : Type 0 where
+  pub started : table_at index b image sections ≡ Ok (Some walk)
+  pub read : walk_table (image_parts b image sections) (directory image index) ≡ Ok (Some table)
+
+-- the walk over TLS callbacks, and the bytes of their table
+pub record StartsCallbacks (b : List ℕ) (image : Image) (sections : List SectionTable) (tls : TlsDirectory) (walk : Range) (table : List ℕ) : Type 0 where
+  pub started : callbacks_at b image sections tls ≡ Ok (Some walk)
+  pub read : callback_table (image_parts b image sections) tls ≡ Ok (Some table)
+
+-- the metadata root of a CLR header, with the walk over its streams, as a call returns it and as pe_directories does
+pub record StartsStreams (b : List ℕ) (image : Image) (sections : List SectionTable) (header : ClrHeader) (root : Metadata) (metadata : roots.Metadata) : Type 0 where
+  pub started : clr_metadata_at b image sections header ≡ Ok (Some root)
+  pub read : clr_metadata (image_parts b image sections) header ≡ Ok metadata
+
+-- the walk over what is imported of the DLL of an entry, and the bytes of its table
+pub record StartsFunctions (b : List ℕ) (image : Image) (sections : List SectionTable) (entry : DelayImport) (walk : DelayedFunctions) (table : List ℕ) : Type 0 where
+  pub started : functions_of (image_parts b image sections) entry ≡ Ok walk
+  pub read : lookup_table (image_parts b image sections) entry ≡ Ok (Some table)
+
+-- a walk over delay imports returns these entries, each with the range of its DLL's name and the walk over what is imported of it
+abbrev pub ReturnsDelayLibraries : ImageView → Range → List (Result DelayImport DirectoryRefusal) → Type 0
+ReturnsDelayLibraries i walk items = ReturnsItems (StepsDelayLibraries i) walk (read_items (library_of i) items)
+
+-- a walk over what is imported of the DLL of an entry returns what these numbers of its table import
+abbrev pub ReturnsFunctions : Image → ImageView → DelayImport → DelayedFunctions → List (Result ℕ DirectoryRefusal) → Type 0
+ReturnsFunctions image i entry walk items = ReturnsItems (StepsDelayedFunctions image i) walk (read_items (function_of i entry) items)
