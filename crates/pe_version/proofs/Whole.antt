@@ -1,5 +1,5 @@
 -- Version information from its tables, its translations and its fixed file information.
-use Rattle.std.proofs.Common.{◌≡◌, ℕ, Bool, true, false, List, [], ◌∷◌, ◌++◌, map, Result, Ok, Err, inl, inr, refl, ap, sym, ◌∙◌, subst}
+use Rattle.std.proofs.Common.{◌≡◌, ℕ, Bool, false, List, [], ◌∷◌, ◌++◌, map, Result, Ok, Err, inl, inr, refl, ap, sym, ◌∙◌, subst}
 use Rattle.std.specs.Prelude.{◌⊎◌, codes}
 use Rattle.std.specs.List.{flat_map}
 use Rattle.std.proofs.lemmas.Grind.{flat_map-append}
@@ -9,7 +9,7 @@ use Rattle.pe_core.specs.Refusals.{Memory, outcome}
 use Rattle.pe_resource.specs.declared.version.VsFixedFileInfo.{VsFixedFileInfo}
 use Rattle.pe_resource.specs.declared.version_block.Translation.{Translation}
 use Rattle.pe_version.specs.VersionRefusals.{VersionRefusal, Image, block_of, block_tests}
-use Rattle.pe_version.specs.VersionValues.{TableValue, Value, all_blocks, blocks_of_table, fixed_bytes, key_of, parent, root_block, strings_block, table_block, table_blocks, text_block, text_blocks, translation_block, translation_bytes, utf16, variables_block, version_of}
+use Rattle.pe_version.specs.VersionValues.{Value, all_blocks, blocks_of_table, fixed_bytes, key_of, parent, root_block, strings_block, table_block, table_blocks, text_block, text_blocks, translation_block, utf16, variables_block, version_of}
 use Rattle.pe_version.specs.VersionViews.{Makes, each_made, table_bytes, table_tests, table_view, text_bytes, text_tests, text_view, value_view}
 use Rattle.pe_version.specs.WrittenBlocks.{BlockValue, blocks_bytes, padded_block}
 use Rattle.pe_version.specs.declared.error.VersionError.{VersionError}
