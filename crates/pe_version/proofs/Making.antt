@@ -1,5 +1,5 @@
 -- Version information made of its blocks.
-use Rattle.std.proofs.Common.{◌≡◌, ℕ, ◌+◌, ◌<◌, ◌≤◌, Bool, true, false, List, [], ◌∷◌, ◌++◌, length, drop, take, get_or, Result, Ok, Err, refl, ap, sym, ◌∙◌, arith}
+use Rattle.std.proofs.Common.{◌≡◌, ℕ, ◌+◌, ◌<◌, ◌≤◌, Bool, true, false, List, [], ◌∷◌, ◌++◌, length, drop, get_or, Result, Ok, Err, refl, ap, sym, ◌∙◌, arith}
 use Rattle.std.specs.Prelude.{nat_le}
 use Rattle.std.specs.List.{flat_map}
 use Rattle.std.proofs.lemmas.Bool.Decides.{nat_tests}
@@ -28,6 +28,12 @@ made_by (Ok s) old new n m size room h =
     let is : length s ≡ n = cc in
     ap (λ (l : List ℕ). Ok l) (sym (whole_splice old s (is ∙ sym room)) ∙ written_by (nat_le (length s) (length old)) (length s, splice old 0 s) (m, new) h)
 made_by (Err e) old new n m size room h = absurd cc
+
+pub length_by : (made : Result (List ℕ) VersionRefusal) (old new : List ℕ) (n m : ℕ) → length_of made ≡ Ok n → length old ≡ n → written made old ≡ Ok (m, new) → length new ≡ n
+length_by (Ok s) old new n m size room h =
+    let is : length s ≡ n = cc in
+    ap length (sym (written_by (nat_le (length s) (length old)) (length s, splice old 0 s) (m, new) h) ∙ whole_splice old s (is ∙ sym room)) ∙ is
+length_by (Err e) old new n m size room h = absurd cc
 
 no_refusal : (fits : Bool) (x : ℕ × List ℕ) (r : VersionRefusal) → fits ≡ true → outcome ((fits, Image WriteFit) ∷ []) x ≡ Err r → ⊥
 no_refusal true x r e h = absurd cc

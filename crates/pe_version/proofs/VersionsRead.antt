@@ -1,24 +1,23 @@
 -- Version information that is written is read.
-use Rattle.std.proofs.Common.{◌≡◌, ℕ, zero, suc, ◌+◌, ◌-◌, ◌*◌, ◌/◌, ◌%◌, ◌^◌, ◌<◌, ◌≤◌, ◌==◌, ◌&&◌, Bool, true, false, List, [], ◌∷◌, ◌++◌, length, take, drop, map, Option, Some, None, Result, Ok, Err, if◌then◌else◌, refl, ap, sym, ◌∙◌, subst, arith, length-append}
-use Rattle.std.specs.Prelude.{codes, nat_le, nat_lt}
+use Rattle.std.proofs.Common.{◌≡◌, ℕ, ◌+◌, ◌*◌, ◌/◌, ◌%◌, ◌^◌, ◌<◌, ◌≤◌, ◌&&◌, Bool, true, false, List, [], ◌∷◌, ◌++◌, length, drop, map, Option, Some, None, Result, Ok, if◌then◌else◌, refl, ap, sym, ◌∙◌, arith, length-append}
+use Rattle.std.specs.Prelude.{codes, nat_le}
 use Rattle.std.specs.List.{flat_map}
-use Rattle.std.specs.Str.{bytes_eq}
 use Rattle.std.proofs.lemmas.Bool.Decides.{nat_tests}
-use Rattle.std.proofs.lemmas.List.{append-nil, append_assoc, drop_at}
+use Rattle.std.proofs.lemmas.List.{append-nil, drop_at}
 use Rattle.pe_core.specs.Bytes.{le, bytes_of}
 use Rattle.pe_core.specs.HexDigits.{digit_of, number_after}
-use Rattle.pe_core.specs.Refusals.{outcome, ◌>>=◌}
+use Rattle.pe_core.specs.Refusals.{outcome}
 use Rattle.pe_core.specs.Rows.{ReadsAfter, whole_entries}
 use Rattle.pe_core.proofs.EntryItems.{le_after, whole_entries_more, whole_entries_none}
 use Rattle.pe_core.proofs.Splices.{length-bytes_of}
-use Rattle.pe_resource.specs.VersionBlocks.{root_of, Block, BlockRefusal, block_with_key, blocks, children_with_key, first_block, fixed_info_of_block, has_key, string_tables, translation_at, translation_of_key, translations, value_below, value_with_key, version_block}
+use Rattle.pe_resource.specs.VersionBlocks.{root_of, Block, BlockRefusal, blocks, children_with_key, first_block, fixed_info_of_block, string_tables, translation_at, translation_of_key, translations, value_with_key, version_block}
 use Rattle.pe_resource.specs.VersionFields.{fixed_info_at}
 use Rattle.pe_resource.specs.VersionStrings.{units}
 use Rattle.pe_resource.specs.declared.version.VsFixedFileInfo.{VsFixedFileInfo}
 use Rattle.pe_resource.specs.declared.version_block.Translation.{Translation}
-use Rattle.pe_edit.proofs.Stands.{Stands, whole, left, right, number, moved, rest_of_number}
-use Rattle.pe_version.specs.VersionRefusals.{VersionRefusal, block_tests}
-use Rattle.pe_version.specs.VersionValues.{AllPairs, FixedFits, IsPair, NumbersFit, TableRead, TableValue, TablesHavePairs, TextValue, Value, VersionRead, all_blocks, as_read, blocks_of_table, fixed_bytes, four_digits, hex_digit, key_of, parent, read_first, read_root, read_table, read_text, root_block, strings_block, table_as_read, table_block, table_blocks, text_block, text_blocks, translation_block, translation_bytes, utf16, variables_block, version_of, version_read}
+use Rattle.pe_edit.proofs.Stands.{Stands, whole, left, number, moved, rest_of_number}
+use Rattle.pe_version.specs.VersionRefusals.{block_tests}
+use Rattle.pe_version.specs.VersionValues.{AllPairs, FixedFits, IsPair, NumbersFit, TableRead, TableValue, TablesHavePairs, TextValue, Value, VersionRead, all_blocks, as_read, blocks_of_table, fixed_bytes, four_digits, hex_digit, key_of, read_root, read_table, read_text, root_block, strings_block, table_as_read, table_block, table_blocks, text_block, text_blocks, translation_block, translation_bytes, utf16, variables_block, version_of, version_read}
 use Rattle.pe_version.specs.WrittenBlocks.{AllFit, BlockValue, Fits, blocks_bytes, padded_block, read_block}
 use Rattle.pe_version.proofs.Blocks.{blocks_read, first_read}
 use Rattle.pe_version.proofs.Tests.{fits_if}
@@ -102,11 +101,11 @@ key_read : (t : Translation) → IsPair t → translation_of_key (key_of t) ≡ 
 unfolding translation_of_key
 key_read t p =
     let number : number_after 0 (units (key_of t)) ≡ Some (65536 * t.language + t.code_page) =
-        ap (number_after 0) (units_of (four_digits t.language ++ four_digits t.code_page))
-        ∙ four_read 0 t.language (four_digits t.code_page) p.0
-        ∙ ap (λ (l : List ℕ). number_after (65536 * 0 + t.language) l) (sym (append-nil (four_digits t.code_page)))
-        ∙ four_read (65536 * 0 + t.language) t.code_page [] p.1
-        ∙ ap (λ (m : ℕ). number_after m []) (omega arith) ∙ no_more (65536 * t.language + t.code_page) in
+    ap (number_after 0) (units_of (four_digits t.language ++ four_digits t.code_page))
+    ∙ four_read 0 t.language (four_digits t.code_page) p.0
+    ∙ ap (λ (l : List ℕ). number_after (65536 * 0 + t.language) l) (sym (append-nil (four_digits t.code_page)))
+    ∙ four_read (65536 * 0 + t.language) t.code_page [] p.1
+    ∙ ap (λ (m : ℕ). number_after m []) (omega arith) ∙ no_more (65536 * t.language + t.code_page) in
     rw number (ap (λ (x : Translation). Some x) (pair_read t.language t.code_page (65536 * t.language + t.code_page) refl p.0 p.1))
 
 -- ---- tables
@@ -229,7 +228,6 @@ unfolding root_block
 fixed_found v h =
     fixed_by v.fixed (fixed_info_at (fixed_bytes v.fixed) 0) (nat_le 52 (length (fixed_bytes v.fixed)))
     (let e : length (fixed_bytes v.fixed) ≡ 52 = length-fixed v.fixed in rw e refl) (fixed_read v.fixed h)
-
 
 read_of : (f g : Option VsFixedFileInfo) (t u : List (Result TableRead BlockRefusal)) (p q : List Translation) → f ≡ g → t ≡ u → p ≡ q →
     ◌≡◌ {A = VersionRead} (record { fixed = f; tables = t; translations = p }) (record { fixed = g; tables = u; translations = q })

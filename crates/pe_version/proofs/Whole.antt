@@ -1,5 +1,5 @@
 -- Version information from its tables, its translations and its fixed file information.
-use Rattle.std.proofs.Common.{◌≡◌, ℕ, Bool, true, false, List, [], ◌∷◌, ◌++◌, map, Result, Ok, Err, inl, inr, refl, ap, sym, ◌∙◌}
+use Rattle.std.proofs.Common.{◌≡◌, ℕ, Bool, false, List, [], ◌∷◌, ◌++◌, map, Result, Ok, Err, inl, inr, refl, ap, sym, ◌∙◌, subst}
 use Rattle.std.specs.Prelude.{◌⊎◌, codes}
 use Rattle.std.specs.List.{flat_map}
 use Rattle.std.proofs.lemmas.Grind.{flat_map-append}
@@ -9,9 +9,10 @@ use Rattle.pe_core.specs.Refusals.{Memory, outcome}
 use Rattle.pe_resource.specs.declared.version.VsFixedFileInfo.{VsFixedFileInfo}
 use Rattle.pe_resource.specs.declared.version_block.Translation.{Translation}
 use Rattle.pe_version.specs.VersionRefusals.{VersionRefusal, Image, block_of, block_tests}
-use Rattle.pe_version.specs.VersionValues.{TableValue, Value, all_blocks, blocks_of_table, fixed_bytes, key_of, parent, root_block, strings_block, table_block, table_blocks, text_block, text_blocks, translation_block, translation_bytes, utf16, variables_block, version_of}
-use Rattle.pe_version.specs.VersionViews.{each_made, table_bytes, table_tests, table_view, text_bytes, text_tests, text_view, value_view}
+use Rattle.pe_version.specs.VersionValues.{Value, all_blocks, blocks_of_table, fixed_bytes, key_of, parent, root_block, strings_block, table_block, table_blocks, text_block, text_blocks, translation_block, utf16, variables_block, version_of}
+use Rattle.pe_version.specs.VersionViews.{Makes, each_made, table_bytes, table_tests, table_view, text_bytes, text_tests, text_view, value_view}
 use Rattle.pe_version.specs.WrittenBlocks.{BlockValue, blocks_bytes, padded_block}
+use Rattle.pe_version.specs.declared.error.VersionError.{VersionError}
 use Rattle.pe_version.specs.declared.version.StringTable.{StringTable}
 use Rattle.pe_version.specs.declared.version.VersionText.{VersionText}
 use Rattle.pe_version.specs.declared.version.VersionValue.{VersionValue}
@@ -21,6 +22,10 @@ use Rattle.pe_version.proofs.Making.{passes, stops, value_same}
 pub failed_by : (kind : VersionRefusal) (a b : Result (List ℕ) VersionRefusal) → (a ≡ Err kind → b ≡ Err kind) → (kind ≡ Image Memory) ⊎ (a ≡ Err kind) → (kind ≡ Image Memory) ⊎ (b ≡ Err kind)
 failed_by kind a b f (inl m) = inl m
 failed_by kind a b f (inr e) = inr (f e)
+
+-- another way to say what is made
+pub makes_by : {X : Type 0} (items : X → List ℕ) (result : Result X VersionError) (a b : Result (List ℕ) VersionRefusal) → b ≡ a → Makes items result a → Makes items result b
+makes_by items result a b e m = subst (λ (r : Result (List ℕ) VersionRefusal). Makes items result r) (sym e) m
 
 pub ok_is : (x y : List ℕ) → ◌≡◌ {A = Result (List ℕ) VersionRefusal} (Ok x) (Ok y) → y ≡ x
 ok_is x y e = cc
@@ -64,8 +69,8 @@ table_made t s e =
 
 -- ---- the translations
 
-pub variables_refused : (ts : List Translation) (s : List ℕ) (r : VersionRefusal) → block_of (translation_block ts) ≡ Err r → outcome (flat_map block_tests (translation_block ts ∷ variables_block ts ∷ [])) (padded_block (variables_block ts)) ≡ Err r
-variables_refused ts s r e = stops (block_tests (translation_block ts)) (block_tests (variables_block ts) ++ []) (padded_block (translation_block ts)) (padded_block (variables_block ts)) r e
+pub variables_refused : (ts : List Translation) (r : VersionRefusal) → block_of (translation_block ts) ≡ Err r → outcome (flat_map block_tests (translation_block ts ∷ variables_block ts ∷ [])) (padded_block (variables_block ts)) ≡ Err r
+variables_refused ts r e = stops (block_tests (translation_block ts)) (block_tests (variables_block ts) ++ []) (padded_block (translation_block ts)) (padded_block (variables_block ts)) r e
 
 pub variables_made : (ts : List Translation) (s : List ℕ) → block_of (translation_block ts) ≡ Ok s →
     outcome (flat_map block_tests (translation_block ts ∷ variables_block ts ∷ [])) (padded_block (variables_block ts)) ≡ block_of (parent (utf16 (codes "VarFileInfo")) s)
@@ -81,6 +86,9 @@ variables_made ts s e =
 pub fixed_made : (f : VsFixedFileInfo) → flat_map (bytes_of 4) (f.signature ∷ f.struct_version ∷ f.file_version_ms ∷ f.file_version_ls ∷ f.product_version_ms ∷ f.product_version_ls ∷ f.file_flags_mask ∷ f.file_flags ∷ f.file_os ∷ f.file_type ∷ f.file_subtype ∷ f.file_date_ms ∷ f.file_date_ls ∷ []) ≡ fixed_bytes f
 unfolding fixed_bytes
 fixed_made f = rw (append-nil (bytes_of 4 f.file_date_ls)) refl
+
+pub fixed_is : (f : VsFixedFileInfo) → ◌≡◌ {A = Result (List ℕ) VersionRefusal} (Ok (fixed_bytes f)) (Ok (flat_map (bytes_of 4) (f.signature ∷ f.struct_version ∷ f.file_version_ms ∷ f.file_version_ls ∷ f.product_version_ms ∷ f.product_version_ls ∷ f.file_flags_mask ∷ f.file_flags ∷ f.file_os ∷ f.file_type ∷ f.file_subtype ∷ f.file_date_ms ∷ f.file_date_ls ∷ [])))
+fixed_is f = ap (λ (l : List ℕ). Ok l) (sym (fixed_made f))
 
 -- ---- all
 
@@ -128,7 +136,8 @@ pub strings_refused : (v : VersionValue) (t : List ℕ) (r : VersionRefusal) →
 strings_refused v t r e f =
     let k : BlockValue = strings_block (value_view v).tables in
     let g : block_of k ≡ Err r = ap block_of (tables_are v t e) ∙ f in
-    after_tables v t e ∙ stops (block_tests k) _ (padded_block k) (padded_block (root_block (value_view v))) r g
+    let others : List (Bool × VersionRefusal) = flat_map block_tests (translation_block v.translations.now ∷ variables_block v.translations.now ∷ root_block (value_view v) ∷ []) in
+    after_tables v t e ∙ stops (block_tests k) others (padded_block k) (padded_block (root_block (value_view v))) r g
 
 -- after the strings
 after_strings : (v : VersionValue) (t s : List ℕ) → each_made table_tests table_bytes v.tables.now ≡ Ok t → block_of (parent (utf16 (codes "StringFileInfo")) t) ≡ Ok s →
@@ -145,7 +154,7 @@ pub all_refused : (v : VersionValue) (t s : List ℕ) (r : VersionRefusal) → e
     outcome (flat_map block_tests (translation_block v.translations.now ∷ variables_block v.translations.now ∷ [])) (padded_block (variables_block v.translations.now)) ≡ Err r → version_of (value_view v) ≡ Err r
 all_refused v t s r e f g =
     let ts : List Translation = v.translations.now in
-    after_strings v t s e f ∙ stops (flat_map block_tests (translation_block ts ∷ variables_block ts ∷ [])) _ (padded_block (variables_block ts)) (padded_block (root_block (value_view v))) r g
+    after_strings v t s e f ∙ stops (flat_map block_tests (translation_block ts ∷ variables_block ts ∷ [])) (block_tests (root_block (value_view v)) ++ []) (padded_block (variables_block ts)) (padded_block (root_block (value_view v))) r g
 
 -- the block that is made of all
 abbrev pub root_with : List ℕ → List ℕ → BlockValue

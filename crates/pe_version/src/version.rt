@@ -95,7 +95,11 @@ fn hex_digit(digit: u16) -> u8
     requires { digit < 16 }
     ensures { result ≡ hex_digit digit }
 {
-    if digit < 10 { 48 + digit as u8 } else { 55 + digit as u8 }
+    if digit < 10 {
+        48 + digit as u8
+    } else {
+        55 + digit as u8
+    }
 }
 
 /// The key of the table of a language and a code page: eight hexadecimal digits in UTF-16.
