@@ -25,6 +25,7 @@ if TYPE_CHECKING:
 
 RT_VERSION, RT_MANIFEST = 16, 24
 WIN_CERT_TYPE_PKCS_SIGNED_DATA = 2
+IMAGE_DIRECTORY_ENTRY_BASERELOC = 5
 IMAGE_FILE_DLL, IMAGE_FILE_EXECUTABLE_IMAGE = 0x2000, 0x2
 # Windows rounds raw pointers down to multiples of it.
 SECTOR = 512
@@ -192,8 +193,19 @@ class Image(Reader):
 
     @property
     def relocations(self) -> Part[RelocationBlock]:
-        """The base relocations, a block a page."""
-        return self._part("relocations")
+        """The base relocations, a block a page. A directory of zeros, as some linkers leave, is none."""
+        def read() -> Part[RelocationBlock]:
+            part = self._part_of(self._read("relocations"), "relocations")
+            if part.error and not part:
+                at = self.headers.directories[IMAGE_DIRECTORY_ENTRY_BASERELOC]
+                offset = self.offset_of(at.virtual_address)
+                content = b"x" if offset is None else self.memory[offset:offset + at.size]
+                part.error = part.error if any(content) else None
+            return part
+        return self._once("relocations", read)
+
+    def _part(self, name: str) -> Part[Any]:
+        return self.relocations if name == "relocations" else super()._part(name)
 
     @property
     def functions(self) -> Part[Function]:
