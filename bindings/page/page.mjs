@@ -67,7 +67,8 @@ function refused(to, what, error) {
 
 // ---- what a file is
 
-function overview(to, { headers, version, debug }) {
+function overview(to, { headers, version, debug, clr }) {
+  const assembly = clr?.metadata?.tables?.assembly;
   pairs(to, [
     ['Format', [headers.format ?? 'no optional header', headers.is_dll ? 'DLL' : '', named(headers.machine)].filter(Boolean)
       .join(', ')],
@@ -84,6 +85,7 @@ function overview(to, { headers, version, debug }) {
     ['PDB key', debug.pdb?.key],
     ['PDB in the image', debug.embedded_pdb && count(debug.embedded_pdb.size, 'byte')],
     ['Checksum of the PDB', debug.pdb_checksum && `${textOf(debug.pdb_checksum.algorithm)} ${debug.pdb_checksum.checksum_hex}`],
+    ['Assembly of .NET', assembly && `${textOf(assembly.name)} ${assembly.version}`],
     ['Linker', headers.optional?.linker_version],
     ['Subsystem version', headers.optional?.subsystem_version],
   ]);
