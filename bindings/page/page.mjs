@@ -67,7 +67,8 @@ function refused(to, what, error) {
 
 // ---- what a file is
 
-function overview(to, { headers, version, debug }) {
+function overview(to, { headers, version, debug, clr }) {
+  const assembly = clr?.metadata?.tables?.assembly;
   pairs(to, [
     ['Format', [headers.format ?? 'no optional header', headers.is_dll ? 'DLL' : '', named(headers.machine)].filter(Boolean)
       .join(', ')],
@@ -84,6 +85,7 @@ function overview(to, { headers, version, debug }) {
     ['PDB key', debug.pdb?.key],
     ['PDB in the image', debug.embedded_pdb && count(debug.embedded_pdb.size, 'byte')],
     ['Checksum of the PDB', debug.pdb_checksum && `${textOf(debug.pdb_checksum.algorithm)} ${debug.pdb_checksum.checksum_hex}`],
+    ['Assembly of .NET', assembly && `${textOf(assembly.name)} ${assembly.version}`],
     ['Linker', headers.optional?.linker_version],
     ['Subsystem version', headers.optional?.subsystem_version],
   ]);
@@ -137,6 +139,25 @@ function exported(to, facts) {
 const signer = (it) => (it ? escaped(it.subject ?? `number ${it.serial_hex} of ${it.issuer}`) : '');
 const label = (it) => (it.name === null ? `#${it.id}` : escaped(it.name));
 
+const GUARDS = {
+  se_handlers: 'Exception handlers', guarded_functions: 'Guarded functions', guarded_iat_entries: 'Guarded imports',
+  long_jump_targets: 'Targets of long jumps', eh_continuations: 'Continuations of exceptions',
+};
+
+/** The lists of code that a load configuration leads to. */
+function guards(config, error) {
+  if (!config) return [['Load configuration', null, error]];
+  const flags = (it) => Object.entries(it.flags?.flags ?? {}).filter(([, isSet]) => isSet).map(([name]) => name).join(', ');
+  return Object.entries(GUARDS).map(([key, title]) => [title, config[key], config[`${key}_error`], ['RVA', 'Flags'],
+    (it) => (key === 'se_handlers' ? [hex(it), ''] : [hex(it.rva), flags(it)]), [0]]);
+}
+
+/** Why there are no more references. */
+function referencesError(facts) {
+  const metadata = facts.clr?.metadata;
+  return facts.clr_error ?? facts.clr?.metadata_error ?? metadata?.tables_error ?? metadata?.tables?.references_error;
+}
+
 function others(to, facts) {
   const lists = [
     ['Data directories', facts.headers.directories, null, ['Directory', 'Start', 'Size'], (it) => [it.name,
@@ -151,6 +172,10 @@ function others(to, facts) {
       (it) => [hex(it)], [0]],
     ['Base relocations', facts.relocations, facts.relocations_error, ['Page', 'Relocations'], (it) => [hex(it.page_rva),
       it.types.map((one) => `${one.count} ${named(one.type)}`).join(', ')], [0]],
+    ...guards(facts.load_config, facts.load_config_error),
+    ['References of .NET', facts.clr?.metadata?.tables?.references, referencesError(facts),
+      ['Assembly', 'Version', 'Culture', 'Public key token'], (it) => [textOf(it.name), it.version, textOf(it.culture ?? ''),
+        it.public_key_token_hex ?? ''], []],
     ['Rich header', facts.rich?.tools, facts.rich_error, ['Product', 'Build', 'Objects'], (it) => [it.product, it.build,
       it.count], [0, 1, 2]],
   ];
