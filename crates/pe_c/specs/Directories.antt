@@ -34,7 +34,7 @@ directory_number StreamName = 306
 directory_number DelayImportName = 307
 directory_number BoundImportName = 308
 
--- 0 and the value; 100 where there is none; else the number of the refusal. `out` is unchanged without a value
+-- DONE and the value; NOTHING where there is none; else the number of the refusal. `out` is unchanged without a value
 abbrev pub DirectoryHandsOut : {Y : Type 0} → ℕ → Y → Y → Result (Option Y) DirectoryRefusal → Type 0
 DirectoryHandsOut number old new (Ok (Some value)) = (number ≡ DONE) × (new ≡ value)
 DirectoryHandsOut number old new (Ok None) = (number ≡ NOTHING) × (new ≡ old)

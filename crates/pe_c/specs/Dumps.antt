@@ -31,12 +31,12 @@ abbrev pub dump_answer : {X : Type 0} → Result X DumpError → Result X DumpRe
 dump_answer (Ok x) = Ok x
 dump_answer (Err e) = Err (dump_kind_of e)
 
--- 0 and the value; else the number of the refusal, and `out` is unchanged
+-- DONE and the value; else the number of the refusal, and `out` is unchanged
 abbrev pub DumpHandsOut : {Y : Type 0} → ℕ → Y → Y → Result Y DumpRefusal → Type 0
 DumpHandsOut number old new (Ok value) = (number ≡ DONE) × (new ≡ value)
 DumpHandsOut number old new (Err refusal) = (number ≡ dump_number refusal) × (new ≡ old)
 
--- the same of a value that may be absent: then the number is 100
+-- the same of a value that may be absent: then the number is NOTHING
 abbrev pub DumpHandsOutIf : {Y : Type 0} → ℕ → Y → Y → Result (Option Y) DumpRefusal → Type 0
 DumpHandsOutIf number old new (Ok (Some value)) = (number ≡ DONE) × (new ≡ value)
 DumpHandsOutIf number old new (Ok None) = (number ≡ NOTHING) × (new ≡ old)

@@ -1,4 +1,4 @@
--- The result of a call: a number, and a value at `out`. 0 means that the value is there, others say why it is not.
+-- The result of a call: a number, and a value at `out`. DONE means that the value is there, others say why it is not.
 use Rattle.std.specs.Prelude.{◌≡◌, ℕ, Option, Some, None, Result, Ok, Err}
 use Rattle.pe_core.specs.Refusals.{Refusal, Memory, Short, BadMagic, HeaderPointer, ImportName, StringTable, CertificateRevision, CertificateType, CertificateSize, CertificateTable, Unmapped, DebugBounds, DebugSize, DebugData, PogoSize, PogoName, ExceptionSize, ExceptionOffset, ExceptionBounds, FunctionIndex, FunctionLink, FunctionCycle, UnwindVersion, UnwindCode, Arm64Version, Arm64Stream, Arm64Cut, ResourceBounds, ResourceCycle, ResourceString, TeSize, NoOptionalHeader, WriteAlignment, WriteSymbols, WriteOverlap, WriteSection, WriteFit, ImportsLimit}
 use Rattle.pe_c.specs.declared.results.TheConstants.{DONE, NOTHING}
@@ -44,12 +44,12 @@ result_number WriteSection = 36
 result_number WriteFit = 37
 result_number ImportsLimit = 38
 
--- 0 and the value; else the number of the refusal, and `out` is unchanged
+-- DONE and the value; else the number of the refusal, and `out` is unchanged
 abbrev pub HandsOut : {Y : Type 0} → ℕ → Y → Y → Result Y Refusal → Type 0
 HandsOut number old new (Ok value) = (number ≡ DONE) × (new ≡ value)
 HandsOut number old new (Err refusal) = (number ≡ result_number refusal) × (new ≡ old)
 
--- the same of a value that may be absent: then the number is 100
+-- the same of a value that may be absent: then the number is NOTHING
 abbrev pub HandsOutIf : {Y : Type 0} → ℕ → Y → Y → Result (Option Y) Refusal → Type 0
 HandsOutIf number old new (Ok (Some value)) = (number ≡ DONE) × (new ≡ value)
 HandsOutIf number old new (Ok None) = (number ≡ NOTHING) × (new ≡ old)

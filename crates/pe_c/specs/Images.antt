@@ -123,7 +123,7 @@ abbrev pub PutsRows : ℕ → List SectionTable → List SectionTable → Result
 PutsRows number old new (Ok sections) = (number ≡ DONE) × (new ≡ sections ++ drop (length sections) old)
 PutsRows number old new (Err refusal) = (number ≡ result_number refusal) × (new ≡ old)
 
--- 101 where the room is too small, and it is unchanged
+-- ROOM where the room is too small, and it is unchanged
 abbrev pub PutsIf : Bool → ℕ → List SectionTable → List SectionTable → Result (List SectionTable) Refusal → Type 0
 PutsIf false number old new sections = (number ≡ ROOM) × (new ≡ old)
 PutsIf true number old new sections = PutsRows number old new sections

@@ -63,7 +63,7 @@ abbrev pub WritesList : {X : Type 0} → ℕ → List X → List X → ℕ → �
 WritesList number old new before written (Ok xs) = (number ≡ DONE) × (new ≡ xs ++ drop (length xs) old) × (written ≡ length xs)
 WritesList number old new before written (Err e) = (number ≡ e) × (new ≡ old) × (written ≡ before)
 
--- what a call returns, by whether there is no room; then the number is 101, and nothing changes
+-- what a call returns, by whether there is no room; then the number is ROOM, and nothing changes
 abbrev pub HandsOutListIf : {W X : Type 0} → Bool → (W → Result (Option X) ℕ → W → Type 0) → ℕ → W → W → List X → List X → ℕ → ℕ → Type 0
 HandsOutListIf true Steps number w v old new before written = (number ≡ ROOM) × (v ≡ w) × (new ≡ old) × (written ≡ before)
 HandsOutListIf {W} {X} false Steps number w v old new before written =

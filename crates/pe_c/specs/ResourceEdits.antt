@@ -62,7 +62,7 @@ abbrev pub NumberReturnsWritten : Result ℕ ℕ → Result (ℕ × List ℕ) �
 NumberReturnsWritten (Ok n) defined old new = defined ≡ Ok (n, new)
 NumberReturnsWritten (Err n) defined old new = (defined ≡ Err n) × (new ≡ old)
 
--- 0 and the value; else the number of the refusal, and `out` is unchanged
+-- DONE and the value; else the number of the refusal, and `out` is unchanged
 abbrev pub HandsOutByNumber : {Y : Type 0} → ℕ → Y → Y → Result Y ℕ → Type 0
 HandsOutByNumber number old new (Ok value) = (number ≡ DONE) × (new ≡ value)
 HandsOutByNumber number old new (Err n) = (number ≡ n) × (new ≡ old)

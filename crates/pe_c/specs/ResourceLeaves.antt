@@ -30,7 +30,7 @@ tree_number NotDirectory = 401
 tree_number NotData = 402
 tree_number NoEntries = 403
 
--- 0 and the value; 100 where there is none; else the number of the refusal. `out` is unchanged without a value
+-- DONE and the value; NOTHING where there is none; else the number of the refusal. `out` is unchanged without a value
 abbrev pub TreeHandsOut : {Y : Type 0} → ℕ → Y → Y → Result (Option Y) TreeRefusal → Type 0
 TreeHandsOut number old new (Ok (Some value)) = (number ≡ DONE) × (new ≡ value)
 TreeHandsOut number old new (Ok None) = (number ≡ NOTHING) × (new ≡ old)

@@ -84,12 +84,12 @@ abbrev pub GivesPart : {X Y : Type 0} → (X → Y) → Result X SignatureFailur
 GivesPart view (Ok x) defined = defined ≡ Ok (view x)
 GivesPart view (Err f) defined = defined ≡ Err f
 
--- 0 and the value; else the number of the failure, and the failure in its record. What is not written is unchanged
+-- DONE and the value; else the number of the failure, and the failure in its record. What is not written is unchanged
 abbrev pub SignatureHandsOut : {Y : Type 0} → ℕ → SignatureFailure → SignatureFailure → Y → Y → Result Y SignatureFailure → Type 0
 SignatureHandsOut number failed failed_after old new (Ok value) = (number ≡ DONE) × (failed_after ≡ failed) × (new ≡ value)
 SignatureHandsOut number failed failed_after old new (Err f) = (number ≡ f.result) × (failed_after ≡ f) × (new ≡ old)
 
--- the same of a value that may be absent: then the number is 100
+-- the same of a value that may be absent: then the number is NOTHING
 abbrev pub SignatureHandsOutIf : {Y : Type 0} → ℕ → SignatureFailure → SignatureFailure → Y → Y → Result (Option Y) SignatureFailure → Type 0
 SignatureHandsOutIf number failed failed_after old new (Ok (Some value)) = (number ≡ DONE) × (failed_after ≡ failed) × (new ≡ value)
 SignatureHandsOutIf number failed failed_after old new (Ok None) = (number ≡ NOTHING) × (failed_after ≡ failed) × (new ≡ old)

@@ -31,7 +31,7 @@ sign_number Section = 204
 sign_number TableOffset = 205
 sign_number TooLarge = 206
 
--- 0 and the value; else the number of the refusal, and `out` is unchanged
+-- DONE and the value; else the number of the refusal, and `out` is unchanged
 abbrev pub SignHandsOut : {Y : Type 0} → ℕ → Y → Y → Result Y SignRefusal → Type 0
 SignHandsOut number old new (Ok value) = (number ≡ DONE) × (new ≡ value)
 SignHandsOut number old new (Err refusal) = (number ≡ sign_number refusal) × (new ≡ old)

@@ -2,6 +2,7 @@
 -- `tools/make_errors` writes the list of errors.
 use Rattle.std.specs.Prelude.{ℕ, ◌-◌, nat_lt, List, [], ◌∷◌, slice_index_or, codes, if◌then◌else◌}
 use Rattle.pe_c.specs.declared.results.TheConstants.{NOTHING}
+use Rattle.pe_c.specs.declared.texts.TheConstants.{DIRECTORIES, DUMPS, EDITS, SIGNATURES, SIGNING, TREES}
 
 -- the texts of 0 and of the refusals, in the order of their numbers
 abbrev pub texts : List (List ℕ)
@@ -185,8 +186,9 @@ dump_text n = slice_index_or dump_texts n (codes "unknown result")
 unfoldable pub result_text : ℕ → List ℕ
 result_text n =
     if nat_lt n NOTHING then refusal_text n
-    else (if nat_lt n 201 then other_text n
-    else (if nat_lt n 301 then sign_text (n - 201) else (if nat_lt n 401 then directory_text (n - 301)
-    else (if nat_lt n 451 then tree_text (n - 401)
-    else (if nat_lt n 501 then edit_text (n - 451)
-    else (if nat_lt n 551 then signature_text (n - 501) else dump_text (n - 551)))))))
+    else (if nat_lt n SIGNING then other_text n
+    else (if nat_lt n DIRECTORIES then sign_text (n - SIGNING)
+    else (if nat_lt n TREES then directory_text (n - DIRECTORIES)
+    else (if nat_lt n EDITS then tree_text (n - TREES)
+    else (if nat_lt n SIGNATURES then edit_text (n - EDITS)
+    else (if nat_lt n DUMPS then signature_text (n - SIGNATURES) else dump_text (n - DUMPS)))))))

@@ -94,7 +94,7 @@ abbrev pub AreImageResources : List ℕ → Image → List SectionTable → ℕ 
 AreImageResources b image sections mode x =
     (is_absent (resource_directory image) ≡ false) × IsResource (options_of mode) b (resource_directory image) sections image.file_alignment (Ok x)
 
--- 100 where there is nothing; else 0, and the range lies in the bytes and these are its bytes
+-- NOTHING where there is nothing; else DONE, and the range lies in the bytes and these are its bytes
 abbrev pub ReportsRange : List ℕ → ℕ → Range → Option (List ℕ) → Type 0
 ReportsRange b number out None = number ≡ NOTHING
 ReportsRange b number out (Some bytes) = (number ≡ DONE) × IsRange b out bytes

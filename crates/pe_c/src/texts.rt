@@ -1,6 +1,7 @@
 //! The texts of the results of calls, for a caller's messages.
 
 ghost use Rattle.std.specs.Prelude.{◌≡◌, ◌≤◌, length, take, drop, ◌++◌};
+ghost use Rattle.pe_c.specs.declared.results.TheConstants.{NOTHING};
 ghost use Rattle.pe_c.specs.Texts.{refusal_text, other_text, result_text, sign_text, directory_text, tree_text, edit_text, signature_text, dump_text};
 
 use crate::results::{BAD_ADDRESS, BAD_OPERATION, LONG_CHAIN, MISSING, NOT_RISING, NOTHING, ROOM};
@@ -75,7 +76,7 @@ fn refusal_text(number: u32) -> &'static str
 /// The text of the number of a result that is no error of pe_core.
 #[tactic(auto, unfolding(crate::specs::Texts::other_text))]
 fn other_text(number: u32) -> &'static str
-    requires { 100 ≤ number }
+    requires { NOTHING ≤ number }
     ensures { result.now ≡ other_text number }
 {
     match number {
