@@ -228,7 +228,10 @@ fn numbers_in_refusals_at_the_end(rt: HostRuntime) -> Result<(), Fail> {
 fn debug_data_after_the_sections_are_refused(rt: HostRuntime) -> Result<(), Fail> {
     let leaves = [resource(1, &CONTENT)];
     // The entry at 0x200 in the file, at the RVA 0x1000: its data are 0x100 bytes from 0x500 on, or one more.
-    let section = [(0x130, &[0, 0x10, 0, 0, 28][..]), (0x218, &[0, 5, 0, 0][..])];
+    let section = [
+        (0x130, &[0, 0x10, 0, 0, 28][..]),
+        (0x218, &[0, 5, 0, 0][..]),
+    ];
     for (size, text) in [(0, "edited"), (1, "DebugData(512)")] {
         let mut bytes = without_resources(rt.alloc())?;
         put(&mut bytes, &section);
@@ -243,7 +246,10 @@ fn debug_data_after_the_sections_are_refused(rt: HostRuntime) -> Result<(), Fail
     }
     // The entry at 4, in the headers: its data start one byte after the sections'.
     let mut bytes = without_resources(rt.alloc())?;
-    put(&mut bytes, &[(0x130, &[4, 0, 0, 0, 28]), (0x1C, &[1, 6, 0, 0])]);
+    put(
+        &mut bytes,
+        &[(0x130, &[4, 0, 0, 0, 28]), (0x1C, &[1, 6, 0, 0])],
+    );
     let shown = refused(rt.alloc(), &bytes, &leaves)?;
     assert_eq!(rt; shown.as_str(), "DebugData(4)");
     Ok(())

@@ -161,12 +161,7 @@ pub fn set_manifest(
 }
 
 /// The image with other icons in the place of those of its first group, which is the one that Windows shows.
-pub fn set_icon(
-    paths: (&Path, &Path),
-    image: Result<Image<'_>, Error>,
-    file: &Path,
-    language: Option<u16>,
-) -> Report {
+pub fn set_icon(paths: (&Path, &Path), image: Result<Image<'_>, Error>, file: &Path, language: Option<u16>) -> Report {
     deliver(paths, image, |_, editor| {
         let content = content_of(file)?;
         let of_file = |error| Failure::Icon(file.to_path_buf(), error);
