@@ -758,6 +758,58 @@ test('an instance that traps ends', () => {
   assert.equal(traps.open(file('imports')).info.machine, 0);
 });
 
+// ---- facts that pe.h has no call for: the bytes are made here, by the format
+
+/** An image of the tests with other bytes from an offset in its section on. */
+function patched(name, parts) {
+  const bytes = file(name);
+  for (const [offset, part] of parts) bytes.set(part, 0x400 + offset);
+  return bytes;
+}
+const word = (value) => [...new Uint8Array(new Uint32Array([value]).buffer)];
+const wide = (value) => [...new Uint8Array(new BigUint64Array([BigInt(value)]).buffer)];
+const ascii = (text) => [...text].map((it) => it.charCodeAt(0));
+
+test('lists of guarded functions', () => {
+  const va = (offset) => wide(0x1_8000_1000 + offset);
+  const bytes = patched('load_config', [[0, word(280)], [128, [...va(280), ...wide(2)]], [160, [...va(290), ...wide(1)]],
+    [176, [...wide(1), ...wide(1)]], [264, [...va(0x8000), ...wide(1)]], [96, [...va(295), ...wide(-1n)]],
+    [280, [0x10, 0x20, 0, 0, 1, 0x30, 0x20, 0, 0, 8, 0x40, 0x20, 0, 0, 0, 0x50, 0x20, 0, 0]]]);
+  const said = factsOf(library, bytes, 'a.exe').load_config;
+  const flags = (number) => ({ number, flags: { FID_SUPPRESSED: (number & 1) !== 0, EXPORT_SUPPRESSED: (number & 2) !== 0,
+    FID_LANGEXCPTHANDLER: (number & 4) !== 0, FID_XFG: (number & 8) !== 0 } });
+  assert.deepEqual(said.guarded_functions, [{ rva: 0x2010, flags: flags(1) }, { rva: 0x2030, flags: flags(8) }]);
+  assert.deepEqual(said.guarded_iat_entries, [{ rva: 0x2040, flags: flags(0) }]);
+  assert.deepEqual([said.guarded_functions_error, said.long_jump_targets, said.eh_continuations], [null, null, null]);
+  assert.equal(said.long_jump_targets_error.name, 'DIRECTORY_VA_BELOW_BASE');
+  assert.equal(said.eh_continuations_error.name, 'UNMAPPED');
+  assert.deepEqual([said.se_handlers[0], said.se_handlers_error.name], [0x2050, 'SHORT']);
+});
+
+test('the assembly of .NET metadata', () => {
+  const tables = [0, 0, 0, 0, 2, 0, 0, 1, 1, 0, 0, 0, 9, 0, 0, 0, ...wide(0), ...word(1), ...word(1), ...word(2),
+    0, 0, 1, 0, 1, 0, 0, 0, 0, 0,
+    4, 0x80, 0, 0, 1, 0, 2, 0, 3, 0, 4, 0, ...word(0), 0, 0, 7, 0, 0, 0,
+    4, 0, 0, 0, 0, 0, 0, 0, ...word(0), 1, 0, 11, 0, 0, 0, 0, 0,
+    5, 0, 6, 0, 0, 0, 0, 0, ...word(1), 1, 0, 11, 0, 17, 0, 0, 0];
+  const streams = [['#~\0\0', tables], ['#Strings\0\0\0\0', ascii('\0m.dll\0Own\0Other\0de\0')],
+    ['#Blob\0\0\0', [0, 8, 1, 2, 3, 4, 5, 6, 7, 8]], ['#GUID\0\0\0', Array.from({ length: 16 }, (_, i) => i)]];
+  const root = [...ascii('BSJB\x01\0\x01\0\0\0\0\0\x0C\0\0\0v4.0.30319\0\0\0\0\x04\0')];
+  let offset = root.length + streams.reduce((sum, [name]) => sum + 8 + name.length, 0);
+  for (const [name, content] of streams) {
+    root.push(...word(offset), ...word(content.length), ...ascii(name));
+    offset += content.length;
+  }
+  for (const [, content] of streams) root.push(...content);
+  const said = factsOf(library, patched('clr', [[12, word(root.length)], [72, root]]), 'a.dll').clr.metadata.tables;
+  const other = { name: 'Other', has_public_key: true };
+  assert.deepEqual(said.module, { name: 'm.dll', mvid: '{03020100-0504-0706-0809-0A0B0C0D0E0F}' });
+  assert.deepEqual(said.assembly, { name: 'Own', version: '1.2.3.4', culture: null, has_public_key: false });
+  assert.deepEqual(said.references, [
+    { ...other, version: '4.0.0.0', culture: null, public_key_token_hex: '0102030405060708' },
+    { ...other, version: '5.6.0.0', culture: 'de', public_key_token_hex: null }]);
+});
+
 test('every call of pe.h succeeds in some test', () => {
   assert.deepEqual(Object.keys(calls).filter((name) => !done.has(name)), []);
 });
