@@ -84,10 +84,10 @@ function name(image, range) {
   const found = [];
   let before = '';
   try {
-    const walk = range.length ? image.call('pe_c_name', { range }).out : null;
-    for (const { out } of walk ? image.items('pe_c_next_name_attribute', walk) : []) {
-      const last = attribute(image, out);
-      if (out.starts_rdn || !found.length) found.push(last);
+    const walk = range.length ? image.call('pe_c_name', { range }) : null;
+    for (const it of walk ? image.items('pe_c_next_name_attribute', walk) : []) {
+      const last = attribute(image, it);
+      if (it.starts_rdn || !found.length) found.push(last);
       else found.push(`${found.pop()}+${last}`);
     }
   } catch (error) {
@@ -99,12 +99,12 @@ function name(image, range) {
 
 // ---- signatures
 
-const read = (image, call, range) => image.call(call, { range }).out;
+const read = (image, call, range) => image.call(call, { range });
 const isSame = (one, other) => hex(one) === hex(other);
 
 /** What a call reads of each element of a list; an element that is refused is left out where the list is to be searched. */
 function* each(image, call, list, isSearched = false) {
-  for (const { out: element } of image.items('pe_c_next_element', { ...list })) {
+  for (const element of image.items('pe_c_next_element', { ...list })) {
     try {
       yield { ...read(image, call, element.whole), whole: element.whole };
     } catch (error) {
@@ -117,7 +117,7 @@ function* each(image, call, list, isSearched = false) {
 function value(image, attributes, kind) {
   for (const it of each(image, 'pe_c_attribute', attributes)) {
     if (it.type.id !== kind) continue;
-    for (const { out } of image.items('pe_c_next_element', { ...it.values })) return out.whole;
+    for (const element of image.items('pe_c_next_element', { ...it.values })) return element.whole;
   }
   return undefined;
 }

@@ -207,38 +207,11 @@ test('certificates are attached, listed and detached', () => {
 });
 
 // What `openssl asn1parse`, `openssl x509` and `osslsigncode verify` print of it, as tests/signatures.rs of the cargo crate has it.
-test('signatures are read', () => {
-  const image = opened('signature'), [certificate] = image.certificates();
-  const read = (call, range) => image.call(call, { range }).out;
-  const each = (walk) => [...image.items('pe_c_next_element', { ...walk })].map(({ out }) => out);
-  const signature = read('pe_c_signature', certificate.body), data = read('pe_c_indirect_data', signature.content);
-  assert.deepEqual([signature.content_type.id, data.value_type.id, data.digest_algorithm.oid.id, data.digest.length],
-    [constants.PE_C_OID_SPC_INDIRECT_DATA, constants.PE_C_OID_SPC_PE_IMAGE_DATA, constants.PE_C_OID_SHA256, 32n]);
-  assert.equal(read('pe_c_image_data', data.value).flags.length, 2n);
-  assert.equal(read('pe_c_algorithm_identifier', each(signature.digest_algorithms)[0].whole).oid.id, constants.PE_C_OID_SHA256);
-  const signer = read('pe_c_signer', each(signature.signers)[0].whole);
-  assert.deepEqual([...image.slice(signer.serial)], [4, 3]);
-  const attributes = each(signer.signed_attributes).map((it) => read('pe_c_attribute', it.whole));
-  const valueOf = (kind) => each(attributes.find((it) => it.type.id === kind).values)[0].whole;
-  assert.deepEqual(read('pe_c_time', valueOf(constants.PE_C_OID_SIGNING_TIME)),
-    { year: 2026, month: 11, day: 27, hour: 1, minute: 0, second: 4 });
-  const about = read('pe_c_opus_info', valueOf(constants.PE_C_OID_SPC_SP_OPUS_INFO));
-  assert.equal(image.utf8(about.more_info), 'https://example.org/');
-  const x509 = read('pe_c_x509', each(signature.certificates)[0].whole);
-  const names = [...image.items('pe_c_next_name_attribute', read('pe_c_name', x509.subject))].map(({ out }) => out);
-  assert.deepEqual(names.map((it) => [image.utf8(it.value), it.starts_rdn]), [['DE', 1], ['Two', 1], ['Probe', 0], ['A', 1]]);
-  const extensions = each(x509.extensions);
-  assert.equal(read('pe_c_extension', extensions[0].whole).type.id, constants.PE_C_OID_KEY_USAGE);
-  assert.equal(read('pe_c_key_usage', extensions[0].whole), 0x80);
-  const [stamp] = each(signer.unsigned_attributes).map((it) => read('pe_c_attribute', it.whole))
-    .filter((it) => it.type.id === constants.PE_C_OID_TIME_STAMP_TOKEN);
-  const token = read('pe_c_signature', each(stamp.values)[0].whole);
-  assert.equal(read('pe_c_time', read('pe_c_time_stamp', token.content).time).year, 2023);
-  const { certificates: [{ signer: said }] } = factsOf(library, file('signature'), 'signature.bin');
-  assert.deepEqual(said, {
+test('by whom a signature is', () => {
+  const { certificates: [{ signer }] } = factsOf(library, file('signature'), 'signature.bin');
+  assert.deepEqual(signer, {
     subject: 'CN=A,OU=Two+O=Probe,C=DE', issuer: 'CN=R', serial_hex: '0403', digest_algorithm: 'SHA-256', time_stamp: '2023-11-14T22:13:20Z',
   });
-  assert.equal(refused(() => read('pe_c_signature', { offset: 0n, length: 8n })).constant, 'PE_C_SIGNATURE_PAST_PARENT');
 });
 
 // The rows of a signature, attached and detached again, as the calls above have them.

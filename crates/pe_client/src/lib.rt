@@ -1,5 +1,5 @@
-//! Facts that a program proves of its own calls, from the contracts and the laws of the libraries alone: no lemma, no
-//! definition and no proof file stands here.
+//! Facts that a program proves of its own calls, from the contracts and the laws of the libraries alone: no lemma and no
+//! definition stands here, and one proof file, which says by which laws `attached_signatures_are_told` follows.
 //!
 //! The calls need `pe_image` and `pe_plan` in `crates.txt`, and the laws of `signing` need `pe_sign`, `pe_records` and
 //! `pe_pkcs7`. Each other crate is named there for the definitions that the contracts here cite: those of options (`pe_core`), of debug

@@ -6,10 +6,9 @@ ghost use Rattle.std.specs.Prelude.{◌≡◌, ◌+◌, ◌-◌, ◌%◌, ◌≤
 ghost use Rattle.pe_core.specs.Bytes.{AreBytes, le, range};
 ghost use Rattle.pe_core.specs.Directories.{absent_directory};
 ghost use Rattle.pe_core.specs.Header.{HeaderView, header_at, header_view};
-ghost use Rattle.pe_core.specs.Offsets.{StandAt, bytes_in};
+ghost use Rattle.pe_core.specs.Offsets.{bytes_in};
 ghost use Rattle.pe_core.specs.SectionMap.{rounded_up};
 ghost use Rattle.pe_core.specs.Sections.{sections_offset};
-ghost use Rattle.pe_core.specs.declared.byte_range.ByteRange.{ByteRange};
 ghost use Rattle.pe_core.specs.declared.options.ParseMode.TheVariants.{Strict};
 ghost use Rattle.pe_pkcs7.specs.Later.{IsToldAt};
 ghost use Rattle.pe_records.specs.Certificates.{CertificateView, IsListing, IsListingFrom};
@@ -17,7 +16,6 @@ ghost use Rattle.pe_sign.specs.Attaching.{attached_of, before_table, is_signed, 
 ghost use Rattle.pe_sign.specs.Checksum.{checksum_of};
 ghost use Rattle.pe_sign.specs.Digest.{covered_bytes, digest_of, left_out_of, ranges_view};
 ghost use Rattle.pe_sign.specs.WrittenHeaders.{directories_end};
-ghost use Rattle.pe_sign.specs.WrittenTables.{TableContinues, TableIs};
 ghost use Rattle.pe_sign.specs.declared.attachment.Placement.{Placement};
 ghost use Rattle.pe_sign.specs.declared.digest.LeftOut.{LeftOut};
 
@@ -172,26 +170,6 @@ pub fn attached_certificates_are_listed()
     pe_records::laws::certificates::joined_tables_are_listed();
 }
 
-/// The certificates in what `attach` writes stand where its tables say.
-fn certificates_stand()
-    ensures table { (certificate f : List ℕ) (k : ℕ) → TableIs certificate f k → StandAt f k certificate }
-    ensures continued { (b certificate f : List ℕ) (table : ByteRange) →
-        TableContinues b certificate f table →
-        StandAt f (table.offset + rounded_up table.length 8) certificate }
-{}
-
-/// A part of them is told there as it is by itself.
-fn parts_are_told()
-    ensures table { (certificate f : List ℕ) (k p n : ℕ) → TableIs certificate f k →
-        p + n ≤ length certificate → IsToldAt f (range certificate p n) (k + p) }
-    ensures continued { (b certificate f : List ℕ) (table : ByteRange) (p n : ℕ) →
-        TableContinues b certificate f table → p + n ≤ length certificate →
-        IsToldAt f (range certificate p n) (table.offset + rounded_up table.length 8 + p) }
-{
-    certificates_stand();
-    pe_pkcs7::laws::signatures_are_told_where_they_stand();
-}
-
 /// What is attached is told as it was: of every part of the certificates that were given, as the signature in one of them, what
 /// pe_pkcs7 reads of the file, by the offsets of the file, is what it reads of that part alone, each element and each error as many
 /// bytes further on. The part stands in the file where the certificates do: after those that the image had and their padding, or from
@@ -211,5 +189,5 @@ pub fn attached_signatures_are_told()
         IsToldAt f (range certificate p n) (table_start Placement.InPlace l (length b) + p) }
 {
     pe_sign::laws::written_tables_have_the_certificate();
-    parts_are_told();
+    pe_pkcs7::laws::signatures_are_told_where_they_stand();
 }
