@@ -67,3 +67,10 @@ abbrev pub ReturnsCaller : ImageStep → List Part → Registers → Registers �
 ReturnsCaller s parts g h =
     (answer : Result (Registers × Bool) FrameError) → StepReturns s (infos parts) h answer →
     (u : Registers) × (answer ≡ Ok (u, false)) × IsCaller parts None g u
+
+-- each step from the registers g, by these records, returns the caller of the frame that has the registers h, at this offset in the
+-- function of these parts
+abbrev pub ReturnsCallerAt : ImageStep → List UnwindInfoView → List Part → ℕ → Registers → Registers → Type 0
+ReturnsCallerAt s plan parts offset g h =
+    (answer : Result (Registers × Bool) FrameError) → StepReturns s plan g answer →
+    (u : Registers × Bool) × (answer ≡ Ok u) × IsCaller parts (limit_of (infos parts) offset) h u.0

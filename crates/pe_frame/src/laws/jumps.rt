@@ -1,13 +1,13 @@
 //! Laws of steps that follow a jump out of a function.
 
-ghost use Rattle.std.specs.Prelude.{◌≡◌, ◌≤◌, ℕ, Bool, List, ◌∷◌, None, Result, Ok};
+ghost use Rattle.std.specs.Prelude.{◌≡◌, ◌≤◌, ℕ, Bool, List, ◌∷◌, None, Result};
 ghost use Rattle.pe_unwind.specs.UnwindRecord.{UnwindInfoView};
 ghost use Rattle.pe_frame.specs.declared.epilog.Instruction.{Instruction};
 ghost use Rattle.pe_frame.specs.declared.error.FrameError.{FrameError};
 ghost use Rattle.pe_frame.specs.declared.registers.Registers.{Registers};
-ghost use Rattle.pe_frame.specs.Frames.{Part, infos, IsCaller};
-ghost use Rattle.pe_frame.specs.JumpFrames.{HasLeft, ImageStep, IsSorted, JumpsToEntry, JumpsToFrame, LeadsTo, ReturnsCaller, StandsInEpilog, StepReturns};
-ghost use Rattle.pe_frame.specs.Steps.{by_kind, limit_of};
+ghost use Rattle.pe_frame.specs.Frames.{Part};
+ghost use Rattle.pe_frame.specs.JumpFrames.{HasLeft, ImageStep, IsSorted, JumpsToEntry, JumpsToFrame, LeadsTo, ReturnsCaller, ReturnsCallerAt, StandsInEpilog, StepReturns};
+ghost use Rattle.pe_frame.specs.Steps.{by_kind};
 ghost use Rattle.pe_frame.specs.Undoing.{stack_pointer};
 
 /// A jump is followed. What is left of an epilog ends with a jump to a place in a function that the image has, and a machine
@@ -16,11 +16,10 @@ ghost use Rattle.pe_frame.specs.Undoing.{stack_pointer};
 /// before the jump have not lowered the stack pointer, as `add` and pops never do.
 pub fn jumps_are_followed()
     ensures { (s : ImageStep) (plan : List UnwindInfoView) (offset : ℕ) (rest : List Instruction)
-        (p : Part) (parts : List Part) (g h : Registers) (x : Result (Registers × Bool) FrameError) →
+        (p : Part) (parts : List Part) (g h : Registers) →
         HasLeft s plan rest → IsSorted s → JumpsToFrame s rest (p ∷ parts) offset g h →
         stack_pointer g ≤ stack_pointer h →
-        StepReturns s plan g x → (u : Registers × Bool) × (x ≡ Ok u)
-        × IsCaller (p ∷ parts) (limit_of (infos (p ∷ parts)) offset) h u.0 }
+        ReturnsCallerAt s plan (p ∷ parts) offset g h }
 {
     pe_unwind::laws::x64::one_record_of_addresses();
 }
