@@ -1,4 +1,4 @@
-use Rattle.std.proofs.Common.{ℕ, Bool, Option, Some, None, Result, Ok, Err, refl, ap, subst}
+use Rattle.std.proofs.Common.{Bool, Option, Some, None, Result, Ok, Err, refl, subst}
 use Rattle.std.specs.Option.{option_map}
 use Rattle.pe_core.specs.Refusals.{kind_of}
 use Rattle.pe_frame.specs.FunctionSteps.{StepsInFunction}
@@ -27,4 +27,4 @@ returns-in-Ok-None g c =
 
 pub returns-in-Err : goal.returns-in-Err
 returns-in-Err g c =
-    (Err (kind_of c.in-Err.error), c.in-Err.ensures, (ap (λ (n : ℕ). Err n) c.number_of.ensures, refl))
+    (Err (kind_of c.in-Err.error), c.in-Err.ensures, (c.number_of.ensures, refl))
