@@ -171,7 +171,7 @@ pub fn attached_certificates_are_listed()
 }
 
 /// What is attached is told as it was: of every part of the certificates that were given, as the signature in one of them, what
-/// pe_pkcs7 reads of the file, by the offsets of the file, is what it reads of that part alone, each element and each error as many
+/// pe_pkcs7 reads of the file up to the part's end, by the offsets of the file, is what it reads of that part alone, each element and each error as many
 /// bytes further on. The part stands in the file where the certificates do: after those that the image had and their padding, or from
 /// where the certificate table starts.
 pub fn attached_signatures_are_told()

@@ -163,8 +163,9 @@ ReadsLater read further f b k = (x : Element) → read (take (k + length b) f) (
 abbrev pub the_same : {Y : Type 0} → ℕ → Y → Y
 the_same k y = y
 
--- so does every definition, of a signature b; with the octets of elements, which are the same. The attributes of a name are read from
--- where one starts to the end of its relative distinguished name, which is 0 before the first
+-- so do the definitions of elements, records, times and the attributes of a name, of a signature b; with the octets of elements, which
+-- are the same. The attributes of a name are read from where one starts to the end of its relative distinguished name, which is 0
+-- before the first
 pub record IsToldAt (f b : List ℕ) (k : ℕ) : Type 0 where
   pub element : (p : ℕ) → element_at (take (k + length b) f) (p + k) ≡ later_result (later k) k (element_at b p)
   pub contents : (x : Element) → content_bytes (take (k + length b) f) (later k x) ≡ content_bytes b x

@@ -1,9 +1,10 @@
 //! What the definitions that contracts cite say together.
 
-ghost use Rattle.std.specs.Prelude.{◌≡◌, ℕ, List, None, Ok, Some};
+ghost use Rattle.std.specs.Prelude.{◌≡◌, ℕ, Err, List, None, Ok, Some};
 ghost use Rattle.pe_core.specs.declared.options.ParseOptions.{ParseOptions};
 ghost use Rattle.pe_minidump.specs.Contexts.{context_arm64, context_x64};
 ghost use Rattle.pe_minidump.specs.Dumps.{DumpView};
+ghost use Rattle.pe_minidump.specs.Refusals.{DumpRefusal};
 ghost use Rattle.pe_minidump.specs.declared.context_arm64.ContextArm64.{ContextArm64};
 ghost use Rattle.pe_minidump.specs.declared.context_x64.ContextX64.{ContextX64};
 ghost use Rattle.pe_minidump.specs.declared.location.Location.{Location};
@@ -19,14 +20,20 @@ pub fn images_match()
 {}
 
 /// The registers of a thread are those of the exception, where it names the thread and they can be read (`raised`); and its own where
-/// it does not name the thread (`own`).
+/// they can not be read (`unread`), or where it does not name the thread (`own`).
 pub fn exceptions_come_first()
     ensures raised { (d : DumpView) (t : Thread) (l : Location) (c : ContextX64) →
         raised_at d t ≡ Some l → context_at context_x64 d l ≡ Ok c → thread_context context_x64 d t ≡ Ok c }
+    ensures unread { (d : DumpView) (t : Thread) (l : Location) (r : DumpRefusal) →
+        raised_at d t ≡ Some l → context_at context_x64 d l ≡ Err r →
+        thread_context context_x64 d t ≡ context_at context_x64 d t.thread_context }
     ensures own { (d : DumpView) (t : Thread) →
         raised_at d t ≡ None → thread_context context_x64 d t ≡ context_at context_x64 d t.thread_context }
     ensures raised_arm64 { (d : DumpView) (t : Thread) (l : Location) (c : ContextArm64) →
         raised_at d t ≡ Some l → context_at context_arm64 d l ≡ Ok c → thread_context context_arm64 d t ≡ Ok c }
+    ensures unread_arm64 { (d : DumpView) (t : Thread) (l : Location) (r : DumpRefusal) →
+        raised_at d t ≡ Some l → context_at context_arm64 d l ≡ Err r →
+        thread_context context_arm64 d t ≡ context_at context_arm64 d t.thread_context }
     ensures own_arm64 { (d : DumpView) (t : Thread) →
         raised_at d t ≡ None → thread_context context_arm64 d t ≡ context_at context_arm64 d t.thread_context }
 {}

@@ -201,8 +201,3 @@ replaced new (s ∷ ss) = (if bytes_eq new.name s.name then new else s) ∷ repl
 
 abbrev pub with_text : TextValue → List TextValue → List TextValue
 with_text new ss = if is_some (text_named new.name ss) then replaced new ss else ss ++ new ∷ []
-
--- the same in each table
-abbrev pub with_text_in : TextValue → List TableValue → List TableValue
-with_text_in new [] = []
-with_text_in new (t ∷ ts) = (record t { strings = with_text new t.strings }) ∷ with_text_in new ts

@@ -32,7 +32,8 @@ pub fn written_versions_are_read()
         version_read s ≡ Ok (Some (as_read v)) }
 {}
 
-/// A string that is set in a table is the text of its name there, and the texts of all other names are as before.
+/// A string that is set among the strings of a table, by the definition `with_text`, is the text of its name there, and the texts of
+/// all other names are as before.
 #[tactic(auto, using(crate::proofs::OneText::set_is_read, crate::proofs::OneText::others_stay))]
 pub fn one_text_is_set()
     ensures set { (new : TextValue) (ss : List TextValue) →

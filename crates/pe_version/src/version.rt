@@ -272,7 +272,7 @@ fn bytes_of_variables<A: Allocator + Copy + Drop>(
     parent_bytes(alloc, variables_key(), &translation)
 }
 
-/// Version information as the content of a resource of the type `RT_VERSION`. Each text is copied four times.
+/// Version information as the content of a resource of the type `RT_VERSION`. Each text is copied six times.
 ///
 /// Errors: of the blocks, each after those that it has, those of `block_len`, first those of the first block; `Image` with
 /// `Memory` as memory runs out.
