@@ -177,7 +177,7 @@ abbrev pub entries_stay : List ℕ → DataDirectory → ℕ → ℕ → Bool
 entries_stay b d end p = list_all (debug_stays b end p) (each (λ k. k) (min (d.size / 28) (length b / 28)))
 
 -- so do those of all debug entries, which are in the data of a section or in the headers, of n bytes
-abbrev pub debug_all_stay : List ℕ → HeaderView → DataDirectory → ℕ → ℕ → Bool
+unfoldable pub debug_all_stay : List ℕ → HeaderView → DataDirectory → ℕ → ℕ → Bool
 debug_all_stay b h d n end =
     let i = index_with b h d.virtual_address in
     let s = section_header b h i in

@@ -423,6 +423,7 @@ fn require_entries(bytes: &[u8], end: usize, start: usize, count: usize) -> Resu
 
 /// `DebugData` if the data of a debug entry do not end by `end`. The entries are in the data of a section, or in the headers, of so
 /// many bytes.
+#[tactic(auto, unfolding(crate::specs::Rooms::debug_all_stay))]
 fn require_debug(
     bytes: &[u8],
     header: &Header<'_>,
