@@ -10,6 +10,7 @@ use serde_json::{json, Value};
 use std::fs;
 use std::io::Write;
 use std::process::{Command, Stdio};
+use std::time::{Duration, Instant};
 
 /// What a program of sums says of some bytes.
 fn sum_of(program: &str, bytes: &[u8]) -> String {
@@ -259,7 +260,7 @@ fn certificates_are_attached_and_detached() {
     assert_eq!(run(&["attach", &bare, &data, &signed]).2, 0);
     let said = json_of("attached", &fs::read(&signed).unwrap());
     let pkcs7 = json!({"number": 2, "name": "PKCS #7 signed data"});
-    assert_eq!(said["certificates"], json!([{"size": 13, "revision": 0x200, "type": pkcs7}]));
+    assert_eq!(said["certificates"], json!([{"size": 13, "revision": 0x200, "type": pkcs7, "signer": null}]));
     assert_eq!(run(&["extract", &signed, "certificate", "-"]).0.as_bytes(), [0x30, 1, 2, 3, 4]);
     assert_eq!(run(&["extract", &signed, "certificate", "--number", "2", "-"]).2, 1);
     // All entries are what attach takes.
@@ -324,6 +325,69 @@ fn icons(widths: &[u8]) -> Vec<u8> {
         file.push(*width);
     }
     file
+}
+
+/// An image with a resource in so many languages from 1 on, all of which share one content. They have a section of their own.
+fn in_languages(kind: u32, count: u32, content: &[u8]) -> Vec<u8> {
+    let mut made = made::Made::new(made::X64);
+    let below = |offset: u32| 1 << 31 | offset;
+    let mut tree = vec![0, 0, 0, 1 << 16, kind, below(24), 0, 0, 0, 1 << 16, 1, below(48), 0, 0, 0, count << 16];
+    tree.extend((0..count).flat_map(|it| [it + 1, 64 + 8 * count]));
+    tree.extend([made.next() + 80 + 8 * count, content.len() as u32, 0, 0]);
+    let root = made.put_words(&tree);
+    made.put(content);
+    made.directory(2, root, made.content.len() as u32);
+    made.size_of_image = made.content.len().next_multiple_of(0x1000) as u32 + 0x1000;
+    let mut bytes = made.image();
+    // No entry point.
+    put(&mut bytes, 0x68, &[0; 4]);
+    bytes
+}
+
+#[test]
+fn languages_cost_no_more_than_they_contain() {
+    let folder = Folder::new("languages");
+    let path = |name: &str| folder.0.join(name).to_str().unwrap().to_string();
+    // Each language gets its own icon, though all share one group. In proportion to the square this takes many minutes.
+    let group = [0, 0, 1, 0, 1, 0, 16, 16, 0, 0, 1, 0, 24, 0, 41, 0, 0, 0, 1, 0];
+    let file = folder.file("a.exe", &in_languages(14, 30_000, &group));
+    let (one, start) = (folder.file("1.ico", &icons(&[48])), Instant::now());
+    assert_eq!(run(&["set-icon", &file, &path("b.exe"), &one]), (String::new(), String::new(), 0));
+    assert!(start.elapsed() < Duration::from_secs(60), "{:?}", start.elapsed());
+    let which = ["extract", &path("b.exe"), "resource", "--type", "3", "--name", "30000", "--language", "30000", "-"];
+    assert_eq!(run(&which).0.as_bytes().last(), Some(&48));
+    // What they contain together is bounded.
+    let many = folder.file("c.exe", &in_languages(24, 2000, b"<old/>"));
+    let long = folder.file("long", &vec![b'x'; 140_000]);
+    let refusal = |out: &str| (String::new(), format!("pe: {out}: more than 256 MiB for all languages together\n"), 1);
+    assert_eq!(run(&["set-manifest", &many, &path("d.exe"), &long]), refusal(&many));
+    assert_eq!(run(&["set-resource", &many, &path("d.exe"), "24", "1", &long]), refusal(&many));
+    assert!(!folder.0.join("d.exe").exists());
+    assert_eq!(run(&["set-manifest", &many, &path("d.exe"), &long, "--language", "7"]).2, 0);
+    let versions = folder.file("e.exe", &in_languages(16, 2000, &vec![0; 140_000]));
+    let words = ["set-version", &versions, &path("f.exe"), "--file-version", "1.2.3.4"];
+    assert_eq!(run(&words), refusal(&versions));
+    let groups = folder.file("g.exe", &in_languages(14, 2000, &vec![0; 140_000]));
+    assert_eq!(run(&["set-icon", &groups, &path("f.exe"), &one, "--language", "7"]), refusal(&groups));
+}
+
+#[test]
+fn an_icon_of_another_language_stays_apart() {
+    let folder = Folder::new("icon-language");
+    let file = folder.file("a.exe", &made::editable());
+    let path = |name: &str| folder.0.join(name).to_str().unwrap().to_string();
+    let (one, other) = (folder.file("1.ico", &icons(&[48])), folder.file("2.ico", &icons(&[16])));
+    assert_eq!(run(&["set-icon", &file, &path("b.exe"), &one, "--language", "0x407"]).2, 0);
+    assert_eq!(run(&["set-resource", &path("b.exe"), &path("c.exe"), "3", "1", &one, "--language", "0x409"]).2, 0);
+    assert_eq!(run(&["set-icon", &path("c.exe"), &path("d.exe"), &other]).2, 0);
+    assert_eq!(run(&["extract", &path("d.exe"), "icon", &path("d.ico")]).2, 0);
+    assert_eq!(fs::read(path("d.ico")).unwrap(), icons(&[16]));
+    // The new icon has an identifier by which there is none in another language.
+    let has = |id: &str, language: &str| {
+        let out = path(&format!("{id}-{language}"));
+        run(&["extract", &path("d.exe"), "resource", "--type", "3", "--name", id, "--language", language, &out]).2 == 0
+    };
+    assert!(has("2", "0x407") && !has("2", "0x409") && has("1", "0x409"));
 }
 
 #[test]
@@ -977,6 +1041,43 @@ fn lists_of_guarded_functions_are_shown() {
     assert!(out.contains(head), "{out}");
     assert!(out.contains("long jumps: virtual address below the image base"), "{out}");
     assert_eq!((error.as_str(), status), ("", 1));
+}
+
+/// An image whose five tables are all the bytes after its load configuration, in entries without flags.
+fn with_one_guard_table() -> Vec<u8> {
+    let mut made = made::Made::new(made::X64);
+    let mut config = vec![0; 280];
+    let va = 0x1_8000_0000u64 + u64::from(made.next()) + 280;
+    put(&mut config, 0, &280u32.to_le_bytes());
+    for field in [96, 128, 160, 176, 264] {
+        put(&mut config, field, &va.to_le_bytes());
+        put(&mut config, field + 8, &[255; 8]);
+    }
+    let address = made.put(&config);
+    made.put(&[7; 0x4000]);
+    made.directory(10, address, 280);
+    made.image()
+}
+
+#[test]
+fn guarded_functions_that_share_their_bytes_are_limited() {
+    let (folder, bytes) = (Folder::new("shared-guards"), with_one_guard_table());
+    let file = folder.file("a.exe", &bytes);
+    let (out, error, status) = run(&["--json", &file]);
+    assert_eq!((error.as_str(), status), ("", 1));
+    let said = serde_json::from_str::<Value>(&out).unwrap()["load_config"].clone();
+    let lists = ["se_handlers", "guarded_functions", "guarded_iat_entries", "long_jump_targets", "eh_continuations"];
+    let ends = lists.map(|it| (said[format!("{it}_is_limited")].clone(), said[format!("{it}_error")]["name"].clone()));
+    let (whole, limited) = ((json!(false), json!("SHORT")), (json!(true), json!(null)));
+    assert_eq!(ends, [whole.clone(), whole, limited.clone(), limited.clone(), limited]);
+    // An entry of 4 bytes counts for 32, and 16 times the bytes of the file are all that is read.
+    let counts = lists.map(|it| said[it].as_array().unwrap().len());
+    let from = bytes.len() - 0x400 - 280;
+    assert_eq!((counts[0], counts[1], counts.iter().sum()), (from / 4, from / 4, bytes.len() / 2));
+    assert_eq!(said["guarded_iat_entries"][0], json!({"rva": 0x0707_0707, "flags": null}));
+    assert_eq!(run(&["show", &file, "load-config"]).0.matches("\n  and more\n").count(), 3);
+    let page = run(&["report", &file, "-"]).0;
+    assert!(page.contains("<b>load configuration</b> not shown whole"), "{page}");
 }
 
 /// An image for .NET with a module, an assembly and two references, by ECMA-335, II.22.
