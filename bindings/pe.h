@@ -1375,8 +1375,8 @@ typedef struct {
     uint64_t rip;
 } pe_c_registers;
 
-/* A frame of a stack walk. A caller sets all fields but `address`.
- * A step changes `registers`, or after an error `address`. */
+/* A frame of a stack walk. A caller sets all fields but `address` and `interrupted`.
+ * A step changes `registers` and `interrupted`, or after an error `address`. */
 typedef struct {
     pe_c_registers registers;       /* inside the function; after a step those of its caller */
     uint64_t address;               /* the one that PE_C_MISSING, _BAD_ADDRESS or _NOT_RISING speaks of */
@@ -1509,7 +1509,7 @@ uint32_t pe_c_next_record(const uint8_t *bytes, size_t length, const pe_c_image_
  * over those of the frame. It undoes the records of frame->function, which is of the table, up to the root of their chain, or runs
  * what is left of an epilog. Where that ends with a jump to an RVA, it runs it up to the jump, and undoes the records of the
  * function that the table has there, if they can be read: the jump may go on in a part of the function. A leaf function returns to
- * the word at rsp; of it neither the view nor the table nor the code is read.
+ * the word at rsp; of it neither the view nor the table nor the code is read. It makes no use of an index.
  *
  * `memory` has the bytes of all pieces of the stack, as a minidump file has, and `pieces` says where each is; a stack in one piece
  * is a list of one. The byte at an address is that of the first piece that has it, so eight bytes may stand in pieces that touch.
@@ -1742,7 +1742,7 @@ uint32_t pe_c_next_arm64_code(const uint8_t *bytes, size_t length, pe_c_arm64_wa
 /* Finds the registers of a function's caller, from those inside the function, and writes them over those of the frame. It
  * undoes the codes of frame->function, which are those of its unwind record or what its packed unwind data stand for: after
  * the prolog all of them, inside of it and in an epilog those that are left. It takes a signature off the link register. The caller
- * of a leaf function goes on at the link register; of it neither the view nor the memory is read.
+ * of a leaf function goes on at the link register; of it neither the view nor the memory is read. It makes no use of an index.
  *
  * `memory` and `pieces` are as in pe_c_step. After PE_C_MISSING a caller reads a piece that has the eight bytes at frame->address,
  * and makes the same call again.

@@ -13,9 +13,11 @@ import sys
 import tempfile
 import time
 import unittest
+from unittest import mock
 
 import pe_c
-from pe_c import scan
+import test_more
+from pe_c import Kind, _guards, _tables, scan
 
 HERE = os.path.dirname(os.path.abspath(__file__))
 IMAGES = os.environ["PE_C_IMAGES"]
@@ -132,6 +134,80 @@ class Lines(Room):
         complaints = done.stderr.read()
         done.stderr.close()
         self.assertEqual((done.wait(60), complaints), (3, b""))
+
+
+class Signers(unittest.TestCase):
+    def test_who_signed(self):
+        """What osslsigncode and openssl print of the signature."""
+        certificate, = pe_c.Image(test_more.signed()).facts()["certificates"]
+        self.assertEqual(certificate["signer"], {
+            "subject": "CN=Signer,OU=Two+O=Probe\\, Inc.,C=DE", "issuer": "CN=Root,O=Root of the test,C=DE", "serial_hex": "1234",
+            "digest_algorithm": "SHA-256", "time_stamp": "2026-11-27T05:37:07Z"})
+
+    def test_what_is_refused(self):
+        """A damaged signature has no signer, a damaged stamp no time; the rest stays as it is."""
+        data = test_more.signed()
+        body = pe_c.Image(data).certificates[0].body
+        start, token = len(data) - len(body), bytes(body).index(bytes.fromhex("060b2a864886f70d0109100104"))
+
+        def signer(at):
+            copy = bytearray(data)
+            copy[start + at] ^= 0xFF
+            return pe_c.Image(bytes(copy)).facts()["certificates"][0]["signer"]
+        self.assertIsNone(signer(0))
+        stamped = signer(token)
+        self.assertEqual((stamped["time_stamp"], stamped["serial_hex"]), (None, "1234"))
+
+
+class Guards(unittest.TestCase):
+    def facts(self, most=_guards.MOST_ENTRIES):
+        with mock.patch.object(_guards, "MOST_ENTRIES", most), open(os.path.join(IMAGES, "load_config.bin"), "rb") as file:
+            found, = [pe_c.Image(file.read()).facts()["load_config"]]
+        return found
+
+    def test_a_bound(self):
+        """The lists have so many entries together: the last that has some is cut, and says so."""
+        whole, names = self.facts(), ("se_handlers", "guarded_functions", "guarded_iat_entries", "long_jump_targets", "eh_continuations")
+        rows = [(name, it) for name in names for it in whole[name] or ()]
+        self.assertGreater(len(rows), 2)
+        self.assertFalse(any(whole[f"{name}_is_limited"] for name in names))
+        for most in range(len(rows)):
+            found = self.facts(most)
+            self.assertEqual([(name, it) for name in names for it in found[name] or ()], rows[:most])
+            self.assertTrue(found[f"{rows[most][0]}_is_limited"])
+
+
+class Tables(unittest.TestCase):
+    def reader(self, heaps, rows, content=b""):
+        present = sum(1 << it for it in rows)
+        counts = b"".join(rows[it].to_bytes(4, "little") for it in sorted(rows))
+        stream = bytes(6) + bytes((heaps, 0)) + present.to_bytes(8, "little") + bytes(8) + counts + content
+        return _tables.Reader(stream, b"\0one\0two", b"", b"\x02ab\x80\x01c\xc0\0\0\x02de\xe0")
+
+    def test_columns(self):
+        """ECMA-335, II.24.2.6: an index has 2 bytes up to 65,535 rows, and a coded one of 2 bits up to 16,383."""
+        small, large = self.reader(0, {4: 0xFFFF, 1: 0x3FFF}), self.reader(1, {4: 0x10000, 1: 0x4000})
+        self.assertEqual([sum(small.widths[it]) for it in (2, 3)], [4 + 2 + 2 + 2 + 2 + 2, 2])
+        self.assertEqual([sum(large.widths[it]) for it in (2, 3)], [4 + 4 + 4 + 4 + 4 + 2, 4])
+        keys = self.reader(6, {})
+        self.assertEqual([sum(keys.widths[it]) for it in (0x23, 0)], [8 + 4 + 4 + 2 + 2 + 4, 2 + 2 + 4 + 4 + 4])
+
+    def test_heaps(self):
+        """II.24.2.3 and II.24.2.4."""
+        heaps = self.reader(0, {})
+        self.assertEqual([heaps.text(it) for it in (0, 1, 2)], [b"", b"one", b"ne"])
+        self.assertEqual([heaps.blob(it) for it in (0, 3, 6)], [b"ab", b"c", b"de"])
+        for read, at in ((heaps.text, 5), (heaps.text, 9), (heaps.blob, 12), (heaps.blob, 13)):
+            with self.assertRaises(_tables.Short):
+                read(at)
+
+    def test_references_have_a_bound(self):
+        """A row of 20 bytes says: version 1.2.3.4, the key 0, the name at 1, no culture. It costs 8 bytes and its name."""
+        row = b"".join(it.to_bytes(2, "little") for it in (1, 2, 3, 4, 0, 0, 0, 1, 0, 0))
+        found, number, is_limited = self.reader(0, {0x23: 3}, 3 * row).references(22)
+        self.assertEqual(([(it.name, it.version) for it in found], number, is_limited), ([(b"one", "1.2.3.4")] * 2, 0, True))
+        found, number, is_limited = self.reader(0, {0x23: 1 << 31}, 2 * row).references(1 << 20)
+        self.assertEqual((len(found), number, is_limited), (2, Kind.SHORT, False))
 
 
 class Schema(Room):

@@ -9,11 +9,14 @@ import random
 import struct
 import subprocess
 import sys
+import time
 import unittest
+from unittest import mock
 
 import hostile
 import pe_c
-from pe_c import End, Kind, KnownOid, Way
+from pe_c import End, Kind, KnownOid, Way, _dump
+from pe_c._signature import dotted
 
 HERE = os.path.dirname(os.path.abspath(__file__))
 IMAGES = os.environ["PE_C_IMAGES"]
@@ -147,6 +150,29 @@ class Signatures(unittest.TestCase):
                 pass
         self.assertGreater(opened, 100)
 
+    def test_object_identifiers(self):
+        """X.690, 8.19: 2.999.3 is an example there. An arc of 64 bits has ten octets."""
+        for octets, text in ((b"\x88\x37\x03", "2.999.3"), (b"\x2a\x86\x48", "1.2.840"), (b"\x2a\x86", "1.2.?"), (b"\x86", "?"), (b"", ""),
+                             (b"\x2a\x81" + b"\xff" * 8 + b"\x7f", f"1.2.{2 ** 64 - 1}"), (b"\x2a\x82" + b"\x80" * 8 + b"\x00\x01", "1.2.?.1")):
+            self.assertEqual(dotted(octets), text)
+        start = time.process_time()
+        self.assertEqual(dotted(b"\x2a" + b"\xff" * (1 << 20) + b"\x7f"), "1.2.?")
+        self.assertLess(time.process_time() - start, 5)
+
+    def test_certificates_are_searched_once(self):
+        class Counted(pe_c.Part):
+            times = 0
+
+            def __iter__(self):
+                Counted.times += 1
+                return super().__iter__()
+        signature, = pe_c.Image(signed()).signatures
+        signature._kept["certificates"] = Counted(signature.certificates)
+        signer, = signature.signers
+        found = [signer.certificate for _ in range(9)]
+        self.assertEqual((str(found[0].subject), Counted.times), ("CN=Signer,OU=Two+O=Probe\\, Inc.,C=DE", 1))
+        self.assertTrue(all(it is found[0] for it in found))
+
     def test_no_signature(self):
         self.assertEqual((pe_c.Image(bytes_of("debug.bin")).signatures, pe_c.Image(bytes_of("debug.bin")).signatures.error), ((), None))
         part = pe_c.Image(bytes_of("certificates.bin")).signatures
@@ -212,6 +238,19 @@ class Stacks(unittest.TestCase):
             pe_c.walk(self.registers(1, 2), [(image, BASE)], memory, [(0x20000, 0, 8)])
         self.assertEqual(pe_c.walk(self.registers(1, 2), [], b"", [], 1 << 31).frames[0].registers.rip, 1)
 
+    def test_modules_that_overlap(self):
+        """Modules may stand in any order; of those that overlap the first one has an address, wherever it starts."""
+        functions, other = pe_c.Image(bytes_of("functions.bin")), pe_c.Image(bytes_of("exports.bin"))
+        words = [1, 2, 3, 4, 0x5555, 0x7000]
+        memory, registers = struct.pack("<6Q", *words), self.registers(BASE + 0x5008, 0x20000, rbp=0x20040)
+        size = other.headers.size_of_image
+        self.assertGreater(size, 0x5010)
+        apart, below = (other, BASE - size), (other, BASE - 8)
+        for modules, rip in (([(functions, BASE)], 0x7000), ([(functions, BASE), apart], 0x7000), ([apart, (functions, BASE)], 0x7000),
+                             ([(functions, BASE), below], 0x7000), ([below, (functions, BASE)], 1)):
+            stack = pe_c.walk(registers, modules, memory, [(0x20000, 0, len(memory))], 10)
+            self.assertEqual(stack.frames[1].registers.rip, rip, modules)
+
     def test_on_arm64(self):
         registers = pe_c.Arm64Registers((tuple(range(31)), tuple(range(8)), 0x20000, 0x1234))
         stack = pe_c.walk(registers, [(pe_c.Image(bytes_of("arm64_functions.bin")), BASE)], bytes(64), [(0x20000, 0, 64)])
@@ -265,6 +304,40 @@ class Dumps(unittest.TestCase):
                 struct.pack_into("<QII", dump, at + 4, BASE, len(loaded), start)
         image = pe_c.Dump(bytes(dump)).image_of(pe_c.Dump(bytes(dump)).modules[0])
         self.assertEqual((image.headers.size_of_image, image.headers.mode), (0x6000, 3))
+
+    def many(self, count):
+        """The dump with so many modules at one address."""
+        dump = bytearray(bytes_of("x64.dmp"))
+        dump += bytes(-len(dump) % 8)
+        directory = struct.unpack_from("<I", dump, 12)[0]
+        for i in range(12):
+            kind, _, at = struct.unpack_from("<III", dump, directory + 12 * i)
+            if kind == 4:
+                module = dump[at + 4:at + 4 + 108]
+                struct.pack_into("<II", dump, directory + 12 * i + 4, 4 + 108 * count, len(dump))
+                dump += struct.pack("<I", count) + module * count
+        return dump
+
+    def test_many_modules_over_one_piece(self):
+        """All modules are the same bytes: what is kept of them has a bound, in bytes and in sections."""
+        dump, image = pe_c.Dump(bytes(self.many(40))), pe_c.Image(bytes_of("functions.bin"))
+        self.assertEqual((len(dump.modules), dump.warnings), (40, ()))
+        crashed = dump.threads[0]
+        self.assertEqual(len(dump._images(lambda module: image)), 40)
+        with mock.patch.object(_dump, "MOST_SECTIONS", 7 * image.headers.number_of_sections):
+            self.assertEqual(len(dump._images(lambda module: image)), 7)
+            self.assertEqual(dump.stack(crashed, lambda module: image).end, End.BOTTOM)
+        self.assertEqual(_dump.MOST_SECTIONS, 1 << 20)
+        loaded, data = (bytes_of("functions.bin") + bytes(0x6000))[:0x6000], self.many(4000)
+        directory, start = struct.unpack_from("<I", data, 12)[0], len(data)
+        data += loaded
+        for i in range(12):
+            kind, _, at = struct.unpack_from("<III", data, directory + 12 * i)
+            if kind == 5:
+                struct.pack_into("<QII", data, at + 4, BASE, len(loaded), start)
+        found = pe_c.Dump(bytes(data))._images(None)
+        self.assertEqual(len(found), 2 * len(data) // len(loaded))
+        self.assertLess(len(found), 4000)
 
     def test_refused(self):
         for wrong, kind in ((b"MZ", Kind.SHORT), (bytes(32), Kind.DUMP_SIGNATURE)):
@@ -322,6 +395,11 @@ class Edits(unittest.TestCase):
             with self.assertRaises(pe_c.Error) as caught:
                 pe_c.version_info(strings=strings)
             self.assertEqual(caught.exception.kind, kind)
+        for wrong in ({"file_version": (70000, 0, 0, 0)}, {"product_version": (1, 2, 3, -1)}, {"language": 0x10000}):
+            with self.assertRaises(ValueError) as misuse:
+                pe_c.version_info(**wrong)
+            self.assertNotIsInstance(misuse.exception, pe_c.Error)
+        self.assertIn(struct.pack("<HHHH", 0, 65535, 0, 0), pe_c.version_info(file_version=(65535, 0, 0, 0), language=0xFFFF))
         editor = pe_c.ResourceEditor(pe_c.Image(hostile.resources(1, 1, 1)))
         editor.set(1 << 20, 1, 0, b"")
         with self.assertRaises(pe_c.Error) as caught:

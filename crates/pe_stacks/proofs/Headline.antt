@@ -43,6 +43,17 @@ module _ {C : Type 0} (read : List ℕ → Result C DumpRefusal) (d : DumpView) 
   pub raised : (l : Location) (c : C) → raised_at d t ≡ Some l → context_at read d l ≡ Ok c → thread_context read d t ≡ Ok c
   raised l c is e = raised_by_location (raised_at d t) l c is e
 
+  unread_first : (r : Result C DumpRefusal) (f : DumpRefusal) (other : Result C DumpRefusal) → r ≡ Err f → or_else r other ≡ other
+  unread_first (Ok x) f other e = absurd (cc e)
+  unread_first (Err x) f other e = refl
+
+  unread_by_location : (o : Option Location) (l : Location) (f : DumpRefusal) → o ≡ Some l → context_at read d l ≡ Err f → first_of (context_at read d) o (context_at read d t.thread_context) ≡ context_at read d t.thread_context
+  unread_by_location (Some k) l f is e = let same : k ≡ l = cc is in rw same (unread_first (context_at read d l) f (context_at read d t.thread_context) e)
+  unread_by_location None l f is e = absurd (cc is)
+
+  pub unread : (l : Location) (f : DumpRefusal) → raised_at d t ≡ Some l → context_at read d l ≡ Err f → thread_context read d t ≡ context_at read d t.thread_context
+  unread l f is e = unread_by_location (raised_at d t) l f is e
+
   own_by_location : (o : Option Location) → o ≡ None → first_of (context_at read d) o (context_at read d t.thread_context) ≡ context_at read d t.thread_context
   own_by_location None is = refl
   own_by_location (Some k) is = absurd (cc is)

@@ -22,8 +22,10 @@ if TYPE_CHECKING:
 LISTS = ("entries", "threads", "modules", "thread_names", "unloaded", "thread_infos", "handles", "regions", "memory", "memory64")
 RECORDS = ("exception", "system", "process")
 AMD64, ARM64 = 9, 12
-# How many pieces of memory that overlap are kept, and how many modules have images.
-MOST_OVERLAPPING, MOST_IMAGES = 4096, 4096
+# How many pieces of memory that overlap are kept, how many modules have images, and how many sections these have together.
+MOST_OVERLAPPING, MOST_IMAGES, MOST_SECTIONS = 4096, 4096, 1 << 20
+# How often the bytes of a dump may be read for images. Those of modules that do not overlap are all read once.
+MOST_READINGS = 2
 
 Piece = tuple[int, int, int]
 AnyFrame = StackFrame | Arm64StackFrame
@@ -45,7 +47,8 @@ class Stack(typing.NamedTuple):
 def walk(registers: Registers | Arm64Registers, modules: typing.Iterable[tuple[Image, int]], memory: _typeshed.ReadableBuffer,
          pieces: typing.Iterable[Piece], most: int = 1000) -> Stack:
     """Walks a stack from the registers of a thread, x64's or ARM64's: through modules, each an image and the address where it is
-    loaded, over pieces of memory, each an address, an offset in `memory` and a length. At most `most` frames, 16,384 or fewer.
+    loaded, over pieces of memory, each an address, an offset in `memory` and a length. At most `most` frames, 16,384 or fewer. An
+    address is that of the first module that has it.
 
     Raises Error where a piece is not inside the memory."""
     core, _ = _core.image(memory, 0, True, BYTES, False)
@@ -55,7 +58,9 @@ def walk(registers: Registers | Arm64Registers, modules: typing.Iterable[tuple[I
 
 def _walk(core: _core.Image, registers: Registers | Arm64Registers, modules: list[tuple[Image, int]], pieces: list[Piece], most: int,
           path: str | None) -> Stack:
-    modules.sort(key=lambda it: it[1])
+    ordered = sorted(modules, key=lambda it: it[1])
+    if all(one[1] + one[0].headers.size_of_image <= other[1] for one, other in zip(ordered, ordered[1:])):
+        modules = ordered
     numbers = [it for field in registers for it in (field if isinstance(field, tuple) else (field,))]
     bases = struct.pack(f"<{len(modules)}Q", *(it[1] for it in modules))
     places = b"".join(struct.pack("<3Q", *it) for it in pieces)
@@ -206,8 +211,11 @@ class Dump(Reader):
 
     def image_of(self, module: DumpModule) -> Image | None:
         """The image of a module in the dump's memory, as it was loaded: one with the time stamp and the size of the module."""
+        return self._image_in(self.at(module.base_of_image, module.size_of_image), module)
+
+    def _image_in(self, loaded: memoryview, module: DumpModule) -> Image | None:
         try:
-            image = Image(self.at(module.base_of_image, module.size_of_image), Mode.PERMISSIVE | Mode.MAPPED)
+            image = Image(loaded, Mode.PERMISSIVE | Mode.MAPPED)
         except Error:
             return None
         return image if self._is_of(image, module) else None
@@ -221,16 +229,29 @@ class Dump(Reader):
         """The stack of a thread. The image of a module is that in the dump's memory, else the one that `look_up` returns for it, if its
         time stamp and its size are the module's. Raises Error where the registers of the thread can't be read."""
         registers = self.context(thread).registers
-        modules: list[tuple[Image, int]] = []
+        return _walk(self._core, registers, self._images(look_up), list(self.pieces), most, self.path)
+
+    def _images(self, look_up: typing.Callable[[DumpModule], Image | None] | None) -> list[tuple[Image, int]]:
+        """The images of the modules and their addresses, in the order of the dump. In a hostile dump all modules may be the same
+        bytes, with as many sections as there can be: the images end where they have too many bytes or sections together."""
+        found: list[tuple[Image, int]] = []
+        left, sections = MOST_READINGS * len(self.memory), MOST_SECTIONS
         for it in self.modules[:MOST_IMAGES]:
-            name = f"image of {it.base_of_image:x}"
-            image = self._once(name, lambda: self.image_of(it))
+            loaded = self.at(it.base_of_image, it.size_of_image)
+            left -= len(loaded)
+            if left < 0:
+                break
+            name = f"image of {it.base_of_image:x}, {it.size_of_image:x}, {it.time_date_stamp:x}"
+            image = self._once(name, lambda: self._image_in(loaded, it))
             if image is None and look_up is not None:
                 image = look_up(it)
                 image = image if image is not None and self._is_of(image, it) else None
             if image is not None:
-                modules.append((image, it.base_of_image))
-        return _walk(self._core, registers, modules, list(self.pieces), most, self.path)
+                sections -= image.headers.number_of_sections
+                if sections < 0:
+                    break
+                found.append((image, it.base_of_image))
+        return found
 
     def module_at(self, address: int) -> DumpModule | None:
         """The first module that has an address."""

@@ -92,16 +92,23 @@ def _block(key: str, is_text: bool, value: bytes, children: typing.Iterable[byte
     return found
 
 
+def _number(value: int) -> int:
+    if not 0 <= value <= 0xFFFF:
+        raise ValueError(f"{value} has more than 16 bits")
+    return value
+
+
 def version_info(*, file_version: tuple[int, int, int, int] = (0, 0, 0, 0), product_version: tuple[int, int, int, int] | None = None,
                  strings: typing.Mapping[str, str] | None = None, language: int = 0x409, file_type: int = VFT_APP) -> bytes:
     """Version information, the content of a resource of type 16 (RT_VERSION): the numbers, and strings in one language. Raises Error
-    where a string can't be written, and where all have more than 65,535 bytes."""
+    where a string can't be written, and where all have more than 65,535 bytes; ValueError of a number or a language of more than 16
+    bits."""
     def halves(version: tuple[int, int, int, int]) -> tuple[int, int]:
-        first, second, third, fourth = (it & 0xFFFF for it in version)
+        first, second, third, fourth = (_number(it) for it in version)
         return first << 16 | second, third << 16 | fourth
     numbers = (*halves(file_version), *halves(product_version or file_version))
     fixed = FIXED.pack(SIGNATURE, 0x10000, *numbers, 0x3F, 0, VOS_NT_WINDOWS32, file_type, 0, 0, 0)
-    language &= 0xFFFF
+    language = _number(language)
     texts = []
     for name, text in (strings or {}).items():
         if "\0" in text:

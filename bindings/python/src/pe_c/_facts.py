@@ -14,12 +14,13 @@ import unicodedata
 import typing
 from typing import Any
 
-from . import _core, _names as names
+from . import _core, _guards, _names as names, _tables
 from ._image import Mode
 from ._kinds import Kind
 from ._ordinals import ORDINALS
 from ._part import entropy_of
 from ._reader import IMAGE, OBJECT, TE
+from ._signer import signer_of
 
 Facts = dict[str, Any]
 Triple = tuple[Any, int, bool]
@@ -129,6 +130,10 @@ def file_name(path: str) -> str | None:
 def guid_of(raw: bytes) -> str:
     first, second, third = struct.unpack_from("<IHH", raw)
     return f"{first:08X}{second:04X}{third:04X}{raw[8:].hex().upper()}"
+
+
+def hyphenated(digits: str) -> str:
+    return f"{{{'-'.join((digits[:8], digits[8:12], digits[12:16], digits[16:20], digits[20:]))}}}"
 
 
 # ---- headers, hardening, hashes
@@ -383,8 +388,7 @@ def pdb(key: _core.SymbolKey) -> Facts:
     own = file_name(key.name) if isinstance(name_of(key.name), str) else None
     identifier = f"{digits}{key.age:X}"
     return {"name": name_of(key.name),
-            "guid": f"{{{'-'.join((digits[:8], digits[8:12], digits[12:16], digits[16:20], digits[20:]))}}}", "age": key.age,
-            "key": identifier, "symbol_server_path": own and f"{own}/{identifier}/{own}"}
+            "guid": hyphenated(digits), "age": key.age, "key": identifier, "symbol_server_path": own and f"{own}/{identifier}/{own}"}
 
 
 NO_RECORDS = {f"{name}{end}": None for name in ("pdb20", "repro", "pogo", "vc_features", "extended_dll_characteristics",
@@ -414,7 +418,8 @@ def debug(image: Exact) -> Facts:
 def certificates(image: Exact) -> Facts:
     found, number, is_limited = image.read("certificates")
     return rows("certificates", (found or (() if number else None), number, is_limited),
-                lambda it: {"size": it.length, "revision": it.revision, "type": named(it.type, names.CERTIFICATE_TYPES)})
+                lambda it: {"size": it.length, "revision": it.revision, "type": named(it.type, names.CERTIFICATE_TYPES),
+                            "signer": signer_of(it)})
 
 
 def functions(image: Exact) -> Facts:
@@ -570,19 +575,47 @@ def load_config(image: Exact) -> Facts:
             "se_handler_count": it.se_handler_count, "guard_cf_check_function_pointer_va": it.guard_cf_check_function_pointer,
             "guard_cf_dispatch_function_pointer_va": it.guard_cf_dispatch_function_pointer,
             "guard_cf_function_table_va": it.guard_cf_function_table, "guard_cf_function_count": it.guard_cf_function_count,
-            "guard_flags": None if it.guard_flags is None else flags(it.guard_flags, names.GUARD_FLAGS)}
+            "guard_flags": None if it.guard_flags is None else flags(it.guard_flags, names.GUARD_FLAGS), **guards(image, it)}
     return part("load_config", image.read("load_config"), of)
+
+
+def guards(image: Exact, config: _core.LoadConfig) -> Facts:
+    # The same flags stand in many entries.
+    known: dict[int | None, Facts | None] = {None: None, **{it: flags(it, names.GUARDED_FLAGS) for it in range(256)}}
+
+    def target(it: _guards.Entry) -> Facts:
+        return {"rva": it[0], "flags": known[it[1]]}
+    said: Facts = {}
+    for name, found in _guards.lists(image.core, image.value("headers"), config):
+        said.update(rows(name, found, (lambda it: it[0]) if name == "se_handlers" else target))
+    return said
 
 
 CLR_DIRECTORIES = ("metadata", "resources", "strong_name_signature", "code_manager_table", "vtable_fixups",
                    "export_address_table_jumps", "managed_native_header")
 
 
+def assembly(it: _tables.Assembly) -> Facts:
+    return {"name": name_of(decoded(it.name)), "version": it.version, "culture": name_of(decoded(it.culture)) if it.culture else None,
+            "has_public_key": it.has_public_key}
+
+
+def reference(it: _tables.Assembly) -> Facts:
+    return {**assembly(it), "public_key_token_hex": None if it.token is None else it.token.hex()}
+
+
+def tables(it: _tables.Tables) -> Facts:
+    module = it.module and {"name": name_of(decoded(it.module.name)), "mvid": it.module.mvid and hyphenated(guid_of(it.module.mvid))}
+    return {"module": module, "assembly": it.assembly and assembly(it.assembly), **rows("references", it.references, reference)}
+
+
 def clr(image: Exact) -> Facts:
-    def streams(it: Any) -> Facts:
+    def metadata(it: Any, length: int) -> Facts:
+        streams = [(one.name, one.content) for one in it.streams[0] or ()]
         return {"version": name_of(it.version), "format_version": f"{it.major_version}.{it.minor_version}",
                 **rows("streams", it.streams, lambda one: {"name": name_of(one.name), "offset": one.offset, "size": one.size,
-                                                           "is_there": one.content is not None})}
+                                                           "is_there": one.content is not None}),
+                **part("tables", _tables.tables(streams, length), tables)}
 
     def of(it: _core.ClrHeader) -> Facts:
         found = [(name.replace("_", " "), getattr(it, name)) for name in CLR_DIRECTORIES]
@@ -590,7 +623,7 @@ def clr(image: Exact) -> Facts:
                 "flags": flags(it.flags, names.CLR_FLAGS), "entry_point_token": it.entry_point_token,
                 "directories": [{"name": name, "rva": row.virtual_address, "size": row.size} for name, row in found
                                 if row.virtual_address or row.size],
-                **part("metadata", image.read("clr_metadata"), streams)}
+                **part("metadata", image.read("clr_metadata"), lambda one: metadata(one, it.metadata.size))}
     return part("clr", image.read("clr_header"), of)
 
 

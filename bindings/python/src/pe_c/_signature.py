@@ -16,7 +16,7 @@ if TYPE_CHECKING:
     import _typeshed
 
 T = TypeVar("T")
-# How many signatures stand in each other, and how many there are in all.
+# How many signatures stand in each other.
 MOST_NESTED = 16
 # Names of attributes of names, by RFC 4514 and its registry.
 DESCRIPTORS = {
@@ -29,15 +29,20 @@ ENCODINGS = {0x0C: "utf-8", 0x12: "utf-8", 0x13: "utf-8", 0x16: "utf-8", 0x1A: "
 
 
 def dotted(octets: bytes) -> str:
-    """An object identifier by its numbers."""
-    numbers, number = [], 0
+    """An object identifier by its numbers. `?` stands for one that has more than 64 bits or is truncated."""
+    arcs: list[int | None] = []
+    number, is_read = 0, False
     for it in octets:
-        number = number << 7 | it & 0x7F
-        if it < 0x80:
-            numbers.append(number)
+        # What has more bits does not grow, so that long identifiers cost no more than their octets.
+        number = number if number >> 64 else number << 7 | it & 0x7F
+        is_read = it >= 0x80
+        if not is_read:
+            arcs.append(None if number >> 64 else number)
             number = 0
-    first = min(numbers[0] // 40, 2) if numbers else 0
-    return ".".join(map(str, [first, numbers[0] - 40 * first, *numbers[1:]])) if numbers else ""
+    if is_read:
+        arcs.append(None)
+    return ".".join("?" if arc is None else str(arc) if i else f"{min(arc // 40, 2)}.{arc - 40 * min(arc // 40, 2)}"
+                    for i, arc in enumerate(arcs))
 
 
 def algorithm_of(oid: ObjectIdentifier) -> str:
@@ -199,9 +204,7 @@ class Signer(_Inside):
     @property
     def certificate(self) -> X509 | None:
         """That of the signer, if the signature has it."""
-        own = self._reader._bytes(self.row.issuer)
-        return next((it for it in self._reader.certificates
-                     if it.row.serial == self.row.serial and self._reader._bytes(it.row.issuer) == own), None)
+        return self._reader._certificate_of(self.row)
 
     def _read_attributes(self) -> dict[KnownOid, list[Range]]:
         """The values of the attributes that have a number: those of the signed ones, then of the others."""
@@ -330,6 +333,16 @@ class Signature(Reader):
     def certificates(self) -> Part[X509]:
         """The certificates in the signature. Of damaged ones the first is the error."""
         return self._members("certificates", self.row.certificates, lambda it: X509(self, it))
+
+    def _certificate_of(self, signer: SignerInfo) -> X509 | None:
+        """The first with the issuer and the serial number of a signer; None of one that is named by its key."""
+        def read() -> dict[tuple[bytes, bytes], X509]:
+            found: dict[tuple[bytes, bytes], X509] = {}
+            for it in self.certificates:
+                found.setdefault((bytes(self._bytes(it.row.issuer)), it.row.serial), it)
+            return found
+        known = self._once("certificates by their names", read)
+        return known.get((bytes(self._bytes(signer.issuer)), signer.serial)) if signer.issuer.length else None
 
     @property
     def signers(self) -> Part[Signer]:
