@@ -990,36 +990,10 @@ fn put(bytes: &mut [u8], offset: usize, part: &[u8]) {
     bytes[offset..offset + part.len()].copy_from_slice(part);
 }
 
-/// An image whose load configuration has 280 bytes, with a byte of flags in each entry of its tables, which follow it.
-fn with_guard_tables() -> Vec<u8> {
-    let mut made = made::Made::new(made::X64);
-    let mut config = vec![0; 280];
-    let start = made.put(&[]);
-    let va = |offset: u32| (0x1_8000_0000u64 + u64::from(start + offset)).to_le_bytes();
-    let table = |config: &mut [u8], field: usize, offset: u32, count: u64| {
-        put(config, field, &va(offset));
-        put(config, field + 8, &count.to_le_bytes());
-    };
-    put(&mut config, 0, &280u32.to_le_bytes());
-    put(&mut config, 144, &0x1000_0500u32.to_le_bytes());
-    table(&mut config, 128, 280, 2);
-    table(&mut config, 160, 290, 1);
-    // Below the image's base, in no section, and past the end of the file.
-    put(&mut config, 176, &[1]);
-    put(&mut config, 184, &[1]);
-    table(&mut config, 264, 0x8000, 1);
-    put(&mut config, 96, &va(295));
-    put(&mut config, 104, &[255; 8]);
-    let address = made.put(&config);
-    made.put(b"\x10\x20\0\0\x01\x30\x20\0\0\x08\x40\x20\0\0\0\x50\x20\0\0");
-    made.directory(10, address, 280);
-    made.image()
-}
-
 #[test]
 fn lists_of_guarded_functions_are_shown() {
     let folder = Folder::new("guards");
-    let file = folder.file("a.exe", &with_guard_tables());
+    let file = folder.file("a.exe", &made::with_guards());
     let (out, error, status) = run(&["--json", &file]);
     assert_eq!((error.as_str(), status), ("", 1));
     let said = serde_json::from_str::<Value>(&out).unwrap()["load_config"].clone();
@@ -1080,40 +1054,9 @@ fn guarded_functions_that_share_their_bytes_are_limited() {
     assert!(page.contains("<b>load configuration</b> not shown whole"), "{page}");
 }
 
-/// An image for .NET with a module, an assembly and two references, by ECMA-335, II.22.
-fn with_assembly() -> Vec<u8> {
-    let mut tables = b"\0\0\0\0\x02\0\0\x01\x01\0\0\0\x09\0\0\0\0\0\0\0\0\0\0\0\x01\0\0\0\x01\0\0\0\x02\0\0\0".to_vec();
-    tables.extend(b"\0\0\x01\0\x01\0\0\0\0\0");
-    tables.extend(b"\x04\x80\0\0\x01\0\x02\0\x03\0\x04\0\0\0\0\0\0\0\x07\0\0\0");
-    tables.extend(b"\x04\0\0\0\0\0\0\0\0\0\0\0\x01\0\x0B\0\0\0\0\0");
-    tables.extend(b"\x05\0\x06\0\0\0\0\0\x01\0\0\0\x01\0\x0B\0\x11\0\0\0");
-    let texts = b"\0m.dll\0Own\0Other\0de\0";
-    let (blobs, guids) = (b"\0\x08\x01\x02\x03\x04\x05\x06\x07\x08", (0..16).collect::<Vec<u8>>());
-    let mut root = b"BSJB\x01\0\x01\0\0\0\0\0\x0C\0\0\0v4.0.30319\0\0\0\0\x04\0".to_vec();
-    let streams: [(&[u8], &[u8]); 4] =
-        [(b"#~\0\0", &tables), (b"#Strings\0\0\0\0", texts), (b"#Blob\0\0\0", blobs), (b"#GUID\0\0\0", &guids)];
-    let mut offset = root.len() + streams.iter().map(|(name, _)| 8 + name.len()).sum::<usize>();
-    for (name, content) in streams {
-        root.extend((offset as u32).to_le_bytes());
-        root.extend((content.len() as u32).to_le_bytes());
-        root.extend(name);
-        offset += content.len();
-    }
-    streams.iter().for_each(|(_, content)| root.extend(*content));
-    let mut made = made::Made::new(made::X64);
-    let start = made.put(&root);
-    let mut header = vec![0; 72];
-    put(&mut header, 0, &72u32.to_le_bytes());
-    put(&mut header, 8, &start.to_le_bytes());
-    put(&mut header, 12, &(root.len() as u32).to_le_bytes());
-    let address = made.put(&header);
-    made.directory(14, address, 72);
-    made.image()
-}
-
 #[test]
 fn assemblies_have_names_and_references() {
-    let said = json_of("assembly", &with_assembly())["clr"]["metadata"]["tables"].clone();
+    let said = json_of("assembly", &made::with_assembly())["clr"]["metadata"]["tables"].clone();
     let own = json!({"name": "Own", "version": "1.2.3.4", "culture": null, "has_public_key": false});
     assert_eq!((&said["assembly"], &said["module"]["name"]), (&own, &json!("m.dll")));
     assert_eq!(said["module"]["mvid"], "{03020100-0504-0706-0809-0A0B0C0D0E0F}");
@@ -1121,12 +1064,12 @@ fn assemblies_have_names_and_references() {
     let whole_key = other("5.6.0.0", json!("de"), json!(null));
     assert_eq!(said["references"], json!([other("4.0.0.0", json!(null), json!("0102030405060708")), whole_key]));
     let folder = Folder::new("assembly-text");
-    let file = folder.file("a.dll", &with_assembly());
+    let file = folder.file("a.dll", &made::with_assembly());
     assert!(run(&[&file]).0.contains("  assembly      Own 1.2.3.4, 2 references\n"));
     assert!(run(&["show", &file, "clr"]).0.contains("  Other     5.6.0.0  de\n"));
     // A reference whose name is not in the heap ends the list, and an assembly without a name is refused.
     let at = |bytes: &[u8], part: &[u8]| bytes.windows(part.len()).position(|it| it == part).unwrap();
-    let mut bytes = with_assembly();
+    let mut bytes = made::with_assembly();
     let second = at(&bytes, b"\x05\0\x06\0");
     bytes[second + 14] = 0xFF;
     let (out, _, status) = run(&["--json", &folder.file("b.dll", &bytes)]);
@@ -1135,7 +1078,7 @@ fn assemblies_have_names_and_references() {
         (said["references"].as_array().unwrap().len(), &said["references_error"]["name"], status),
         (1, &json!("SHORT"), 1)
     );
-    let mut bytes = with_assembly();
+    let mut bytes = made::with_assembly();
     let own = at(&bytes, b"\x04\x80\0\0");
     bytes[own + 18] = 0xFF;
     let (_, error, status) = run(&[&folder.file("c.dll", &bytes)]);
