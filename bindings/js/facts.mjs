@@ -78,9 +78,9 @@ function listAfter(key, image, call, items, of) {
 }
 
 class Budget {
-  constructor(image) {
+  constructor(image, sections = image.sections.length) {
     this.left = image.length * READINGS;
-    this.sections = image.sections.length;
+    this.sections = sections;
   }
 
   takes(count) {
@@ -405,7 +405,7 @@ function loadConfig(image) {
       guard_cf_function_table_va: fieldOf(config, 'guard_cf_function_table'),
       guard_cf_function_count: fieldOf(config, 'guard_cf_function_count'),
       guard_flags: guardFlags === null ? null : flags(guardFlags, names.GUARD_FLAGS),
-      ...Object.assign({}, ...guards(image, config).map(([key, read]) => guardList(key, read))),
+      ...Object.assign({}, ...guards(image, config, new Budget(image, 0)).map(([key, read]) => guardList(key, read))),
     };
   });
 }
@@ -414,8 +414,9 @@ function guardList(key, read) {
   const said = part(key, read), found = said[key];
   const of = (it) => (key === 'se_handlers' ? it.rva
     : { rva: it.rva, flags: it.flags === null ? null : flags(it.flags, names.GUARDED_FLAGS) });
-  const short = found && !found.isWhole ? { number: constants.PE_C_SHORT, name: 'SHORT', text: 'truncated' } : null;
-  return { [key]: found && found.entries.map(of), [`${key}_error`]: said[`${key}_error`] ?? short, [`${key}_is_limited`]: false };
+  const isLimited = Boolean(found?.isLimited);
+  const short = found && !found.isWhole && !isLimited ? { number: constants.PE_C_SHORT, name: 'SHORT', text: 'truncated' } : null;
+  return { [key]: found && found.entries.map(of), [`${key}_error`]: said[`${key}_error`] ?? short, [`${key}_is_limited`]: isLimited };
 }
 
 const CLR_DIRECTORIES = ['metadata', 'resources', 'strong_name_signature', 'code_manager_table', 'vtable_fixups',

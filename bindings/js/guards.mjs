@@ -8,6 +8,8 @@ const FIELDS = {
   eh_continuations: [[164, 168], [264, 272]],
 };
 const FLAG_SIZE_SHIFT = 28, SIZE_OF_RVA = 4;
+// How many bytes an entry of a list counts for.
+const ENTRY = 8;
 
 const refused = (constant, text) => new PeError('pe_c_load_config', constants[constant], text);
 
@@ -19,18 +21,23 @@ function bytesAt(image, rva, most) {
   return image.slice({ offset: start, length: Math.min(most, image.length - start) });
 }
 
-/** The entries of a table, RVA and flags, and whether it ends too early; or null where there is none. */
-function entriesOf(image, { table, count }, flagSize) {
+/**
+ * The entries of a table, RVA and flags, as many as the budget has left, whether there are more, and whether the table ends too
+ * early; or null where there is none. Each byte of an entry counts for an entry, as in the program pe.
+ */
+function entriesOf(image, { table, count }, flagSize, budget) {
   if (!table || !count) return null;
   if (table < image.info.base) throw refused('PE_C_DIRECTORY_VA_BELOW_BASE', 'virtual address below the image base');
   const rva = table - image.info.base, size = SIZE_OF_RVA + flagSize;
   const bytes = rva <= 0xFFFFFFFFn ? bytesAt(image, Number(rva), image.length) : null;
   if (bytes === null) throw refused('PE_C_UNMAPPED', 'RVA maps to no file offset');
   const view = new DataView(bytes.buffer, bytes.byteOffset, bytes.length), most = Math.floor(bytes.length / size);
-  const length = count < BigInt(most) ? Number(count) : most;
-  const entries = Array.from({ length }, (_, i) => ({
-    rva: view.getUint32(i * size, true), flags: flagSize ? bytes[i * size + SIZE_OF_RVA] : null }));
-  return { entries, isWhole: count <= BigInt(most) };
+  const length = count < BigInt(most) ? Number(count) : most, entries = [];
+  while (entries.length < length && budget.takes(ENTRY * size)) {
+    const start = entries.length * size;
+    entries.push({ rva: view.getUint32(start, true), flags: flagSize ? bytes[start + SIZE_OF_RVA] : null });
+  }
+  return { entries, isLimited: entries.length < length, isWhole: count <= BigInt(most) };
 }
 
 /** Where the tables are whose fields come after the guard flags, by their names. */
@@ -48,8 +55,8 @@ function placesOf(image, config) {
   }));
 }
 
-/** The lists by their names in JSON: of each a function that reads it. */
-export function guards(image, config) {
+/** The lists by their names in JSON: of each a function that reads it. They have one budget: tables may be the same bytes. */
+export function guards(image, config, budget) {
   const flagSize = config.guard_flags >>> FLAG_SIZE_SHIFT;
   const places = {
     se_handlers: { table: config.se_handler_table, count: config.se_handler_count },
@@ -57,5 +64,5 @@ export function guards(image, config) {
     ...placesOf(image, config),
   };
   return Object.entries(places).map(
-    ([name, place]) => [name, () => entriesOf(image, place, name === 'se_handlers' ? 0 : flagSize)]);
+    ([name, place]) => [name, () => entriesOf(image, place, name === 'se_handlers' ? 0 : flagSize, budget)]);
 }

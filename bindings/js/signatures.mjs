@@ -11,11 +11,12 @@ const OIDS = Object.fromEntries(Object.entries(constants).filter(([name]) => nam
   .map(([name, number]) => [number, name.slice('PE_C_OID_'.length)]));
 
 /** The numbers of an object identifier with dots; `?` stands for one that is truncated or has more than 64 bits. */
-function dotted(octets) {
+export function dotted(octets) {
   const arcs = [];
   let value = 0n, isRead = false;
   for (const octet of octets) {
-    value = value * 128n + BigInt(octet % 128);
+    // A value of more than 64 bits stays so: it does not grow with a long arc.
+    value = value >> 64n ? value : value * 128n + BigInt(octet % 128);
     isRead = octet >= 128;
     if (isRead) continue;
     arcs.push(value < 1n << 64n ? value : null);

@@ -2,7 +2,9 @@
 // make. Each call that the package has is to be made by some test, and to succeed. The last line is 'N passed, M failed'.
 import { strict as assert } from 'node:assert';
 import { readFileSync, readdirSync } from 'node:fs';
-import { join } from 'node:path';
+import { createRequire } from 'node:module';
+import { dirname, join } from 'node:path';
+import { pathToFileURL } from 'node:url';
 import { File, Image, Library, PeError, abi, calls, constants, load, results, version } from 'pe-c';
 import { factsOf } from 'pe-c/facts';
 
@@ -757,6 +759,36 @@ test('lists of guarded functions', () => {
   assert.equal(said.long_jump_targets_error.name, 'DIRECTORY_VA_BELOW_BASE');
   assert.equal(said.eh_continuations_error.name, 'UNMAPPED');
   assert.deepEqual([said.se_handlers[0], said.se_handlers_error.name], [0x2050, 'SHORT']);
+});
+
+test('tables of guarded functions that are the same bytes', () => {
+  const rest = new Uint8Array(0x4000).fill(7), table = [...wide(0x1_8000_1000 + 280), ...wide(-1n)];
+  const whole = new Uint8Array(0x400 + 280 + rest.length);
+  whole.set(file('load_config').subarray(0, 0x400 + 280));
+  whole.set(rest, 0x400 + 280);
+  for (const [offset, part] of [[0, word(280)], [144, word(0)], ...[96, 128, 160, 176, 264].map((it) => [it, table])]) {
+    whole.set(part, 0x400 + offset);
+  }
+  const said = factsOf(library, whole, 'a.exe').load_config;
+  const lists = ['se_handlers', 'guarded_functions', 'guarded_iat_entries', 'long_jump_targets', 'eh_continuations'];
+  assert.deepEqual(lists.map((it) => said[`${it}_is_limited`]), [false, false, true, true, true]);
+  assert.deepEqual(lists.map((it) => said[`${it}_error`]?.name), ['SHORT', 'SHORT', undefined, undefined, undefined]);
+  // An entry of 4 bytes counts for 32, and 16 times the bytes of the file are all that is read.
+  assert.equal(lists.reduce((sum, it) => sum + said[it].length, 0), Math.floor(whole.length / 2));
+});
+
+// What no one imports from the package: it is reached beside what they do.
+const beside = dirname(createRequire(import.meta.url).resolve('pe-c/facts'));
+const { dotted } = await import(pathToFileURL(join(beside, 'signatures.mjs')));
+
+test('a number of many octets in an object identifier', () => {
+  const octets = new Uint8Array(100_000).fill(0xFF);
+  octets[octets.length - 1] = 0x7F;
+  const started = performance.now();
+  assert.equal(dotted(octets), '?');
+  assert.ok(performance.now() - started < 5000);
+  const most = [0x29, 0x81, ...Array(8).fill(0xFF), 0x7F], more = [0x29, 0x82, ...Array(8).fill(0x80), 0];
+  assert.deepEqual([[0x55, 4, 3], [0x83, 0x80], most, more].map(dotted), ['2.5.4.3', '?', `1.1.${2n ** 64n - 1n}`, '1.1.?']);
 });
 
 test('the assembly of .NET metadata', () => {

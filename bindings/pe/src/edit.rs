@@ -5,7 +5,7 @@ use crate::arguments::{NewVersion, OneResource};
 use crate::escape::escaped;
 use crate::facts::Refusal;
 use crate::files::{self, Report};
-use crate::icon::{self, Group, IconError};
+use crate::icon::{self, Group, IconError, Icons};
 use crate::Status;
 use pe_c::{Error, Image, ResourceEditor, ResourceKey, VersionInfo};
 use std::path::{Path, PathBuf};
@@ -20,6 +20,8 @@ const OF_DLL: u16 = 2;
 const DLL: u16 = 0x2000;
 /// US English, of a resource that is new.
 const NEW_LANGUAGE: u16 = 0x409;
+/// How many bytes may be read or written for all languages together. Resources of a hostile image share what they contain.
+const ALL_LANGUAGES: usize = 256 << 20;
 
 /// Why no file is written.
 enum Failure {
@@ -28,6 +30,8 @@ enum Failure {
     File,
     /// There is no such resource.
     Missing,
+    /// What is read or written for all languages together is too much.
+    Languages,
     /// A file is no icon.
     Icon(PathBuf, IconError),
 }
@@ -55,6 +59,7 @@ fn deliver(
         Err(Failure::Refused(error)) => Report::refused(paths.0, Refusal::from(error)),
         Err(Failure::File) => Report::of("", Status::FileError),
         Err(Failure::Missing) => Report::refused(paths.0, "the image has no such resource"),
+        Err(Failure::Languages) => Report::refused(paths.0, "more than 256 MiB for all languages together"),
         Err(Failure::Icon(path, error)) => Report::refused(&path, error),
     }
 }
@@ -109,6 +114,15 @@ fn names_of(editor: &ResourceEditor<'_>, kind: &ResourceKey) -> Vec<ResourceKey>
     names
 }
 
+/// Several contents are within the bound together. One alone is as large as its file lets it be.
+fn require_few(sizes: impl Iterator<Item = usize>) -> Result<(), Failure> {
+    let (count, sum) = sizes.fold((0usize, 0usize), |(count, sum), size| (count + 1, sum.saturating_add(size)));
+    if count > 1 && sum > ALL_LANGUAGES {
+        return Err(Failure::Languages);
+    }
+    Ok(())
+}
+
 fn changed(content: Option<&[u8]>, language: u16, new: &NewVersion) -> Result<Vec<u8>, Error> {
     let there = content.map(VersionInfo::of).transpose()?.flatten();
     let mut version = there.unwrap_or_else(|| VersionInfo::new(language));
@@ -132,13 +146,31 @@ pub fn set_version(paths: (&Path, &Path), image: Result<Image<'_>, Error>, new: 
     deliver(paths, image, |_, editor| {
         let kind = ResourceKey::Id(VERSION);
         let name = names_of(editor, &kind).into_iter().next().unwrap_or(ResourceKey::Id(1));
-        for language in languages_of(editor, &kind, &name, new.language) {
+        let languages = languages_of(editor, &kind, &name, new.language);
+        let strings: usize = new.strings.iter().map(|(name, text)| name.len() + text.len()).sum();
+        let size_of = |place| strings + editor.get(&place).map_or(0, |it| it.bytes.len());
+        require_few(languages.iter().map(|language| size_of((kind.clone(), name.clone(), *language))))?;
+        for language in languages {
             let place = (kind.clone(), name.clone(), language);
             let content = changed(editor.get(&place).map(|it| &*it.bytes), language, new)?;
             editor.set(kind.clone(), name.clone(), language, content);
         }
         Ok(())
     })
+}
+
+/// Sets one content in these languages.
+fn set_in(
+    editor: &mut ResourceEditor<'_>,
+    (kind, name): (&ResourceKey, &ResourceKey),
+    languages: &[u16],
+    content: &[u8],
+) -> Result<(), Failure> {
+    require_few(languages.iter().map(|_| content.len()))?;
+    for language in languages {
+        editor.set(kind.clone(), name.clone(), *language, content.to_vec());
+    }
+    Ok(())
 }
 
 /// The image with another manifest.
@@ -153,10 +185,8 @@ pub fn set_manifest(
         let kind = ResourceKey::Id(MANIFEST);
         let new = if image.info().characteristics & DLL == 0 { OF_PROGRAM } else { OF_DLL };
         let name = names_of(editor, &kind).into_iter().next().unwrap_or(ResourceKey::Id(new));
-        for language in languages_of(editor, &kind, &name, language) {
-            editor.set(kind.clone(), name.clone(), language, content.clone());
-        }
-        Ok(())
+        let languages = languages_of(editor, &kind, &name, language);
+        set_in(editor, (&kind, &name), &languages, &content)
     })
 }
 
@@ -168,8 +198,12 @@ pub fn set_icon(paths: (&Path, &Path), image: Result<Image<'_>, Error>, file: &P
         let images = icon::images_of(&content).map_err(of_file)?;
         let kind = ResourceKey::Id(icon::GROUP_ICON);
         let name = names_of(editor, &kind).into_iter().next().unwrap_or(ResourceKey::Id(1));
-        for language in languages_of(editor, &kind, &name, language) {
-            icon::set_group(editor, &Group { name: name.clone(), language }, &images).map_err(of_file)?;
+        let languages = languages_of(editor, &kind, &name, language);
+        require_few(languages.iter().map(|_| content.len()))?;
+        require_few(editor.resources().filter(|it| it.0 .0 == kind).map(|it| it.1.bytes.len()))?;
+        let mut icons = Icons::of(editor);
+        for language in languages {
+            icons.set_group(editor, &Group { name: name.clone(), language }, &images).map_err(of_file)?;
         }
         Ok(())
     })
@@ -192,10 +226,8 @@ pub fn set_resource(
     deliver(paths, image, |_, editor| {
         let content = content_of(content)?;
         let (kind, name) = keys_of(editor, which);
-        for language in languages_of(editor, &kind, &name, which.language) {
-            editor.set(kind.clone(), name.clone(), language, content.clone());
-        }
-        Ok(())
+        let languages = languages_of(editor, &kind, &name, which.language);
+        set_in(editor, (&kind, &name), &languages, &content)
     })
 }
 
@@ -221,6 +253,13 @@ pub fn remove_resource(paths: (&Path, &Path), image: Result<Image<'_>, Error>, w
 #[cfg(test)]
 mod tests {
     use super::*;
+
+    #[test]
+    fn languages_are_few_for_what_they_contain() {
+        let is_refused = |sizes: &[usize]| require_few(sizes.iter().copied()).is_err();
+        assert!(!is_refused(&[]) && !is_refused(&[usize::MAX]) && !is_refused(&[ALL_LANGUAGES, 0]));
+        assert!(is_refused(&[ALL_LANGUAGES, 1]) && is_refused(&[0, usize::MAX, usize::MAX]));
+    }
 
     #[test]
     fn names_are_those_that_are_there() {

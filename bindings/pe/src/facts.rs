@@ -803,6 +803,7 @@ impl<'a> Facts<'a> {
             ("exports", self.exports.as_ref().and_then(Part::present).map(|it| it.is_limited)),
             ("delay imports", self.delay_imports.as_ref().and_then(Part::present).map(delay_imports::is_limited)),
             ("bound imports", self.bound_imports.as_ref().and_then(Part::present).map(bound_imports::is_limited)),
+            ("load configuration", self.load_config.as_ref().and_then(Part::present).map(|it| it.guards.is_limited())),
             ("references", self.clr.as_ref().and_then(Part::present).map(clr::is_limited)),
             ("resources", self.resources.as_ref().and_then(Part::present).map(|it| it.is_limited)),
             ("symbols", self.symbols.as_ref().and_then(Part::present).map(|it| it.is_limited)),

@@ -4,7 +4,7 @@
 //! <https://learn.microsoft.com/windows/win32/menurc/newheader>.
 
 use pe_c::{ResourceEditor, ResourceKey};
-use std::collections::BTreeSet;
+use std::collections::{BTreeMap, BTreeSet};
 use std::fmt;
 
 /// `RT_ICON` and `RT_GROUP_ICON`.
@@ -121,50 +121,99 @@ pub struct Group {
     pub language: u16,
 }
 
-/// The identifiers that a group has in its language and that no other group uses.
-fn own_ids(editor: &ResourceEditor<'_>, group: &Group) -> Vec<u16> {
-    let (mut own, mut others) = (Vec::new(), BTreeSet::new());
-    for ((kind, name, language), content) in editor.resources() {
-        if *kind != ResourceKey::Id(GROUP_ICON) {
-            continue;
+/// What an image has of icons: it is gathered once, and kept as groups are set.
+pub struct Icons {
+    /// The languages of each icon that has an identifier.
+    languages: BTreeMap<u16, BTreeSet<u16>>,
+    /// In how many groups an identifier stands.
+    users: BTreeMap<u16, usize>,
+    /// The identifiers that no icon has.
+    free: BTreeSet<u16>,
+}
+
+impl Icons {
+    /// It reads each group: the caller has to bound their bytes, which groups of a hostile image may share.
+    pub fn of(editor: &ResourceEditor<'_>) -> Icons {
+        let mut icons = Icons { languages: BTreeMap::new(), users: BTreeMap::new(), free: (1..=u16::MAX).collect() };
+        for ((kind, name, language), content) in editor.resources() {
+            match (kind.id(), name.id()) {
+                (Some(ICON), Some(id)) => icons.put(id, *language),
+                (Some(GROUP_ICON), _) => icons.count(&ids_of(&content.bytes)),
+                _ => {}
+            }
         }
-        if (name, *language) == (&group.name, group.language) {
-            own = ids_of(&content.bytes);
+        icons
+    }
+
+    fn put(&mut self, id: u16, language: u16) {
+        self.languages.entry(id).or_default().insert(language);
+        self.free.remove(&id);
+    }
+
+    fn count(&mut self, ids: &[u16]) {
+        ids.iter().for_each(|id| *self.users.entry(*id).or_default() += 1);
+    }
+
+    /// Takes the identifiers of a group away, and returns those that are its own: no other group has them, and no icon of another
+    /// language, which Windows might show in the place of a new one.
+    fn own(&mut self, ids: Vec<u16>, language: u16) -> Vec<u16> {
+        for id in &ids {
+            if let Some(users) = self.users.get_mut(id) {
+                *users -= 1;
+            }
+        }
+        let is_alone = |id: &u16| self.languages.get(id).map_or(true, |it| it.iter().all(|it| *it == language));
+        ids.into_iter().filter(|id| self.users.get(id).map_or(true, |it| *it == 0) && is_alone(id)).collect()
+    }
+
+    /// So many identifiers: a group's own, and then others that are free.
+    fn ids(&self, own: &[u16], count: usize) -> Result<Vec<u16>, IconError> {
+        let met: BTreeSet<_> = own.iter().collect();
+        let free = self.free.iter().filter(|id| !met.contains(id));
+        let ids: Vec<u16> = own.iter().chain(free).take(count).copied().collect();
+        if ids.len() == count {
+            Ok(ids)
         } else {
-            others.extend(ids_of(&content.bytes));
+            Err(IconError::NoIdentifier)
         }
     }
-    own.retain(|id| !others.contains(id));
-    own
-}
 
-/// The identifiers of all icons.
-fn used_ids(editor: &ResourceEditor<'_>) -> BTreeSet<u16> {
-    let icons = editor.resources().filter(|it| it.0 .0 == ResourceKey::Id(ICON));
-    icons.filter_map(|it| it.0 .1.id()).collect()
-}
-
-/// Puts icons into the place of a group's: they take its identifiers, and where there are more of them others that are free. Icons
-/// that are left over of it are removed, but for those of other groups.
-pub fn set_group(editor: &mut ResourceEditor<'_>, group: &Group, images: &[IconImage<'_>]) -> Result<(), IconError> {
-    let (own, used) = (own_ids(editor, group), used_ids(editor));
-    let free = (1..=u16::MAX).filter(|id| !used.contains(id) && !own.contains(id));
-    let ids: Vec<u16> = own.iter().copied().chain(free).take(images.len()).collect();
-    if ids.len() < images.len() {
-        return Err(IconError::NoIdentifier);
+    /// Puts icons into the place of a group's: they take its identifiers, and where there are more of them others that are free.
+    /// Icons that are left over of it are removed, but for those of other groups or languages.
+    pub fn set_group(
+        &mut self,
+        editor: &mut ResourceEditor<'_>,
+        group: &Group,
+        images: &[IconImage<'_>],
+    ) -> Result<(), IconError> {
+        let place = (GROUP_ICON.into(), group.name.clone(), group.language);
+        let old = editor.get(&place).map(|it| ids_of(&it.bytes)).unwrap_or_default();
+        let own = self.own(old, group.language);
+        let ids = self.ids(&own, images.len())?;
+        for (image, id) in images.iter().zip(&ids) {
+            editor.set(ICON.into(), (*id).into(), group.language, image.bytes.to_vec());
+            self.put(*id, group.language);
+        }
+        for id in own.iter().skip(images.len()) {
+            editor.remove(&(ICON.into(), (*id).into(), group.language));
+            self.languages.remove(id);
+            self.free.insert(*id);
+        }
+        self.count(&ids);
+        editor.set(GROUP_ICON.into(), group.name.clone(), group.language, group_of(images, &ids));
+        Ok(())
     }
+}
+
+/// The content of a group of these images.
+fn group_of(images: &[IconImage<'_>], ids: &[u16]) -> Vec<u8> {
     let mut content: Vec<u8> = [0, 1, images.len() as u16].into_iter().flat_map(u16::to_le_bytes).collect();
-    for (image, id) in images.iter().zip(&ids) {
+    for (image, id) in images.iter().zip(ids) {
         content.extend(image.start);
         content.extend((image.bytes.len() as u32).to_le_bytes());
         content.extend(id.to_le_bytes());
-        editor.set(ICON.into(), (*id).into(), group.language, image.bytes.to_vec());
     }
-    for id in own.iter().skip(images.len()) {
-        editor.remove(&(ICON.into(), (*id).into(), group.language));
-    }
-    editor.set(GROUP_ICON.into(), group.name.clone(), group.language, content);
-    Ok(())
+    content
 }
 
 #[cfg(test)]

@@ -219,6 +219,7 @@ fn load_config_of(config: &LoadConfig, page: &mut Page) {
     for (_, title, table) in tables::guards(&config.guards) {
         page.heading(title);
         page.table(&table);
+        more(table.is_limited, page);
     }
 }
 

@@ -231,8 +231,11 @@ fn more_of(facts: &Facts, page: &mut Page) {
     }
     if let Some(config) = facts.load_config.as_ref().and_then(Part::present) {
         let flags = config.guard_flags.as_ref().map_or(String::new(), |it| format!(", guard flags {it}"));
-        let guarded = config.guards.functions.present().map(|it| counted(it.entries.len(), "guarded function"));
-        let guarded = guarded.map_or(String::new(), |count| format!(", {count}"));
+        let functions = config.guards.functions.present();
+        let guarded = functions.map_or(String::new(), |it| {
+            let more = if it.is_limited { " and more" } else { "" };
+            format!(", {}{more}", counted(it.entries.len(), "guarded function"))
+        });
         page.row("load config", format_args!("{} bytes{guarded}{flags}", config.size));
     }
     if let Some(clr) = facts.clr.as_ref().and_then(Part::present) {

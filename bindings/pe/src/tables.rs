@@ -406,7 +406,7 @@ pub fn load_config(config: &LoadConfig) -> Vec<Row> {
 pub fn guards(guards: &Guards) -> Vec<(&'static str, &'static str, Table)> {
     let handlers = guards.handlers.present().map(|list| {
         let rows = list.entries.iter().map(|it| vec![format!("{:#x}", it.0)]);
-        ("handlers", "Exception handlers", Table::new(&[number("RVA")], rows))
+        ("handlers", "Exception handlers", Table::new(&[number("RVA")], rows).limited(list.is_limited))
     });
     let targets = [
         ("guarded", "Functions that may be called indirectly", targets(&guards.functions)),
@@ -419,11 +419,12 @@ pub fn guards(guards: &Guards) -> Vec<(&'static str, &'static str, Table)> {
 }
 
 fn targets<const LIST: usize>(targets: &Part<List<Target<LIST>>>) -> Option<Table> {
-    let rows = targets.present()?.entries.iter().map(|it| {
+    let targets = targets.present()?;
+    let rows = targets.entries.iter().map(|it| {
         let flags = it.flags.filter(|flags| flags.number != 0);
         vec![format!("{:#x}", it.rva), flags.map_or(String::new(), |flags| flags.to_string())]
     });
-    Some(Table::new(&[number("RVA"), text("flags")], rows))
+    Some(Table::new(&[number("RVA"), text("flags")], rows).limited(targets.is_limited))
 }
 
 /// The CLR header, and the root of its metadata.

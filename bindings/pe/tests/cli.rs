@@ -106,8 +106,8 @@ fn certificates_functions_and_versions() {
     assert_eq!(
         json_of("certificates", &made::with_certificates())["certificates"],
         json!([
-            {"size": 9, "revision": 0x200, "type": {"number": 2, "name": "PKCS #7 signed data"}},
-            {"size": 8, "revision": 0x100, "type": {"number": 1, "name": "X.509"}},
+            {"size": 9, "revision": 0x200, "type": {"number": 2, "name": "PKCS #7 signed data"}, "signer": null},
+            {"size": 8, "revision": 0x100, "type": {"number": 1, "name": "X.509"}, "signer": null},
         ])
     );
     let arm64 = json_of("arm64", &made::with_arm64_functions());

@@ -10,6 +10,7 @@ use serde_json::{json, Value};
 use std::fs;
 use std::io::Write;
 use std::process::{Command, Stdio};
+use std::time::{Duration, Instant};
 
 /// What a program of sums says of some bytes.
 fn sum_of(program: &str, bytes: &[u8]) -> String {
@@ -259,7 +260,7 @@ fn certificates_are_attached_and_detached() {
     assert_eq!(run(&["attach", &bare, &data, &signed]).2, 0);
     let said = json_of("attached", &fs::read(&signed).unwrap());
     let pkcs7 = json!({"number": 2, "name": "PKCS #7 signed data"});
-    assert_eq!(said["certificates"], json!([{"size": 13, "revision": 0x200, "type": pkcs7}]));
+    assert_eq!(said["certificates"], json!([{"size": 13, "revision": 0x200, "type": pkcs7, "signer": null}]));
     assert_eq!(run(&["extract", &signed, "certificate", "-"]).0.as_bytes(), [0x30, 1, 2, 3, 4]);
     assert_eq!(run(&["extract", &signed, "certificate", "--number", "2", "-"]).2, 1);
     // All entries are what attach takes.
@@ -324,6 +325,69 @@ fn icons(widths: &[u8]) -> Vec<u8> {
         file.push(*width);
     }
     file
+}
+
+/// An image with a resource in so many languages from 1 on, all of which share one content. They have a section of their own.
+fn in_languages(kind: u32, count: u32, content: &[u8]) -> Vec<u8> {
+    let mut made = made::Made::new(made::X64);
+    let below = |offset: u32| 1 << 31 | offset;
+    let mut tree = vec![0, 0, 0, 1 << 16, kind, below(24), 0, 0, 0, 1 << 16, 1, below(48), 0, 0, 0, count << 16];
+    tree.extend((0..count).flat_map(|it| [it + 1, 64 + 8 * count]));
+    tree.extend([made.next() + 80 + 8 * count, content.len() as u32, 0, 0]);
+    let root = made.put_words(&tree);
+    made.put(content);
+    made.directory(2, root, made.content.len() as u32);
+    made.size_of_image = made.content.len().next_multiple_of(0x1000) as u32 + 0x1000;
+    let mut bytes = made.image();
+    // No entry point.
+    put(&mut bytes, 0x68, &[0; 4]);
+    bytes
+}
+
+#[test]
+fn languages_cost_no_more_than_they_contain() {
+    let folder = Folder::new("languages");
+    let path = |name: &str| folder.0.join(name).to_str().unwrap().to_string();
+    // Each language gets its own icon, though all share one group. In proportion to the square this takes many minutes.
+    let group = [0, 0, 1, 0, 1, 0, 16, 16, 0, 0, 1, 0, 24, 0, 41, 0, 0, 0, 1, 0];
+    let file = folder.file("a.exe", &in_languages(14, 30_000, &group));
+    let (one, start) = (folder.file("1.ico", &icons(&[48])), Instant::now());
+    assert_eq!(run(&["set-icon", &file, &path("b.exe"), &one]), (String::new(), String::new(), 0));
+    assert!(start.elapsed() < Duration::from_secs(60), "{:?}", start.elapsed());
+    let which = ["extract", &path("b.exe"), "resource", "--type", "3", "--name", "30000", "--language", "30000", "-"];
+    assert_eq!(run(&which).0.as_bytes().last(), Some(&48));
+    // What they contain together is bounded.
+    let many = folder.file("c.exe", &in_languages(24, 2000, b"<old/>"));
+    let long = folder.file("long", &vec![b'x'; 140_000]);
+    let refusal = |out: &str| (String::new(), format!("pe: {out}: more than 256 MiB for all languages together\n"), 1);
+    assert_eq!(run(&["set-manifest", &many, &path("d.exe"), &long]), refusal(&many));
+    assert_eq!(run(&["set-resource", &many, &path("d.exe"), "24", "1", &long]), refusal(&many));
+    assert!(!folder.0.join("d.exe").exists());
+    assert_eq!(run(&["set-manifest", &many, &path("d.exe"), &long, "--language", "7"]).2, 0);
+    let versions = folder.file("e.exe", &in_languages(16, 2000, &vec![0; 140_000]));
+    let words = ["set-version", &versions, &path("f.exe"), "--file-version", "1.2.3.4"];
+    assert_eq!(run(&words), refusal(&versions));
+    let groups = folder.file("g.exe", &in_languages(14, 2000, &vec![0; 140_000]));
+    assert_eq!(run(&["set-icon", &groups, &path("f.exe"), &one, "--language", "7"]), refusal(&groups));
+}
+
+#[test]
+fn an_icon_of_another_language_stays_apart() {
+    let folder = Folder::new("icon-language");
+    let file = folder.file("a.exe", &made::editable());
+    let path = |name: &str| folder.0.join(name).to_str().unwrap().to_string();
+    let (one, other) = (folder.file("1.ico", &icons(&[48])), folder.file("2.ico", &icons(&[16])));
+    assert_eq!(run(&["set-icon", &file, &path("b.exe"), &one, "--language", "0x407"]).2, 0);
+    assert_eq!(run(&["set-resource", &path("b.exe"), &path("c.exe"), "3", "1", &one, "--language", "0x409"]).2, 0);
+    assert_eq!(run(&["set-icon", &path("c.exe"), &path("d.exe"), &other]).2, 0);
+    assert_eq!(run(&["extract", &path("d.exe"), "icon", &path("d.ico")]).2, 0);
+    assert_eq!(fs::read(path("d.ico")).unwrap(), icons(&[16]));
+    // The new icon has an identifier by which there is none in another language.
+    let has = |id: &str, language: &str| {
+        let out = path(&format!("{id}-{language}"));
+        run(&["extract", &path("d.exe"), "resource", "--type", "3", "--name", id, "--language", language, &out]).2 == 0
+    };
+    assert!(has("2", "0x407") && !has("2", "0x409") && has("1", "0x409"));
 }
 
 #[test]
@@ -926,36 +990,10 @@ fn put(bytes: &mut [u8], offset: usize, part: &[u8]) {
     bytes[offset..offset + part.len()].copy_from_slice(part);
 }
 
-/// An image whose load configuration has 280 bytes, with a byte of flags in each entry of its tables, which follow it.
-fn with_guard_tables() -> Vec<u8> {
-    let mut made = made::Made::new(made::X64);
-    let mut config = vec![0; 280];
-    let start = made.put(&[]);
-    let va = |offset: u32| (0x1_8000_0000u64 + u64::from(start + offset)).to_le_bytes();
-    let table = |config: &mut [u8], field: usize, offset: u32, count: u64| {
-        put(config, field, &va(offset));
-        put(config, field + 8, &count.to_le_bytes());
-    };
-    put(&mut config, 0, &280u32.to_le_bytes());
-    put(&mut config, 144, &0x1000_0500u32.to_le_bytes());
-    table(&mut config, 128, 280, 2);
-    table(&mut config, 160, 290, 1);
-    // Below the image's base, in no section, and past the end of the file.
-    put(&mut config, 176, &[1]);
-    put(&mut config, 184, &[1]);
-    table(&mut config, 264, 0x8000, 1);
-    put(&mut config, 96, &va(295));
-    put(&mut config, 104, &[255; 8]);
-    let address = made.put(&config);
-    made.put(b"\x10\x20\0\0\x01\x30\x20\0\0\x08\x40\x20\0\0\0\x50\x20\0\0");
-    made.directory(10, address, 280);
-    made.image()
-}
-
 #[test]
 fn lists_of_guarded_functions_are_shown() {
     let folder = Folder::new("guards");
-    let file = folder.file("a.exe", &with_guard_tables());
+    let file = folder.file("a.exe", &made::with_guards());
     let (out, error, status) = run(&["--json", &file]);
     assert_eq!((error.as_str(), status), ("", 1));
     let said = serde_json::from_str::<Value>(&out).unwrap()["load_config"].clone();
@@ -979,40 +1017,46 @@ fn lists_of_guarded_functions_are_shown() {
     assert_eq!((error.as_str(), status), ("", 1));
 }
 
-/// An image for .NET with a module, an assembly and two references, by ECMA-335, II.22.
-fn with_assembly() -> Vec<u8> {
-    let mut tables = b"\0\0\0\0\x02\0\0\x01\x01\0\0\0\x09\0\0\0\0\0\0\0\0\0\0\0\x01\0\0\0\x01\0\0\0\x02\0\0\0".to_vec();
-    tables.extend(b"\0\0\x01\0\x01\0\0\0\0\0");
-    tables.extend(b"\x04\x80\0\0\x01\0\x02\0\x03\0\x04\0\0\0\0\0\0\0\x07\0\0\0");
-    tables.extend(b"\x04\0\0\0\0\0\0\0\0\0\0\0\x01\0\x0B\0\0\0\0\0");
-    tables.extend(b"\x05\0\x06\0\0\0\0\0\x01\0\0\0\x01\0\x0B\0\x11\0\0\0");
-    let texts = b"\0m.dll\0Own\0Other\0de\0";
-    let (blobs, guids) = (b"\0\x08\x01\x02\x03\x04\x05\x06\x07\x08", (0..16).collect::<Vec<u8>>());
-    let mut root = b"BSJB\x01\0\x01\0\0\0\0\0\x0C\0\0\0v4.0.30319\0\0\0\0\x04\0".to_vec();
-    let streams: [(&[u8], &[u8]); 4] =
-        [(b"#~\0\0", &tables), (b"#Strings\0\0\0\0", texts), (b"#Blob\0\0\0", blobs), (b"#GUID\0\0\0", &guids)];
-    let mut offset = root.len() + streams.iter().map(|(name, _)| 8 + name.len()).sum::<usize>();
-    for (name, content) in streams {
-        root.extend((offset as u32).to_le_bytes());
-        root.extend((content.len() as u32).to_le_bytes());
-        root.extend(name);
-        offset += content.len();
-    }
-    streams.iter().for_each(|(_, content)| root.extend(*content));
+/// An image whose five tables are all the bytes after its load configuration, in entries without flags.
+fn with_one_guard_table() -> Vec<u8> {
     let mut made = made::Made::new(made::X64);
-    let start = made.put(&root);
-    let mut header = vec![0; 72];
-    put(&mut header, 0, &72u32.to_le_bytes());
-    put(&mut header, 8, &start.to_le_bytes());
-    put(&mut header, 12, &(root.len() as u32).to_le_bytes());
-    let address = made.put(&header);
-    made.directory(14, address, 72);
+    let mut config = vec![0; 280];
+    let va = 0x1_8000_0000u64 + u64::from(made.next()) + 280;
+    put(&mut config, 0, &280u32.to_le_bytes());
+    for field in [96, 128, 160, 176, 264] {
+        put(&mut config, field, &va.to_le_bytes());
+        put(&mut config, field + 8, &[255; 8]);
+    }
+    let address = made.put(&config);
+    made.put(&[7; 0x4000]);
+    made.directory(10, address, 280);
     made.image()
 }
 
 #[test]
+fn guarded_functions_that_share_their_bytes_are_limited() {
+    let (folder, bytes) = (Folder::new("shared-guards"), with_one_guard_table());
+    let file = folder.file("a.exe", &bytes);
+    let (out, error, status) = run(&["--json", &file]);
+    assert_eq!((error.as_str(), status), ("", 1));
+    let said = serde_json::from_str::<Value>(&out).unwrap()["load_config"].clone();
+    let lists = ["se_handlers", "guarded_functions", "guarded_iat_entries", "long_jump_targets", "eh_continuations"];
+    let ends = lists.map(|it| (said[format!("{it}_is_limited")].clone(), said[format!("{it}_error")]["name"].clone()));
+    let (whole, limited) = ((json!(false), json!("SHORT")), (json!(true), json!(null)));
+    assert_eq!(ends, [whole.clone(), whole, limited.clone(), limited.clone(), limited]);
+    // An entry of 4 bytes counts for 32, and 16 times the bytes of the file are all that is read.
+    let counts = lists.map(|it| said[it].as_array().unwrap().len());
+    let from = bytes.len() - 0x400 - 280;
+    assert_eq!((counts[0], counts[1], counts.iter().sum()), (from / 4, from / 4, bytes.len() / 2));
+    assert_eq!(said["guarded_iat_entries"][0], json!({"rva": 0x0707_0707, "flags": null}));
+    assert_eq!(run(&["show", &file, "load-config"]).0.matches("\n  and more\n").count(), 3);
+    let page = run(&["report", &file, "-"]).0;
+    assert!(page.contains("<b>load configuration</b> not shown whole"), "{page}");
+}
+
+#[test]
 fn assemblies_have_names_and_references() {
-    let said = json_of("assembly", &with_assembly())["clr"]["metadata"]["tables"].clone();
+    let said = json_of("assembly", &made::with_assembly())["clr"]["metadata"]["tables"].clone();
     let own = json!({"name": "Own", "version": "1.2.3.4", "culture": null, "has_public_key": false});
     assert_eq!((&said["assembly"], &said["module"]["name"]), (&own, &json!("m.dll")));
     assert_eq!(said["module"]["mvid"], "{03020100-0504-0706-0809-0A0B0C0D0E0F}");
@@ -1020,12 +1064,12 @@ fn assemblies_have_names_and_references() {
     let whole_key = other("5.6.0.0", json!("de"), json!(null));
     assert_eq!(said["references"], json!([other("4.0.0.0", json!(null), json!("0102030405060708")), whole_key]));
     let folder = Folder::new("assembly-text");
-    let file = folder.file("a.dll", &with_assembly());
+    let file = folder.file("a.dll", &made::with_assembly());
     assert!(run(&[&file]).0.contains("  assembly      Own 1.2.3.4, 2 references\n"));
     assert!(run(&["show", &file, "clr"]).0.contains("  Other     5.6.0.0  de\n"));
     // A reference whose name is not in the heap ends the list, and an assembly without a name is refused.
     let at = |bytes: &[u8], part: &[u8]| bytes.windows(part.len()).position(|it| it == part).unwrap();
-    let mut bytes = with_assembly();
+    let mut bytes = made::with_assembly();
     let second = at(&bytes, b"\x05\0\x06\0");
     bytes[second + 14] = 0xFF;
     let (out, _, status) = run(&["--json", &folder.file("b.dll", &bytes)]);
@@ -1034,7 +1078,7 @@ fn assemblies_have_names_and_references() {
         (said["references"].as_array().unwrap().len(), &said["references_error"]["name"], status),
         (1, &json!("SHORT"), 1)
     );
-    let mut bytes = with_assembly();
+    let mut bytes = made::with_assembly();
     let own = at(&bytes, b"\x04\x80\0\0");
     bytes[own + 18] = 0xFF;
     let (_, error, status) = run(&[&folder.file("c.dll", &bytes)]);

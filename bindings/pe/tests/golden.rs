@@ -1,4 +1,4 @@
-//! What the program says of twenty small images, a file that is none, a TE image and an object, byte for byte: a session for
+//! What the program says of twenty-three small images, a file that is none, a TE image and an object, byte for byte: a session for
 //! each, in `golden/NAME.txt`. `UPDATE_GOLDEN=1 cargo test --test golden` writes the sessions anew; what has changed in them has to
 //! be read then, as `golden/README.md` says.
 
@@ -34,6 +34,9 @@ const ASKED: &[(&str, &str, &[&str])] = &[
     ("bound_imports", "bound-imports", &["1000"]),
     ("long_section_name", "sections", &["1000"]),
     ("x86_dll", "sections", &["1004"]),
+    ("signature", "certificates", &["1000"]),
+    ("guards", "load-config", &["1000"]),
+    ("assembly", "clr", &["1000"]),
     ("short", "headers", &["1000"]),
     ("te_image", "debug", &["1000"]),
     ("object", "symbols", &["1000"]),
@@ -259,6 +262,32 @@ const MADE: &[(&str, &[&str])] = &[
             "\"checksum\":4381,\"right_checksum\":4381,\"checksum_state\":\"right\",\"error\":null}",
             "\"hint\":7,\"ordinal\":null,\"slot_rva\":8352},{\"name\":null,\"hint\":null,\"ordinal\":5,\"slot_rva\":8356}",
             "\"flags\":3221225536",
+        ],
+    ),
+    (
+        "signature",
+        &[
+            "\"signer\":{\"subject\":\"CN=A,OU=Two+O=Probe,C=DE\",\"issuer\":\"CN=R\",\"serial_hex\":\"0403\",",
+            "\"digest_algorithm\":\"SHA-256\",\"time_stamp\":\"2023-11-14T22:13:20Z\"}",
+        ],
+    ),
+    (
+        "guards",
+        &[
+            "Functions that may be called indirectly\n  RVA     flags\n  0x2010  0x1: FID_SUPPRESSED\n  0x2030  0x8: FID_XFG\n",
+            "\"guarded_functions\":[{\"rva\":8208,\"flags\":{\"number\":1,\"flags\":{\"FID_SUPPRESSED\":true,",
+            "\"guarded_iat_entries\":[{\"rva\":8256,\"flags\":{\"number\":0,",
+            "\"se_handlers\":[8272,0,",
+            "\"se_handlers_error\":{\"number\":2,\"name\":\"SHORT\",",
+        ],
+    ),
+    (
+        "assembly",
+        &[
+            "  assembly      Own 1.2.3.4, 2 references\n",
+            "\"module\":{\"name\":\"m.dll\",\"mvid\":\"{03020100-0504-0706-0809-0A0B0C0D0E0F}\"}",
+            "\"assembly\":{\"name\":\"Own\",\"version\":\"1.2.3.4\",\"culture\":null,\"has_public_key\":false}",
+            "\"public_key_token_hex\":\"0102030405060708\"}",
         ],
     ),
     (

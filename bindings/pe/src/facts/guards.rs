@@ -4,7 +4,7 @@
 //! The library for C has no call for them, so this reads the entries itself. Where the structure and the tables start in the file
 //! is [`Image::offset`]'s, and the fields up to the guard flags are those of [`Image::load_config`].
 
-use super::{entry, Entry, Flags, List, Part, Refusal};
+use super::{entry, Budget, Entry, Flags, List, Part, Refusal, ENTRY};
 use crate::names::GUARDED_FLAGS;
 use pe_c::{DirectoryIndex, Error, Image, LoadConfig};
 use serde::Serialize;
@@ -68,13 +68,15 @@ const SIZE_OF_RVA: usize = 4;
 pub fn of(image: &Image<'_>, config: &LoadConfig) -> Guards {
     let structure = Structure::of(image, config);
     let flag_size = (config.guard_flags.unwrap_or(0) >> FLAG_SIZE_SHIFT) as usize;
+    let handlers = (config.se_handler_table, config.se_handler_count);
     let functions = (config.guard_cf_function_table, config.guard_cf_function_count);
+    let mut tables = Tables { image, budget: Budget::without_rvas(image.bytes()) };
     Guards {
-        handlers: list(image, (config.se_handler_table, config.se_handler_count), 0, |rva, _| Handler(rva)),
-        functions: list(image, functions, flag_size, target),
-        iat_entries: list(image, structure.place(IAT_ENTRIES), flag_size, target),
-        long_jumps: list(image, structure.place(LONG_JUMPS), flag_size, target),
-        continuations: list(image, structure.place(CONTINUATIONS), flag_size, target),
+        handlers: tables.list(handlers, 0, |rva, _| Handler(rva)),
+        functions: tables.list(functions, flag_size, target),
+        iat_entries: tables.list(structure.place(IAT_ENTRIES), flag_size, target),
+        long_jumps: tables.list(structure.place(LONG_JUMPS), flag_size, target),
+        continuations: tables.list(structure.place(CONTINUATIONS), flag_size, target),
     }
 }
 
@@ -112,26 +114,31 @@ fn bytes_at<'a>(image: &Image<'a>, rva: u32) -> Option<&'a [u8]> {
     Some(image.bytes().get(usize::try_from(offset).ok()?..).unwrap_or_default())
 }
 
-/// The entries of a table up to the end of the file. There are no more of them than the file has bytes, whatever the count says.
-fn list<T: Entry>(
-    image: &Image<'_>,
-    (va, count): Place,
-    flag_size: usize,
-    of: impl Fn(u32, &[u8]) -> T,
-) -> Part<List<T>> {
-    let (Some(va @ 1..), Some(count @ 1..)) = (va, count) else { return Part::Absent };
-    let Some(rva) = va.checked_sub(image.info().base) else { return refused(Error::DIRECTORY_VA_BELOW_BASE) };
-    let Some(bytes) = u32::try_from(rva).ok().and_then(|rva| bytes_at(image, rva)) else {
-        return refused(Error::UNMAPPED);
-    };
-    let entries = bytes.chunks_exact(SIZE_OF_RVA + flag_size);
-    let is_whole = entries.len() as u64 >= count;
-    let entries = entries.take(usize::try_from(count).unwrap_or(usize::MAX)).map(|entry| {
-        let (rva, flags) = entry.split_at(SIZE_OF_RVA);
-        of(rva.try_into().map_or(0, u32::from_le_bytes), flags)
-    });
-    let error = (!is_whole).then(|| Refusal::from(Error::SHORT));
-    Part::Present(List { entries: entries.collect(), error, is_limited: false })
+/// What the tables are read of, and for how much of it they may still be. Tables of a hostile file may all be the same bytes.
+struct Tables<'i, 'a> {
+    image: &'i Image<'a>,
+    budget: Budget,
+}
+
+impl Tables<'_, '_> {
+    /// The entries of a table up to the end of the file, as many as the budget has left. Each byte of an entry counts for an entry,
+    /// so tables that share no bytes are shown whole: they can not use the budget up.
+    fn list<T: Entry>(&mut self, (va, count): Place, flag_size: usize, of: impl Fn(u32, &[u8]) -> T) -> Part<List<T>> {
+        let (Some(va @ 1..), Some(count @ 1..)) = (va, count) else { return Part::Absent };
+        let Some(rva) = va.checked_sub(self.image.info().base) else { return refused(Error::DIRECTORY_VA_BELOW_BASE) };
+        let Some(bytes) = u32::try_from(rva).ok().and_then(|rva| bytes_at(self.image, rva)) else {
+            return refused(Error::UNMAPPED);
+        };
+        let size = SIZE_OF_RVA + flag_size;
+        let most = usize::try_from(count).unwrap_or(usize::MAX);
+        let is_whole = bytes.len() / size >= most;
+        let entries = bytes.chunks_exact(size).take(most).map(Ok);
+        let ends = (!is_whole).then_some(Err(Error::SHORT));
+        Part::Present(List::limited(entries.chain(ends), |entry: &[u8]| {
+            let (rva, flags) = entry.split_at(SIZE_OF_RVA);
+            self.budget.takes(ENTRY * size).then(|| of(rva.try_into().map_or(0, u32::from_le_bytes), flags))
+        }))
+    }
 }
 
 fn refused<T>(error: Error) -> Part<T> {
@@ -143,6 +150,18 @@ fn target<const LIST: usize>(rva: u32, flags: &[u8]) -> Target<LIST> {
 }
 
 impl Guards {
+    /// Whether there is more of a list.
+    pub fn is_limited(&self) -> bool {
+        fn is_limited<T>(list: &Part<List<T>>) -> bool {
+            list.present().is_some_and(|it| it.is_limited)
+        }
+        is_limited(&self.handlers)
+            || is_limited(&self.functions)
+            || is_limited(&self.iat_entries)
+            || is_limited(&self.long_jumps)
+            || is_limited(&self.continuations)
+    }
+
     /// Which lists are refused or end early, each by its name.
     pub fn refusals(&self) -> impl Iterator<Item = (&'static str, &Refusal)> {
         let lists = [
