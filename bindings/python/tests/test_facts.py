@@ -314,6 +314,15 @@ class Cluster(unittest.TestCase):
         self.addCleanup(started.kill)
         return started
 
+    def wait_for(self, port):
+        """A busy machine takes longer to start a scheduler than a client waits for it."""
+        end = time.monotonic() + 60
+        while time.monotonic() < end:
+            try:
+                return socket.create_connection(("127.0.0.1", port), 1).close()
+            except OSError:
+                time.sleep(0.05)
+
     def test_a_worker_that_is_killed(self):
         self.room = tempfile.mkdtemp()
         self.addCleanup(shutil.rmtree, self.room)
@@ -328,6 +337,7 @@ class Cluster(unittest.TestCase):
             free.bind(("127.0.0.1", 0))
             address = "tcp://127.0.0.1:%d" % free.getsockname()[1]
         self.start("distributed.cli.dask_scheduler", "--host", "127.0.0.1", "--port", address.rpartition(":")[2], "--no-dashboard")
+        self.wait_for(int(address.rpartition(":")[2]))
         workers = [self.start("distributed.cli.dask_worker", address, "--nthreads", "1", "--no-nanny", "--no-dashboard")
                    for _ in range(2)]
         out = os.path.join(self.room, "out")
@@ -338,7 +348,8 @@ class Cluster(unittest.TestCase):
         end = time.monotonic() + 60
         while time.monotonic() < end and len(os.listdir(out) if os.path.isdir(out) else []) < 4 and done.poll() is None:
             time.sleep(0.01)
-        self.assertIsNone(done.poll(), "the scan was over before a worker was killed")
+        if done.poll() is not None:
+            self.fail(f"the scan was over before a worker was killed: {done.communicate()[0].decode()}")
         workers[0].send_signal(signal.SIGKILL)
         said, _ = done.communicate(timeout=90)
         self.assertEqual(done.returncode, 0, said)
