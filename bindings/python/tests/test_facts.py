@@ -170,6 +170,18 @@ def patched(name, parts):
 
 
 class Guards(unittest.TestCase):
+    def test_tables_of_the_same_bytes(self):
+        """All five tables are the rest of the file: all entries together have twice the bytes of the file, as in `pe`."""
+        places = {it: struct.pack("<QQ", 0x180001118, (1 << 64) - 1) for it in (96, 128, 160, 176, 264)}
+        data = patched("load_config.bin", {0: struct.pack("<I", 280), **places}) + bytes(100_000)
+        found = pe_c.Image(data).facts()["load_config"]
+        rest, names = len(data) - 0x400 - 280, ("guarded_functions", "guarded_iat_entries")
+        left = 2 * len(data) - rest // 4 * 4
+        self.assertEqual([len(found[it]) for it in ("se_handlers", *names)], [rest // 4, rest // 5, (left - rest // 5 * 5) // 5])
+        self.assertEqual([found[f"{it}_is_limited"] for it in ("se_handlers", *names)], [False, False, True])
+        self.assertEqual([found[it] for it in ("long_jump_targets", "eh_continuations")], [[], []])
+        self.assertEqual((found["guarded_functions_error"]["name"], found["guarded_iat_entries_error"]), ("SHORT", None))
+
     def facts(self):
         """Tables below the image's base, in no section, past the end of the file, and two with a byte of flags an entry."""
         def place(offset, count):
