@@ -8,6 +8,7 @@ import re
 import shutil
 import signal
 import socket
+import struct
 import subprocess
 import sys
 import tempfile
@@ -159,22 +160,51 @@ class Signers(unittest.TestCase):
         self.assertEqual((stamped["time_stamp"], stamped["serial_hex"]), (None, "1234"))
 
 
+def patched(name, parts):
+    """An image of the tests with other bytes from offsets in its section on."""
+    with open(os.path.join(IMAGES, name), "rb") as file:
+        data = bytearray(file.read())
+    for offset, part in parts.items():
+        data[0x400 + offset:0x400 + offset + len(part)] = part
+    return bytes(data)
+
+
 class Guards(unittest.TestCase):
-    def facts(self, most=_guards.MOST_ENTRIES):
-        with mock.patch.object(_guards, "MOST_ENTRIES", most), open(os.path.join(IMAGES, "load_config.bin"), "rb") as file:
-            found, = [pe_c.Image(file.read()).facts()["load_config"]]
-        return found
+    def facts(self):
+        """Tables below the image's base, in no section, past the end of the file, and two with a byte of flags an entry."""
+        def place(offset, count):
+            return struct.pack("<QQ", 0x180001000 + offset, count)
+        data = patched("load_config.bin", {
+            0: struct.pack("<I", 280), 128: place(280, 2), 160: place(290, 1), 176: struct.pack("<QQ", 1, 1), 264: place(0x8000, 1),
+            96: place(295, (1 << 64) - 1),
+            280: struct.pack("<IBIBIBI", 0x2010, 1, 0x2030, 8, 0x2040, 0, 0x2050)})
+        return pe_c.Image(data).facts()["load_config"]
+
+    def test_each_list(self):
+        found = self.facts()
+
+        def target(rva, number):
+            names = ("FID_SUPPRESSED", "EXPORT_SUPPRESSED", "FID_LANGEXCPTHANDLER", "FID_XFG")
+            return {"rva": rva, "flags": {"number": number, "flags": {it: bool(number >> bit & 1) for bit, it in enumerate(names)}}}
+        self.assertEqual(found["guarded_functions"], [target(0x2010, 1), target(0x2030, 8)])
+        self.assertEqual(found["guarded_iat_entries"], [target(0x2040, 0)])
+        self.assertEqual([found[it] for it in ("guarded_functions_error", "long_jump_targets", "eh_continuations")], [None] * 3)
+        self.assertEqual([found[f"{it}_error"]["name"] for it in ("long_jump_targets", "eh_continuations", "se_handlers")],
+                         ["DIRECTORY_VA_BELOW_BASE", "UNMAPPED", "SHORT"])
+        self.assertEqual(found["se_handlers"][0], 0x2050)
 
     def test_a_bound(self):
-        """The lists have so many entries together: the last that has some is cut, and says so."""
-        whole, names = self.facts(), ("se_handlers", "guarded_functions", "guarded_iat_entries", "long_jump_targets", "eh_continuations")
-        rows = [(name, it) for name in names for it in whole[name] or ()]
-        self.assertGreater(len(rows), 2)
-        self.assertFalse(any(whole[f"{name}_is_limited"] for name in names))
-        for most in range(len(rows)):
-            found = self.facts(most)
-            self.assertEqual([(name, it) for name in names for it in found[name] or ()], rows[:most])
+        """The lists have so many entries together: those that are cut say so."""
+        names = ("se_handlers", "guarded_functions", "guarded_iat_entries")
+        whole = self.facts()
+        rows = [(name, it) for name in names for it in whole[name]]
+        self.assertEqual([whole[f"{it}_is_limited"] for it in names], [False] * 3)
+        for most in (0, 1, len(rows) - 2, len(rows) - 1):
+            with mock.patch.object(_guards, "MOST_ENTRIES", most):
+                found = self.facts()
+            self.assertEqual([(name, it) for name in names for it in found[name]], rows[:most])
             self.assertTrue(found[f"{rows[most][0]}_is_limited"])
+            self.assertTrue(found["guarded_iat_entries_is_limited"])
 
 
 class Tables(unittest.TestCase):
@@ -200,6 +230,34 @@ class Tables(unittest.TestCase):
         for read, at in ((heaps.text, 5), (heaps.text, 9), (heaps.blob, 12), (heaps.blob, 13)):
             with self.assertRaises(_tables.Short):
                 read(at)
+
+    def test_an_assembly(self):
+        """An image for .NET with a module, an assembly and two references, by II.22: of these the first has a token."""
+        stream = struct.pack("<IBBBBQQIII", 0, 2, 0, 0, 1, 0x900000001, 0, 1, 1, 2)
+        stream += struct.pack("<5H", 0, 1, 1, 0, 0) + struct.pack("<I4HIHHH", 0x8004, 1, 2, 3, 4, 0, 0, 7, 0)
+        stream += struct.pack("<4HI4H", 4, 0, 0, 0, 0, 1, 11, 0, 0) + struct.pack("<4HI4H", 5, 6, 0, 0, 1, 1, 11, 17, 0)
+        streams = [(b"#~\0\0", stream), (b"#Strings\0\0\0\0", b"\0m.dll\0Own\0Other\0de\0"),
+                   (b"#Blob\0\0\0", b"\0\x08" + bytes(range(1, 9))), (b"#GUID\0\0\0", bytes(range(16)))]
+        root = b"BSJB\x01\0\x01\0\0\0\0\0\x0C\0\0\0v4.0.30319\0\0\0\0\x04\0"
+        offset = len(root) + sum(8 + len(name) for name, _ in streams)
+        for name, content in streams:
+            root += struct.pack("<II", offset, len(content)) + name
+            offset += len(content)
+        root += b"".join(content for _, content in streams)
+
+        def said(length):
+            data = patched("clr.bin", {12: struct.pack("<I", length), 72: root})
+            return pe_c.Image(data).facts()["clr"]["metadata"]
+        found, other = said(len(root))["tables"], {"name": "Other", "has_public_key": True}
+        self.assertEqual(found["module"], {"name": "m.dll", "mvid": "{03020100-0504-0706-0809-0A0B0C0D0E0F}"})
+        self.assertEqual(found["assembly"], {"name": "Own", "version": "1.2.3.4", "culture": None, "has_public_key": False})
+        self.assertEqual(found["references"], [
+            {**other, "version": "4.0.0.0", "culture": None, "public_key_token_hex": "0102030405060708"},
+            {**other, "version": "5.6.0.0", "culture": "de", "public_key_token_hex": None}])
+        # The heap of GUIDs, then that of texts passes the end of the metadata.
+        self.assertIsNone(said(len(root) - 1)["tables"]["module"]["mvid"])
+        cut = said(len(root) - 27)
+        self.assertEqual((cut["tables"], cut["tables_error"]["name"]), (None, "SHORT"))
 
     def test_references_have_a_bound(self):
         """A row of 20 bytes says: version 1.2.3.4, the key 0, the name at 1, no culture. It costs 8 bytes and its name."""

@@ -10,12 +10,13 @@ import struct
 import subprocess
 import sys
 import time
+import types
 import unittest
 from unittest import mock
 
 import hostile
 import pe_c
-from pe_c import End, Kind, KnownOid, Way, _dump
+from pe_c import End, Kind, KnownOid, Way, _dump, _signature
 from pe_c._signature import dotted
 
 HERE = os.path.dirname(os.path.abspath(__file__))
@@ -158,6 +159,14 @@ class Signatures(unittest.TestCase):
         start = time.process_time()
         self.assertEqual(dotted(b"\x2a" + b"\xff" * (1 << 20) + b"\x7f"), "1.2.?")
         self.assertLess(time.process_time() - start, 5)
+
+    def test_a_name_of_many_attributes(self):
+        """All stand in one relative distinguished name: the text takes as long as it is."""
+        attributes = [types.SimpleNamespace(type=types.SimpleNamespace(id=int(KnownOid.COMMON_NAME)), tag=0x0C, value=b"a" * 16,
+                                            starts_rdn=i == 0) for i in range(100_000)]
+        start = time.process_time()
+        self.assertEqual(str(_signature.Name(pe_c.Part(attributes))), "+".join(["CN=" + "a" * 16] * 100_000))
+        self.assertLess(time.process_time() - start, 20)
 
     def test_certificates_are_searched_once(self):
         class Counted(pe_c.Part):

@@ -211,14 +211,16 @@ class Dump(Reader):
 
     def image_of(self, module: DumpModule) -> Image | None:
         """The image of a module in the dump's memory, as it was loaded: one with the time stamp and the size of the module."""
-        return self._image_in(self.at(module.base_of_image, module.size_of_image), module)
+        return self._image_and_size(module)[0]
 
-    def _image_in(self, loaded: memoryview, module: DumpModule) -> Image | None:
+    def _image_and_size(self, module: DumpModule) -> tuple[Image | None, int]:
+        """The same, and how many bytes were read for it."""
+        loaded = self.at(module.base_of_image, module.size_of_image)
         try:
             image = Image(loaded, Mode.PERMISSIVE | Mode.MAPPED)
         except Error:
-            return None
-        return image if self._is_of(image, module) else None
+            return None, len(loaded)
+        return image if self._is_of(image, module) else None, len(loaded)
 
     @staticmethod
     def _is_of(image: Image, module: DumpModule) -> bool:
@@ -237,12 +239,11 @@ class Dump(Reader):
         found: list[tuple[Image, int]] = []
         left, sections = MOST_READINGS * len(self.memory), MOST_SECTIONS
         for it in self.modules[:MOST_IMAGES]:
-            loaded = self.at(it.base_of_image, it.size_of_image)
-            left -= len(loaded)
+            name = f"image of {it.base_of_image:x}, {it.size_of_image:x}, {it.time_date_stamp:x}"
+            image, size = self._once(name, lambda: self._image_and_size(it))
+            left -= size
             if left < 0:
                 break
-            name = f"image of {it.base_of_image:x}, {it.size_of_image:x}, {it.time_date_stamp:x}"
-            image = self._once(name, lambda: self._image_in(loaded, it))
             if image is None and look_up is not None:
                 image = look_up(it)
                 image = image if image is not None and self._is_of(image, it) else None

@@ -79,15 +79,13 @@ class Name:
         return next((text_of(it.tag, it.value) for it in reversed(self.attributes) if it.type.id == kind), None)
 
     def __str__(self) -> str:
-        parts: list[str] = []
+        parts: list[list[str]] = []
         for it in self.attributes:
-            one = self._of(it)
             if it.starts_rdn or not parts:
-                parts.append(one)
-            else:
-                parts[-1] += f"+{one}"
+                parts.append([])
+            parts[-1].append(self._of(it))
         damaged = ["<damaged>"] if self.attributes.error else []
-        return ",".join(damaged + parts[::-1])
+        return ",".join(damaged + ["+".join(it) for it in reversed(parts)])
 
     def __repr__(self) -> str:
         return f"Name({str(self)!r})"

@@ -1,4 +1,5 @@
-"""A line of JSON a file, as `pe --json` writes it: of files, of all images below folders, over processes.
+"""A line of JSON a file, as `pe --json` writes it, but for fewer rows of hostile images: of files, of all images below folders, over
+processes.
 
     for said in pe_c.scan.scan(["C/Windows"], jobs=4):
         out.write(said.line)
