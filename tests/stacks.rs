@@ -139,6 +139,22 @@ fn pieces_of_both_lists(rt: HostRuntime) -> Result<(), Fail> {
     let pieces = memory_pieces(alloc, &Dump::parse(&bytes)?)?;
     assert_eq!(rt; (pieces.len(), pieces[0]), (2, piece(0x1000, 44, 8)));
     assert_eq!(rt; pieces[1], piece(0x2000, 52, 40));
+    // Both in one dump, whose directory has the memory list last: of one address its piece comes first.
+    let bytes = image(
+        alloc,
+        108,
+        &[
+            (0, b"MDMP\x93\xA7\0\0\x02\0\0\0\x20\0\0\0"),
+            (32, b"\x09\0\0\0\x20\0\0\0\x38\0\0\0"),
+            (44, b"\x05\0\0\0\x14\0\0\0\x58\0\0\0"),
+            (56, b"\x01\0\0\0\0\0\0\0\x58\0\0\0\0\0\0\0"),
+            (72, b"\0\x10\0\0\0\0\0\0\x08\0\0\0\0\0\0\0"),
+            (88, b"\x01\0\0\0\0\x10\0\0\0\0\0\0\x04\0\0\0\x20\0\0\0"),
+        ],
+    )?;
+    let pieces = memory_pieces(alloc, &Dump::parse(&bytes)?)?;
+    assert_eq!(rt; (pieces.len(), pieces[0]), (2, piece(0x1000, 32, 4)));
+    assert_eq!(rt; pieces[1], piece(0x1000, 88, 8));
     // A list that is refused has none.
     let bytes = with_stream(alloc, 5, b"\x02\0\0\0")?;
     assert!(rt; memory_pieces(alloc, &Dump::parse(&bytes)?)?.is_empty());

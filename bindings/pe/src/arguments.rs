@@ -326,7 +326,7 @@ pub enum Command {
         to: PathBuf,
         /// The manifest, an XML text.
         manifest: PathBuf,
-        /// In this language alone, as 1033 or 0x409. Without it in those that the manifest has.
+        /// In this language alone, as 1033 or 0x409. Without it in those that the manifest has, at most 256 MiB for all.
         #[arg(long, value_parser = language)]
         language: Option<u16>,
         #[command(flatten)]
@@ -341,7 +341,7 @@ pub enum Command {
         to: PathBuf,
         /// The icons, an .ico file.
         icon: PathBuf,
-        /// In this language alone, as 1033 or 0x409. Without it in those that the group has.
+        /// In this language alone, as 1033 or 0x409. Without it in those that the group has, at most 256 MiB for all.
         #[arg(long, value_parser = language)]
         language: Option<u16>,
         #[command(flatten)]

@@ -346,7 +346,7 @@ fn in_languages(kind: u32, count: u32, content: &[u8]) -> Vec<u8> {
 
 #[test]
 fn languages_cost_no_more_than_they_contain() {
-    let folder = Folder::new("languages");
+    let folder = Folder::new("many-languages");
     let path = |name: &str| folder.0.join(name).to_str().unwrap().to_string();
     // Each language gets its own icon, though all share one group. In proportion to the square this takes many minutes.
     let group = [0, 0, 1, 0, 1, 0, 16, 16, 0, 0, 1, 0, 24, 0, 41, 0, 0, 0, 1, 0];

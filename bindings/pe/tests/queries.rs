@@ -86,6 +86,6 @@ fn queries_of_the_page_are_answered() {
     if let Some(answer) = asked(&folder, "sqlite3") {
         let mut signed = names(&answer);
         signed.sort_unstable();
-        assert_eq!(signed, ["certificates.bin", "small.bin"]);
+        assert_eq!(signed, ["certificates.bin", "signature.bin", "small.bin"]);
     }
 }
