@@ -18,7 +18,8 @@ from unittest import mock
 
 import pe_c
 import test_more
-from pe_c import Kind, _guards, _tables, scan
+from pe_c import Kind, _guards, _signer, _tables, scan
+from pe_c._core import Range
 
 HERE = os.path.dirname(os.path.abspath(__file__))
 IMAGES = os.environ["PE_C_IMAGES"]
@@ -158,6 +159,15 @@ class Signers(unittest.TestCase):
         self.assertIsNone(signer(0))
         stamped = signer(token)
         self.assertEqual((stamped["time_stamp"], stamped["serial_hex"]), (None, "1234"))
+
+    def test_a_long_name_and_a_first_element(self):
+        """Of a name only its length is told from 4,097 bytes on. A list that is damaged at its start is no empty one."""
+        signature, = pe_c.Image(test_more.signed()).signatures
+        self.assertEqual(_signer._name(signature, Range((0, 4097))), "a name of 4097 bytes")
+        self.assertEqual([_signer._name(signature, Range(it)) for it in ((0, 0), (0, 1))], ["", "<damaged>"])
+        self.assertIsNone(_signer._first(signature, Range((0, 0))))
+        with self.assertRaises(pe_c.Error):
+            _signer._first(signature, Range((0, 1)))
 
 
 def patched(name, parts):
