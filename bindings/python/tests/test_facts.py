@@ -161,7 +161,7 @@ class Signers(unittest.TestCase):
         self.assertEqual((stamped["time_stamp"], stamped["serial_hex"]), (None, "1234"))
 
     def test_a_long_name_and_a_first_element(self):
-        """Of a name only its length is told from 4,097 bytes on. A list that is damaged at its start is no empty one."""
+        """A name of more than 4,096 bytes is its length alone. A list whose first element is refused is not an empty one."""
         signature, = pe_c.Image(test_more.signed()).signatures
         self.assertEqual(_signer._name(signature, Range((0, 4097))), "a name of 4097 bytes")
         self.assertEqual([_signer._name(signature, Range(it)) for it in ((0, 0), (0, 1))], ["", "<damaged>"])
