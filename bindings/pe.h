@@ -35,13 +35,14 @@
  * byte on: its sections stand at their RVAs, and RVAs are offsets. Without it they are a file, and the sections map RVAs.
  * An image that is read the wrong way may give wrong values without an error.
  *
- * Arguments. Most calls take the bytes and the results of pe_c_image and pe_c_sections. They read in the mode that
- * pe_c_image was called with, which is the field `mode` of the image. Each of these calls is made only if the one before
- * returned PE_C_DONE:
+ * Arguments. Most calls take a view of an image: its bytes, and what pe_c_image and pe_c_sections returned of them. Calls that
+ * need no section headers take the bytes and the image alone. All read in the mode that pe_c_image was called with, which is the
+ * field `mode` of the image. Each of these calls is made only if the one before returned PE_C_DONE:
  *
  *     pe_c_image(bytes, length, mode, &image);
  *     pe_c_sections(bytes, length, &image, sections, entries);
- *     pe_c_symbol_key(bytes, length, &image, sections, image.number_of_sections, &key);
+ *     pe_c_view view = {bytes, length, &image, sections, image.number_of_sections, NULL, 0};
+ *     pe_c_symbol_key(&view, &key);
  *
  * A range or a walk that does not lie inside `bytes` is PE_C_SHORT; as a certificate table it is PE_C_CERTIFICATE_TABLE.
  *
@@ -77,9 +78,9 @@ extern "C" {
  *
  * Its number is in the name of this call, and grows with each change that breaks callers. A program refers to the name
  * from each file that includes this header, so it does not link with an archive of another ABI. Returns the number. */
-uint32_t pe_c_abi_4(void);
+uint32_t pe_c_abi_5(void);
 #if defined(__GNUC__)
-static uint32_t (*const pe_c_abi)(void) __attribute__((used)) = pe_c_abi_4;
+static uint32_t (*const pe_c_abi)(void) __attribute__((used)) = pe_c_abi_5;
 #endif
 
 /* ---- results
@@ -289,15 +290,16 @@ typedef struct {
     uint64_t section;               /* index of the section that maps them, plus 1; 0 where none does */
 } pe_c_index_entry;
 
-/* An image as newer calls take it, in place of its parts: what pe_c_image and pe_c_sections returned of the bytes. */
+/* An image as calls take it: its bytes, what pe_c_image and pe_c_sections returned of them, and an index of the sections or none.
+ * A caller makes one view and passes it to all calls. */
 typedef struct {
     const uint8_t *bytes;
     size_t length;                  /* of the bytes */
     const pe_c_image_info *image;   /* not NULL */
     const pe_c_section *sections;
     size_t count;                   /* of the sections */
-    const pe_c_index_entry *index;  /* what pe_c_index made of these sections; may be NULL without entries */
-    size_t entries;                 /* of the index; 0 without one, and then calls test the sections in turn */
+    const pe_c_index_entry *index;  /* what pe_c_index made of these sections; NULL for no index */
+    size_t entries;                 /* of the index; 0 for no index, and then calls test the sections in turn */
 } pe_c_view;
 
 PE_C_SIZE(pe_c_index_entry, 16);
@@ -315,13 +317,12 @@ uint32_t pe_c_image(const uint8_t *bytes, size_t length, uint32_t mode, pe_c_ima
 uint32_t pe_c_sections(const uint8_t *bytes, size_t length, const pe_c_image_info *image, pe_c_section *room,
                        size_t entries) PE_C_RESULT(3);
 
-/* Returns the file offset of an RVA, by the first section that covers it; in an image as loaded the RVA itself. The offset
- * may be past the end of the bytes. PE_C_NOTHING where no section covers the RVA, or the file alignment is not a power of
+/* Returns the file offset of an RVA, by the first section that covers it; in an image as loaded the RVA itself. The bytes are
+ * not read, and the offset may be past their end. PE_C_NOTHING where no section covers the RVA, or the file alignment is not a power of
  * two.
  * A section's data start at its raw pointer rounded down to a multiple of 512. Of a file whose alignment is below 512, as
  * iPXE's, every call that maps RVAs so finds other offsets than a reader that does not round. */
-uint32_t pe_c_offset(const pe_c_image_info *image, const pe_c_section *sections, size_t count, uint32_t rva,
-                     uint64_t *out) PE_C_RESULT(1, 5);
+uint32_t pe_c_offset(const pe_c_view *view, uint32_t rva, uint64_t *out) PE_C_RESULT(1, 3);
 
 /* ---- all numbers of the headers
  *
@@ -453,8 +454,7 @@ uint32_t pe_c_rva(const pe_c_view *view, uint64_t offset, uint32_t *out) PE_C_RE
 /* Returns the range of the bytes after the headers and the raw data of all sections, which no loader reads: where installers
  * keep their archives, and signed images their certificates. It may hold what headers lead to: the certificate table, COFF
  * symbols. PE_C_NOTHING where no byte follows, and in an image as loaded. It never returns an error. */
-uint32_t pe_c_overlay(const uint8_t *bytes, size_t length, const pe_c_image_info *image, const pe_c_section *sections,
-                      size_t count, pe_c_range *out) PE_C_RESULT(3, 6);
+uint32_t pe_c_overlay(const pe_c_view *view, pe_c_range *out) PE_C_RESULT(1, 2);
 
 /* ---- section names
  *
@@ -673,8 +673,7 @@ PE_C_SIZE(pe_c_pdb_checksum, 32);
 
 /* Returns the entries of the debug directory as a walk for pe_c_next_debug_entry. PE_C_NOTHING without a directory.
  * Errors: PE_C_UNMAPPED; PE_C_DEBUG_BOUNDS in strict mode. */
-uint32_t pe_c_debug_entries(const uint8_t *bytes, size_t length, const pe_c_image_info *image,
-                            const pe_c_section *sections, size_t count, pe_c_range *out) PE_C_RESULT(3, 6);
+uint32_t pe_c_debug_entries(const pe_c_view *view, pe_c_range *out) PE_C_RESULT(1, 2);
 
 /* Returns the next entry of the debug directory.
  * Errors: PE_C_SHORT where the walk is not inside the bytes, or its last entry is truncated. */
@@ -689,8 +688,7 @@ uint32_t pe_c_first_debug_entry(const pe_c_view *view, uint32_t data_type, pe_c_
  * Errors: those of pe_c_first_debug_entry, then those of the call of the same record below, which takes an entry. */
 
 /* Returns the symbol key: the CodeView record, if it is one of PDB 7.0. */
-uint32_t pe_c_symbol_key(const uint8_t *bytes, size_t length, const pe_c_image_info *image,
-                         const pe_c_section *sections, size_t count, pe_c_key *out) PE_C_RESULT(3, 6);
+uint32_t pe_c_symbol_key(const pe_c_view *view, pe_c_key *out) PE_C_RESULT(1, 2);
 
 /* Returns the symbol key of a CodeView record that stands alone, as a minidump has one of each module: no other debug
  * data is read, and no damage there is an error. PE_C_NOTHING where it is not a record of PDB 7.0.
@@ -698,24 +696,19 @@ uint32_t pe_c_symbol_key(const uint8_t *bytes, size_t length, const pe_c_image_i
 uint32_t pe_c_codeview(const uint8_t *bytes, size_t length, const pe_c_range *record, pe_c_key *out) PE_C_RESULT(3, 4);
 
 /* Returns the CodeView record, if it is one of PDB 2.0. */
-uint32_t pe_c_debug_pdb20(const uint8_t *bytes, size_t length, const pe_c_image_info *image,
-                          const pe_c_section *sections, size_t count, pe_c_pdb20 *out) PE_C_RESULT(3, 6);
+uint32_t pe_c_debug_pdb20(const pe_c_view *view, pe_c_pdb20 *out) PE_C_RESULT(1, 2);
 
 /* Returns the record of VC features. */
-uint32_t pe_c_debug_vc_features(const uint8_t *bytes, size_t length, const pe_c_image_info *image,
-                                const pe_c_section *sections, size_t count, pe_c_vc_features *out) PE_C_RESULT(3, 6);
+uint32_t pe_c_debug_vc_features(const pe_c_view *view, pe_c_vc_features *out) PE_C_RESULT(1, 2);
 
 /* Returns the extended DLL characteristics, IMAGE_DLLCHARACTERISTICS_EX_ flags. */
-uint32_t pe_c_debug_characteristics(const uint8_t *bytes, size_t length, const pe_c_image_info *image,
-                                    const pe_c_section *sections, size_t count, uint32_t *out) PE_C_RESULT(3, 6);
+uint32_t pe_c_debug_characteristics(const pe_c_view *view, uint32_t *out) PE_C_RESULT(1, 2);
 
 /* Returns the Repro record. */
-uint32_t pe_c_debug_repro(const uint8_t *bytes, size_t length, const pe_c_image_info *image,
-                          const pe_c_section *sections, size_t count, pe_c_repro *out) PE_C_RESULT(3, 6);
+uint32_t pe_c_debug_repro(const pe_c_view *view, pe_c_repro *out) PE_C_RESULT(1, 2);
 
 /* Returns the POGO record. PE_C_NOTHING also for another signature. */
-uint32_t pe_c_debug_pogo(const uint8_t *bytes, size_t length, const pe_c_image_info *image,
-                         const pe_c_section *sections, size_t count, pe_c_pogo *out) PE_C_RESULT(3, 6);
+uint32_t pe_c_debug_pogo(const pe_c_view *view, pe_c_pogo *out) PE_C_RESULT(1, 2);
 
 /* The next eight read the record of an entry that the caller has, in a mode, whatever the entry's type is. */
 
@@ -1455,8 +1448,7 @@ PE_C_SIZE(pe_c_memory_piece, 24);
 /* Returns the range of the function table, entries of 12 bytes. PE_C_NOTHING without one, or for a machine other than
  * x64.
  * Errors: PE_C_EXCEPTION_SIZE, PE_C_UNMAPPED, PE_C_EXCEPTION_OFFSET, PE_C_EXCEPTION_BOUNDS. */
-uint32_t pe_c_function_table(const uint8_t *bytes, size_t length, const pe_c_image_info *image,
-                             const pe_c_section *sections, size_t count, pe_c_range *out) PE_C_RESULT(3, 6);
+uint32_t pe_c_function_table(const pe_c_view *view, pe_c_range *out) PE_C_RESULT(1, 2);
 
 /* Returns the function that covers an RVA, by binary search, or PE_C_NOTHING. In a table sorted by start RVA that is the
  * last function that starts at or before the RVA, if the RVA is before its end; in any other table it is some function
@@ -1474,9 +1466,8 @@ uint32_t pe_c_function_at(const uint8_t *bytes, size_t length, const pe_c_range 
  * returned. An odd one is a link to another entry of the table; links are followed to their end.
  * Errors: PE_C_SHORT where the table is not inside the bytes; PE_C_UNMAPPED, PE_C_FUNCTION_LINK, PE_C_FUNCTION_CYCLE of the
  * links; PE_C_UNMAPPED, PE_C_SHORT, PE_C_UNWIND_VERSION of the record. */
-uint32_t pe_c_unwind_record(const uint8_t *bytes, size_t length, const pe_c_image_info *image,
-                            const pe_c_section *sections, size_t count, const pe_c_range *table, uint32_t unwind,
-                            pe_c_record *out) PE_C_RESULT(3, 6, 8);
+uint32_t pe_c_unwind_record(const pe_c_view *view, const pe_c_range *table, uint32_t unwind, pe_c_record *out)
+    PE_C_RESULT(1, 2, 4);
 
 /* Returns the next code of a record, in the order in which they are undone: the last instruction of the prolog first.
  * Errors: PE_C_SHORT where the walk is not inside the bytes, or a code is truncated; PE_C_UNWIND_CODE for an invalid
@@ -1501,9 +1492,8 @@ uint32_t pe_c_plan_from(uint32_t unwind, pe_c_plan *out) PE_C_NOT_NULL(2);
  * Errors: those of pe_c_unwind_record for the next record; PE_C_FUNCTION_CYCLE if, and only if, the chain of a plan that
  * pe_c_plan_from started never ends. Records may be returned before that error. Such a plan is over after at most 3 * 2^32
  * records; a plan with other fields may never be over. */
-uint32_t pe_c_next_record(const uint8_t *bytes, size_t length, const pe_c_image_info *image,
-                          const pe_c_section *sections, size_t count, const pe_c_range *table, pe_c_plan *plan,
-                          pe_c_record *out) PE_C_RESULT(3, 6, 7, 8);
+uint32_t pe_c_next_record(const pe_c_view *view, const pe_c_range *table, pe_c_plan *plan, pe_c_record *out)
+    PE_C_RESULT(1, 2, 3, 4);
 
 /* Finds the registers of a function's caller, from those inside the function, in its prolog and epilogs too, and writes them
  * over those of the frame. It undoes the records of frame->function, which is of the table, up to the root of their chain, or runs
@@ -1693,17 +1683,15 @@ PE_C_SIZE(pe_c_arm64_frame, 360);
 /* Returns the range of the function table, entries of 8 bytes. PE_C_NOTHING without one, or for a machine other than
  * ARM64.
  * Errors: PE_C_EXCEPTION_SIZE, PE_C_UNMAPPED, PE_C_EXCEPTION_OFFSET, PE_C_EXCEPTION_BOUNDS. */
-uint32_t pe_c_arm64_table(const uint8_t *bytes, size_t length, const pe_c_image_info *image,
-                          const pe_c_section *sections, size_t count, pe_c_range *out) PE_C_RESULT(3, 6);
+uint32_t pe_c_arm64_table(const pe_c_view *view, pe_c_range *out) PE_C_RESULT(1, 2);
 
 /* Returns the function that covers an RVA, by binary search, or PE_C_NOTHING. In a table sorted by start RVA that is the
  * last function that starts at or before the RVA, if it is long enough; in any other table it is some function that covers
  * the RVA, or PE_C_NOTHING. The length is packed into the entry, or stands in the first word of its unwind record.
  * Errors: PE_C_SHORT where the table is not inside the bytes; of that record PE_C_UNMAPPED, and PE_C_SHORT where its first
  * word is truncated. */
-uint32_t pe_c_find_arm64_function(const uint8_t *bytes, size_t length, const pe_c_image_info *image,
-                                  const pe_c_section *sections, size_t count, const pe_c_range *table, uint32_t rva,
-                                  pe_c_arm64_function *out) PE_C_RESULT(3, 6, 8);
+uint32_t pe_c_find_arm64_function(const pe_c_view *view, const pe_c_range *table, uint32_t rva, pe_c_arm64_function *out)
+    PE_C_RESULT(1, 2, 4);
 
 /* Returns the function with an index, from 0.
  * Errors: PE_C_SHORT where the table is not inside the bytes; PE_C_FUNCTION_INDEX where it has no such entry. */
@@ -1716,9 +1704,8 @@ uint32_t pe_c_arm64_packed_fields(const pe_c_arm64_function *function, pe_c_arm6
 /* Returns the unwind record of a function. PE_C_NOTHING where its unwind data is packed.
  * Errors: those of pe_c_arm64_table, also where the data is packed; PE_C_UNMAPPED, PE_C_SHORT, PE_C_ARM64_VERSION of the
  * record. */
-uint32_t pe_c_arm64_unwind_record(const uint8_t *bytes, size_t length, const pe_c_image_info *image,
-                                  const pe_c_section *sections, size_t count,
-                                  const pe_c_arm64_function *function, pe_c_arm64_record *out) PE_C_RESULT(3, 6, 7);
+uint32_t pe_c_arm64_unwind_record(const pe_c_view *view, const pe_c_arm64_function *function, pe_c_arm64_record *out)
+    PE_C_RESULT(1, 2, 3);
 
 /* Returns the next epilog scope of a record.
  * Errors: PE_C_SHORT where the walk is not inside the bytes, or its last scope is truncated. */
@@ -1839,26 +1826,21 @@ PE_C_SIZE(pe_c_exported, 32);
 
 /* Returns the tables of the export directory as a walk for pe_c_next_export. PE_C_NOTHING without a directory.
  * Errors: PE_C_UNMAPPED, PE_C_SHORT of the directory, then of the table of RVAs, of names and of indices. */
-uint32_t pe_c_export_tables(const uint8_t *bytes, size_t length, const pe_c_image_info *image,
-                            const pe_c_section *sections, size_t count, pe_c_exports *out) PE_C_RESULT(3, 6);
+uint32_t pe_c_export_tables(const pe_c_view *view, pe_c_exports *out) PE_C_RESULT(1, 2);
 
 /* Returns the next export. Entries are skipped whose name is unmapped, not NUL-terminated or not UTF-8, or whose index is
  * past the table of RVAs. Each name is read to its end, so names that overlap are read once each.
  * Errors: PE_C_SHORT where the tables are not inside the bytes. */
-uint32_t pe_c_next_export(const uint8_t *bytes, size_t length, const pe_c_image_info *image,
-                          const pe_c_section *sections, size_t count, pe_c_exports *walk,
-                          pe_c_export *out) PE_C_RESULT(3, 6, 7);
+uint32_t pe_c_next_export(const pe_c_view *view, pe_c_exports *walk, pe_c_export *out) PE_C_RESULT(1, 2, 3);
 
 /* Returns the table of RVAs of the export directory, the ordinal base and the DLL's name. PE_C_NOTHING without a directory.
  * Errors: those of pe_c_export_tables. */
-uint32_t pe_c_export_addresses(const uint8_t *bytes, size_t length, const pe_c_image_info *image,
-                               const pe_c_section *sections, size_t count, pe_c_address_table *out) PE_C_RESULT(3, 6);
+uint32_t pe_c_export_addresses(const pe_c_view *view, pe_c_address_table *out) PE_C_RESULT(1, 2);
 
 /* Returns the export with an index, from 0. PE_C_NOTHING where the table has no such entry.
  * Errors: PE_C_SHORT where the table is not inside the bytes. */
-uint32_t pe_c_export_at(const uint8_t *bytes, size_t length, const pe_c_image_info *image,
-                        const pe_c_section *sections, size_t count, const pe_c_address_table *table, uint64_t index,
-                        pe_c_exported *out) PE_C_RESULT(3, 6, 8);
+uint32_t pe_c_export_at(const pe_c_view *view, const pe_c_address_table *table, uint64_t index, pe_c_exported *out)
+    PE_C_RESULT(1, 2, 4);
 
 /* ---- imports
  *
@@ -1909,23 +1891,18 @@ PE_C_SIZE(pe_c_import, 32);
 
 /* Returns the import directory as a walk for pe_c_next_library. PE_C_NOTHING without a directory.
  * Errors: PE_C_UNMAPPED. */
-uint32_t pe_c_import_libraries(const uint8_t *bytes, size_t length, const pe_c_image_info *image,
-                               const pe_c_section *sections, size_t count, pe_c_libraries *out) PE_C_RESULT(3, 6);
+uint32_t pe_c_import_libraries(const pe_c_view *view, pe_c_libraries *out) PE_C_RESULT(1, 2);
 
 /* Returns the next library. The directory ends at a record whose name or address table has the RVA 0. A list whose RVA is
  * unmapped is empty. Names and lists that overlap are read once each.
  * Errors: PE_C_SHORT where the record is truncated; PE_C_UNMAPPED, PE_C_IMPORT_NAME of the name; PE_C_SHORT where no zero
  * entry ends the list. */
-uint32_t pe_c_next_library(const uint8_t *bytes, size_t length, const pe_c_image_info *image,
-                           const pe_c_section *sections, size_t count, pe_c_libraries *walk,
-                           pe_c_library *out) PE_C_RESULT(3, 6, 7);
+uint32_t pe_c_next_library(const pe_c_view *view, pe_c_libraries *walk, pe_c_library *out) PE_C_RESULT(1, 2, 3);
 
 /* Returns the next import of a library.
  * Errors: PE_C_SHORT where the walk is not inside the bytes, or its last entry is truncated; PE_C_UNMAPPED of the RVA in
  * the entry; PE_C_SHORT of the hint there; PE_C_IMPORT_NAME of the name. */
-uint32_t pe_c_next_import(const uint8_t *bytes, size_t length, const pe_c_image_info *image,
-                          const pe_c_section *sections, size_t count, pe_c_imports *walk,
-                          pe_c_import *out) PE_C_RESULT(3, 6, 7);
+uint32_t pe_c_next_import(const pe_c_view *view, pe_c_imports *walk, pe_c_import *out) PE_C_RESULT(1, 2, 3);
 
 /* ---- delay imports
  *
@@ -1974,22 +1951,18 @@ PE_C_SIZE(pe_c_delayed_function, 24);
 
 /* Returns the entries of the delay import directory as a walk. PE_C_NOTHING where the directory is absent.
  * Errors: PE_C_UNMAPPED, PE_C_SHORT. */
-uint32_t pe_c_delay_imports(const uint8_t *bytes, size_t length, const pe_c_image_info *image,
-                            const pe_c_section *sections, size_t count, pe_c_range *out) PE_C_RESULT(3, 6);
+uint32_t pe_c_delay_imports(const pe_c_view *view, pe_c_range *out) PE_C_RESULT(1, 2);
 
 /* Returns the next DLL. The directory ends with its bytes, or at an entry without the address of a name.
  * Errors: PE_C_SHORT of the entry; PE_C_DIRECTORY_VA_BELOW_BASE, PE_C_UNMAPPED, PE_C_DIRECTORY_DELAY_IMPORT_NAME of the name;
  * PE_C_DIRECTORY_VA_BELOW_BASE, PE_C_UNMAPPED of the table of functions. */
-uint32_t pe_c_next_delay_import(const uint8_t *bytes, size_t length, const pe_c_image_info *image,
-                                const pe_c_section *sections, size_t count, pe_c_range *walk,
-                                pe_c_delay_import *out) PE_C_RESULT(3, 6, 7);
+uint32_t pe_c_next_delay_import(const pe_c_view *view, pe_c_range *walk, pe_c_delay_import *out) PE_C_RESULT(1, 2, 3);
 
 /* Returns the next function of a DLL.
  * Errors: PE_C_SHORT where the bytes end before the table does; of an import by name PE_C_DIRECTORY_VA_BELOW_BASE,
  * PE_C_UNMAPPED of its address, PE_C_SHORT of the hint there, PE_C_DIRECTORY_DELAY_IMPORT_NAME. */
-uint32_t pe_c_next_delayed_function(const uint8_t *bytes, size_t length, const pe_c_image_info *image,
-                                    const pe_c_section *sections, size_t count, pe_c_delayed_functions *walk,
-                                    pe_c_delayed_function *out) PE_C_RESULT(3, 6, 7);
+uint32_t pe_c_next_delayed_function(const pe_c_view *view, pe_c_delayed_functions *walk, pe_c_delayed_function *out)
+    PE_C_RESULT(1, 2, 3);
 
 /* ---- bound imports
  *
@@ -2095,19 +2068,15 @@ typedef struct {
 PE_C_SIZE(pe_c_version_block, 64);
 
 /* Returns the fixed file information. PE_C_NOTHING also where version information has none. */
-uint32_t pe_c_fixed_version(const uint8_t *bytes, size_t length, const pe_c_image_info *image,
-                            const pe_c_section *sections, size_t count, pe_c_version *out) PE_C_RESULT(3, 6);
+uint32_t pe_c_fixed_version(const pe_c_view *view, pe_c_version *out) PE_C_RESULT(1, 2);
 
 /* Returns the value of a name, PE_C_COMMENTS .. PE_C_SPECIAL_BUILD: UTF-16 code units, little-endian, with the zeros after
  * the text, which ends at the first zero. PE_C_NOTHING also without a string of that name, and for another number. */
-uint32_t pe_c_version_text(const uint8_t *bytes, size_t length, const pe_c_image_info *image,
-                           const pe_c_section *sections, size_t count, uint32_t name, pe_c_range *out)
-    PE_C_RESULT(3, 7);
+uint32_t pe_c_version_text(const pe_c_view *view, uint32_t name, pe_c_range *out) PE_C_RESULT(1, 3);
 
 /* Returns version information as a walk over its blocks, of which the first is all of it. Its content is not read yet, so the
  * errors of version strings and of fixed file information are not among its errors. */
-uint32_t pe_c_version_blocks(const uint8_t *bytes, size_t length, const pe_c_image_info *image,
-                             const pe_c_section *sections, size_t count, pe_c_range *out) PE_C_RESULT(3, 6);
+uint32_t pe_c_version_blocks(const pe_c_view *view, pe_c_range *out) PE_C_RESULT(1, 2);
 
 /* Returns the next block. A walk ends with its bytes, or at a block of length 0. Unlike other walks this one may go on after an
  * error, with the block after that which has the error; it is over where a call returns PE_C_NOTHING.
@@ -2117,8 +2086,7 @@ uint32_t pe_c_next_version_block(const uint8_t *bytes, size_t length, pe_c_range
     PE_C_RESULT(3, 4);
 
 /* Returns the range of the manifest, an XML text. */
-uint32_t pe_c_manifest(const uint8_t *bytes, size_t length, const pe_c_image_info *image,
-                       const pe_c_section *sections, size_t count, pe_c_range *out) PE_C_RESULT(3, 6);
+uint32_t pe_c_manifest(const pe_c_view *view, pe_c_range *out) PE_C_RESULT(1, 2);
 
 /* ---- resources
  *
@@ -2170,16 +2138,14 @@ PE_C_SIZE(pe_c_resource_walk, 80);
  * permissive mode where its data is too short for a directory.
  * Errors: PE_C_UNMAPPED, PE_C_SHORT of the root directory; PE_C_RESOURCE_BOUNDS where the data that the data directory names
  * ends past the end of the file, and in strict mode where the root or its entries are not all inside the data. */
-uint32_t pe_c_resource_leaves(const uint8_t *bytes, size_t length, const pe_c_image_info *image,
-                              const pe_c_section *sections, size_t count, pe_c_resource_walk *out) PE_C_RESULT(3, 6);
+uint32_t pe_c_resource_leaves(const pe_c_view *view, pe_c_resource_walk *out) PE_C_RESULT(1, 2);
 
 /* Returns the next leaf. A content that is not in the file is no error of its leaf.
  * Errors: PE_C_SHORT where the walk is not inside the bytes, or its entries are not inside its tree; of the entry of a type or
  * a name PE_C_TREE_NOT_DIRECTORY, PE_C_SHORT of its directory and of the entries there, PE_C_TREE_NO_ENTRIES; of the entry of a
  * language PE_C_TREE_NOT_DATA, PE_C_SHORT of its data entry; PE_C_SHORT of a name. */
-uint32_t pe_c_next_resource_leaf(const uint8_t *bytes, size_t length, const pe_c_image_info *image,
-                                 const pe_c_section *sections, size_t count, pe_c_resource_walk *walk,
-                                 pe_c_resource_leaf *out) PE_C_RESULT(3, 6, 7);
+uint32_t pe_c_next_resource_leaf(const pe_c_view *view, pe_c_resource_walk *walk, pe_c_resource_leaf *out)
+    PE_C_RESULT(1, 2, 3);
 
 /* Returns the fixed file information in the content of a leaf of type 16 (RT_VERSION). PE_C_NOTHING where it has none.
  * Errors: PE_C_SHORT where the content is not inside the bytes; PE_C_SHORT, PE_C_RESOURCE_STRING of the version strings;
@@ -2286,19 +2252,15 @@ PE_C_SIZE(pe_c_tls_directory, 40);
 
 /* Returns the TLS directory. PE_C_NOTHING where the directory is absent.
  * Errors: PE_C_UNMAPPED, PE_C_SHORT. */
-uint32_t pe_c_tls(const uint8_t *bytes, size_t length, const pe_c_image_info *image, const pe_c_section *sections,
-                  size_t count, pe_c_tls_directory *out) PE_C_RESULT(3, 6);
+uint32_t pe_c_tls(const pe_c_view *view, pe_c_tls_directory *out) PE_C_RESULT(1, 2);
 
 /* Returns the callbacks of a TLS directory as a walk. PE_C_NOTHING where it has no table of them.
  * Errors: PE_C_DIRECTORY_VA_BELOW_BASE, PE_C_UNMAPPED. */
-uint32_t pe_c_tls_callbacks(const uint8_t *bytes, size_t length, const pe_c_image_info *image,
-                            const pe_c_section *sections, size_t count, const pe_c_tls_directory *tls, pe_c_range *out)
-    PE_C_RESULT(3, 6, 7);
+uint32_t pe_c_tls_callbacks(const pe_c_view *view, const pe_c_tls_directory *tls, pe_c_range *out) PE_C_RESULT(1, 2, 3);
 
 /* Returns the next callback, a virtual address.
  * Error: PE_C_SHORT where the bytes end before the table does. */
-uint32_t pe_c_next_tls_callback(const uint8_t *bytes, size_t length, const pe_c_image_info *image, pe_c_range *walk,
-                                uint64_t *out) PE_C_RESULT(3, 4, 5);
+uint32_t pe_c_next_tls_callback(const pe_c_view *view, pe_c_range *walk, uint64_t *out) PE_C_RESULT(1, 2, 3);
 
 /* ---- load configuration
  *
@@ -2343,9 +2305,7 @@ PE_C_SIZE(pe_c_load_config_directory, 88);
 
 /* Returns the load configuration. PE_C_NOTHING where the directory is absent. The size in the data directory is not used.
  * Errors: PE_C_UNMAPPED; PE_C_SHORT of the 4 bytes of its size. */
-uint32_t pe_c_load_config(const uint8_t *bytes, size_t length, const pe_c_image_info *image,
-                          const pe_c_section *sections, size_t count, pe_c_load_config_directory *out)
-    PE_C_RESULT(3, 6);
+uint32_t pe_c_load_config(const pe_c_view *view, pe_c_load_config_directory *out) PE_C_RESULT(1, 2);
 
 /* ---- base relocations
  *
@@ -2371,8 +2331,7 @@ PE_C_SIZE(pe_c_relocation, 16);
 
 /* Returns the blocks of the base relocations as a walk. PE_C_NOTHING where the directory is absent.
  * Errors: PE_C_UNMAPPED, PE_C_SHORT. */
-uint32_t pe_c_relocation_blocks(const uint8_t *bytes, size_t length, const pe_c_image_info *image,
-                                const pe_c_section *sections, size_t count, pe_c_range *out) PE_C_RESULT(3, 6);
+uint32_t pe_c_relocation_blocks(const pe_c_view *view, pe_c_range *out) PE_C_RESULT(1, 2);
 
 /* Returns the next block. PE_C_NOTHING also where a block of zeros, page and size, ends the list.
  * Errors: PE_C_SHORT of the header; PE_C_DIRECTORY_BLOCK_SIZE; PE_C_DIRECTORY_BLOCK_TRUNCATED. */
@@ -2442,15 +2401,13 @@ PE_C_SIZE(pe_c_metadata_stream, 48);
 
 /* Returns the CLR header. PE_C_NOTHING where the directory is absent. The size in the data directory is not used.
  * Errors: PE_C_UNMAPPED, PE_C_SHORT of its 72 bytes; PE_C_DIRECTORY_CLR_HEADER_SIZE. */
-uint32_t pe_c_clr_header(const uint8_t *bytes, size_t length, const pe_c_image_info *image, const pe_c_section *sections,
-                         size_t count, pe_c_cor20_header *out) PE_C_RESULT(3, 6);
+uint32_t pe_c_clr_header(const pe_c_view *view, pe_c_cor20_header *out) PE_C_RESULT(1, 2);
 
 /* Returns the root of the metadata of a CLR header.
  * Errors: PE_C_UNMAPPED; PE_C_SHORT of the metadata, then of the root's first 16 bytes; PE_C_BAD_MAGIC; PE_C_SHORT of the rest
  * of the root. */
-uint32_t pe_c_clr_metadata(const uint8_t *bytes, size_t length, const pe_c_image_info *image,
-                           const pe_c_section *sections, size_t count, const pe_c_cor20_header *header,
-                           pe_c_metadata *out) PE_C_RESULT(3, 6, 7);
+uint32_t pe_c_clr_metadata(const pe_c_view *view, const pe_c_cor20_header *header, pe_c_metadata *out)
+    PE_C_RESULT(1, 2, 3);
 
 /* Returns the next stream of the metadata.
  * Errors: PE_C_SHORT of the stream header's first 8 bytes; PE_C_DIRECTORY_STREAM_NAME where its name does not end in 32 bytes;
