@@ -318,8 +318,8 @@ uint32_t pe_c_sections(const uint8_t *bytes, size_t length, const pe_c_image_inf
                        size_t entries) PE_C_RESULT(3);
 
 /* Returns the file offset of an RVA, by the first section that covers it; in an image as loaded the RVA itself. The bytes are
- * not read, and the offset may be past their end. PE_C_NOTHING where no section covers the RVA, or the file alignment is not a power of
- * two.
+ * not read, and the offset may be past their end. PE_C_NOTHING where no section covers the RVA, or the file alignment is not a
+ * power of two.
  * A section's data start at its raw pointer rounded down to a multiple of 512. Of a file whose alignment is below 512, as
  * iPXE's, every call that maps RVAs so finds other offsets than a reader that does not round. */
 uint32_t pe_c_offset(const pe_c_view *view, uint32_t rva, uint64_t *out) PE_C_RESULT(1, 3);
