@@ -35,9 +35,9 @@
  * byte on: its sections stand at their RVAs, and RVAs are offsets. Without it they are a file, and the sections map RVAs.
  * An image that is read the wrong way may give wrong values without an error.
  *
- * Arguments. Most calls take a view of an image: its bytes, and what pe_c_image and pe_c_sections returned of them. Calls that
- * need no section headers take the bytes and the image alone. All read in the mode that pe_c_image was called with, which is the
- * field `mode` of the image. Each of these calls is made only if the one before returned PE_C_DONE:
+ * Arguments. Calls on an image take a view of it: its bytes, and what pe_c_image and pe_c_sections returned of them. They read in
+ * the mode that pe_c_image was called with, which is the field `mode` of the image. Each of these calls is made only if the one
+ * before returned PE_C_DONE:
  *
  *     pe_c_image(bytes, length, mode, &image);
  *     pe_c_sections(bytes, length, &image, sections, entries);
@@ -291,7 +291,8 @@ typedef struct {
 } pe_c_index_entry;
 
 /* An image as calls take it: its bytes, what pe_c_image and pe_c_sections returned of them, and an index of the sections or none.
- * A caller makes one view and passes it to all calls. */
+ * A caller makes one view and passes it to all calls. Digests, certificates, edits, the string table and bound imports need no
+ * sections: of these the view may have none. */
 typedef struct {
     const uint8_t *bytes;
     size_t length;                  /* of the bytes */
@@ -464,8 +465,7 @@ uint32_t pe_c_overlay(const pe_c_view *view, pe_c_range *out) PE_C_RESULT(1, 2);
 /* Returns the COFF string table, from its size field on. PE_C_NOTHING where the image has no COFF symbols, where the bytes end
  * after them, and in an image as loaded.
  * Errors: PE_C_SHORT of the headers and of the symbols; PE_C_STRING_TABLE where the table is truncated. */
-uint32_t pe_c_string_table(const uint8_t *bytes, size_t length, const pe_c_image_info *image, pe_c_range *out)
-    PE_C_RESULT(3, 4);
+uint32_t pe_c_string_table(const pe_c_view *view, pe_c_range *out) PE_C_RESULT(1, 2);
 
 /* Returns the name of a section in the string table: UTF-8, not NUL-terminated. PE_C_NOTHING where its header has the name
  * itself, and where no string is at the offset, NUL-terminated and UTF-8.
@@ -1236,19 +1236,16 @@ PE_C_SIZE(pe_c_checksum_field, 16);
 
 /* Returns what the Authenticode digest of an image covers.
  * Errors: those of pe_c_image; PE_C_NO_OPTIONAL_HEADER. */
-uint32_t pe_c_digest_ranges(const uint8_t *bytes, size_t length, const pe_c_image_info *image, pe_c_digest *out)
-    PE_C_RESULT(3, 4);
+uint32_t pe_c_digest_ranges(const pe_c_view *view, pe_c_digest *out) PE_C_RESULT(1, 2);
 
 /* Returns the checksum that an image should have, and where its field is.
  * Errors: those of pe_c_image; PE_C_NO_OPTIONAL_HEADER. */
-uint32_t pe_c_checksum(const uint8_t *bytes, size_t length, const pe_c_image_info *image, pe_c_checksum_field *out)
-    PE_C_RESULT(3, 4);
+uint32_t pe_c_checksum(const pe_c_view *view, pe_c_checksum_field *out) PE_C_RESULT(1, 2);
 
 /* Returns the length of the file that pe_c_attach writes with these arguments.
  * Errors: those of pe_c_attach, but for PE_C_WRITE_FIT. */
-uint32_t pe_c_attached_length(const uint8_t *bytes, size_t length, const pe_c_image_info *image,
-                              const uint8_t *certificate, size_t certificate_length, uint32_t placement,
-                              uint64_t *out) PE_C_RESULT(3, 7);
+uint32_t pe_c_attached_length(const pe_c_view *view, const uint8_t *certificate, size_t certificate_length,
+                              uint32_t placement, uint64_t *out) PE_C_RESULT(1, 5);
 
 /* Writes the file with a certificate to the start of the array, and its length to `out`: zeros up to a multiple of eight
  * bytes, the certificate, zeros again, the entry of the certificate directory and the checksum. What the digest covers stays
@@ -1263,22 +1260,19 @@ uint32_t pe_c_attached_length(const uint8_t *bytes, size_t length, const pe_c_im
  * is not at a multiple of eight; PE_C_SHORT, PE_C_CERTIFICATE_SIZE of a certificate shorter than eight bytes, or than its
  * first entry says; PE_C_SIGN_TOO_LARGE where the file with it has 2^32 bytes or more; PE_C_WRITE_FIT where that does not
  * fit into the array. */
-uint32_t pe_c_attach(const uint8_t *bytes, size_t length, const pe_c_image_info *image, const uint8_t *certificate,
-                     size_t certificate_length, uint32_t placement, uint8_t *room, size_t room_length,
-                     uint64_t *out) PE_C_RESULT(3, 9);
+uint32_t pe_c_attach(const pe_c_view *view, const uint8_t *certificate, size_t certificate_length, uint32_t placement,
+                     uint8_t *room, size_t room_length, uint64_t *out) PE_C_RESULT(1, 7);
 
 /* Returns the length of the file that pe_c_detach writes with these arguments.
  * Errors: those of pe_c_detach, but for PE_C_WRITE_FIT. */
-uint32_t pe_c_detached_length(const uint8_t *bytes, size_t length, const pe_c_image_info *image, uint64_t *out)
-    PE_C_RESULT(3, 4);
+uint32_t pe_c_detached_length(const pe_c_view *view, uint64_t *out) PE_C_RESULT(1, 2);
 
 /* Writes the file without certificates to the start of the array, and its length to `out`: all before the certificate table,
  * with zeros in the entry of the certificate directory, and the checksum. An image without certificates stays as it is, but
  * for its checksum. The rest of the array is unchanged, and all of it after an error. The array does not overlap the file;
  * it may be NULL if room_length is 0.
  * Errors: those of pe_c_attach up to PE_C_SIGN_SECTION; PE_C_WRITE_FIT where the file does not fit into the array. */
-uint32_t pe_c_detach(const uint8_t *bytes, size_t length, const pe_c_image_info *image, uint8_t *room,
-                     size_t room_length, uint64_t *out) PE_C_RESULT(3, 6);
+uint32_t pe_c_detach(const pe_c_view *view, uint8_t *room, size_t room_length, uint64_t *out) PE_C_RESULT(1, 4);
 
 /* ---- x64 functions and unwind records
  *
@@ -1990,8 +1984,7 @@ PE_C_SIZE(pe_c_bound_forwarder, 24);
 
 /* Returns the bytes of the directory: the table that the next two calls take. PE_C_NOTHING where it is absent.
  * Error: PE_C_SHORT. */
-uint32_t pe_c_bound_imports(const uint8_t *bytes, size_t length, const pe_c_image_info *image, pe_c_range *out)
-    PE_C_RESULT(3, 4);
+uint32_t pe_c_bound_imports(const pe_c_view *view, pe_c_range *out) PE_C_RESULT(1, 2);
 
 /* Returns the next DLL. The walk starts as a copy of the table. The list ends with the table, or at an entry without a name.
  * Errors: PE_C_SHORT of the entry and its forwarders; PE_C_SHORT where the table is not inside the bytes;
@@ -2182,9 +2175,8 @@ PE_C_SIZE(pe_c_resource, 72);
 
 /* Returns the length of the file that pe_c_edit writes with these arguments, which is that of the image or more.
  * Errors: those of pe_c_edit, but for PE_C_WRITE_FIT. */
-uint32_t pe_c_edited_length(const uint8_t *bytes, size_t length, const pe_c_image_info *image,
-                            const pe_c_resource *resources, size_t resource_count, const uint8_t *data,
-                            size_t data_length, uint64_t *out) PE_C_RESULT(3, 8);
+uint32_t pe_c_edited_length(const pe_c_view *view, const pe_c_resource *resources, size_t resource_count,
+                            const uint8_t *data, size_t data_length, uint64_t *out) PE_C_RESULT(1, 6);
 
 /* Writes the image with these resources in place of those that it has to the start of the array, and its length to `out`. The
  * rest of the array is unchanged, and all of it after an error. `data` has the names and the contents, and may be `bytes`. The
@@ -2209,9 +2201,8 @@ uint32_t pe_c_edited_length(const uint8_t *bytes, size_t length, const pe_c_imag
  * it; PE_C_EDIT_OVERLAP where a section ends after the image in memory, or shares bytes with the headers;
  * PE_C_EDIT_DEBUG_DATA where the data of a debug entry end after the data of the sections; PE_C_WRITE_FIT where the file does
  * not fit into the array. */
-uint32_t pe_c_edit(const uint8_t *bytes, size_t length, const pe_c_image_info *image, const pe_c_resource *resources,
-                   size_t resource_count, const uint8_t *data, size_t data_length, uint8_t *room, size_t room_length,
-                   uint64_t *out) PE_C_RESULT(3, 10);
+uint32_t pe_c_edit(const pe_c_view *view, const pe_c_resource *resources, size_t resource_count, const uint8_t *data,
+                   size_t data_length, uint8_t *room, size_t room_length, uint64_t *out) PE_C_RESULT(1, 8);
 
 /* Returns the length of what pe_c_write_block writes with these arguments.
  * Errors: those of pe_c_write_block, but for PE_C_WRITE_FIT. */
