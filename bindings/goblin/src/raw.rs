@@ -1,7 +1,7 @@
 //! The one place that calls the library: it has every `unsafe`, and makes the library's arguments of goblin's.
 //!
-//! A call takes the record that `pe_c_image` fills and the section headers. Every value of every field of them is legal, and
-//! the contract of a call says what it returns for each. So a function of goblin that takes a directory alone is the call over
+//! A call takes a view: the bytes, the record that `pe_c_image` fills, and the section headers. Every value of every field of
+//! these is legal, and the contract of a call says what it returns for each. So a function of goblin that takes a directory alone is the call over
 //! a record with that directory.
 //!
 //! What no call returns is read in `plain`, and nowhere else; `objects` has what an offset comes with. `tools/try_goblin --check` looks for reads elsewhere.
@@ -263,7 +263,7 @@ pub(crate) fn image_as_loaded(machine: u16) -> ImageInfo {
 
 // ---- calls
 
-/// The bytes of an image, its record and its section headers: the first arguments of most calls.
+/// The bytes of an image, its record and its section headers: what most calls take.
 #[derive(Clone, Copy)]
 pub(crate) struct View<'a, 's> {
     pub bytes: &'a [u8],
@@ -285,23 +285,20 @@ impl<'a> View<'a, '_> {
         DataDirectory { virtual_address: found.virtual_address, size: found.size }
     }
 
-    /// The file offset of an RVA.
+    /// The image as the library takes it, for a call that ends before what it borrows.
+    fn lent(&self) -> sys::View {
+        sys::View::of(self.bytes, self.info, self.sections, &[])
+    }
+
+    /// The file offset of an RVA; in an image as loaded the RVA itself.
     pub fn offset(&self, rva: u32) -> Option<usize> {
-        offset(self.info, self.sections, rva)
+        self.offset_of_rva(rva).ok().flatten().and_then(|it| it.try_into().ok())
     }
 
     /// The file offset of a virtual address.
     pub fn offset_of_va(&self, va: u64) -> Option<usize> {
         self.offset(va.checked_sub(self.info.base)?.try_into().ok()?)
     }
-}
-
-/// The file offset of an RVA; in an image as loaded the RVA itself.
-pub(crate) fn offset(info: &ImageInfo, sections: &[Section], rva: u32) -> Option<usize> {
-    let mut out = 0;
-    // SAFETY: the record and the section headers are lent for the call, `out` too.
-    let number = unsafe { sys::pe_c_offset(info, sections.as_ptr(), sections.len(), rva, &mut out) };
-    returned(number, out).ok().flatten().and_then(|it| it.try_into().ok())
 }
 
 /// The section headers at the record's offset, as many as it names.
@@ -337,7 +334,6 @@ calls_of_bytes! {
     coff_strings: pe_c_coff_strings(header: &sys::CoffHeader) -> Range;
     symbol_at: pe_c_symbol(table: &Range, index: u64) -> sys::SymbolEntry;
     symbol_name: pe_c_symbol_name(table: &Range, strings: &Range, index: u64) -> Range;
-    string_table: pe_c_string_table(info: &ImageInfo) -> Range;
     long_section_name: pe_c_long_section_name(table: &Range, section: &Section) -> Range;
     rich_header: pe_c_rich_header() -> sys::RichHeader;
     next_rich_entry: pe_c_next_rich_entry(key: u32, walk: &mut Range) -> sys::RichEntry;
@@ -350,7 +346,6 @@ calls_of_bytes! {
     pogo_of: pe_c_pogo_of(mode: u32, entry: &sys::DebugEntry) -> sys::Pogo;
     next_pogo_entry: pe_c_next_pogo_entry(walk: &mut Range) -> sys::PogoEntry;
     next_certificate: pe_c_next_certificate(walk: &mut Range) -> sys::Certificate;
-    digest_ranges: pe_c_digest_ranges(info: &ImageInfo) -> sys::Digest;
     find_function: pe_c_find_function(table: &Range, rva: u32) -> sys::Function;
     function_at: pe_c_function_at(table: &Range, index: u64) -> sys::Function;
     next_code: pe_c_next_code(walk: &mut sys::Walk) -> sys::Code;
@@ -360,7 +355,6 @@ calls_of_bytes! {
     next_arm64_scope: pe_c_next_arm64_scope(walk: &mut Range) -> sys::Arm64Scope;
     arm64_codes: pe_c_arm64_codes(codes: &Range, start: u64) -> sys::Arm64Walk;
     next_arm64_code: pe_c_next_arm64_code(walk: &mut sys::Arm64Walk) -> sys::Arm64Code;
-    next_tls_callback: pe_c_next_tls_callback(info: &ImageInfo, walk: &mut Range) -> u64;
     next_metadata_stream: pe_c_next_metadata_stream(walk: &mut sys::MetadataStreams) -> sys::MetadataStream;
     fixed_version_in: pe_c_fixed_version_in(content: &Range) -> sys::Version;
     version_text_in: pe_c_version_text_in(content: &Range, name: u32) -> Range;
@@ -377,20 +371,19 @@ calls_of_bytes! {
 macro_rules! calls_of_an_image {
     ($($name:ident: $call:ident($($more:ident: $kind:ty),*) -> $out:ty;)*) => { impl View<'_, '_> { $(
         pub fn $name(&self, $($more: $kind),*) -> Result<Option<$out>, Refusal> {
-            let (bytes, sections, mut out) = (self.bytes, self.sections, <$out>::default());
-            // SAFETY: the pointers and lengths are those of two slices; the record, the other arguments and `out` are lent
-            // for the call, and the library requires nothing else.
-            let number = unsafe {
-                sys::$call(
-                    bytes.as_ptr(), bytes.len(), self.info, sections.as_ptr(), sections.len(), $($more,)* &mut out,
-                )
-            };
+            let (view, mut out) = (self.lent(), <$out>::default());
+            // SAFETY: the view is of what is borrowed for the call; the other arguments and `out` are lent for it, and the
+            // library requires nothing else.
+            let number = unsafe { sys::$call(&view, $($more,)* &mut out) };
             returned(number, out)
         }
     )* } };
 }
 
 calls_of_an_image! {
+    offset_of_rva: pe_c_offset(rva: u32) -> u64;
+    string_table: pe_c_string_table() -> Range;
+    digest_ranges: pe_c_digest_ranges() -> sys::Digest;
     debug_entries: pe_c_debug_entries() -> Range;
     function_table: pe_c_function_table() -> Range;
     unwind_record: pe_c_unwind_record(table: &Range, unwind: u32) -> sys::Record;
@@ -408,6 +401,7 @@ calls_of_an_image! {
     resource_leaves: pe_c_resource_leaves() -> sys::ResourceWalk;
     tls: pe_c_tls() -> sys::TlsDirectory;
     tls_callbacks: pe_c_tls_callbacks(tls: &sys::TlsDirectory) -> Range;
+    next_tls_callback: pe_c_next_tls_callback(walk: &mut Range) -> u64;
     load_config: pe_c_load_config() -> sys::LoadConfig;
     relocation_blocks: pe_c_relocation_blocks() -> Range;
     clr_header: pe_c_clr_header() -> sys::ClrHeader;

@@ -160,19 +160,33 @@ fn read_by_lies(bytes: &[u8], random: &mut Random, seen: &mut Seen) {
     let sections = [sys::Section::default(), section];
     let mut room = sections;
     let index = random.edge(64);
-    macro_rules! call {
-        ($name:ident($($more:expr),*), $out:ident) => {{
+    let lies = [few % 96, few, few.rotate_left(9)]
+        .map(|rva| sys::IndexEntry { start: u64::from(rva), section: random.edge(sections.len() as u64 + 2) });
+    let mut view = sys::View::of(bytes, &image, &sections, &lies[..few as usize % 4]);
+    let (mut entries, mut made) = ([sys::IndexEntry::default(); 64], 0);
+    // SAFETY: the pointers and lengths are those of slices, and each record is lent for its call; so are the view's.
+    if unsafe { sys::pe_c_index(&view, entries.as_mut_ptr(), entries.len(), &mut made) } == 0 && few % 2 == 0 {
+        (view.index, view.entries) = (entries.as_ptr(), made as usize);
+    }
+    macro_rules! returned {
+        ($out:ident, $call:expr) => {{
             let mut out = sys::$out::default();
-            // SAFETY: the pointers and lengths are those of slices, and each record is lent for its call.
-            let answer = unsafe { sys::$name(start, length, $($more,)* &mut out) };
+            let answer = $call(&mut out);
             assert!(answer == 0 || out == sys::$out::default());
             seen.refusals += u64::from(answer != 0);
             out
         }};
     }
+    macro_rules! call {
+        ($name:ident($($more:expr),*), $out:ident) => {
+            // SAFETY: as above.
+            returned!($out, |out| unsafe { sys::$name(start, length, $($more,)* out) })
+        };
+    }
     macro_rules! call_of_image {
         ($name:ident($($more:expr),*), $out:ident) => {
-            call!($name(&image, sections.as_ptr(), sections.len() $(, $more)*), $out)
+            // SAFETY: as above.
+            returned!($out, |out| unsafe { sys::$name(&view, $($more,)* out) })
         };
     }
     // steps a walk while it returns items, but not forever
@@ -193,9 +207,8 @@ fn read_by_lies(bytes: &[u8], random: &mut Random, seen: &mut Seen) {
             let mut walk = $walk;
             for _ in 0..MOST {
                 let mut out = sys::$out::default();
-                let (first, count) = (sections.as_ptr(), sections.len());
                 // SAFETY: as above.
-                if unsafe { sys::$name(start, length, &image, first, count, $($more,)? &mut walk, &mut out) } != 0 {
+                if unsafe { sys::$name(&view, $($more,)? &mut walk, &mut out) } != 0 {
                     break;
                 }
             }
@@ -205,31 +218,13 @@ fn read_by_lies(bytes: &[u8], random: &mut Random, seen: &mut Seen) {
     unsafe {
         sys::pe_c_sections(start, length, &image, room.as_mut_ptr(), room.len());
         let mut offset = 0;
-        sys::pe_c_offset(&image, sections.as_ptr(), sections.len(), few, &mut offset);
+        sys::pe_c_offset(&view, few, &mut offset);
         let mut fields = sys::Arm64Packed::default();
         sys::pe_c_arm64_packed_fields(&sys::Arm64Function { begin: few, unwind: few.rotate_left(7) }, &mut fields);
     }
-    let lies = [few % 96, few, few.rotate_left(9)]
-        .map(|rva| sys::IndexEntry { start: u64::from(rva), section: random.edge(sections.len() as u64 + 2) });
-    let mut view = sys::View {
-        bytes: start,
-        length,
-        image: &image,
-        sections: sections.as_ptr(),
-        count: sections.len(),
-        index: lies.as_ptr(),
-        entries: few as usize % 4,
-    };
-    let mut room = [sys::IndexEntry::default(); 64];
-    let mut made = 0;
-    // SAFETY: as above, and the view is of what is lent.
-    if unsafe { sys::pe_c_index(&view, room.as_mut_ptr(), room.len(), &mut made) } == 0 && few % 2 == 0 {
-        (view.index, view.entries) = (room.as_ptr(), made as usize);
-    }
-    let mut entry = sys::DebugEntry::default();
-    // SAFETY: as above, and the view is of what is lent.
+    let entry = call_of_image!(pe_c_first_debug_entry(few % 24), DebugEntry);
+    // SAFETY: as above.
     unsafe {
-        sys::pe_c_first_debug_entry(&view, few % 24, &mut entry);
         let (mut index, mut range) = (0, sys::Range::default());
         sys::pe_c_section_at(&view, few, &mut index);
         sys::pe_c_section_range(&view, &section, &mut range);
@@ -355,19 +350,19 @@ fn read_by_lies(bytes: &[u8], random: &mut Random, seen: &mut Seen) {
     call_of_image!(pe_c_version_blocks(), Range);
     walk!(pe_c_next_version_block(range), VersionBlock);
     call_of_image!(pe_c_manifest(), Range);
-    call!(pe_c_digest_ranges(&image), Digest);
-    call!(pe_c_checksum(&image), ChecksumField);
+    call_of_image!(pe_c_digest_ranges(), Digest);
+    call_of_image!(pe_c_checksum(), ChecksumField);
     let part = &bytes[..length.min(16)];
     let mut room = vec![7; (index as usize).min(2 * length)];
     let (mut needed, mut written, mut left) = (0, 0, 0);
     // SAFETY: as above.
     unsafe {
-        sys::pe_c_attached_length(start, length, &image, part.as_ptr(), part.len(), few, &mut needed);
+        sys::pe_c_attached_length(&view, part.as_ptr(), part.len(), few, &mut needed);
         let (first, size) = (room.as_mut_ptr(), room.len());
-        sys::pe_c_attach(start, length, &image, part.as_ptr(), part.len(), few, first, size, &mut written);
+        sys::pe_c_attach(&view, part.as_ptr(), part.len(), few, first, size, &mut written);
         assert!(written == 0 || written == needed && written <= size as u64);
-        sys::pe_c_detached_length(start, length, &image, &mut needed);
-        sys::pe_c_detach(start, length, &image, first, size, &mut left);
+        sys::pe_c_detached_length(&view, &mut needed);
+        sys::pe_c_detach(&view, first, size, &mut left);
         assert!(left == 0 || left == needed && left <= size as u64);
     }
     let record = sys::Resource {
@@ -388,8 +383,8 @@ fn read_by_lies(bytes: &[u8], random: &mut Random, seen: &mut Seen) {
     // SAFETY: as above.
     unsafe {
         let (first, size) = (room.as_mut_ptr(), room.len());
-        sys::pe_c_edited_length(start, length, &image, records.as_ptr(), count, start, length, &mut needed);
-        sys::pe_c_edit(start, length, &image, records.as_ptr(), count, start, length, first, size, &mut written);
+        sys::pe_c_edited_length(&view, records.as_ptr(), count, start, length, &mut needed);
+        sys::pe_c_edit(&view, records.as_ptr(), count, start, length, first, size, &mut written);
         assert!(written == 0 || written == needed && written <= size as u64);
         let (first, size, key) = (room.as_mut_ptr(), room.len(), part.as_ptr());
         (needed, written) = (0, 0);
@@ -417,7 +412,7 @@ fn read_by_lies(bytes: &[u8], random: &mut Random, seen: &mut Seen) {
         let (mut va, mut relocation) = (0, sys::Relocation::default());
         // SAFETY: as above.
         unsafe {
-            sys::pe_c_next_tls_callback(start, length, &image, &mut callbacks, &mut va);
+            sys::pe_c_next_tls_callback(&view, &mut callbacks, &mut va);
             sys::pe_c_next_relocation(start, length, few, &mut entries, &mut relocation);
         }
     }
@@ -507,9 +502,9 @@ fn read_by_lies(bytes: &[u8], random: &mut Random, seen: &mut Seen) {
         }
     }
     call!(pe_c_rich_header(), RichHeader);
-    call!(pe_c_string_table(&image), Range);
+    call_of_image!(pe_c_string_table(), Range);
     call!(pe_c_long_section_name(&range, &section), Range);
-    let table = call!(pe_c_bound_imports(&image), Range);
+    let table = call_of_image!(pe_c_bound_imports(), Range);
     let (mut entries, mut imports, mut forwarders) = (range, range, range);
     for _ in 0..MOST {
         let (mut entry, mut import) = (sys::RichEntry::default(), sys::BoundImport::default());
@@ -539,9 +534,6 @@ fn read_by_lies(bytes: &[u8], random: &mut Random, seen: &mut Seen) {
         rva: few % 96,
         ..sys::Frame::default()
     };
-    let (first, count) = (sections.as_ptr(), sections.len());
-    let none = std::ptr::null();
-    let view = sys::View { bytes: start, length, image: &image, sections: first, count, index: none, entries: 0 };
     let table = call_of_image!(pe_c_function_table(), Range);
     let piece = sys::MemoryPiece { start: random.edge(number), offset: 0, length: length as u64 };
     let lie = sys::MemoryPiece { offset: range.offset, length: range.length, ..piece };

@@ -3,7 +3,7 @@
 
 use crate::image::{bytes_of, Error, Image};
 use crate::sys;
-use crate::walk::{ask_of_bytes, next_of};
+use crate::walk::next_of;
 use core::iter::FusedIterator;
 
 /// A call of a step: it takes the bytes, the range of the directory, and the walk.
@@ -101,7 +101,7 @@ impl<'a> Image<'a> {
     ///
     /// [`Error::SHORT`].
     pub fn bound_imports(&self) -> Result<Option<BoundImports<'a>>, Error> {
-        let table: Option<sys::Range> = ask_of_bytes(self.bytes(), sys::pe_c_bound_imports, self.info())?;
+        let table = self.ask(sys::pe_c_bound_imports)?;
         Ok(table.map(|table| BoundImports(Steps { bytes: self.bytes(), table, walk: Some(table) })))
     }
 }

@@ -256,11 +256,7 @@ impl<'a> Image<'a> {
     ///
     /// [`Error::UNMAPPED`]; in strict mode [`Error::DEBUG_BOUNDS`].
     pub fn debug_entry(&self, data_type: u32) -> Result<Option<DebugEntry>, Error> {
-        let view = self.view();
-        let mut entry = DebugEntry::default();
-        // SAFETY: the view is of what `self` lends for the call, which writes the entry alone.
-        let number = unsafe { sys::pe_c_first_debug_entry(&view, data_type, &mut entry) };
-        returned(number, entry)
+        self.ask_with(sys::pe_c_first_debug_entry, data_type)
     }
 
     /// What a call reads of the record of an entry.

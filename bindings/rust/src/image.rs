@@ -426,13 +426,12 @@ impl fmt::Debug for Image<'_> {
 }
 
 /// A call that takes an image.
-type Call<T> = unsafe extern "C" fn(*const u8, usize, *const ImageInfo, *const Section, usize, *mut T) -> u32;
+type Call<T> = unsafe extern "C" fn(*const sys::View, *mut T) -> u32;
 /// A call that takes an image and one more argument.
-type CallWith<M, T> = unsafe extern "C" fn(*const u8, usize, *const ImageInfo, *const Section, usize, M, *mut T) -> u32;
+type CallWith<M, T> = unsafe extern "C" fn(*const sys::View, M, *mut T) -> u32;
 
 /// A call that takes an image, a record and one more argument.
-pub(crate) type Look<M, N, T> =
-    unsafe extern "C" fn(*const u8, usize, *const ImageInfo, *const Section, usize, *const M, N, *mut T) -> u32;
+pub(crate) type Look<M, N, T> = unsafe extern "C" fn(*const sys::View, *const M, N, *mut T) -> u32;
 
 // SAFETY of all calls here: they are the declarations of `sys`, which match the archive. Each pointer and length are
 // those of one borrow that outlives the call; what the call writes overlaps no other argument, and is initialised. The
@@ -479,7 +478,7 @@ impl<'a> Image<'a> {
     /// - [`Error::SHORT`] where they are truncated.
     pub fn parse_as(bytes: &'a [u8], mode: Mode, layout: Layout) -> Result<Self, Error> {
         // SAFETY: it takes no arguments. The call is here so that no program links with an archive of another ABI.
-        unsafe { sys::pe_c_abi_4() };
+        unsafe { sys::pe_c_abi_5() };
         let mut info = ImageInfo::default();
         let way = number_of(mode, layout);
         // SAFETY: as above.
@@ -545,48 +544,26 @@ impl<'a> Image<'a> {
     /// A section's data start at its raw pointer rounded down to a multiple of 512. Of a file whose alignment is below 512,
     /// as iPXE's, every call that maps RVAs so finds other offsets than a reader that does not round.
     pub fn offset(&self, rva: u32) -> Option<u64> {
-        let mut offset = 0;
-        // SAFETY: as above.
-        let number =
-            unsafe { sys::pe_c_offset(&self.info, self.sections.as_ptr(), self.sections.len(), rva, &mut offset) };
-        (number == sys::DONE).then_some(offset)
+        self.ask_with(sys::pe_c_offset, rva).ok()?
     }
 
     /// The section that maps an RVA: the first that covers it, by which [`Image::offset`] maps it. `None` where none does, and in
     /// [`Layout::Mapped`], where no section maps RVAs.
     pub fn section_at(&self, rva: u32) -> Option<&Section> {
-        let view = self.view();
-        let mut index = 0;
-        // SAFETY: the view is of what `self` lends for the call.
-        let number = unsafe { sys::pe_c_section_at(&view, rva, &mut index) };
-        self.sections.get(usize::try_from(index).ok()?).filter(|_| number == sys::DONE)
+        let index = self.ask_with(sys::pe_c_section_at, rva).ok()??;
+        self.sections.get(usize::try_from(index).ok()?)
     }
 
     /// The bytes that the RVAs of a section are mapped to, one after the other, up to the end of the bytes; empty without any. In
     /// [`Layout::Mapped`] they stand at the section's RVA, as many as its virtual size says, or its raw size where that is 0.
     pub fn section_bytes(&self, section: &Section) -> &'a [u8] {
-        let view = self.view();
-        let mut range = sys::Range::default();
-        // SAFETY: the view is of what `self` lends for the call, and the section is lent too.
-        let number = unsafe { sys::pe_c_section_range(&view, section, &mut range) };
-        if number == sys::DONE {
-            range.of(self.bytes).unwrap_or_default()
-        } else {
-            &[]
-        }
+        let range = self.ask_of(sys::pe_c_section_range, section).ok().flatten().unwrap_or_default();
+        range.of(self.bytes).unwrap_or_default()
     }
 
-    /// The image as newer calls take it. It is for calls that end before `self` changes or ends.
+    /// The image as calls take it. It is for calls that end before `self` changes or ends.
     pub(crate) fn view(&self) -> sys::View {
-        sys::View {
-            bytes: self.bytes.as_ptr(),
-            length: self.bytes.len(),
-            image: &self.info,
-            sections: self.sections.as_ptr(),
-            count: self.sections.len(),
-            index: self.index.as_ptr(),
-            entries: self.index.len(),
-        }
+        sys::View::of(self.bytes, &self.info, &self.sections, &self.index)
     }
 
     /// Makes the index of the sections, where these are many: few are tested in turn as fast.
@@ -611,21 +588,17 @@ impl<'a> Image<'a> {
 
     /// Makes a call that takes the image.
     pub(crate) fn ask<T: Default>(&self, call: Call<T>) -> Result<Option<T>, Error> {
-        let mut out = T::default();
-        let (bytes, sections) = (self.bytes, &self.sections);
+        let (view, mut out) = (self.view(), T::default());
         // SAFETY: as above.
-        let number =
-            unsafe { call(bytes.as_ptr(), bytes.len(), &self.info, sections.as_ptr(), sections.len(), &mut out) };
+        let number = unsafe { call(&view, &mut out) };
         returned(number, out)
     }
 
     /// Makes a call that takes one more argument: a number, or a pointer to what the caller lends for the call.
     fn call_with<M, T: Default>(&self, call: CallWith<M, T>, more: M) -> Result<Option<T>, Error> {
-        let mut out = T::default();
-        let (bytes, sections) = (self.bytes, &self.sections);
+        let (view, mut out) = (self.view(), T::default());
         // SAFETY: as above, and `more` is a number, or comes from a reference of the calls below.
-        let number =
-            unsafe { call(bytes.as_ptr(), bytes.len(), &self.info, sections.as_ptr(), sections.len(), more, &mut out) };
+        let number = unsafe { call(&view, more, &mut out) };
         returned(number, out)
     }
 
@@ -641,11 +614,9 @@ impl<'a> Image<'a> {
 
     /// Makes a call that takes a record, and a number or a pointer to what the caller lends for the call.
     fn look_with<M, N, T: Default>(&self, call: Look<M, N, T>, more: &M, last: N) -> Result<Option<T>, Error> {
-        let mut out = T::default();
-        let (bytes, sections) = (self.bytes, &self.sections);
-        let (first, count) = (sections.as_ptr(), sections.len());
+        let (view, mut out) = (self.view(), T::default());
         // SAFETY: as above, `more` is lent for the call, and `last` is a number, or comes from a reference of `step_by`.
-        let number = unsafe { call(bytes.as_ptr(), bytes.len(), &self.info, first, count, more, last, &mut out) };
+        let number = unsafe { call(&view, more, last, &mut out) };
         returned(number, out)
     }
 

@@ -235,15 +235,14 @@ impl<'a> ResourceEditor<'a> {
     /// [`Error::EDIT_OVERLAP`], [`Error::EDIT_DEBUG_DATA`] where the data of the sections have no end; [`Error::MEMORY`].
     pub fn write(&self) -> Result<Vec<u8>, Error> {
         let (records, data) = self.records()?;
+        let view = sys::View::of(self.bytes, &self.info, &[], &[]);
         /// A call of the image and these resources. Its other arguments are lent for the call; a room is apart from the others.
         macro_rules! call {
             ($call:ident, $($argument:expr),+) => {
-                // SAFETY: each pointer and length are those of one slice, and `info` is lent for the call.
+                // SAFETY: each pointer and length are those of one slice, and the view is of what is lent for the call.
                 unsafe {
                     sys::$call(
-                        self.bytes.as_ptr(),
-                        self.bytes.len(),
-                        &self.info,
+                        &view,
                         records.as_ptr(),
                         records.len(),
                         data.as_ptr(),

@@ -4,7 +4,6 @@
 
 use crate::image::{bytes_of, Error, Image};
 use crate::sys::{self, Section};
-use crate::walk::ask_of_bytes;
 
 impl<'a> Image<'a> {
     /// The COFF string table, from its size field on. `None` where the image has no COFF symbols, where the bytes end after
@@ -19,7 +18,7 @@ impl<'a> Image<'a> {
     }
 
     fn string_table_range(&self) -> Result<Option<sys::Range>, Error> {
-        ask_of_bytes(self.bytes(), sys::pe_c_string_table, self.info())
+        self.ask(sys::pe_c_string_table)
     }
 
     /// The overlay: the bytes after the headers and the raw data of all sections, which no loader reads. Installers keep their

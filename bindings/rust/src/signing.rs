@@ -5,8 +5,7 @@
 //! A caller hashes what the digest covers by a crate of its choice, signs that, and attaches the signature.
 
 use crate::image::{Error, Image};
-use crate::sys::{self, ImageInfo};
-use crate::walk::ask_of_bytes;
+use crate::sys;
 use alloc::vec::Vec;
 use core::ops::Range;
 
@@ -91,8 +90,8 @@ impl<'a> Image<'a> {
     ///
     /// [`Error::NO_OPTIONAL_HEADER`].
     pub fn digest_ranges(&self) -> Result<DigestRanges<'a>, Error> {
-        let found = ask_of_bytes(self.bytes(), sys::pe_c_digest_ranges, self.info())?;
-        Ok(DigestRanges { bytes: self.bytes(), found: found.unwrap_or_default() })
+        let found = self.ask(sys::pe_c_digest_ranges)?.unwrap_or_default();
+        Ok(DigestRanges { bytes: self.bytes(), found })
     }
 
     /// The checksum that the image should have, and the file offset of its field. What the field holds makes no difference.
@@ -102,7 +101,7 @@ impl<'a> Image<'a> {
     ///
     /// [`Error::NO_OPTIONAL_HEADER`].
     pub fn checksum(&self) -> Result<Checksum, Error> {
-        let found = ask_of_bytes(self.bytes(), sys::pe_c_checksum, self.info())?.unwrap_or_default();
+        let found = self.ask(sys::pe_c_checksum)?.unwrap_or_default();
         Ok(Checksum { offset: found.offset, value: found.value })
     }
 
@@ -139,17 +138,14 @@ impl<'a> Image<'a> {
     /// - [`Error::SIGN_TOO_LARGE`] if the file with it has 2^32 bytes or more;
     /// - [`Error::MEMORY`] if it cannot be allocated.
     pub fn attach(&self, certificate: &[u8], placement: Placement) -> Result<Vec<u8>, Error> {
-        let (bytes, info): (_, *const ImageInfo) = (self.bytes(), self.info());
+        let view = self.view();
         let (first, count, way) = (certificate.as_ptr(), certificate.len(), placement as u32);
         let mut length = 0;
-        // SAFETY: the pointers and lengths are those of slices and records that are lent for the call.
-        let number =
-            unsafe { sys::pe_c_attached_length(bytes.as_ptr(), bytes.len(), info, first, count, way, &mut length) };
-        Error::of(number)?;
+        // SAFETY: the view is of what `self` lends for the call, and the pointer and the length are those of one slice.
+        Error::of(unsafe { sys::pe_c_attached_length(&view, first, count, way, &mut length) })?;
         file_of(length, |room, written| {
-            let (start, size) = (room.as_mut_ptr(), room.len());
             // SAFETY: as above; the room is fresh, so it overlaps nothing.
-            unsafe { sys::pe_c_attach(bytes.as_ptr(), bytes.len(), info, first, count, way, start, size, written) }
+            unsafe { sys::pe_c_attach(&view, first, count, way, room.as_mut_ptr(), room.len(), written) }
         })
     }
 
@@ -161,11 +157,11 @@ impl<'a> Image<'a> {
     ///
     /// Those of [`Image::attach`] up to [`Error::SIGN_SECTION`]; [`Error::MEMORY`] if the file cannot be allocated.
     pub fn detach(&self) -> Result<Vec<u8>, Error> {
-        let (bytes, info) = (self.bytes(), self.info());
-        let length = ask_of_bytes(bytes, sys::pe_c_detached_length, info)?.unwrap_or_default();
+        let length = self.ask(sys::pe_c_detached_length)?.unwrap_or_default();
+        let view = self.view();
         file_of(length, |room, written| {
-            // SAFETY: the pointers and lengths are those of slices and records that are lent for the call; the room is fresh.
-            unsafe { sys::pe_c_detach(bytes.as_ptr(), bytes.len(), info, room.as_mut_ptr(), room.len(), written) }
+            // SAFETY: the view is of what `self` lends for the call; the room is fresh.
+            unsafe { sys::pe_c_detach(&view, room.as_mut_ptr(), room.len(), written) }
         })
     }
 }

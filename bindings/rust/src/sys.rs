@@ -148,7 +148,7 @@ IndexEntry, 16 {
     /// The index of the section that maps them, plus 1; 0 where none does.
     section: u64,
 });
-/// An image as newer calls take it, in place of its parts.
+/// An image as calls take it.
 #[repr(C)]
 #[derive(Clone, Copy, Debug)]
 pub struct View {
@@ -166,6 +166,22 @@ pub struct View {
     pub index: *const IndexEntry,
     /// The entries of the index; 0 without one.
     pub entries: usize,
+}
+
+impl View {
+    /// The view of an image by its parts, for calls that end before any of them changes or ends. Without an index, and for calls
+    /// that need no sections, a part is empty.
+    pub fn of(bytes: &[u8], image: &ImageInfo, sections: &[Section], index: &[IndexEntry]) -> View {
+        View {
+            bytes: bytes.as_ptr(),
+            length: bytes.len(),
+            image,
+            sections: sections.as_ptr(),
+            count: sections.len(),
+            index: index.as_ptr(),
+            entries: index.len(),
+        }
+    }
 }
 
 record!(
@@ -1889,14 +1905,11 @@ Arm64Context, 336 {
     cpsr: u32,
 });
 
-/// Declares calls that take an image first, after their names more parameters, and then `out`.
+/// Declares calls that take a view of an image first, after their names more parameters, and then `out`.
 macro_rules! calls_of_an_image {
     ($($(#[$doc:meta])* $name:ident($($more:ident: $type:ty),*) -> $out:ty;)*) => {
         extern "C" {
-            $($(#[$doc])* pub fn $name(
-                bytes: *const u8, length: usize, image: *const ImageInfo, sections: *const Section, count: usize,
-                $($more: $type,)* out: *mut $out,
-            ) -> u32;)*
+            $($(#[$doc])* pub fn $name(view: *const View, $($more: $type,)* out: *mut $out) -> u32;)*
         }
     };
 }
@@ -1912,7 +1925,7 @@ macro_rules! calls_of_bytes {
 
 extern "C" {
     /// Returns the number of the archive's ABI, which its name has too: a program does not link with an archive of another.
-    pub fn pe_c_abi_4() -> u32;
+    pub fn pe_c_abi_5() -> u32;
     /// Writes the text of a result to the start of the array, truncated at its end. Returns the length of the whole text.
     pub fn pe_c_text(number: u32, room: *mut u8, length: usize) -> usize;
     /// Writes the section headers of a COFF object to the start of an array.
@@ -1939,17 +1952,8 @@ extern "C" {
         room: *mut Section,
         entries: usize,
     ) -> u32;
-    /// Returns the file offset of an RVA; in an image as loaded the RVA itself.
-    pub fn pe_c_offset(image: *const ImageInfo, sections: *const Section, count: usize, rva: u32, out: *mut u64)
-        -> u32;
-    /// Returns the first entry of a type in the debug directory.
-    pub fn pe_c_first_debug_entry(view: *const View, data_type: u32, out: *mut DebugEntry) -> u32;
     /// Makes an index of the sections of a view.
     pub fn pe_c_index(view: *const View, room: *mut IndexEntry, entries: usize, written: *mut u64) -> u32;
-    /// Returns the index of the section that maps an RVA.
-    pub fn pe_c_section_at(view: *const View, rva: u32, out: *mut u64) -> u32;
-    /// Returns the bytes that the RVAs of a section are mapped to.
-    pub fn pe_c_section_range(view: *const View, section: *const Section, out: *mut Range) -> u32;
     /// Lists the next functions of a table, from an index on.
     pub fn pe_c_list_functions(
         view: *const View,
@@ -2084,10 +2088,6 @@ extern "C" {
         number_of_entries: usize,
         written: *mut u64,
     ) -> u32;
-    /// Returns the bytes from an RVA to the end of what its section has.
-    pub fn pe_c_range_at(view: *const View, rva: u32, out: *mut Range) -> u32;
-    /// Returns the RVA that leads to a file offset.
-    pub fn pe_c_rva(view: *const View, offset: u64, out: *mut u32) -> u32;
     /// Starts the plan of a function, by its unwind RVA.
     pub fn pe_c_plan_from(unwind: u32, out: *mut Plan) -> u32;
     /// Finds the registers of an x64 function's caller, and writes them over those of the frame.
@@ -2157,23 +2157,9 @@ extern "C" {
         piece_count: usize,
         frame: *mut Arm64Frame,
     ) -> u32;
-    /// Writes the file with a certificate to the start of an array, and returns its length.
-    pub fn pe_c_attach(
-        bytes: *const u8,
-        length: usize,
-        image: *const ImageInfo,
-        certificate: *const u8,
-        certificate_length: usize,
-        placement: u32,
-        room: *mut u8,
-        room_length: usize,
-        out: *mut u64,
-    ) -> u32;
     /// Returns the length of the file that [`pe_c_edit`] writes.
     pub fn pe_c_edited_length(
-        bytes: *const u8,
-        length: usize,
-        image: *const ImageInfo,
+        view: *const View,
         resources: *const Resource,
         resource_count: usize,
         data: *const u8,
@@ -2182,13 +2168,21 @@ extern "C" {
     ) -> u32;
     /// Writes the image with other resources to the start of an array, and returns its length.
     pub fn pe_c_edit(
-        bytes: *const u8,
-        length: usize,
-        image: *const ImageInfo,
+        view: *const View,
         resources: *const Resource,
         resource_count: usize,
         data: *const u8,
         data_length: usize,
+        room: *mut u8,
+        room_length: usize,
+        out: *mut u64,
+    ) -> u32;
+    /// Writes the file with a certificate to the start of an array, and returns its length.
+    pub fn pe_c_attach(
+        view: *const View,
+        certificate: *const u8,
+        certificate_length: usize,
+        placement: u32,
         room: *mut u8,
         room_length: usize,
         out: *mut u64,
@@ -2280,16 +2274,6 @@ calls_of_bytes! {
     pe_c_time(range: *const Range, failure: *mut SignatureFailure) -> UtcTime;
     /// Reads what a time stamp says.
     pe_c_time_stamp(range: *const Range, failure: *mut SignatureFailure) -> TstInfo;
-    /// Returns what the Authenticode digest of an image covers.
-    pe_c_digest_ranges(image: *const ImageInfo) -> Digest;
-    /// Returns the checksum that an image should have, and the file offset of its field.
-    pe_c_checksum(image: *const ImageInfo) -> ChecksumField;
-    /// Returns the length of the file that [`pe_c_attach`] writes.
-    pe_c_attached_length(image: *const ImageInfo, certificate: *const u8, certificate_length: usize, placement: u32) -> u64;
-    /// Returns the length of the file that [`pe_c_detach`] writes.
-    pe_c_detached_length(image: *const ImageInfo) -> u64;
-    /// Writes the file without certificates to the start of an array, and returns its length.
-    pe_c_detach(image: *const ImageInfo, room: *mut u8, room_length: usize) -> u64;
     /// Returns the x64 function that covers an RVA.
     pe_c_find_function(table: *const Range, rva: u32) -> Function;
     /// Returns the x64 function with an index.
@@ -2308,24 +2292,18 @@ calls_of_bytes! {
     pe_c_arm64_codes(codes: *const Range, start: u64) -> Arm64Walk;
     /// Returns the next ARM64 unwind code.
     pe_c_next_arm64_code(walk: *mut Arm64Walk) -> Arm64Code;
-    /// Returns the next TLS callback, a virtual address.
-    pe_c_next_tls_callback(image: *const ImageInfo, walk: *mut Range) -> u64;
     /// Returns the next stream of CLR metadata.
     pe_c_next_metadata_stream(walk: *mut MetadataStreams) -> MetadataStream;
     /// Returns the fixed file information in the content of a leaf.
     pe_c_fixed_version_in(content: *const Range) -> Version;
     /// Returns the value of a version name in the content of a leaf.
     pe_c_version_text_in(content: *const Range, name: u32) -> Range;
-    /// Returns the COFF string table.
-    pe_c_string_table(image: *const ImageInfo) -> Range;
     /// Returns the name of a section in the string table.
     pe_c_long_section_name(table: *const Range, section: *const Section) -> Range;
     /// Returns the Rich header.
     pe_c_rich_header() -> RichHeader;
     /// Returns the next entry of a Rich header.
     pe_c_next_rich_entry(key: u32, walk: *mut Range) -> RichEntry;
-    /// Returns the directory of bound imports.
-    pe_c_bound_imports(image: *const ImageInfo) -> Range;
     /// Returns the next bound import.
     pe_c_next_bound_import(table: *const Range, walk: *mut Range) -> BoundImport;
     /// Returns the next DLL that a bound import forwards to.
@@ -2403,8 +2381,20 @@ calls_of_bytes! {
 }
 
 calls_of_an_image! {
+    /// Returns the file offset of an RVA; in an image as loaded the RVA itself.
+    pe_c_offset(rva: u32) -> u64;
+    /// Returns the index of the section that maps an RVA.
+    pe_c_section_at(rva: u32) -> u64;
+    /// Returns the bytes that the RVAs of a section are mapped to.
+    pe_c_section_range(section: *const Section) -> Range;
+    /// Returns the bytes from an RVA to the end of what its section has.
+    pe_c_range_at(rva: u32) -> Range;
+    /// Returns the RVA that leads to a file offset.
+    pe_c_rva(offset: u64) -> u32;
     /// Returns the entries of the debug directory, as a walk.
     pe_c_debug_entries() -> Range;
+    /// Returns the first entry of a type in the debug directory.
+    pe_c_first_debug_entry(data_type: u32) -> DebugEntry;
     /// Returns the CodeView record, if it is one of PDB 7.0.
     pe_c_symbol_key() -> Key;
     /// Returns the CodeView record, if it is one of PDB 2.0.
@@ -2419,6 +2409,18 @@ calls_of_an_image! {
     pe_c_debug_pogo() -> Pogo;
     /// Returns the range of the overlay.
     pe_c_overlay() -> Range;
+    /// Returns the COFF string table.
+    pe_c_string_table() -> Range;
+    /// Returns what the Authenticode digest of an image covers.
+    pe_c_digest_ranges() -> Digest;
+    /// Returns the checksum that an image should have, and the file offset of its field.
+    pe_c_checksum() -> ChecksumField;
+    /// Returns the length of the file that [`pe_c_attach`] writes.
+    pe_c_attached_length(certificate: *const u8, certificate_length: usize, placement: u32) -> u64;
+    /// Returns the length of the file that [`pe_c_detach`] writes.
+    pe_c_detached_length() -> u64;
+    /// Writes the file without certificates to the start of an array, and returns its length.
+    pe_c_detach(room: *mut u8, room_length: usize) -> u64;
     /// Returns the range of the x64 function table.
     pe_c_function_table() -> Range;
     /// Returns the x64 unwind record of an unwind RVA.
@@ -2445,6 +2447,8 @@ calls_of_an_image! {
     pe_c_next_library(walk: *mut Libraries) -> Library;
     /// Returns the next import of a library.
     pe_c_next_import(walk: *mut Imports) -> Import;
+    /// Returns the directory of bound imports.
+    pe_c_bound_imports() -> Range;
     /// Returns the entries of the delay import directory, as a walk.
     pe_c_delay_imports() -> Range;
     /// Returns the next DLL of the delay import directory.
@@ -2467,6 +2471,8 @@ calls_of_an_image! {
     pe_c_tls() -> TlsDirectory;
     /// Returns the callbacks of a TLS directory, as a walk.
     pe_c_tls_callbacks(tls: *const TlsDirectory) -> Range;
+    /// Returns the next callback, a virtual address.
+    pe_c_next_tls_callback(walk: *mut Range) -> u64;
     /// Returns the load configuration.
     pe_c_load_config() -> LoadConfig;
     /// Returns the blocks of the base relocations, as a walk.

@@ -38,11 +38,9 @@ impl Iterator for TlsCallbacks<'_, '_> {
     type Item = Result<u64, Error>;
 
     fn next(&mut self) -> Option<Self::Item> {
-        let (bytes, info) = (self.image.bytes(), self.image.info());
-        // SAFETY: the pointer and the length are those of one slice; the records are lent for the call.
-        next_of(&mut self.walk, |walk, out| unsafe {
-            sys::pe_c_next_tls_callback(bytes.as_ptr(), bytes.len(), info, walk, out)
-        })
+        let view = self.image.view();
+        // SAFETY: the view is of what the image lends for the call; the records are lent too.
+        next_of(&mut self.walk, |walk, out| unsafe { sys::pe_c_next_tls_callback(&view, walk, out) })
     }
 }
 

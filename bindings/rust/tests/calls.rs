@@ -418,12 +418,11 @@ fn signing_is_refused_by_number() {
     assert_eq!(Error::SIGN_TOO_LARGE.number(), 206);
     // a room that is too small stays as it was
     let (image, mut room, mut length) = (strict(SMALL), [0xEE; 0x41F], 5);
-    let (bytes, info) = (image.bytes(), image.info());
+    let view = pe_c::sys::View::of(image.bytes(), image.info(), &[], &[]);
     let (first, size) = (CERTIFICATE.as_ptr(), CERTIFICATE.len());
     let (out, end) = (room.as_mut_ptr(), room.len());
     // SAFETY: the pointers and lengths are those of slices, arrays and records.
-    let number =
-        unsafe { pe_c::sys::pe_c_attach(bytes.as_ptr(), bytes.len(), info, first, size, 0, out, end, &mut length) };
+    let number = unsafe { pe_c::sys::pe_c_attach(&view, first, size, 0, out, end, &mut length) };
     assert_eq!((number, length), (Error::WRITE_FIT.number(), 5));
     assert!(room.iter().all(|byte| *byte == 0xEE));
 }

@@ -191,16 +191,8 @@ fn code_is_that_of_the_image() {
 fn frames_that_lie() {
     let file = made::with_functions();
     let image = image_of(&file);
-    let (bytes, sections) = (image.bytes(), image.sections());
-    let view = sys::View {
-        bytes: bytes.as_ptr(),
-        length: bytes.len(),
-        image: image.info(),
-        sections: sections.as_ptr(),
-        count: sections.len(),
-        index: std::ptr::null(),
-        entries: 0,
-    };
+    let bytes = image.bytes();
+    let view = sys::View::of(bytes, image.info(), image.sections(), &[]);
     let numbers = [0, 1, 7, 8, 0x5000, u64::from(u32::MAX), 1 << 63, u64::MAX - 7, u64::MAX];
     for number in numbers {
         for start in numbers {

@@ -53,6 +53,11 @@ fn every_byte_of_an_image_may_change() {
     assert_read(seen);
 }
 
+/// A view without an index, for calls that end before the image.
+fn view_of(image: &Image) -> sys::View {
+    sys::View::of(image.bytes(), image.info(), image.sections(), &[])
+}
+
 /// Numbers at the ends of their ranges, and near the length of the bytes.
 fn lies(length: u64) -> Vec<u64> {
     vec![0, 1, 4, length - 1, length, length + 1, 1 << 31, u32::MAX.into(), 1 << 32, 1 << 63, u64::MAX - 3, u64::MAX]
@@ -101,7 +106,7 @@ fn ranges_that_lie_are_refused() {
     let bytes = with_functions();
     let (start, length) = (bytes.as_ptr(), bytes.len());
     let image = Image::parse(&bytes, Mode::Strict).unwrap();
-    let (info, sections) = (image.info(), image.sections());
+    let (view, sections) = (view_of(&image), image.sections());
     for offset in lies(length as u64) {
         for size in lies(length as u64) {
             let range = sys::Range { offset, length: size };
@@ -113,10 +118,8 @@ fn ranges_that_lie_are_refused() {
                 assert_eq!(answer == 2, !there);
                 let answer = sys::pe_c_function_at(start, length, &range, 0, &mut function);
                 assert!(there || answer == 2);
-                let (first, count) = (sections.as_ptr(), sections.len());
                 let mut function = sys::Arm64Function::default();
-                let answer =
-                    sys::pe_c_find_arm64_function(start, length, info, first, count, &range, 0x5008, &mut function);
+                let answer = sys::pe_c_find_arm64_function(&view, &range, 0x5008, &mut function);
                 assert!(there || (answer == 2 && function == sys::Arm64Function::default()));
                 let mut out = sys::Range::default();
                 let answer = sys::pe_c_scope_table(start, length, &range, &mut out);
@@ -163,14 +166,13 @@ fn walks_over_imports_that_lie_end() {
     let bytes = with_imports();
     let length = bytes.len();
     let image = Image::parse(&bytes, Mode::Strict).unwrap();
-    let (info, sections) = (image.info(), image.sections());
+    let view = view_of(&image);
     for offset in lies(length as u64) {
         for is_over in [0, 1, u32::MAX] {
             let start = sys::Libraries { next: offset, is_over, spare: 9 };
             // SAFETY: the pointers and lengths are those of slices, and the records are lent for the call.
             let first = first_of_all(length, start, |walk, out| unsafe {
-                let (bytes, sections, count) = (bytes.as_ptr(), sections.as_ptr(), sections.len());
-                sys::pe_c_next_library(bytes, length, info, sections, count, walk, out)
+                sys::pe_c_next_library(&view, walk, out)
             });
             assert!(is_over == 0 || first == 100);
             assert!(is_over != 0 || offset < length as u64 || first == 2);
@@ -179,8 +181,7 @@ fn walks_over_imports_that_lie_end() {
             let left = sys::Range { offset, length: size };
             // SAFETY: as above.
             let first = first_of_all(length, sys::Imports { left, rva }, |walk, out| unsafe {
-                let (bytes, sections, count) = (bytes.as_ptr(), sections.as_ptr(), sections.len());
-                sys::pe_c_next_import(bytes, length, info, sections, count, walk, out)
+                sys::pe_c_next_import(&view, walk, out)
             });
             assert!(left.of(&bytes).is_some() || first == 2);
         }
@@ -192,22 +193,20 @@ fn walks_over_delay_imports_and_streams_that_lie_end() {
     let bytes = with_delay_imports();
     let length = bytes.len();
     let image = Image::parse(&bytes, Mode::Strict).unwrap();
-    let (info, sections) = (image.info(), image.sections());
+    let view = view_of(&image);
     for offset in lies(length as u64) {
         for size in lies(length as u64) {
             let range = sys::Range { offset, length: size };
             let there = range.of(&bytes).is_some();
             // SAFETY: the pointers and lengths are those of slices, and the records are lent for the call.
             let first = first_of_all(length, range, |walk, out| unsafe {
-                let (bytes, sections, count) = (bytes.as_ptr(), sections.as_ptr(), sections.len());
-                sys::pe_c_next_delay_import(bytes, length, info, sections, count, walk, out)
+                sys::pe_c_next_delay_import(&view, walk, out)
             });
             assert!(there || first == 2);
             let start = sys::DelayedFunctions { left: range, attributes: size as u32, spare: 9 };
             // SAFETY: as above.
             let first = first_of_all(length, start, |walk, out| unsafe {
-                let (bytes, sections, count) = (bytes.as_ptr(), sections.as_ptr(), sections.len());
-                sys::pe_c_next_delayed_function(bytes, length, info, sections, count, walk, out)
+                sys::pe_c_next_delayed_function(&view, walk, out)
             });
             assert!(there || first == 2);
             let whole = sys::Range { offset: 0, length: length as u64 };
@@ -224,7 +223,7 @@ fn walks_over_leaves_that_lie_end() {
     let bytes = with_named_resources();
     let length = bytes.len();
     let image = Image::parse(&bytes, Mode::Strict).unwrap();
-    let (info, sections) = (image.info(), image.sections());
+    let view = view_of(&image);
     let (tree, none) = (sys::Range { offset: 0x408, length: 0x8E }, sys::Range::default());
     let whole = sys::ResourceWalk { tree, ..sys::ResourceWalk::default() };
     let entry = sys::ResourceEntry { name_or_id: u32::MAX, offset_to_data_or_directory: u32::MAX };
@@ -241,8 +240,7 @@ fn walks_over_leaves_that_lie_end() {
         ] {
             // SAFETY: the pointers and lengths are those of slices, and the records are lent for the call.
             let first = first_of_all(length * length, walk, |walk, out| unsafe {
-                let (bytes, sections, count) = (bytes.as_ptr(), sections.as_ptr(), sections.len());
-                sys::pe_c_next_resource_leaf(bytes, length, info, sections, count, walk, out)
+                sys::pe_c_next_resource_leaf(&view, walk, out)
             });
             assert!(there || first == 2);
         }
@@ -278,13 +276,15 @@ fn no_bytes_may_be_null() {
     // SAFETY: slices of no entries may be null; each record is lent for its call.
     unsafe {
         assert_eq!(sys::pe_c_image(core::ptr::null(), 0, 0, &mut info), 2);
-        assert_eq!(sys::pe_c_offset(&info, core::ptr::null(), 0, 0x1000, &mut offset), 100);
-        assert_eq!(sys::pe_c_detach(core::ptr::null(), 0, &info, core::ptr::null_mut(), 0, &mut offset), 2);
+        let (bytes, sections, index) = (core::ptr::null(), core::ptr::null(), core::ptr::null());
+        let view = sys::View { bytes, length: 0, image: &info, sections, count: 0, index, entries: 0 };
+        assert_eq!(sys::pe_c_offset(&view, 0x1000, &mut offset), 100);
+        let (none, room) = (core::ptr::null(), core::ptr::null_mut());
+        assert_eq!(sys::pe_c_detach(&view, room, 0, &mut offset), 2);
         // a certificate and a room of no bytes: the first is truncated, the second too small
-        let (bytes, length, none) = (SMALL.as_ptr(), SMALL.len(), core::ptr::null());
-        let room = core::ptr::null_mut();
-        assert_eq!(sys::pe_c_attach(bytes, length, &info, none, 0, 0, room, 0, &mut offset), 2);
-        assert_eq!(sys::pe_c_detach(bytes, length, &info, room, 0, &mut offset), 37);
+        let view = sys::View { bytes: SMALL.as_ptr(), length: SMALL.len(), ..view };
+        assert_eq!(sys::pe_c_attach(&view, none, 0, 0, room, 0, &mut offset), 2);
+        assert_eq!(sys::pe_c_detach(&view, room, 0, &mut offset), 37);
     }
     assert_eq!((info, offset), (sys::ImageInfo::default(), 7));
 }

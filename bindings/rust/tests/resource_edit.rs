@@ -151,12 +151,12 @@ fn edits_by_call(image: &Image<'_>, length: usize) -> bool {
     let name = sys::ResourceName { id: 10, ..Default::default() };
     let content = sys::Range { offset: 0, length: 4 };
     let record = sys::Resource { resource_type: name, name, content, language: 0, code_page: 0 };
-    let (bytes, data) = (image.bytes(), [1, 2, 3, 4]);
+    let (view, data) = (sys::View::of(image.bytes(), image.info(), &[], &[]), [1, 2, 3, 4]);
     let (mut room, mut out) = (vec![0xA5; length], 0xA5);
     // SAFETY: each pointer and length are those of one slice or one record, lent for the call; the room is apart from the others.
     let answer = unsafe {
         let (room, length) = (room.as_mut_ptr(), room.len());
-        sys::pe_c_edit(bytes.as_ptr(), bytes.len(), image.info(), &record, 1, data.as_ptr(), 4, room, length, &mut out)
+        sys::pe_c_edit(&view, &record, 1, data.as_ptr(), 4, room, length, &mut out)
     };
     assert!(answer == 0 || (out == 0xA5 && room.iter().all(|it| *it == 0xA5)));
     answer == 0

@@ -136,7 +136,8 @@ impl<'a> PE<'a> {
 
     /// The parts of the file that an Authenticode digest covers, one after the other.
     pub fn authenticode_ranges(&self) -> authenticode::ExcludedSectionsIter<'_> {
-        let digest = raw::digest_ranges(self.bytes, &self.info).ok().flatten();
+        let view = View { bytes: self.bytes, info: &self.info, sections: &[] };
+        let digest = view.digest_ranges().ok().flatten();
         authenticode::ExcludedSectionsIter::new(self.bytes, digest)
     }
 }
@@ -152,7 +153,7 @@ fn unless_damaged<T>(found: error::Result<Option<T>>, is_permissive: bool) -> er
 fn sections_of(view: View<'_, '_>) -> error::Result<Vec<section_table::SectionTable>> {
     let has_long_names = view.sections.iter().any(|it| it.name[0] == b'/');
     let names = match has_long_names {
-        true => raw::string_table(view.bytes, view.info).ok().flatten(),
+        true => view.string_table().ok().flatten(),
         false => None,
     };
     let (mut sections, mut left) = (raw::list(view.sections.len())?, view.bytes.len());

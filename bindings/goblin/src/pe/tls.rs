@@ -95,7 +95,7 @@ impl<'a> TlsData<'a> {
 fn callbacks_of(view: View<'_, '_>, tls: &sys::TlsDirectory) -> error::Result<Vec<u64>> {
     let mut callbacks = Vec::new();
     if let Some(mut walk) = view.tls_callbacks(tls)? {
-        while let Some(callback) = raw::next_tls_callback(view.bytes, view.info, &mut walk)? {
+        while let Some(callback) = view.next_tls_callback(&mut walk)? {
             raw::push(&mut callbacks, callback)?;
         }
     }

@@ -5,7 +5,7 @@ use super::data_directories::DataDirectory;
 use super::options::ParseOptions;
 use super::section_table::SectionTable;
 use crate::error;
-use crate::raw::{self, Index};
+use crate::raw::{self, Index, View};
 
 /// Whether an RVA is at least the first and below the second.
 pub fn is_in_range(rva: usize, r1: usize, r2: usize) -> bool {
@@ -20,7 +20,8 @@ pub fn find_offset(rva: usize, sections: &[SectionTable], file_alignment: u32, o
     // No section maps an RVA above 32 bits: one ends there.
     let rva = u32::try_from(rva).ok()?;
     let info = raw::image_with(Index::Export, DataDirectory::default(), file_alignment, opts);
-    raw::offset(&info, raw::Sections::of(sections).ok()?.list(), rva)
+    let sections = raw::Sections::of(sections).ok()?;
+    View { bytes: &[], info: &info, sections: sections.list() }.offset(rva)
 }
 
 /// The same, and an error with a text in place of `None`.
