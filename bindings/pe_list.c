@@ -22,19 +22,18 @@ enum { FINE = 0, REFUSED = 1, MISUSED = 2, REFUSAL = 3 };
 
 enum { X64 = 0x8664, ARM64 = 0xAA64, FUNCTION_SIZE = 12, ARM64_FUNCTION_SIZE = 8, FIRST_ROOM = 1 << 16 };
 
-/* The bytes of a file, its headers and its section headers. */
+/* The bytes of a file, its headers and its section headers, and the view of these. */
 typedef struct {
     const char *file;
     uint8_t *bytes;
     size_t length;
     pe_c_image_info info;
     pe_c_section *sections;
-    size_t count;
+    pe_c_view view;
 } image;
 
-/* The first arguments of the calls that take an image. */
+/* The first arguments of the calls that take bytes. */
 #define BYTES(it) (it)->bytes, (it)->length
-#define IMAGE(it) BYTES(it), &(it)->info, (it)->sections, (it)->count
 
 /* ---- reading */
 
@@ -75,12 +74,14 @@ static uint32_t read_image(image *it, uint32_t mode)
     uint32_t result = pe_c_image(it->bytes, it->length, mode, &it->info);
     if (result != PE_C_DONE)
         return result;
-    it->count = it->info.number_of_sections;
+    size_t count = it->info.number_of_sections;
     free(it->sections);
-    it->sections = (pe_c_section *)calloc(it->count + 1, sizeof *it->sections);
+    it->sections = (pe_c_section *)calloc(count + 1, sizeof *it->sections);
     if (it->sections == NULL)
         return PE_C_MEMORY;
-    return pe_c_sections(BYTES(it), &it->info, it->sections, it->count);
+    pe_c_view view = {BYTES(it), &it->info, it->sections, count, NULL, 0};
+    it->view = view;
+    return pe_c_sections(BYTES(it), &it->info, it->sections, count);
 }
 
 static int refused(const image *it, uint32_t result, const char *advice)
@@ -124,9 +125,9 @@ static uint32_t try_libraries(const image *it)
 {
     pe_c_libraries walk = PE_C_EMPTY;
     pe_c_library library = PE_C_EMPTY;
-    uint32_t result = pe_c_import_libraries(IMAGE(it), &walk);
+    uint32_t result = pe_c_import_libraries(&it->view, &walk);
     while (result == PE_C_DONE)
-        result = pe_c_next_library(IMAGE(it), &walk, &library);
+        result = pe_c_next_library(&it->view, &walk, &library);
     return ended(result);
 }
 
@@ -136,7 +137,7 @@ static uint32_t try_imports_of(const image *it, pe_c_imports walk)
     pe_c_import item = PE_C_EMPTY;
     uint32_t result = PE_C_DONE;
     while (result == PE_C_DONE)
-        result = pe_c_next_import(IMAGE(it), &walk, &item);
+        result = pe_c_next_import(&it->view, &walk, &item);
     return ended(result);
 }
 
@@ -147,9 +148,9 @@ static uint32_t try_imports(const image *it)
     pe_c_library library = PE_C_EMPTY;
     uint32_t result = try_libraries(it);
     if (result == PE_C_DONE)
-        result = pe_c_import_libraries(IMAGE(it), &walk);
+        result = pe_c_import_libraries(&it->view, &walk);
     while (result == PE_C_DONE) {
-        result = pe_c_next_library(IMAGE(it), &walk, &library);
+        result = pe_c_next_library(&it->view, &walk, &library);
         if (result == PE_C_DONE)
             result = try_imports_of(it, library.imports);
     }
@@ -160,10 +161,10 @@ static uint32_t try_imports(const image *it)
 static uint32_t try_debug(const image *it, pe_c_range *out)
 {
     pe_c_key key = PE_C_EMPTY;
-    uint32_t result = pe_c_symbol_key(IMAGE(it), &key);
+    uint32_t result = pe_c_symbol_key(&it->view, &key);
     if (result != PE_C_DONE && result != PE_C_NOTHING)
         return result;
-    return pe_c_debug_entries(IMAGE(it), out);
+    return pe_c_debug_entries(&it->view, out);
 }
 
 /* Reads every certificate, and returns the range of the table. */
@@ -186,10 +187,10 @@ static uint32_t try_resources(const image *it)
 {
     pe_c_version version = PE_C_EMPTY;
     pe_c_range manifest = PE_C_EMPTY;
-    uint32_t result = pe_c_fixed_version(IMAGE(it), &version);
+    uint32_t result = pe_c_fixed_version(&it->view, &version);
     if (result != PE_C_DONE && result != PE_C_NOTHING)
         return result;
-    return pe_c_manifest(IMAGE(it), &manifest);
+    return pe_c_manifest(&it->view, &manifest);
 }
 
 /* Reads what `peinfo list` reads, in its order. */
@@ -200,9 +201,9 @@ static uint32_t read_directories(const image *it, directories *out)
     if (result == PE_C_DONE)
         result = keep(it, try_debug(it, &out->debug), &out->has_debug);
     if (result == PE_C_DONE)
-        result = keep(it, pe_c_function_table(IMAGE(it), &out->functions), &out->has_functions);
+        result = keep(it, pe_c_function_table(&it->view, &out->functions), &out->has_functions);
     if (result == PE_C_DONE)
-        result = keep(it, pe_c_arm64_table(IMAGE(it), &out->arm64_functions), &out->has_arm64_functions);
+        result = keep(it, pe_c_arm64_table(&it->view, &out->arm64_functions), &out->has_arm64_functions);
     if (result == PE_C_DONE)
         result = keep(it, try_certificates(it, &out->certificates), &out->has_certificates);
     if (result == PE_C_DONE)
@@ -347,7 +348,7 @@ static int show_key(image *it)
     pe_c_key key = PE_C_EMPTY;
     uint32_t result = read_image(it, PE_C_STRICT);
     if (result == PE_C_DONE)
-        result = pe_c_symbol_key(IMAGE(it), &key);
+        result = pe_c_symbol_key(&it->view, &key);
     if (result == PE_C_NOTHING) {
         printf("none\n");
         return FINE;
@@ -392,7 +393,7 @@ static int show_version(image *it)
     pe_c_version version = PE_C_EMPTY;
     uint32_t result = read_image(it, PE_C_STRICT);
     if (result == PE_C_DONE)
-        result = pe_c_fixed_version(IMAGE(it), &version);
+        result = pe_c_fixed_version(&it->view, &version);
     if (result != PE_C_DONE && result != PE_C_NOTHING)
         return refused(it, result, "");
     if (result == PE_C_DONE) {
@@ -404,7 +405,7 @@ static int show_version(image *it)
     }
     for (uint32_t name = PE_C_COMMENTS; name <= PE_C_SPECIAL_BUILD; name++) {
         pe_c_range text = PE_C_EMPTY;
-        if (pe_c_version_text(IMAGE(it), name, &text) == PE_C_DONE) {
+        if (pe_c_version_text(&it->view, name, &text) == PE_C_DONE) {
             printf("%s ", names[name]);
             show_units(it->bytes + text.offset, text.length);
             putchar('\n');
@@ -483,7 +484,7 @@ static int show_unwinding(image *it, uint32_t rva)
     pe_c_function function = PE_C_EMPTY;
     uint32_t result = read_image(it, PE_C_STRICT);
     if (result == PE_C_DONE)
-        result = pe_c_function_table(IMAGE(it), &table);
+        result = pe_c_function_table(&it->view, &table);
     if (result == PE_C_DONE)
         result = pe_c_find_function(BYTES(it), &table, rva, &function);
     if (result == PE_C_NOTHING) {
@@ -496,7 +497,7 @@ static int show_unwinding(image *it, uint32_t rva)
     pe_c_plan plan = PE_C_EMPTY;
     pe_c_plan_from(function.unwind, &plan);
     pe_c_record record = PE_C_EMPTY;
-    while ((result = pe_c_next_record(IMAGE(it), &table, &plan, &record)) == PE_C_DONE) {
+    while ((result = pe_c_next_record(&it->view, &table, &plan, &record)) == PE_C_DONE) {
         result = show_record(it, &record);
         if (result != PE_C_NOTHING)
             break;

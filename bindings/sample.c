@@ -7,7 +7,7 @@ uint32_t symbol_key(const uint8_t *bytes, size_t length, pe_c_section *room, siz
     uint32_t result = pe_c_image(bytes, length, PE_C_PERMISSIVE, &image);
     if (result == PE_C_DONE)
         result = pe_c_sections(bytes, length, &image, room, entries);
-    if (result == PE_C_DONE)
-        result = pe_c_symbol_key(bytes, length, &image, room, image.number_of_sections, out);
-    return result;
+    /* What calls on an image take. NULL and 0 are for an index of the sections, which few images need. */
+    pe_c_view view = {bytes, length, &image, room, image.number_of_sections, NULL, 0};
+    return result == PE_C_DONE ? pe_c_symbol_key(&view, out) : result;
 }

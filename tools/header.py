@@ -11,8 +11,6 @@ import re
 TOP = os.path.dirname(os.path.dirname(os.path.realpath(__file__)))
 PE_H = os.path.join(TOP, "bindings", "pe.h")
 WIDTHS = {"uint8_t": 1, "uint16_t": 2, "uint32_t": 4, "uint64_t": 8, "size_t": 8, "int16_t": 2}
-# The five parameters that calls on an image start with.
-IMAGE = ("bytes", "length", "image", "sections", "count")
 
 
 @dataclasses.dataclass(frozen=True)

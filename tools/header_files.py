@@ -5,7 +5,7 @@ import json
 import os
 import re
 
-from header import IMAGE, TOP, WIDTHS, Unknown
+from header import TOP, WIDTHS, Unknown
 
 MADE = "/* tools/make_targets makes this file of bindings/pe.h. */\n"
 # Fields of 64 bits are BigInt in JavaScript, all others numbers.
@@ -131,8 +131,8 @@ def portable_c(header):
 
 
 # What the JavaScript passes itself: of a file, of an image, and of a process.
-FILE, OF_IMAGE, OF_PROCESS = IMAGE[:2], (*IMAGE[2:], "view"), ("modules", "module_count", "memory", "memory_length", "pieces",
-                                                               "piece_count")
+FILE, OF_IMAGE, OF_PROCESS = ("bytes", "length"), ("view",), ("modules", "module_count", "memory", "memory_length", "pieces",
+                                                              "piece_count")
 # Calls that it makes in ways of its own.
 OWN_WAYS = re.compile(r"pe_c_(image|sections|text|abi_\d+)")
 # What a call reads and changes, of what it does not fill alone.

@@ -12,8 +12,7 @@ uint32_t arm64_caller_of(const pe_c_module *module, const uint8_t *stack, const 
     frame->rva = (uint32_t)(frame->registers.pc - module->base);
     if (frame->rva < 4 * is_call)
         return PE_C_NOTHING;
-    uint32_t result = pe_c_find_arm64_function(view->bytes, view->length, view->image, view->sections, view->count,
-                                               &module->table, frame->rva - 4 * is_call, &frame->function);
+    uint32_t result = pe_c_find_arm64_function(view, &module->table, frame->rva - 4 * is_call, &frame->function);
     if (result != PE_C_DONE && (result != PE_C_NOTHING || is_call))
         return result;
     frame->leaf = result == PE_C_NOTHING;
@@ -29,9 +28,7 @@ uint32_t arm64_caller_of(const pe_c_module *module, const uint8_t *stack, const 
 
 #include "example.h"
 
-static uint8_t bytes[1 << 26];
 static uint8_t stack[1 << 12];
-static pe_c_section sections[96];
 
 /* The frames of a thread in one image. Its stack starts at address 20000 with the words that are named:
  *     arm64_walk FILE BASE PC LR WORD.. */
@@ -39,19 +36,17 @@ int main(int argc, char **argv)
 {
     if (argc < 5 || (size_t)(argc - 5) > sizeof stack / 8)
         return 2;
-    size_t length = read_file(argv[1], bytes, sizeof bytes), stack_length = 0;
+    size_t stack_length = 0;
     uint64_t base = strtoull(argv[2], NULL, 16);
     for (int i = 5; i < argc; i++, stack_length += 8)
         for (int j = 0; j < 8; j++)
             stack[stack_length + j] = (uint8_t)(strtoull(argv[i], NULL, 16) >> 8 * j);
 
-    pe_c_image_info image = PE_C_EMPTY;
-    uint32_t result = pe_c_image(bytes, length, PE_C_PERMISSIVE, &image);
+    pe_c_module module = PE_C_EMPTY;
+    module.base = base;
+    uint32_t result = read_image(argv[1], PE_C_PERMISSIVE, &module.image);
     if (result == PE_C_DONE)
-        result = pe_c_sections(bytes, length, &image, sections, 96);
-    pe_c_module module = {{bytes, length, &image, sections, image.number_of_sections, NULL, 0}, {0, 0}, base};
-    if (result == PE_C_DONE)
-        result = pe_c_arm64_table(bytes, length, &image, sections, image.number_of_sections, &module.table);
+        result = pe_c_arm64_table(&module.image, &module.table);
     /* Without a table all functions are leaf functions. */
     if (result == PE_C_NOTHING)
         result = PE_C_DONE;

@@ -30,8 +30,10 @@ int main(int argc, char **argv)
     pe_c_image_info image = PE_C_EMPTY;
     uint64_t end = 0;
     uint32_t result = pe_c_image(file, length, PE_C_PERMISSIVE, &image);
+    /* The call needs no section headers. */
+    pe_c_view view = {file, length, &image, NULL, 0, NULL, 0};
     if (result == PE_C_DONE)
-        result = pe_c_attach(file, length, &image, certificate, entry, PE_C_IN_PLACE, written, sizeof written, &end);
+        result = pe_c_attach(&view, certificate, entry, PE_C_IN_PLACE, written, sizeof written, &end);
     if (result != PE_C_DONE)
         return status_of(result);
     FILE *out = fopen(argv[3], "wbx");

@@ -9,15 +9,13 @@
 #include <inttypes.h>
 #include <stdio.h>
 
-enum { MOST_PIECES = 1 << 16, MOST_SECTIONS = 96, MOST_FRAMES = 1000 };
+enum { MOST_PIECES = 1 << 16, MOST_FRAMES = 1000 };
 
-static uint8_t dump[1 << 26], bytes[1 << 26];
-static size_t dump_length, length;
+static uint8_t dump[1 << 26];
+static size_t dump_length;
 static pe_c_dump_info info = PE_C_EMPTY;
 static pe_c_memory_piece pieces[MOST_PIECES];
 static size_t piece_count;
-static pe_c_image_info image = PE_C_EMPTY;
-static pe_c_section sections[MOST_SECTIONS];
 static pe_c_module module;
 
 /* Why a walk is over, by PE_C_END_*. */
@@ -49,10 +47,11 @@ static uint32_t find_module(void)
 {
     pe_c_range stream = PE_C_EMPTY;
     pe_c_dump_module found = PE_C_EMPTY;
+    const pe_c_image_info *image = module.image.image;
     uint32_t result = pe_c_dump_stream(dump, dump_length, &info.directory, PE_C_MODULE_LIST_STREAM, &stream);
     for (uint64_t i = 0; result == PE_C_DONE; i++) {
         result = pe_c_dump_module_at(dump, dump_length, &stream, i, &found);
-        if (result == PE_C_DONE && found.time_date_stamp == image.time_date_stamp && found.size_of_image == image.size_of_image) {
+        if (result == PE_C_DONE && found.time_date_stamp == image->time_date_stamp && found.size_of_image == image->size_of_image) {
             module.base = found.base_of_image;
             return PE_C_DONE;
         }
@@ -60,16 +59,11 @@ static uint32_t find_module(void)
     return result;
 }
 
-static uint32_t read_image(const char *name)
+static uint32_t read_module(const char *name)
 {
-    length = read_file(name, bytes, sizeof bytes);
-    uint32_t result = pe_c_image(bytes, length, PE_C_PERMISSIVE, &image);
+    uint32_t result = read_image(name, PE_C_PERMISSIVE, &module.image);
     if (result == PE_C_DONE)
-        result = pe_c_sections(bytes, length, &image, sections, MOST_SECTIONS);
-    pe_c_view view = {bytes, length, &image, sections, image.number_of_sections, NULL, 0};
-    module.image = view;
-    if (result == PE_C_DONE)
-        result = pe_c_function_table(bytes, length, &image, sections, image.number_of_sections, &module.table);
+        result = pe_c_function_table(&module.image, &module.table);
     if (result == PE_C_NOTHING)
         return PE_C_DONE;
     return result;
@@ -96,7 +90,7 @@ static uint32_t show_stack(const pe_c_context *context)
     walk.remaining = MOST_FRAMES;
     while ((result = pe_c_next_frame(&module, 1, dump, dump_length, pieces, piece_count, &walk)) == PE_C_DONE) {
         uint64_t rip = walk.registers.rip;
-        if (rip - module.base < image.size_of_image)
+        if (rip - module.base < module.image.image->size_of_image)
             printf("image+%" PRIx64 "\n", rip - module.base);
         else
             printf("%" PRIx64 "\n", rip);
@@ -114,7 +108,7 @@ int main(int argc, char **argv)
     dump_length = read_file(argv[1], dump, sizeof dump);
     uint32_t result = pe_c_dump(dump, dump_length, &info);
     if (result == PE_C_DONE)
-        result = read_image(argv[2]);
+        result = read_module(argv[2]);
     if (result == PE_C_DONE)
         result = find_module();
     if (result == PE_C_NOTHING) {

@@ -27,6 +27,23 @@ static size_t read_file(const char *name, uint8_t *room, size_t size)
     return length;
 }
 
+enum { MOST_SECTIONS = 96 };    /* of the Windows loader */
+
+/* Reads an image: its file, its headers and its section headers. The view is of these, and stays until the next call. */
+static inline uint32_t read_image(const char *name, uint32_t mode, pe_c_view *out)
+{
+    static uint8_t bytes[1 << 26];
+    static pe_c_image_info image;
+    static pe_c_section sections[MOST_SECTIONS];
+    size_t length = read_file(name, bytes, sizeof bytes);
+    uint32_t result = pe_c_image(bytes, length, mode, &image);
+    if (result == PE_C_DONE)
+        result = pe_c_sections(bytes, length, &image, sections, MOST_SECTIONS);
+    pe_c_view view = {bytes, length, &image, sections, image.number_of_sections, NULL, 0};
+    *out = view;
+    return result;
+}
+
 /* Shows the bytes of a range up to a zero. A name may hold anything, and is not to drive a terminal: a byte that is no printable
  * ASCII is shown as \xNN. */
 static inline void show_name(const uint8_t *bytes, const pe_c_range *range)

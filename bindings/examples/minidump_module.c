@@ -8,19 +8,14 @@
 #include <inttypes.h>
 #include <stdio.h>
 
-enum { MOST_SECTIONS = 96 };    /* of the Windows loader */
-
-static uint8_t memory[1 << 26];
-static pe_c_section sections[MOST_SECTIONS];
-
-static void show_key(const pe_c_key *key)
+static void show_key(const pe_c_view *view, const pe_c_key *key)
 {
     static const int order[16] = {3, 2, 1, 0, 5, 4, 7, 6, 8, 9, 10, 11, 12, 13, 14, 15};
     printf("symbols ");
     for (int i = 0; i < 16; i++)
         printf("%02X", key->guid[order[i]]);
     printf("%" PRIX32 " ", key->age);
-    show_name(memory, &key->name);
+    show_name(view->bytes, &key->name);
     printf("\n");
 }
 
@@ -28,19 +23,17 @@ int main(int argc, char **argv)
 {
     if (argc != 2)
         return 2;
-    size_t length = read_file(argv[1], memory, sizeof memory);
-    pe_c_image_info image = PE_C_EMPTY;
+    pe_c_view view = PE_C_EMPTY;
     pe_c_key key = PE_C_EMPTY;
-    uint32_t result = pe_c_image(memory, length, PE_C_PERMISSIVE | PE_C_MAPPED, &image);
-    if (result == PE_C_DONE)
-        result = pe_c_sections(memory, length, &image, sections, MOST_SECTIONS);
+    uint32_t result = read_image(argv[1], PE_C_PERMISSIVE | PE_C_MAPPED, &view);
     if (result == PE_C_DONE) {
-        printf("stamp %08" PRIx32 " size %08" PRIx32 " checksum %08" PRIx32 "\n", image.time_date_stamp,
-               image.size_of_image, image.checksum);
-        printf("image %08" PRIX32 "%" PRIx32 "\n", image.time_date_stamp, image.size_of_image);
-        result = pe_c_symbol_key(memory, length, &image, sections, image.number_of_sections, &key);
+        const pe_c_image_info *image = view.image;
+        printf("stamp %08" PRIx32 " size %08" PRIx32 " checksum %08" PRIx32 "\n", image->time_date_stamp,
+               image->size_of_image, image->checksum);
+        printf("image %08" PRIX32 "%" PRIx32 "\n", image->time_date_stamp, image->size_of_image);
+        result = pe_c_symbol_key(&view, &key);
     }
     if (result == PE_C_DONE)
-        show_key(&key);
+        show_key(&view, &key);
     return status_of(result);
 }

@@ -11,13 +11,11 @@
 #include <stdio.h>
 #include <stdlib.h>
 
-enum { MOST_PIECES = 1 << 16, MOST_SECTIONS = 96, MOST_FRAMES = 1000 };
+enum { MOST_PIECES = 1 << 16, MOST_FRAMES = 1000 };
 
-static uint8_t bytes[1 << 26], memory[1 << 26];
-static size_t length, memory_length, piece_count;
+static uint8_t memory[1 << 26];
+static size_t memory_length, piece_count;
 static pe_c_memory_piece pieces[MOST_PIECES];
-static pe_c_image_info image = PE_C_EMPTY;
-static pe_c_section sections[MOST_SECTIONS];
 
 /* Why a walk is over, by PE_C_END_*. */
 static const char *const ends[] = {"bound", "bottom", "no module", "no function", "records", "long chain", "step"};
@@ -26,7 +24,6 @@ int main(int argc, char **argv)
 {
     if (argc < 6 || argc - 6 > MOST_PIECES)
         return 2;
-    length = read_file(argv[1], bytes, sizeof bytes);
     memory_length = read_file(argv[5], memory, sizeof memory);
     for (int i = 6; i < argc; i++) {
         pe_c_memory_piece *piece = &pieces[piece_count++];
@@ -35,13 +32,11 @@ int main(int argc, char **argv)
         piece->offset = strtoull(*end ? end + 1 : end, &end, 16);
         piece->length = strtoull(*end ? end + 1 : end, &end, 16);
     }
-    uint32_t result = pe_c_image(bytes, length, PE_C_PERMISSIVE, &image);
+    pe_c_module module = PE_C_EMPTY;
+    module.base = strtoull(argv[2], NULL, 16);
+    uint32_t result = read_image(argv[1], PE_C_PERMISSIVE, &module.image);
     if (result == PE_C_DONE)
-        result = pe_c_sections(bytes, length, &image, sections, MOST_SECTIONS);
-    pe_c_view view = {bytes, length, &image, sections, image.number_of_sections, NULL, 0};
-    pe_c_module module = {view, {0, 0}, strtoull(argv[2], NULL, 16)};
-    if (result == PE_C_DONE)
-        result = pe_c_function_table(bytes, length, &image, sections, image.number_of_sections, &module.table);
+        result = pe_c_function_table(&module.image, &module.table);
     if (result != PE_C_DONE && result != PE_C_NOTHING)
         return status_of(result);
     pe_c_stack_walk walk = PE_C_EMPTY;

@@ -7,12 +7,7 @@
 #include <inttypes.h>
 #include <stdio.h>
 
-enum { MOST_SECTIONS = 96 };    /* of the Windows loader */
-
-static uint8_t file[1 << 26];
-static size_t length;
-static pe_c_image_info image;
-static pe_c_section sections[MOST_SECTIONS];
+static pe_c_view view;
 
 /* A version is four numbers of 16 bits in two of 32. */
 static void show_numbers(const char *what, uint32_t ms, uint32_t ls)
@@ -24,7 +19,7 @@ static void show_numbers(const char *what, uint32_t ms, uint32_t ls)
 static void show_units(const pe_c_range *text)
 {
     for (uint64_t i = 0; i + 1 < text->length; i += 2) {
-        unsigned unit = file[text->offset + i] | (unsigned)file[text->offset + i + 1] << 8;
+        unsigned unit = view.bytes[text->offset + i] | (unsigned)view.bytes[text->offset + i + 1] << 8;
         if (unit == 0)
             return;
         if (unit >= ' ' && unit <= '~')
@@ -38,14 +33,13 @@ static uint32_t show_version(void)
 {
     pe_c_version version = PE_C_EMPTY;
     pe_c_range text = PE_C_EMPTY;
-    size_t count = image.number_of_sections;
-    uint32_t result = pe_c_fixed_version(file, length, &image, sections, count, &version);
+    uint32_t result = pe_c_fixed_version(&view, &version);
     if (result == PE_C_DONE) {
         show_numbers("file", version.file_version_ms, version.file_version_ls);
         show_numbers("product", version.product_version_ms, version.product_version_ls);
     }
     if (result == PE_C_DONE || result == PE_C_NOTHING)
-        result = pe_c_version_text(file, length, &image, sections, count, PE_C_PRODUCT_NAME, &text);
+        result = pe_c_version_text(&view, PE_C_PRODUCT_NAME, &text);
     if (result == PE_C_DONE) {
         printf("name ");
         show_units(&text);
@@ -58,10 +52,7 @@ int main(int argc, char **argv)
 {
     if (argc != 2)
         return 2;
-    length = read_file(argv[1], file, sizeof file);
-    uint32_t result = pe_c_image(file, length, PE_C_PERMISSIVE, &image);
-    if (result == PE_C_DONE)
-        result = pe_c_sections(file, length, &image, sections, MOST_SECTIONS);
+    uint32_t result = read_image(argv[1], PE_C_PERMISSIVE, &view);
     if (result == PE_C_DONE)
         result = show_version();
     return status_of(result);

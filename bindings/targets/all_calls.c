@@ -29,11 +29,11 @@ struct file {
     uint8_t *room;
     size_t room_length;
     pe_c_image_info image;
-    size_t count;
+    pe_c_view view;
 };
 
 #define BYTES file->bytes, file->length
-#define IMAGE BYTES, &file->image, sections, file->count
+#define VIEW &file->view
 
 /* Makes a call that writes `out`. Where a target needs more around a call, TARGET_CALL is defined for it. */
 #ifndef TARGET_CALL
@@ -121,26 +121,25 @@ static pe_c_frame made_frame(const struct file *file, const pe_c_function *funct
 
 static void step_x64(const struct file *file, const pe_c_range *table, const pe_c_function *function, int way)
 {
-    const pe_c_view view = {BYTES, &file->image, sections, file->count, NULL, 0};
     pe_c_frame frame = made_frame(file, function, way), other = frame;
     uint64_t offset = 0;
     size_t code_length = 0;
     frame.interrupted = other.interrupted = 7;
     other.leaf = 1;
-    if (way % 2 && IS_DONE(pe_c_offset, offset, &file->image, sections, file->count, frame.rva, &offset)
+    if (way % 2 && IS_DONE(pe_c_offset, offset, VIEW, frame.rva, &offset)
         && offset < file->length) {
         code_length = (uint32_t)(function->end - frame.rva);
         if (code_length > file->length - offset)
             code_length = 0;
     }
     const uint8_t *code = code_length ? file->bytes + offset : 0;
-    CALL(pe_c_step, frame, &view, table, code, code_length, stack, sizeof stack, pieces, 3, &frame);
-    CALL(pe_c_step, other, &view, table, code, code_length, stack, sizeof stack, pieces, 3, &other);
+    CALL(pe_c_step, frame, VIEW, table, code, code_length, stack, sizeof stack, pieces, 3, &frame);
+    CALL(pe_c_step, other, VIEW, table, code, code_length, stack, sizeof stack, pieces, 3, &other);
 }
 
 static void walk_stack(const struct file *file, const pe_c_range *table, const pe_c_function *function, int way)
 {
-    const pe_c_module modules[] = {{{BYTES, &file->image, sections, file->count, NULL, 0}, *table, file->image.base}};
+    const pe_c_module modules[] = {{file->view, *table, file->image.base}};
     pe_c_stack_walk walk = PE_C_EMPTY, other, frames[6];
     uint64_t filled = 0;
     walk.registers = made_frame(file, function, way).registers;
@@ -166,7 +165,7 @@ static void record_x64(const struct file *file, pe_c_record *record)
 static void walk_x64(const struct file *file)
 {
     pe_c_range table = PE_C_EMPTY;
-    if (!IS_DONE(pe_c_function_table, table, IMAGE, &table))
+    if (!IS_DONE(pe_c_function_table, table, VIEW, &table))
         return;
     uint64_t functions = table.length / 12, stride = functions / FUNCTIONS + 1;
     for (uint64_t i = 0; i < functions; i += stride) {
@@ -177,14 +176,13 @@ static void walk_x64(const struct file *file)
             continue;
         CALL(pe_c_find_function, found, BYTES, &table, function.begin + (uint32_t)(next_random() % 64), &found);
         CALL(pe_c_plan_from, plan, function.unwind, &plan);
-        WALK(RECORDS, pe_c_next_record, record, IMAGE, &table, &plan, &record)
+        WALK(RECORDS, pe_c_next_record, record, VIEW, &table, &plan, &record)
             record_x64(file, &record);
         pe_c_code codes[8] = PE_C_EMPTY;
         uint64_t coded = 0;
-        const pe_c_view view = {BYTES, &file->image, sections, file->count, NULL, 0};
-        CALL(pe_c_record_codes, codes, &view, &table, function.unwind, &record, codes, 8, &coded);
+        CALL(pe_c_record_codes, codes, VIEW, &table, function.unwind, &record, codes, 8, &coded);
         add(coded);
-        CALL(pe_c_unwind_record, record, IMAGE, &table, function.unwind, &record);
+        CALL(pe_c_unwind_record, record, VIEW, &table, function.unwind, &record);
         for (int way = 0; way < 4; way++) {
             step_x64(file, &table, &function, way);
             walk_stack(file, &table, &function, way);
@@ -209,7 +207,7 @@ static pe_c_arm64_frame made_arm64_frame(const struct file *file, const pe_c_arm
 
 static void step_arm64(const struct file *file, const pe_c_range *table, pe_c_arm64_frame frame, int way)
 {
-    const pe_c_module modules[] = {{{BYTES, &file->image, sections, file->count, NULL, 0}, *table, file->image.base}};
+    const pe_c_module modules[] = {{file->view, *table, file->image.base}};
     pe_c_arm64_frame other = frame;
     pe_c_arm64_stack_walk walk = PE_C_EMPTY, same, frames[6];
     uint64_t filled = 0;
@@ -235,7 +233,7 @@ static uint32_t record_arm64(const struct file *file, const pe_c_arm64_function 
     pe_c_arm64_walk walk = PE_C_EMPTY;
     pe_c_arm64_code code = PE_C_EMPTY;
     CALL(pe_c_arm64_packed_fields, packed, function, &packed);
-    if (!IS_DONE(pe_c_arm64_unwind_record, record, IMAGE, function, &record))
+    if (!IS_DONE(pe_c_arm64_unwind_record, record, VIEW, function, &record))
         return packed.function_length;
     WALK(ITEMS, pe_c_next_arm64_scope, scope, BYTES, &record.scopes, &scope) {}
     if (IS_DONE(pe_c_arm64_codes, walk, BYTES, &record.codes, 0, &walk))
@@ -246,14 +244,14 @@ static uint32_t record_arm64(const struct file *file, const pe_c_arm64_function 
 static void walk_arm64(const struct file *file)
 {
     pe_c_range table = PE_C_EMPTY;
-    if (!IS_DONE(pe_c_arm64_table, table, IMAGE, &table))
+    if (!IS_DONE(pe_c_arm64_table, table, VIEW, &table))
         return;
     uint64_t functions = table.length / 8, stride = functions / FUNCTIONS + 1;
     for (uint64_t i = 0; i < functions; i += stride) {
         pe_c_arm64_function function = PE_C_EMPTY, found = PE_C_EMPTY;
         if (!IS_DONE(pe_c_arm64_function_at, function, BYTES, &table, i, &function))
             continue;
-        CALL(pe_c_find_arm64_function, found, IMAGE, &table, function.begin + 4, &found);
+        CALL(pe_c_find_arm64_function, found, VIEW, &table, function.begin + 4, &found);
         uint32_t size = record_arm64(file, &function);
         for (int way = 0; way < 4; way++)
             step_arm64(file, &table, made_arm64_frame(file, &function, size, way), way);
@@ -289,10 +287,9 @@ static void debug_record(const struct file *file, const pe_c_debug_entry *entry)
 static void first_entries(const struct file *file)
 {
     static const uint32_t types[] = {2, 12, 13, 16, 17, 19, 20, 0xFFFF};
-    const pe_c_view view = {BYTES, &file->image, sections, file->count, NULL, 0};
     pe_c_debug_entry entry = PE_C_EMPTY;
     for (size_t i = 0; i < sizeof types / sizeof *types; i++)
-        CALL(pe_c_first_debug_entry, entry, &view, types[i], &entry);
+        CALL(pe_c_first_debug_entry, entry, VIEW, types[i], &entry);
 }
 
 static void debug_data(const struct file *file)
@@ -306,19 +303,18 @@ static void debug_data(const struct file *file)
     pe_c_repro repro = PE_C_EMPTY;
     pe_c_pogo pogo = PE_C_EMPTY;
     pe_c_pogo_entry pogo_entry = PE_C_EMPTY;
-    if (IS_DONE(pe_c_debug_entries, range, IMAGE, &range))
+    if (IS_DONE(pe_c_debug_entries, range, VIEW, &range))
         WALK(ITEMS, pe_c_next_debug_entry, entry, BYTES, &range, &entry)
             debug_record(file, &entry);
     first_entries(file);
-    CALL(pe_c_symbol_key, key, IMAGE, &key);
-    CALL(pe_c_debug_pdb20, pdb, IMAGE, &pdb);
-    CALL(pe_c_debug_vc_features, features, IMAGE, &features);
-    CALL(pe_c_debug_characteristics, flags, IMAGE, &flags);
-    CALL(pe_c_debug_repro, repro, IMAGE, &repro);
-    if (IS_DONE(pe_c_debug_pogo, pogo, IMAGE, &pogo)) {
-        const pe_c_view view = {BYTES, &file->image, sections, file->count, NULL, 0};
+    CALL(pe_c_symbol_key, key, VIEW, &key);
+    CALL(pe_c_debug_pdb20, pdb, VIEW, &pdb);
+    CALL(pe_c_debug_vc_features, features, VIEW, &features);
+    CALL(pe_c_debug_characteristics, flags, VIEW, &flags);
+    CALL(pe_c_debug_repro, repro, VIEW, &repro);
+    if (IS_DONE(pe_c_debug_pogo, pogo, VIEW, &pogo)) {
         pe_c_range entries_walk = pogo.entries;
-        LIST(pe_c_list_pogo_entries, pe_c_pogo_entry, &view, &entries_walk);
+        LIST(pe_c_list_pogo_entries, pe_c_pogo_entry, VIEW, &entries_walk);
         WALK(ITEMS, pe_c_next_pogo_entry, pogo_entry, BYTES, &pogo.entries, &pogo_entry) {}
     }
 }
@@ -435,16 +431,16 @@ static void certificates(const struct file *file)
     signature(file, &walk, 0);
     WALK(ITEMS, pe_c_next_certificate, entry, BYTES, &walk, &entry)
         signature(file, &entry.body, 2);
-    CALL(pe_c_digest_ranges, digest, BYTES, &file->image, &digest);
-    CALL(pe_c_checksum, checksum, BYTES, &file->image, &checksum);
+    CALL(pe_c_digest_ranges, digest, VIEW, &digest);
+    CALL(pe_c_checksum, checksum, VIEW, &checksum);
     for (uint32_t placement = 0; placement < 2; placement++) {
-        CALL(pe_c_attached_length, length, BYTES, &file->image, certificate, sizeof certificate, placement, &length);
-        if (IS_DONE(pe_c_attach, length, BYTES, &file->image, certificate, sizeof certificate, placement, file->room,
+        CALL(pe_c_attached_length, length, VIEW, certificate, sizeof certificate, placement, &length);
+        if (IS_DONE(pe_c_attach, length, VIEW, certificate, sizeof certificate, placement, file->room,
                     file->room_length, &length))
             add_bytes(file->room, length);
     }
-    CALL(pe_c_detached_length, length, BYTES, &file->image, &length);
-    if (IS_DONE(pe_c_detach, length, BYTES, &file->image, file->room, file->room_length, &length))
+    CALL(pe_c_detached_length, length, VIEW, &length);
+    if (IS_DONE(pe_c_detach, length, VIEW, file->room, file->room_length, &length))
         add_bytes(file->room, length);
 }
 
@@ -455,10 +451,10 @@ static void exports(const struct file *file)
     pe_c_address_table table = PE_C_EMPTY;
     pe_c_exported exported = PE_C_EMPTY;
     uint64_t index = 0;
-    if (IS_DONE(pe_c_export_tables, tables, IMAGE, &tables))
-        WALK(ITEMS, pe_c_next_export, entry, IMAGE, &tables, &entry) {}
-    if (IS_DONE(pe_c_export_addresses, table, IMAGE, &table))
-        WALK(ITEMS, pe_c_export_at, exported, IMAGE, &table, index, &exported)
+    if (IS_DONE(pe_c_export_tables, tables, VIEW, &tables))
+        WALK(ITEMS, pe_c_next_export, entry, VIEW, &tables, &entry) {}
+    if (IS_DONE(pe_c_export_addresses, table, VIEW, &table))
+        WALK(ITEMS, pe_c_export_at, exported, VIEW, &table, index, &exported)
             index++;
 }
 
@@ -472,20 +468,19 @@ static void imports(const struct file *file)
     pe_c_delayed_function function = PE_C_EMPTY;
     pe_c_bound_import bound = PE_C_EMPTY;
     pe_c_bound_forwarder forwarder = PE_C_EMPTY;
-    if (IS_DONE(pe_c_import_libraries, libraries, IMAGE, &libraries))
-        WALK(LISTS, pe_c_next_library, library, IMAGE, &libraries, &library)
-            WALK(ITEMS, pe_c_next_import, import, IMAGE, &library.imports, &import) {}
-    if (IS_DONE(pe_c_delay_imports, walk, IMAGE, &walk)) {
-        const pe_c_view view = {BYTES, &file->image, sections, file->count, NULL, 0};
+    if (IS_DONE(pe_c_import_libraries, libraries, VIEW, &libraries))
+        WALK(LISTS, pe_c_next_library, library, VIEW, &libraries, &library)
+            WALK(ITEMS, pe_c_next_import, import, VIEW, &library.imports, &import) {}
+    if (IS_DONE(pe_c_delay_imports, walk, VIEW, &walk)) {
         pe_c_range dlls = walk;
-        LIST(pe_c_list_delay_imports, pe_c_delay_import, &view, &dlls);
-        WALK(LISTS, pe_c_next_delay_import, delayed, IMAGE, &walk, &delayed) {
+        LIST(pe_c_list_delay_imports, pe_c_delay_import, VIEW, &dlls);
+        WALK(LISTS, pe_c_next_delay_import, delayed, VIEW, &walk, &delayed) {
             pe_c_delayed_functions functions = delayed.functions;
-            LIST(pe_c_list_delayed_functions, pe_c_delayed_function, &view, &functions);
-            WALK(ITEMS, pe_c_next_delayed_function, function, IMAGE, &delayed.functions, &function) {}
+            LIST(pe_c_list_delayed_functions, pe_c_delayed_function, VIEW, &functions);
+            WALK(ITEMS, pe_c_next_delayed_function, function, VIEW, &delayed.functions, &function) {}
         }
     }
-    if (!IS_DONE(pe_c_bound_imports, table, BYTES, &file->image, &table))
+    if (!IS_DONE(pe_c_bound_imports, table, VIEW, &table))
         return;
     walk = table;
     WALK(LISTS, pe_c_next_bound_import, bound, BYTES, &table, &walk, &bound)
@@ -497,7 +492,7 @@ static void version_blocks(const struct file *file)
 {
     pe_c_range walk = PE_C_EMPTY;
     pe_c_version_block block = PE_C_EMPTY, inner = PE_C_EMPTY;
-    if (!IS_DONE(pe_c_version_blocks, walk, IMAGE, &walk))
+    if (!IS_DONE(pe_c_version_blocks, walk, VIEW, &walk))
         return;
     for (int i = 0; i < LISTS; i++) {
         uint32_t result = CALL(pe_c_next_version_block, block, BYTES, &walk, &block);
@@ -526,8 +521,8 @@ static void edits(const struct file *file)
         both[i].language = 1033 + i;
         both[i].content.length = length;
     }
-    CALL(pe_c_edited_length, length, BYTES, &file->image, both, 2, block, sizeof block, &length);
-    if (IS_DONE(pe_c_edit, length, BYTES, &file->image, both, 2, block, sizeof block, file->room, file->room_length, &length))
+    CALL(pe_c_edited_length, length, VIEW, both, 2, block, sizeof block, &length);
+    if (IS_DONE(pe_c_edit, length, VIEW, both, 2, block, sizeof block, file->room, file->room_length, &length))
         add_bytes(file->room, length);
 }
 
@@ -537,15 +532,15 @@ static void resources(const struct file *file)
     pe_c_version version = PE_C_EMPTY;
     pe_c_resource_walk walk = PE_C_EMPTY;
     pe_c_resource_leaf leaf = PE_C_EMPTY;
-    CALL(pe_c_fixed_version, version, IMAGE, &version);
+    CALL(pe_c_fixed_version, version, VIEW, &version);
     for (uint32_t name = 0; name <= PE_C_SPECIAL_BUILD + 1; name++)
-        CALL(pe_c_version_text, range, IMAGE, name, &range);
-    CALL(pe_c_manifest, range, IMAGE, &range);
+        CALL(pe_c_version_text, range, VIEW, name, &range);
+    CALL(pe_c_manifest, range, VIEW, &range);
     version_blocks(file);
     edits(file);
-    if (!IS_DONE(pe_c_resource_leaves, walk, IMAGE, &walk))
+    if (!IS_DONE(pe_c_resource_leaves, walk, VIEW, &walk))
         return;
-    WALK(ITEMS, pe_c_next_resource_leaf, leaf, IMAGE, &walk, &leaf)
+    WALK(ITEMS, pe_c_next_resource_leaf, leaf, VIEW, &walk, &leaf)
         if (leaf.resource_type.id == 16) {
             CALL(pe_c_fixed_version_in, version, BYTES, &leaf.content, &version);
             for (uint32_t name = 0; name <= PE_C_SPECIAL_BUILD + 1; name++)
@@ -564,38 +559,38 @@ static void directories(const struct file *file)
     pe_c_cor20_header header = PE_C_EMPTY;
     pe_c_metadata metadata = PE_C_EMPTY;
     pe_c_metadata_stream stream = PE_C_EMPTY;
-    if (IS_DONE(pe_c_tls, tls, IMAGE, &tls) && IS_DONE(pe_c_tls_callbacks, walk, IMAGE, &tls, &walk))
-        WALK(ITEMS, pe_c_next_tls_callback, callback, BYTES, &file->image, &walk, &callback) {}
-    CALL(pe_c_load_config, config, IMAGE, &config);
-    if (IS_DONE(pe_c_relocation_blocks, walk, IMAGE, &walk))
+    if (IS_DONE(pe_c_tls, tls, VIEW, &tls) && IS_DONE(pe_c_tls_callbacks, walk, VIEW, &tls, &walk))
+        WALK(ITEMS, pe_c_next_tls_callback, callback, VIEW, &walk, &callback) {}
+    CALL(pe_c_load_config, config, VIEW, &config);
+    if (IS_DONE(pe_c_relocation_blocks, walk, VIEW, &walk))
         WALK(ITEMS, pe_c_next_relocation_block, block, BYTES, &walk, &block)
             WALK(INNER, pe_c_next_relocation, relocation, BYTES, block.page_rva, &block.entries, &relocation) {}
-    if (IS_DONE(pe_c_clr_header, header, IMAGE, &header)
-        && IS_DONE(pe_c_clr_metadata, metadata, IMAGE, &header, &metadata))
+    if (IS_DONE(pe_c_clr_header, header, VIEW, &header)
+        && IS_DONE(pe_c_clr_metadata, metadata, VIEW, &header, &metadata))
         WALK(ITEMS, pe_c_next_metadata_stream, stream, BYTES, &metadata.streams, &stream) {}
 }
 
 /* The lists of what the walks above step through. */
-static void lists_of_names(const struct file *file, const pe_c_view *view)
+static void lists_of_names(const struct file *file)
 {
     pe_c_exports tables = PE_C_EMPTY;
     pe_c_address_table table = PE_C_EMPTY;
     pe_c_libraries libraries = PE_C_EMPTY;
     pe_c_library library = PE_C_EMPTY;
     uint64_t next = 0;
-    if (pe_c_export_tables(IMAGE, &tables) == PE_C_DONE)
-        LIST(pe_c_list_exports, pe_c_export, view, &tables);
-    if (pe_c_export_addresses(IMAGE, &table) == PE_C_DONE)
-        LIST(pe_c_list_export_addresses, pe_c_exported, view, &table, &next);
-    if (pe_c_import_libraries(IMAGE, &libraries) != PE_C_DONE)
+    if (pe_c_export_tables(VIEW, &tables) == PE_C_DONE)
+        LIST(pe_c_list_exports, pe_c_export, VIEW, &tables);
+    if (pe_c_export_addresses(VIEW, &table) == PE_C_DONE)
+        LIST(pe_c_list_export_addresses, pe_c_exported, VIEW, &table, &next);
+    if (pe_c_import_libraries(VIEW, &libraries) != PE_C_DONE)
         return;
     pe_c_libraries walk = libraries;
-    LIST(pe_c_list_libraries, pe_c_library, view, &walk);
-    if (pe_c_next_library(IMAGE, &libraries, &library) == PE_C_DONE)
-        LIST(pe_c_list_imports, pe_c_import, view, &library.imports);
+    LIST(pe_c_list_libraries, pe_c_library, VIEW, &walk);
+    if (pe_c_next_library(VIEW, &libraries, &library) == PE_C_DONE)
+        LIST(pe_c_list_imports, pe_c_import, VIEW, &library.imports);
 }
 
-static void lists_of_functions(const struct file *file, const pe_c_view *view)
+static void lists_of_functions(const struct file *file)
 {
     pe_c_range table = PE_C_EMPTY;
     pe_c_function function = PE_C_EMPTY;
@@ -604,43 +599,42 @@ static void lists_of_functions(const struct file *file, const pe_c_view *view)
     pe_c_arm64_record info = PE_C_EMPTY;
     pe_c_arm64_walk codes = PE_C_EMPTY;
     uint64_t next = 0;
-    if (pe_c_function_table(IMAGE, &table) == PE_C_DONE) {
-        LIST(pe_c_list_functions, pe_c_function, view, &table, &next);
+    if (pe_c_function_table(VIEW, &table) == PE_C_DONE) {
+        LIST(pe_c_list_functions, pe_c_function, VIEW, &table, &next);
         if (pe_c_function_at(BYTES, &table, 0, &function) == PE_C_DONE
-            && pe_c_unwind_record(IMAGE, &table, function.unwind, &record) == PE_C_DONE)
-            LIST(pe_c_list_codes, pe_c_code, view, &record.codes);
+            && pe_c_unwind_record(VIEW, &table, function.unwind, &record) == PE_C_DONE)
+            LIST(pe_c_list_codes, pe_c_code, VIEW, &record.codes);
     }
-    if (pe_c_arm64_table(IMAGE, &table) != PE_C_DONE)
+    if (pe_c_arm64_table(VIEW, &table) != PE_C_DONE)
         return;
-    LIST(pe_c_list_arm64_functions, pe_c_arm64_function, view, &table, &next);
+    LIST(pe_c_list_arm64_functions, pe_c_arm64_function, VIEW, &table, &next);
     /* The first functions may have packed data and no record. */
     for (uint64_t i = 0; i < INNER; i++)
         if (pe_c_arm64_function_at(BYTES, &table, i, &arm64) == PE_C_DONE
-            && pe_c_arm64_unwind_record(IMAGE, &arm64, &info) == PE_C_DONE
+            && pe_c_arm64_unwind_record(VIEW, &arm64, &info) == PE_C_DONE
             && pe_c_arm64_codes(BYTES, &info.codes, 0, &codes) == PE_C_DONE) {
-            LIST(pe_c_list_arm64_codes, pe_c_arm64_code, view, &codes);
+            LIST(pe_c_list_arm64_codes, pe_c_arm64_code, VIEW, &codes);
             return;
         }
 }
 
 static void lists(const struct file *file)
 {
-    const pe_c_view view = {BYTES, &file->image, sections, file->count, NULL, 0};
     pe_c_resource_walk leaves = PE_C_EMPTY;
     pe_c_range walk = PE_C_EMPTY;
     pe_c_relocation_block block = PE_C_EMPTY;
-    lists_of_names(file, &view);
-    lists_of_functions(file, &view);
-    if (pe_c_resource_leaves(IMAGE, &leaves) == PE_C_DONE)
-        LIST(pe_c_list_resource_leaves, pe_c_resource_leaf, &view, &leaves);
-    if (pe_c_version_blocks(IMAGE, &walk) == PE_C_DONE)
-        LIST(pe_c_list_version_blocks, pe_c_version_block, &view, &walk);
-    if (pe_c_relocation_blocks(IMAGE, &walk) != PE_C_DONE)
+    lists_of_names(file);
+    lists_of_functions(file);
+    if (pe_c_resource_leaves(VIEW, &leaves) == PE_C_DONE)
+        LIST(pe_c_list_resource_leaves, pe_c_resource_leaf, VIEW, &leaves);
+    if (pe_c_version_blocks(VIEW, &walk) == PE_C_DONE)
+        LIST(pe_c_list_version_blocks, pe_c_version_block, VIEW, &walk);
+    if (pe_c_relocation_blocks(VIEW, &walk) != PE_C_DONE)
         return;
     pe_c_range blocks = walk;
-    LIST(pe_c_list_relocation_blocks, pe_c_relocation_block, &view, &blocks);
+    LIST(pe_c_list_relocation_blocks, pe_c_relocation_block, VIEW, &blocks);
     if (pe_c_next_relocation_block(BYTES, &walk, &block) == PE_C_DONE)
-        LIST(pe_c_list_relocations, pe_c_relocation, &view, block.page_rva, &block.entries);
+        LIST(pe_c_list_relocations, pe_c_relocation, VIEW, block.page_rva, &block.entries);
 }
 
 static void headers(const struct file *file)
@@ -650,25 +644,24 @@ static void headers(const struct file *file)
     uint32_t rva = 0;
     pe_c_rich_header_info rich = PE_C_EMPTY;
     pe_c_rich_entry entry = PE_C_EMPTY;
-    const pe_c_view view = {BYTES, &file->image, sections, file->count, NULL, 0};
-    CALL(pe_c_offset, offset, &file->image, sections, file->count, file->image.entry, &offset);
-    CALL(pe_c_section_at, offset, &view, file->image.entry, &offset);
+    CALL(pe_c_offset, offset, VIEW, file->image.entry, &offset);
+    CALL(pe_c_section_at, offset, VIEW, file->image.entry, &offset);
     pe_c_index_entry room[64] = PE_C_EMPTY;
     uint64_t made = 0;
-    pe_c_view indexed = view;
-    if (IS_DONE(pe_c_index, made, &view, room, 64, &made)) {
+    pe_c_view indexed = file->view;
+    if (IS_DONE(pe_c_index, made, VIEW, room, 64, &made)) {
         indexed.index = room;
         indexed.entries = (size_t)made;
     }
     add(made);
     CALL(pe_c_section_at, offset, &indexed, file->image.entry, &offset);
-    CALL(pe_c_range_at, range, &view, file->image.entry, &range);
-    CALL(pe_c_rva, rva, &view, range.offset, &rva);
-    for (size_t i = 0; i < file->count; i++)
-        CALL(pe_c_section_range, range, &view, &sections[i], &range);
-    CALL(pe_c_overlay, range, IMAGE, &range);
-    if (IS_DONE(pe_c_string_table, table, BYTES, &file->image, &table))
-        for (size_t i = 0; i < file->count; i++)
+    CALL(pe_c_range_at, range, VIEW, file->image.entry, &range);
+    CALL(pe_c_rva, rva, VIEW, range.offset, &rva);
+    for (size_t i = 0; i < file->view.count; i++)
+        CALL(pe_c_section_range, range, VIEW, &sections[i], &range);
+    CALL(pe_c_overlay, range, VIEW, &range);
+    if (IS_DONE(pe_c_string_table, table, VIEW, &table))
+        for (size_t i = 0; i < file->view.count; i++)
             CALL(pe_c_long_section_name, range, BYTES, &table, &sections[i], &range);
     if (IS_DONE(pe_c_rich_header, rich, BYTES, &rich))
         WALK(ITEMS, pe_c_next_rich_entry, entry, BYTES, rich.key, &rich.entries, &entry) {}
@@ -719,9 +712,10 @@ static void in_mode(struct file *file, uint32_t mode)
         symbols(file, &all.coff);
     if (!IS_DONE(pe_c_image, file->image, BYTES, mode, &file->image))
         return;
-    file->count = file->image.number_of_sections;
-    if (file->count > SECTIONS || !IS_DONE(pe_c_sections, sections, BYTES, &file->image, sections, file->count))
+    size_t count = file->image.number_of_sections;
+    if (count > SECTIONS || !IS_DONE(pe_c_sections, sections, BYTES, &file->image, sections, count))
         return;
+    file->view = (pe_c_view){BYTES, &file->image, sections, count, NULL, 0};
     headers(file);
     debug_data(file);
     certificates(file);
@@ -826,7 +820,7 @@ static void texts(void)
 
 void all_calls(const uint8_t *bytes, size_t length, uint8_t *room, size_t room_length, struct totals *out)
 {
-    struct file file = {bytes, length, room, room_length, PE_C_EMPTY, 0};
+    struct file file = {bytes, length, room, room_length, PE_C_EMPTY, PE_C_EMPTY};
     totals = out;
     out->hash = 0xCBF29CE484222325u;
     out->calls = CALLS;

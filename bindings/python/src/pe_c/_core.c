@@ -46,7 +46,6 @@ typedef struct {
 
 #define BYTES self->view.buf, (size_t)self->view.len
 #define SECTIONS self->sections, self->info.number_of_sections
-#define IMAGE BYTES, &self->info, SECTIONS
 #define VIEW &(pe_c_view){BYTES, &self->info, SECTIONS, NULL, 0}
 
 typedef struct {
@@ -202,7 +201,7 @@ static int takes(Rows *rows, uint64_t texts)
 static uint64_t unread(Image *self, uint32_t rva)
 {
     uint64_t offset = 0, length = (uint64_t)self->view.len;
-    if (pe_c_offset(&self->info, SECTIONS, rva, &offset) != PE_C_DONE || offset >= length)
+    if (pe_c_offset(VIEW, rva, &offset) != PE_C_DONE || offset >= length)
         return 0;
     const char *start = (const char *)self->view.buf + offset, *end = memchr(start, 0, length - offset);
     return end ? (uint64_t)(end - start) : length - offset;
@@ -331,7 +330,7 @@ static PyObject *bound_forwarders(Image *self, Rows *outer, const pe_c_bound_imp
     pe_c_range table = PE_C_EMPTY, walk = it->forwarders;
     pe_c_bound_forwarder item = PE_C_EMPTY;
     Rows rows = rows_of(self, outer->budget);
-    rows.result = pe_c_bound_imports(BYTES, &self->info, &table);
+    rows.result = pe_c_bound_imports(VIEW, &table);
     EACH(&rows, pe_c_next_bound_forwarder(BYTES, &table, &walk, &item), ROW_OF(bound_forwarder));
     return inside(outer, &rows);
 }
@@ -372,8 +371,8 @@ static PyObject *tls_callbacks(Image *self, Rows *outer, const pe_c_tls_director
     pe_c_range walk = PE_C_EMPTY;
     uint64_t item = 0;
     Rows rows = rows_of(self, outer->budget);
-    starts(&rows, pe_c_tls_callbacks(IMAGE, it, &walk));
-    EACH(&rows, pe_c_next_tls_callback(BYTES, &self->info, &walk, &item), takes(&rows, 0) ? N(item) : NULL);
+    starts(&rows, pe_c_tls_callbacks(VIEW, it, &walk));
+    EACH(&rows, pe_c_next_tls_callback(VIEW, &walk, &item), takes(&rows, 0) ? N(item) : NULL);
     return inside(outer, &rows);
 }
 
@@ -494,7 +493,7 @@ METHOD(bound_imports)
     pe_c_range table = PE_C_EMPTY;
     pe_c_bound_import item = PE_C_EMPTY;
     rows = rows_of(self, &budget);
-    starts(&rows, pe_c_bound_imports(BYTES, &self->info, &table));
+    starts(&rows, pe_c_bound_imports(VIEW, &table));
     pe_c_range walk = table;
     EACH(&rows, pe_c_next_bound_import(BYTES, &table, &walk, &item), ROW_OF(bound_import));
     return finished(&rows);
@@ -505,16 +504,16 @@ METHOD(clr_metadata)
     OPEN
     pe_c_cor20_header header = PE_C_EMPTY;
     pe_c_metadata item = PE_C_EMPTY;
-    rows.result = pe_c_clr_header(IMAGE, &header);
+    rows.result = pe_c_clr_header(VIEW, &header);
     if (rows.result == PE_C_DONE)
-        rows.result = pe_c_clr_metadata(IMAGE, &header, &item);
+        rows.result = pe_c_clr_metadata(VIEW, &header, &item);
     return answer(rows.result == PE_C_DONE ? ROW_OF(metadata) : NULL, &rows);
 }
 
 /* The export with an index. Of a forwarder without a text, what was read of that is paid for. */
 static int export_at(Image *self, Rows *rows, const pe_c_address_table *table, uint64_t index, pe_c_exported *out)
 {
-    if (pe_c_export_at(IMAGE, table, index, out) != PE_C_DONE)
+    if (pe_c_export_at(VIEW, table, index, out) != PE_C_DONE)
         return 0;
     return !out->is_forwarder || out->forwarder.length || pays(rows->budget, unread(self, out->rva));
 }
@@ -527,7 +526,7 @@ static void add_named(Image *self, Rows *rows, const pe_c_exports *all, const pe
     pe_c_exported item = PE_C_EMPTY;
     for (uint64_t i = 0; goes_on(rows) && i < all->names.length / 4; i++) {
         pe_c_exports walk = {{all->names.offset + 4 * i, 4}, {all->ordinals.offset + 2 * i, 2}, all->addresses, 0};
-        uint32_t result = pe_c_next_export(IMAGE, &walk, &named);
+        uint32_t result = pe_c_next_export(VIEW, &walk, &named);
         if (result != PE_C_DONE && result != PE_C_NOTHING)
             rows->result = result;
         const uint8_t *rva = (const uint8_t *)self->view.buf + all->names.offset + 4 * i;
@@ -555,9 +554,9 @@ METHOD(exports)
     pe_c_address_table table = PE_C_EMPTY;
     pe_c_exports walk = PE_C_EMPTY;
     rows = rows_of(self, &budget);
-    starts(&rows, pe_c_export_addresses(IMAGE, &table));
+    starts(&rows, pe_c_export_addresses(VIEW, &table));
     if (rows.result == PE_C_DONE)
-        starts(&rows, pe_c_export_tables(IMAGE, &walk));
+        starts(&rows, pe_c_export_tables(VIEW, &walk));
     if (rows.list && rows.result == PE_C_DONE) {
         uint8_t *is_named = PyMem_Calloc(table.addresses.length / 4 + 1, 1);
         if (is_named) {
@@ -578,7 +577,7 @@ METHOD(relocations)
     pe_c_range walk = PE_C_EMPTY;
     pe_c_relocation_block item = PE_C_EMPTY;
     rows = rows_of(self, &budget);
-    starts(&rows, pe_c_relocation_blocks(IMAGE, &walk));
+    starts(&rows, pe_c_relocation_blocks(VIEW, &walk));
     EACH(&rows, pe_c_next_relocation_block(BYTES, &walk, &item), ROW_OF(relocation_block));
     return finished(&rows);
 }
@@ -590,7 +589,7 @@ METHOD(relocations)
         pe_c_range table = PE_C_EMPTY; \
         Item item = PE_C_EMPTY; \
         rows = rows_of(self, &budget); \
-        starts(&rows, start(IMAGE, &table)); \
+        starts(&rows, start(VIEW, &table)); \
         uint64_t i = 0, count = table.length / size; \
         EACH(&rows, i < count ? call(BYTES, &table, i++, &item) : PE_C_NOTHING, row); \
         return finished(&rows); \
@@ -620,7 +619,7 @@ static PyObject *offset_of(Image *self, PyObject *argument)
     OPEN
     rows.result = result;
     if (rows.result == PE_C_DONE)
-        rows.result = pe_c_offset(&self->info, SECTIONS, rva, &offset);
+        rows.result = pe_c_offset(VIEW, rva, &offset);
     return answer(rows.result == PE_C_DONE ? N(offset) : NULL, &rows);
 }
 
@@ -633,13 +632,13 @@ static PyObject *offset_of(Image *self, PyObject *argument)
         if (!rva_of(argument, &rva, &result)) \
             return NULL; \
         OPEN \
-        rows.result = result == PE_C_DONE ? start(IMAGE, &table) : result; \
+        rows.result = result == PE_C_DONE ? start(VIEW, &table) : result; \
         if (rows.result == PE_C_DONE) \
             rows.result = call; \
         return answer(rows.result == PE_C_DONE ? row : NULL, &rows); \
     }
 FIND(find_function, pe_c_function, pe_c_function_table, pe_c_find_function(BYTES, &table, rva, &item), ROW_OF(function))
-FIND(find_arm64_function, pe_c_arm64_function, pe_c_arm64_table, pe_c_find_arm64_function(IMAGE, &table, rva, &item),
+FIND(find_arm64_function, pe_c_arm64_function, pe_c_arm64_table, pe_c_find_arm64_function(VIEW, &table, rva, &item),
      ROW_OF(arm64_function))
 
 /* The records of a function by its field `unwind`, up to the root of its chain. */
@@ -653,9 +652,9 @@ static PyObject *unwind_records(Image *self, PyObject *argument)
         return NULL;
     OPEN
     rows = rows_of(self, &budget);
-    rows.result = result == PE_C_DONE ? pe_c_function_table(IMAGE, &table) : result;
+    rows.result = result == PE_C_DONE ? pe_c_function_table(VIEW, &table) : result;
     pe_c_plan_from(unwind, &plan);
-    EACH(&rows, pe_c_next_record(IMAGE, &table, &plan, &item), ROW_OF(record));
+    EACH(&rows, pe_c_next_record(VIEW, &table, &plan, &item), ROW_OF(record));
     return finished(&rows);
 }
 
@@ -671,7 +670,7 @@ static PyObject *arm64_unwind(Image *self, PyObject *arguments)
     pe_c_arm64_packed_fields(&function, &packed);
     if (packed.is_packed)
         return answer(row_arm64_packed(self, &rows, &packed), &rows);
-    rows.result = pe_c_arm64_unwind_record(IMAGE, &function, &item);
+    rows.result = pe_c_arm64_unwind_record(VIEW, &function, &item);
     return answer(rows.result == PE_C_DONE ? ROW_OF(arm64_record) : NULL, &rows);
 }
 
@@ -804,7 +803,7 @@ static pe_c_module *modules_in(State *state, PyObject *images, PyObject *bases)
             return NULL;
         }
         pe_c_range table = PE_C_EMPTY;
-        uint32_t result = self->info.machine == 0xAA64 ? pe_c_arm64_table(IMAGE, &table) : pe_c_function_table(IMAGE, &table);
+        uint32_t result = self->info.machine == 0xAA64 ? pe_c_arm64_table(VIEW, &table) : pe_c_function_table(VIEW, &table);
         modules[i] = (pe_c_module){*VIEW, result == PE_C_DONE ? table : (pe_c_range)PE_C_EMPTY, 0};
         memcpy(&modules[i].base, PyBytes_AsString(bases) + 8 * i, 8);
     }
@@ -855,7 +854,7 @@ METHOD(checksum)
     OPEN
     pe_c_checksum_field item = PE_C_EMPTY;
     Py_BEGIN_ALLOW_THREADS
-    rows.result = pe_c_checksum(BYTES, &self->info, &item);
+    rows.result = pe_c_checksum(VIEW, &item);
     Py_END_ALLOW_THREADS
     return answer(rows.result == PE_C_DONE ? ROW_OF(checksum_field) : NULL, &rows);
 }
@@ -883,7 +882,7 @@ METHOD(digest_ranges)
 {
     OPEN
     pe_c_digest item = PE_C_EMPTY;
-    rows.result = pe_c_digest_ranges(BYTES, &self->info, &item);
+    rows.result = pe_c_digest_ranges(VIEW, &item);
     if (rows.result != PE_C_DONE)
         return answer(NULL, &rows);
     return answer(Py_BuildValue("(NNNNK)", view_of(self, item.ranges[0]), view_of(self, item.ranges[1]),
@@ -909,10 +908,10 @@ static PyObject *attach(Image *self, PyObject *arguments)
         return NULL;
     OPEN
     const uint8_t *bytes = (const uint8_t *)certificate;
-    rows.result = pe_c_attached_length(BYTES, &self->info, bytes, (size_t)length, placement, &size);
+    rows.result = pe_c_attached_length(VIEW, bytes, (size_t)length, placement, &size);
     PyObject *file = rows.result == PE_C_DONE ? PyBytes_FromStringAndSize(NULL, (Py_ssize_t)size) : NULL;
     if (file)
-        rows.result = pe_c_attach(BYTES, &self->info, bytes, (size_t)length, placement,
+        rows.result = pe_c_attach(VIEW, bytes, (size_t)length, placement,
                                   (uint8_t *)PyBytes_AsString(file), (size_t)size, &size);
     return written(file, &rows);
 }
@@ -921,10 +920,10 @@ METHOD(detach)
 {
     uint64_t size = 0;
     OPEN
-    rows.result = pe_c_detached_length(BYTES, &self->info, &size);
+    rows.result = pe_c_detached_length(VIEW, &size);
     PyObject *file = rows.result == PE_C_DONE ? PyBytes_FromStringAndSize(NULL, (Py_ssize_t)size) : NULL;
     if (file)
-        rows.result = pe_c_detach(BYTES, &self->info, (uint8_t *)PyBytes_AsString(file), (size_t)size, &size);
+        rows.result = pe_c_detach(VIEW, (uint8_t *)PyBytes_AsString(file), (size_t)size, &size);
     return written(file, &rows);
 }
 
@@ -936,7 +935,7 @@ static PyObject *edited(Image *self, PyObject *arguments)
     if (!PyArg_ParseTuple(arguments, "SS", &records, &data))
         return NULL;
     OPEN
-#define EDIT BYTES, &self->info, (const pe_c_resource *)PyBytes_AsString(records), \
+#define EDIT VIEW, (const pe_c_resource *)PyBytes_AsString(records), \
              (size_t)PyBytes_Size(records) / sizeof(pe_c_resource), (const uint8_t *)PyBytes_AsString(data), (size_t)PyBytes_Size(data)
     rows.result = pe_c_edited_length(EDIT, &size);
     PyObject *file = rows.result == PE_C_DONE ? PyBytes_FromStringAndSize(NULL, (Py_ssize_t)size) : NULL;
@@ -1080,7 +1079,7 @@ static uint32_t reads(Image *self, unsigned int mode)
              : self->kind == KIND_TE   ? pe_c_te_sections(BYTES, &self->te, SECTIONS)
                                        : pe_c_sections(BYTES, &self->info, SECTIONS);
     uint32_t strings = self->kind == KIND_OBJECT ? pe_c_coff_strings(BYTES, &self->coff, &self->strings)
-                                                 : pe_c_string_table(BYTES, &self->info, &self->strings);
+                                                 : pe_c_string_table(VIEW, &self->strings);
     if (self->kind == KIND_TE || self->kind == KIND_BYTES || strings != PE_C_DONE)
         self->strings = (pe_c_range)PE_C_EMPTY;
     return result;
