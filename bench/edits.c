@@ -85,10 +85,11 @@ int main(int argc, char **argv)
     uint64_t length = 0, written = 0;
     if (n == 0)
         return 0;
-    uint32_t result = pe_c_edited_length(image, SIZE, &info, records, count, data, data_length, &length);
+    const pe_c_view view = {image, SIZE, &info, NULL, 0, NULL, 0};
+    uint32_t result = pe_c_edited_length(&view, records, count, data, data_length, &length);
     uint8_t *room = result == PE_C_DONE ? malloc(length) : NULL;
     if (room != NULL)
-        result = pe_c_edit(image, SIZE, &info, records, count, data, data_length, room, length, &written);
+        result = pe_c_edit(&view, records, count, data, data_length, room, length, &written);
     printf("result %u length %llu\n", result, (unsigned long long)written);
     return result != PE_C_DONE;
 }

@@ -28,7 +28,7 @@ static uint8_t *read_all(const char *name, size_t *length)
 static uint64_t count_exports(const pe_c_view *view, uint64_t most)
 {
     pe_c_exports walk = PE_C_EMPTY;
-    if (pe_c_export_tables(view->bytes, view->length, view->image, view->sections, view->count, &walk) != PE_C_DONE)
+    if (pe_c_export_tables(view, &walk) != PE_C_DONE)
         return 0;
     uint64_t count = 0, written = 1;
     while (count < most && written > 0) {

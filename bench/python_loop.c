@@ -9,10 +9,8 @@
 enum { RUNS = 25 };
 static const uint8_t *bytes;
 static size_t length;
-static pe_c_image_info image;
-static pe_c_section *sections;
+static pe_c_view view;
 static uint64_t sum;
-#define IMAGE bytes, length, &image, sections, image.number_of_sections
 
 static uint64_t names(void)
 {
@@ -24,13 +22,13 @@ static uint64_t names(void)
     pe_c_export export = PE_C_EMPTY;
     pe_c_exported entry = PE_C_EMPTY;
     uint64_t count = 0;
-    if (pe_c_import_libraries(IMAGE, &libraries) == PE_C_DONE)
-        while (pe_c_next_library(IMAGE, &libraries, &library) == PE_C_DONE)
-            for (pe_c_imports walk = library.imports; pe_c_next_import(IMAGE, &walk, &import) == PE_C_DONE; count++)
+    if (pe_c_import_libraries(&view, &libraries) == PE_C_DONE)
+        while (pe_c_next_library(&view, &libraries, &library) == PE_C_DONE)
+            for (pe_c_imports walk = library.imports; pe_c_next_import(&view, &walk, &import) == PE_C_DONE; count++)
                 sum += import.name.length;
-    if (pe_c_export_addresses(IMAGE, &table) == PE_C_DONE && pe_c_export_tables(IMAGE, &exports) == PE_C_DONE)
-        while (pe_c_next_export(IMAGE, &exports, &export) == PE_C_DONE) {
-            if (pe_c_export_at(IMAGE, &table, export.index, &entry) == PE_C_DONE)
+    if (pe_c_export_addresses(&view, &table) == PE_C_DONE && pe_c_export_tables(&view, &exports) == PE_C_DONE)
+        while (pe_c_next_export(&view, &exports, &export) == PE_C_DONE) {
+            if (pe_c_export_at(&view, &table, export.index, &entry) == PE_C_DONE)
                 sum += export.name.length + entry.rva;
             count++;
         }
@@ -44,12 +42,12 @@ static uint64_t codes(void)
     pe_c_record record = PE_C_EMPTY;
     pe_c_code code = PE_C_EMPTY;
     uint64_t count = 0;
-    if (pe_c_function_table(IMAGE, &table) != PE_C_DONE)
+    if (pe_c_function_table(&view, &table) != PE_C_DONE)
         return 0;
     for (uint64_t i = 0; pe_c_function_at(bytes, length, &table, i, &function) == PE_C_DONE; i++) {
         pe_c_plan plan = PE_C_EMPTY;
         pe_c_plan_from(function.unwind, &plan);
-        while (pe_c_next_record(IMAGE, &table, &plan, &record) == PE_C_DONE)
+        while (pe_c_next_record(&view, &table, &plan, &record) == PE_C_DONE)
             for (pe_c_walk walk = record.codes; pe_c_next_code(bytes, length, &walk, &code) == PE_C_DONE; count++)
                 sum += code.value;
     }
@@ -78,13 +76,15 @@ int main(int argc, char **argv)
         return 2;
     length = (size_t)ftell(file);
     rewind(file);
+    static pe_c_image_info image;
     uint8_t *room = malloc(length + 1);
     if (!room || fread(room, 1, length, file) != length || pe_c_image(room, length, PE_C_PERMISSIVE, &image) != PE_C_DONE)
         return 2;
     bytes = room;
-    sections = calloc(image.number_of_sections + 1u, sizeof *sections);
+    pe_c_section *sections = calloc(image.number_of_sections + 1u, sizeof *sections);
     if (!sections || pe_c_sections(bytes, length, &image, sections, image.number_of_sections) != PE_C_DONE)
         return 2;
+    view = (pe_c_view){bytes, length, &image, sections, image.number_of_sections, NULL, 0};
     least("names", names);
     least("codes", codes);
     return sum == 1;

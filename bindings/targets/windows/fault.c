@@ -63,11 +63,12 @@ int main(int count, char **words)
     if (number % 2)
         if (pe_c_image(bytes, 2 * PAGE, PE_C_PERMISSIVE, &image) != PE_C_DONE)
             return 3;
+    pe_c_view view = {bytes, 2 * PAGE, &image, NULL, 0, NULL, 0};
     AddVectoredExceptionHandler(1, on_fault);
     uint32_t result = number == 0 ? pe_c_image(bytes, 2 * PAGE, PE_C_PERMISSIVE, &image)
         : number == 1 ? pe_c_sections(bytes, 2 * PAGE, &image, sections, 100)
         : number == 2 ? pe_c_rich_header(bytes, 2 * PAGE, &rich)
-        : pe_c_detach(bytes, 2 * PAGE, &image, room, sizeof room, &length);
+        : pe_c_detach(&view, room, sizeof room, &length);
     printf("no fault, result %u\n", (unsigned)result);
     return 2;
 }
