@@ -1,0 +1,73 @@
+/* symbols: the sections of a COFF object, a line each with name and bytes, and its symbols, with name, section and value.
+ *
+ *     symbols FILE */
+#include "pe.h"
+#include "example.h"
+
+#include <inttypes.h>
+#include <stdio.h>
+
+enum { MOST_SECTIONS_OF_OBJECTS = 65535 };
+
+static uint8_t file[1 << 26];
+static size_t length;
+static pe_c_section sections[MOST_SECTIONS_OF_OBJECTS];
+
+/* A name that is longer than 8 bytes stands in the string table, and its header leads there. */
+static uint32_t show_section(const pe_c_range *strings, const pe_c_section *section)
+{
+    const pe_c_range own = {0, sizeof section->name};
+    pe_c_range name = PE_C_EMPTY;
+    uint32_t result = pe_c_long_section_name(file, length, strings, section, &name);
+    if (result != PE_C_DONE && result != PE_C_NOTHING)
+        return result;
+    printf("section ");
+    if (result == PE_C_DONE)
+        show_name(file, &name);
+    else
+        show_name(section->name, &own);
+    printf(" %" PRIu32 "\n", section->size_of_raw_data);
+    return PE_C_DONE;
+}
+
+/* The sections that symbols are in count from 1 on; 0 is undefined, -1 an absolute value, -2 a symbol for debuggers. */
+static uint32_t show_symbols(const pe_c_coff_header *coff, const pe_c_range *strings)
+{
+    pe_c_symbol_walk walk = PE_C_EMPTY;
+    pe_c_symbol_entry symbol = PE_C_EMPTY;
+    pe_c_range name = PE_C_EMPTY;
+    uint32_t result = pe_c_coff_symbols(file, length, coff, &walk);
+    while (result == PE_C_DONE) {
+        result = pe_c_next_symbol(file, length, &walk, &symbol);
+        if (result == PE_C_DONE)
+            result = pe_c_symbol_name(file, length, &walk.table, strings, symbol.index, &name);
+        if (result != PE_C_DONE)
+            break;
+        printf("symbol ");
+        show_name(file, &name);
+        printf(" %d %" PRIu32 "\n", symbol.section_number, symbol.value);
+    }
+    return result;
+}
+
+int main(int argc, char **argv)
+{
+    if (argc != 2)
+        return 2;
+    length = read_file(argv[1], file, sizeof file);
+    pe_c_coff_header coff = PE_C_EMPTY;
+    pe_c_range strings = PE_C_EMPTY;
+    uint32_t result = pe_c_coff(file, length, &coff);
+    if (result == PE_C_DONE)
+        result = pe_c_coff_sections(file, length, &coff, sections, MOST_SECTIONS_OF_OBJECTS);
+    /* Without a string table the range stays empty, and no name is in it. */
+    if (result == PE_C_DONE)
+        result = pe_c_coff_strings(file, length, &coff, &strings);
+    if (result == PE_C_NOTHING)
+        result = PE_C_DONE;
+    for (uint16_t i = 0; result == PE_C_DONE && i < coff.number_of_sections; i++)
+        result = show_section(&strings, &sections[i]);
+    if (result == PE_C_DONE)
+        result = show_symbols(&coff, &strings);
+    return status_of(result);
+}
