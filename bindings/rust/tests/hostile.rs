@@ -171,9 +171,7 @@ fn walks_over_imports_that_lie_end() {
         for is_over in [0, 1, u32::MAX] {
             let start = sys::Libraries { next: offset, is_over, spare: 9 };
             // SAFETY: the pointers and lengths are those of slices, and the records are lent for the call.
-            let first = first_of_all(length, start, |walk, out| unsafe {
-                sys::pe_c_next_library(&view, walk, out)
-            });
+            let first = first_of_all(length, start, |walk, out| unsafe { sys::pe_c_next_library(&view, walk, out) });
             assert!(is_over == 0 || first == 100);
             assert!(is_over != 0 || offset < length as u64 || first == 2);
         }
@@ -199,15 +197,13 @@ fn walks_over_delay_imports_and_streams_that_lie_end() {
             let range = sys::Range { offset, length: size };
             let there = range.of(&bytes).is_some();
             // SAFETY: the pointers and lengths are those of slices, and the records are lent for the call.
-            let first = first_of_all(length, range, |walk, out| unsafe {
-                sys::pe_c_next_delay_import(&view, walk, out)
-            });
+            let first =
+                first_of_all(length, range, |walk, out| unsafe { sys::pe_c_next_delay_import(&view, walk, out) });
             assert!(there || first == 2);
             let start = sys::DelayedFunctions { left: range, attributes: size as u32, spare: 9 };
             // SAFETY: as above.
-            let first = first_of_all(length, start, |walk, out| unsafe {
-                sys::pe_c_next_delayed_function(&view, walk, out)
-            });
+            let first =
+                first_of_all(length, start, |walk, out| unsafe { sys::pe_c_next_delayed_function(&view, walk, out) });
             assert!(there || first == 2);
             let whole = sys::Range { offset: 0, length: length as u64 };
             for (metadata, headers) in [(range, whole), (whole, range), (range, range)] {
