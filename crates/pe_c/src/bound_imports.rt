@@ -46,7 +46,8 @@ pub struct BoundForwarder {
 }
 
 fn bound_imports_at(view: &View) -> Result<Option<Range>>
-    ensures { directory_answer (λ r. r) result ≡ bound_imports_at view.now.bytes.now view.now.image.now }
+    ensures { directory_answer (λ r. r) result ≡ bound_imports_at view.now.bytes.now
+        view.now.image.now }
 {
     let directory = directory(view.image, BOUND_IMPORT_TABLE);
     if is_absent(directory) {
@@ -65,7 +66,8 @@ fn bound_imports_at(view: &View) -> Result<Option<Range>>
 /// Error: `SHORT`.
 #[unsafe(no_mangle)]
 pub extern "C" fn pe_c_bound_imports(view: &View, out: &mut Range) -> u32
-    ensures { DirectoryHandsOut result out.old out.new (bound_imports_at view.now.bytes.now view.now.image.now) }
+    ensures { DirectoryHandsOut result out.old out.new (bound_imports_at view.now.bytes.now
+        view.now.image.now) }
 {
     hand_out_found(bound_imports_at(view), out)
 }

@@ -29,7 +29,8 @@ use pe_records::{
 #[tactic(auto, unfolding(crate::specs::Debug::debug_entries_range))]
 fn table_of(view: &View) -> Result<Option<Range>>
     ensures { answer_of result
-        ≡ debug_entries_range view.now.bytes.now view.now.image.now view.now.sections.now view.now.image.now.mode }
+        ≡ debug_entries_range view.now.bytes.now view.now.image.now view.now.sections.now
+        view.now.image.now.mode }
 {
     let directory = directory(view.image, DEBUG_TABLE);
     if is_absent(directory) {
@@ -49,14 +50,16 @@ fn table_of(view: &View) -> Result<Option<Range>>
 #[unsafe(no_mangle)]
 pub extern "C" fn pe_c_debug_entries(view: &View, out: &mut Range) -> u32
     ensures { HandsOutIf result out.old out.new
-        (debug_entries_range view.now.bytes.now view.now.image.now view.now.sections.now view.now.image.now.mode) }
+        (debug_entries_range view.now.bytes.now view.now.image.now view.now.sections.now
+        view.now.image.now.mode) }
 {
     hand_out_some(table_of(view), out)
 }
 
 #[tactic(auto, unfolding(crate::specs::Debug::first_entry, pe_records::specs::DebugDirectory::directory_table))]
 fn first_entry(view: &View, data_type: u32) -> Result<Option<ImageDebugDirectory>>
-    ensures { answer_of result ≡ first_entry view.now.bytes.now view.now.image.now view.now.sections.now data_type }
+    ensures { answer_of result ≡ first_entry view.now.bytes.now view.now.image.now
+        view.now.sections.now data_type }
 {
     let directory = directory(view.image, DEBUG_TABLE);
     if is_absent(directory) {
@@ -85,7 +88,8 @@ pub extern "C" fn pe_c_first_debug_entry(
 }
 
 fn first_key(view: &View) -> Result<Option<SymbolKey>>
-    ensures { answer_of result ≡ read_first key_of IMAGE_DEBUG_TYPE_CODEVIEW view.now.bytes.now view.now.image.now view.now.sections.now }
+    ensures { answer_of result ≡ read_first key_of IMAGE_DEBUG_TYPE_CODEVIEW view.now.bytes.now
+        view.now.image.now view.now.sections.now }
 {
     match first_entry(view, IMAGE_DEBUG_TYPE_CODEVIEW)? {
         Some(entry) => key_of(view.bytes, view.image.mode, &entry),
@@ -100,13 +104,15 @@ fn first_key(view: &View) -> Result<Option<SymbolKey>>
 #[unsafe(no_mangle)]
 pub extern "C" fn pe_c_symbol_key(view: &View, out: &mut SymbolKey) -> u32
     ensures { HandsOutIf result out.old out.new
-        (read_first key_of IMAGE_DEBUG_TYPE_CODEVIEW view.now.bytes.now view.now.image.now view.now.sections.now) }
+        (read_first key_of IMAGE_DEBUG_TYPE_CODEVIEW view.now.bytes.now view.now.image.now
+        view.now.sections.now) }
 {
     hand_out_some(first_key(view), out)
 }
 
 fn first_pdb20(view: &View) -> Result<Option<Pdb20>>
-    ensures { answer_of result ≡ read_first pdb20_of IMAGE_DEBUG_TYPE_CODEVIEW view.now.bytes.now view.now.image.now view.now.sections.now }
+    ensures { answer_of result ≡ read_first pdb20_of IMAGE_DEBUG_TYPE_CODEVIEW view.now.bytes.now
+        view.now.image.now view.now.sections.now }
 {
     match first_entry(view, IMAGE_DEBUG_TYPE_CODEVIEW)? {
         Some(entry) => pdb20_of(view.bytes, view.image.mode, &entry),
@@ -121,14 +127,16 @@ fn first_pdb20(view: &View) -> Result<Option<Pdb20>>
 #[unsafe(no_mangle)]
 pub extern "C" fn pe_c_debug_pdb20(view: &View, out: &mut Pdb20) -> u32
     ensures { HandsOutIf result out.old out.new
-        (read_first pdb20_of IMAGE_DEBUG_TYPE_CODEVIEW view.now.bytes.now view.now.image.now view.now.sections.now) }
+        (read_first pdb20_of IMAGE_DEBUG_TYPE_CODEVIEW view.now.bytes.now view.now.image.now
+        view.now.sections.now) }
 {
     hand_out_some(first_pdb20(view), out)
 }
 
 fn first_features(view: &View) -> Result<Option<VCFeatureInfo>>
     ensures { answer_of result
-        ≡ read_first features_of IMAGE_DEBUG_TYPE_VC_FEATURE view.now.bytes.now view.now.image.now view.now.sections.now }
+        ≡ read_first features_of IMAGE_DEBUG_TYPE_VC_FEATURE view.now.bytes.now view.now.image.now
+        view.now.sections.now }
 {
     match first_entry(view, IMAGE_DEBUG_TYPE_VC_FEATURE)? {
         Some(entry) => features_of(view.bytes, view.image.mode, &entry),
@@ -142,14 +150,16 @@ fn first_features(view: &View) -> Result<Option<VCFeatureInfo>>
 #[unsafe(no_mangle)]
 pub extern "C" fn pe_c_debug_vc_features(view: &View, out: &mut VCFeatureInfo) -> u32
     ensures { HandsOutIf result out.old out.new
-        (read_first features_of IMAGE_DEBUG_TYPE_VC_FEATURE view.now.bytes.now view.now.image.now view.now.sections.now) }
+        (read_first features_of IMAGE_DEBUG_TYPE_VC_FEATURE view.now.bytes.now view.now.image.now
+        view.now.sections.now) }
 {
     hand_out_some(first_features(view), out)
 }
 
 fn first_characteristics(view: &View) -> Result<Option<u32>>
     ensures { answer_of result
-        ≡ read_first characteristics_of IMAGE_DEBUG_TYPE_EX_DLLCHARACTERISTICS view.now.bytes.now view.now.image.now view.now.sections.now }
+        ≡ read_first characteristics_of IMAGE_DEBUG_TYPE_EX_DLLCHARACTERISTICS view.now.bytes.now
+        view.now.image.now view.now.sections.now }
 {
     match first_entry(view, IMAGE_DEBUG_TYPE_EX_DLLCHARACTERISTICS)? {
         Some(entry) => characteristics_of(view.bytes, view.image.mode, &entry),
@@ -164,13 +174,15 @@ fn first_characteristics(view: &View) -> Result<Option<u32>>
 #[unsafe(no_mangle)]
 pub extern "C" fn pe_c_debug_characteristics(view: &View, out: &mut u32) -> u32
     ensures { HandsOutIf result out.old out.new
-        (read_first characteristics_of IMAGE_DEBUG_TYPE_EX_DLLCHARACTERISTICS view.now.bytes.now view.now.image.now view.now.sections.now) }
+        (read_first characteristics_of IMAGE_DEBUG_TYPE_EX_DLLCHARACTERISTICS view.now.bytes.now
+        view.now.image.now view.now.sections.now) }
 {
     hand_out_some(first_characteristics(view), out)
 }
 
 fn first_repro(view: &View) -> Result<Option<Repro>>
-    ensures { answer_of result ≡ read_first repro_of IMAGE_DEBUG_TYPE_REPRO view.now.bytes.now view.now.image.now view.now.sections.now }
+    ensures { answer_of result ≡ read_first repro_of IMAGE_DEBUG_TYPE_REPRO view.now.bytes.now
+        view.now.image.now view.now.sections.now }
 {
     match first_entry(view, IMAGE_DEBUG_TYPE_REPRO)? {
         Some(entry) => repro_of(view.bytes, view.image.mode, &entry),
@@ -184,13 +196,15 @@ fn first_repro(view: &View) -> Result<Option<Repro>>
 #[unsafe(no_mangle)]
 pub extern "C" fn pe_c_debug_repro(view: &View, out: &mut Repro) -> u32
     ensures { HandsOutIf result out.old out.new
-        (read_first repro_of IMAGE_DEBUG_TYPE_REPRO view.now.bytes.now view.now.image.now view.now.sections.now) }
+        (read_first repro_of IMAGE_DEBUG_TYPE_REPRO view.now.bytes.now view.now.image.now
+        view.now.sections.now) }
 {
     hand_out_some(first_repro(view), out)
 }
 
 fn first_pogo(view: &View) -> Result<Option<Pogo>>
-    ensures { answer_of result ≡ read_first pogo_of IMAGE_DEBUG_TYPE_POGO view.now.bytes.now view.now.image.now view.now.sections.now }
+    ensures { answer_of result ≡ read_first pogo_of IMAGE_DEBUG_TYPE_POGO view.now.bytes.now
+        view.now.image.now view.now.sections.now }
 {
     match first_entry(view, IMAGE_DEBUG_TYPE_POGO)? {
         Some(entry) => pogo_of(view.bytes, view.image.mode, &entry),
@@ -205,7 +219,8 @@ fn first_pogo(view: &View) -> Result<Option<Pogo>>
 #[unsafe(no_mangle)]
 pub extern "C" fn pe_c_debug_pogo(view: &View, out: &mut Pogo) -> u32
     ensures { HandsOutIf result out.old out.new
-        (read_first pogo_of IMAGE_DEBUG_TYPE_POGO view.now.bytes.now view.now.image.now view.now.sections.now) }
+        (read_first pogo_of IMAGE_DEBUG_TYPE_POGO view.now.bytes.now view.now.image.now
+        view.now.sections.now) }
 {
     hand_out_some(first_pogo(view), out)
 }

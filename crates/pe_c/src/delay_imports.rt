@@ -137,9 +137,11 @@ pub extern "C" fn pe_c_next_delay_import(
     out: &mut DelayLibrary,
 ) -> u32
     ensures library { DirectoryHandsOut result out.old out.new (step_of (λ x. x)
-        (first_library_in (image_parts view.now.bytes.now view.now.image.now view.now.sections.now) walk.old)) }
+        (first_library_in (image_parts view.now.bytes.now view.now.image.now view.now.sections.now)
+        walk.old)) }
     ensures walk { walk.new ≡ left_after walk.old
-        (first_library_in (image_parts view.now.bytes.now view.now.image.now view.now.sections.now) walk.old) }
+        (first_library_in (image_parts view.now.bytes.now view.now.image.now view.now.sections.now)
+        walk.old) }
 {
     hand_out_found(next_library(view, walk), out)
 }
@@ -193,10 +195,12 @@ pub fn next_function(
     left: &mut Range,
 ) -> Result<Option<DelayedFunction>>
     ensures function { directory_answer (λ x. x) result ≡ step_of (λ x. x)
-        (first_function_in view.now.image.now (image_parts view.now.bytes.now view.now.image.now view.now.sections.now)
+        (first_function_in view.now.image.now (image_parts view.now.bytes.now view.now.image.now
+        view.now.sections.now)
         attributes left.old) }
     ensures left { left.new ≡ left_after left.old
-        (first_function_in view.now.image.now (image_parts view.now.bytes.now view.now.image.now view.now.sections.now)
+        (first_function_in view.now.image.now (image_parts view.now.bytes.now view.now.image.now
+        view.now.sections.now)
         attributes left.old) }
 {
     let range = *left;
@@ -228,9 +232,11 @@ pub extern "C" fn pe_c_next_delayed_function(
     out: &mut DelayedFunction,
 ) -> u32
     ensures function { DirectoryHandsOut result out.old out.new (step_of (λ x. x)
-        (first_of_walk view.now.image.now (image_parts view.now.bytes.now view.now.image.now view.now.sections.now) walk.old)) }
+        (first_of_walk view.now.image.now (image_parts view.now.bytes.now view.now.image.now
+        view.now.sections.now) walk.old)) }
     ensures walk { walk.new ≡ functions_after walk.old
-        (first_of_walk view.now.image.now (image_parts view.now.bytes.now view.now.image.now view.now.sections.now) walk.old) }
+        (first_of_walk view.now.image.now (image_parts view.now.bytes.now view.now.image.now
+        view.now.sections.now) walk.old) }
 {
     let attributes = walk.attributes;
     hand_out_found(next_function(view, attributes, &mut walk.left), out)

@@ -91,7 +91,8 @@ fn table_of(view: &View, export_data: &ExportData) -> AddressTable
 
 #[tactic(auto, unfolding(crate::specs::ExportAddresses::address_table_at))]
 fn table_at(view: &View) -> Result<Option<AddressTable>>
-    ensures { answer_of result ≡ address_table_at view.now.bytes.now view.now.image.now view.now.sections.now }
+    ensures { answer_of result ≡ address_table_at view.now.bytes.now view.now.image.now
+        view.now.sections.now }
 {
     let directory = directory(view.image, EXPORT_TABLE);
     if is_absent(directory) {

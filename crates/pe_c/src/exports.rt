@@ -88,7 +88,8 @@ pub fn export_data<'a>(view: &View<'a>, directory: DataDirectory) -> Result<Expo
 
 #[tactic(auto, unfolding(crate::specs::Exports::tables_at))]
 fn tables_at(view: &View) -> Result<Option<Exports>>
-    ensures { answer_of result ≡ tables_at view.now.bytes.now view.now.image.now view.now.sections.now }
+    ensures { answer_of result ≡ tables_at view.now.bytes.now view.now.image.now
+        view.now.sections.now }
 {
     let directory = directory(view.image, EXPORT_TABLE);
     if is_absent(directory) {
@@ -104,7 +105,8 @@ fn tables_at(view: &View) -> Result<Option<Exports>>
 /// Errors: `UNMAPPED`, `SHORT` of the directory; `UNMAPPED`, `SHORT` of each table: of RVAs, of names, of ordinals.
 #[unsafe(no_mangle)]
 pub extern "C" fn pe_c_export_tables(view: &View, out: &mut Exports) -> u32
-    ensures { HandsOutIf result out.old out.new (tables_at view.now.bytes.now view.now.image.now view.now.sections.now) }
+    ensures { HandsOutIf result out.old out.new (tables_at view.now.bytes.now view.now.image.now
+        view.now.sections.now) }
 {
     hand_out_some(tables_at(view), out)
 }
@@ -144,7 +146,8 @@ fn reported_entry(view: &View, tables: &Tables<'_>, i: usize) -> Option<Export>
 
 /// The first entry of the name table, from `from` on, that has an export, and the index after it.
 fn find_next(view: &View, tables: &Tables<'_>, from: usize) -> Option<(Export, u64)>
-    ensures { FindsNext (reported_entry (map_of view.now) view.now.bytes.now (view_of tables.now)) from (length tables.now.names.now / 4) result }
+    ensures { FindsNext (reported_entry (map_of view.now) view.now.bytes.now (view_of tables.now))
+        from (length tables.now.names.now / 4) result }
 {
     for i in from..tables.names.len() / 4 {
         if let Some(export) = reported_entry(view, tables, i) {

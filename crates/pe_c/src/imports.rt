@@ -141,7 +141,8 @@ fn libraries_at(view: &View) -> Result<Option<Libraries>>
 /// Errors: `UNMAPPED`.
 #[unsafe(no_mangle)]
 pub extern "C" fn pe_c_import_libraries(view: &View, out: &mut Libraries) -> u32
-    ensures { HandsOutIf result out.old out.new (libraries_at view.now.image.now view.now.sections.now) }
+    ensures { HandsOutIf result out.old out.new (libraries_at view.now.image.now
+        view.now.sections.now) }
 {
     hand_out_some(libraries_at(view), out)
 }

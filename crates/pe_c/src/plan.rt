@@ -91,7 +91,8 @@ fn advance(plan: &mut Plan, next: UnwindRecord) -> Result<Option<UnwindRecord>>
 }
 
 fn next_record(view: &View, table: &Range, plan: &mut Plan) -> Result<Option<UnwindRecord>>
-    ensures { StepsPlan view.now.bytes.now (links_at view.now.bytes.now view.now.image.now view.now.sections.now table.now) plan.old
+    ensures { StepsPlan view.now.bytes.now (links_at view.now.bytes.now view.now.image.now
+        view.now.sections.now table.now) plan.old
         (answer_of result) plan.new }
 {
     if plan.is_over != 0 {
@@ -117,7 +118,8 @@ pub extern "C" fn pe_c_next_record(
     plan: &mut Plan,
     out: &mut UnwindRecord,
 ) -> u32
-    ensures { HandsOutPlan view.now.bytes.now (links_at view.now.bytes.now view.now.image.now view.now.sections.now table.now)
+    ensures { HandsOutPlan view.now.bytes.now (links_at view.now.bytes.now view.now.image.now
+        view.now.sections.now table.now)
         plan.old plan.new result out.old out.new }
 {
     hand_out_some(next_record(view, table, plan), out)

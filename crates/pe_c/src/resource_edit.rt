@@ -66,7 +66,8 @@ fn number_of_record(error: &RecordError) -> u32
 
 /// The headers of the bytes, in the mode of an image, or the number of an error.
 fn headers<'a>(view: &View<'a>) -> Result<Header<'a>, u32>
-    ensures { NumberReturns header_view result (headers_numbered view.now.bytes.now view.now.image.now) }
+    ensures { NumberReturns header_view result (headers_numbered view.now.bytes.now
+        view.now.image.now) }
 {
     match headers_of(view) {
         Ok(header) => Ok(header),
@@ -125,7 +126,8 @@ fn edit_to(
     room: &mut [u8],
 ) -> Result<usize, u32>
     ensures { NumberReturnsWritten result
-        (written_numbered (edited_at view.now.bytes.now view.now.image.now data.now resources.now) room.old)
+        (written_numbered (edited_at view.now.bytes.now view.now.image.now data.now resources.now)
+        room.old)
         room.old room.new }
 {
     let header = headers(view)?;
@@ -154,7 +156,8 @@ pub extern "C" fn pe_c_edit(
     out: &mut u64,
 ) -> u32
     ensures { HandsOutFile result out.old out.new room.old room.new
-        (written_numbered (edited_at view.now.bytes.now view.now.image.now data.now resources.now) room.old) }
+        (written_numbered (edited_at view.now.bytes.now view.now.image.now data.now resources.now)
+        room.old) }
 {
     match edit_to(view, resources, data, room) {
         Ok(length) => {

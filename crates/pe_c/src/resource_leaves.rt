@@ -191,7 +191,8 @@ const NO_ENTRY: ResourceEntry = ResourceEntry {
 /// where the first directory or its entries are not all in the data.
 #[unsafe(no_mangle)]
 pub extern "C" fn pe_c_resource_leaves(view: &View, out: &mut ResourceLeaves) -> u32
-    ensures tree { StartsLeaves view.now.bytes.now view.now.image.now view.now.sections.now result out.old out.new
+    ensures tree { StartsLeaves view.now.bytes.now view.now.image.now view.now.sections.now result
+        out.old out.new
         (image_tree view.now.bytes.now view.now.image.now view.now.sections.now) }
     ensures walk { HandsOutIf result out.old out.new
         (leaves_start view.now.bytes.now view.now.image.now view.now.sections.now) }

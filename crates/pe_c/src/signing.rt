@@ -154,7 +154,8 @@ fn attach_to(
     room: &mut [u8],
 ) -> Result<usize, SignError>
     ensures { SignReturnsWritten result
-        (written (attached_at placement view.now.bytes.now view.now.image.now certificate.now) room.old)
+        (written (attached_at placement view.now.bytes.now view.now.image.now certificate.now)
+        room.old)
         room.old room.new }
 {
     let header = headers_of(view)?;
@@ -183,7 +184,8 @@ pub extern "C" fn pe_c_attach(
     out: &mut u64,
 ) -> u32
     ensures { SignHandsOutWritten result out.old out.new room.old room.new
-        (written (attached_at placement view.now.bytes.now view.now.image.now certificate.now) room.old) }
+        (written (attached_at placement view.now.bytes.now view.now.image.now certificate.now)
+        room.old) }
 {
     match attach_to(view, certificate, placement, room) {
         Ok(length) => {
@@ -207,7 +209,8 @@ fn detached_length(view: &View) -> Result<u64, SignError>
 /// Errors: those of `pe_c_detach`, but for that of the room.
 #[unsafe(no_mangle)]
 pub extern "C" fn pe_c_detached_length(view: &View, out: &mut u64) -> u32
-    ensures { SignHandsOut result out.old out.new (length_of (detached_at view.now.bytes.now view.now.image.now)) }
+    ensures { SignHandsOut result out.old out.new (length_of (detached_at view.now.bytes.now
+        view.now.image.now)) }
 {
     hand_out_signed(detached_length(view), out)
 }

@@ -13,7 +13,8 @@ use crate::view::View;
 use pe_directories::{TlsDirectory, VaTable};
 
 fn tls_at(view: &View) -> Result<Option<TlsDirectory>>
-    ensures { directory_answer (λ t. t) result ≡ tls_at view.now.bytes.now view.now.image.now view.now.sections.now }
+    ensures { directory_answer (λ t. t) result ≡ tls_at view.now.bytes.now view.now.image.now
+        view.now.sections.now }
 {
     let directory = directory(view.image, TLS_TABLE);
     if is_absent(directory) {
@@ -28,7 +29,8 @@ fn tls_at(view: &View) -> Result<Option<TlsDirectory>>
 /// Errors: `UNMAPPED`, `SHORT`.
 #[unsafe(no_mangle)]
 pub extern "C" fn pe_c_tls(view: &View, out: &mut TlsDirectory) -> u32
-    ensures { DirectoryHandsOut result out.old out.new (tls_at view.now.bytes.now view.now.image.now view.now.sections.now) }
+    ensures { DirectoryHandsOut result out.old out.new (tls_at view.now.bytes.now view.now.image.now
+        view.now.sections.now) }
 {
     hand_out_found(tls_at(view), out)
 }
@@ -63,7 +65,8 @@ pub extern "C" fn pe_c_tls_callbacks(view: &View, tls: &TlsDirectory, out: &mut 
 fn next_callback(view: &View, walk: &mut Range) -> Result<Option<u64>>
     ensures callback { directory_answer (λ x. x) result
         ≡ step_of (λ x. x) (first_va_in view.now.image.now view.now.bytes.now walk.old) }
-    ensures walk { walk.new ≡ left_after walk.old (first_va_in view.now.image.now view.now.bytes.now walk.old) }
+    ensures walk { walk.new ≡ left_after walk.old (first_va_in view.now.image.now view.now.bytes.now
+        walk.old) }
 {
     let range = *walk;
     if range.offset == 0 && range.length == 0 {
@@ -88,7 +91,8 @@ fn next_callback(view: &View, walk: &mut Range) -> Result<Option<u64>>
 pub extern "C" fn pe_c_next_tls_callback(view: &View, walk: &mut Range, out: &mut u64) -> u32
     ensures callback { DirectoryHandsOut result out.old out.new
         (step_of (λ x. x) (first_va_in view.now.image.now view.now.bytes.now walk.old)) }
-    ensures walk { walk.new ≡ left_after walk.old (first_va_in view.now.image.now view.now.bytes.now walk.old) }
+    ensures walk { walk.new ≡ left_after walk.old (first_va_in view.now.image.now view.now.bytes.now
+        walk.old) }
 {
     hand_out_found(next_callback(view, walk), out)
 }

@@ -98,7 +98,8 @@ pub struct Code {
 #[tactic(auto, unfolding(crate::specs::Unwinding::exception_table_at))]
 fn table_of(view: &View) -> Result<Option<Range>>
     ensures { answer_of result
-        ≡ exception_table_at COFF_MACHINE_X86_64 12 view.now.bytes.now view.now.image.now view.now.sections.now view.now.image.now.mode }
+        ≡ exception_table_at COFF_MACHINE_X86_64 12 view.now.bytes.now view.now.image.now
+        view.now.sections.now view.now.image.now.mode }
 {
     let directory = directory(view.image, EXCEPTION_TABLE);
     if view.image.machine != COFF_MACHINE_X86_64 || is_absent(directory) {
@@ -122,7 +123,8 @@ fn table_of(view: &View) -> Result<Option<Range>>
 #[unsafe(no_mangle)]
 pub extern "C" fn pe_c_function_table(view: &View, out: &mut Range) -> u32
     ensures { HandsOutIf result out.old out.new
-        (exception_table_at COFF_MACHINE_X86_64 12 view.now.bytes.now view.now.image.now view.now.sections.now view.now.image.now.mode) }
+        (exception_table_at COFF_MACHINE_X86_64 12 view.now.bytes.now view.now.image.now
+        view.now.sections.now view.now.image.now.mode) }
 {
     hand_out_some(table_of(view), out)
 }
@@ -253,7 +255,8 @@ fn record_at(bytes: &[u8], offset: usize) -> Result<UnwindRecord>
 #[cold]
 #[inline(never)]
 fn linked_offset(view: &View, table: &Range, unwind: u32) -> Result<usize>
-    ensures { FindsOffset (links_at view.now.bytes.now view.now.image.now view.now.sections.now table.now) unwind
+    ensures { FindsOffset (links_at view.now.bytes.now view.now.image.now view.now.sections.now
+        table.now) unwind
         (answer_of result) }
 {
     let table = ByteRange {
@@ -268,25 +271,23 @@ fn linked_offset(view: &View, table: &Range, unwind: u32) -> Result<usize>
 #[inline(always)]
 #[tactic(auto, using(crate::proofs::EvenRecords::even_offsets))]
 fn find_record_offset(view: &View, table: &Range, unwind: u32) -> Result<usize>
-    ensures { FindsOffset (links_at view.now.bytes.now view.now.image.now view.now.sections.now table.now) unwind
+    ensures { FindsOffset (links_at view.now.bytes.now view.now.image.now view.now.sections.now
+        table.now) unwind
         (answer_of result) }
 {
     if unwind % 2 == 1 {
         return linked_offset(view, table, unwind);
     }
     let _entries = slice_of(view.bytes, table)?;
-    mapped_offset(
-        unwind,
-        view.sections,
-        view.image.file_alignment,
-        &options(view.image.mode),
-    )
+    let (image, sections) = (view.image, view.sections);
+    mapped_offset(unwind, sections, image.file_alignment, &options(image.mode))
 }
 
 /// The unwind record of an unwind RVA, as `pe_c_unwind_record` returns it.
 #[inline(always)]
 pub fn read_record(view: &View, table: &Range, unwind: u32) -> Result<UnwindRecord>
-    ensures { FollowsToRecord view.now.bytes.now (links_at view.now.bytes.now view.now.image.now view.now.sections.now table.now) unwind
+    ensures { FollowsToRecord view.now.bytes.now (links_at view.now.bytes.now view.now.image.now
+        view.now.sections.now table.now) unwind
         (answer_of result) }
 {
     let offset = find_record_offset(view, table, unwind)?;
@@ -305,7 +306,8 @@ pub extern "C" fn pe_c_unwind_record(
     unwind: u32,
     out: &mut UnwindRecord,
 ) -> u32
-    ensures { HandsOutRecord view.now.bytes.now (links_at view.now.bytes.now view.now.image.now view.now.sections.now table.now) unwind
+    ensures { HandsOutRecord view.now.bytes.now (links_at view.now.bytes.now view.now.image.now
+        view.now.sections.now table.now) unwind
         result out.old out.new }
 {
     hand_out(read_record(view, table, unwind), out)

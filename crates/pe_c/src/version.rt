@@ -20,7 +20,8 @@ use pe_resource::{RT_MANIFEST, RT_VERSION, ResourceData, VersionName, VsFixedFil
 
 /// The range of the content of the first resource with an id, if the image has resources and this one.
 pub fn content_of(view: &View, id: u16) -> Result<Option<ByteRange>>
-    ensures content { IsContentOf view.now.bytes.now view.now.image.now view.now.sections.now view.now.image.now.mode id
+    ensures content { IsContentOf view.now.bytes.now view.now.image.now view.now.sections.now
+        view.now.image.now.mode id
         (answer_of result) }
     ensures within { IfOk result (λ c. IfSome c (IsWithin view.now.bytes.now)) }
 {
@@ -44,7 +45,8 @@ pub fn content_of(view: &View, id: u16) -> Result<Option<ByteRange>>
 #[unsafe(no_mangle)]
 pub extern "C" fn pe_c_manifest(view: &View, out: &mut Range) -> u32
     ensures { HandsOutManifest
-        view.now.bytes.now view.now.image.now view.now.sections.now view.now.image.now.mode result out.old out.new }
+        view.now.bytes.now view.now.image.now view.now.sections.now view.now.image.now.mode result
+        out.old out.new }
 {
     match content_of(view, RT_MANIFEST) {
         Ok(content) => hand_out_some(Ok(content.map(range_of)), out),
@@ -67,7 +69,8 @@ fn fixed_at(bytes: &[u8], content: Option<ByteRange>) -> Result<Option<VsFixedFi
 /// `ResourceData::content_range`, then those of `VsFixedFileInfo::of_strings`.
 #[unsafe(no_mangle)]
 pub extern "C" fn pe_c_fixed_version(view: &View, out: &mut VsFixedFileInfo) -> u32
-    ensures { HandsOutFixed view.now.bytes.now view.now.image.now view.now.sections.now view.now.image.now.mode result out.old out.new }
+    ensures { HandsOutFixed view.now.bytes.now view.now.image.now view.now.sections.now
+        view.now.image.now.mode result out.old out.new }
 {
     match content_of(view, RT_VERSION) {
         Ok(content) => hand_out_some(fixed_at(view.bytes, content), out),
@@ -118,7 +121,8 @@ fn name_at(number: u32) -> Option<VersionName>
 /// for a number above 11. Errors are those of `ResourceData::content_range`, then those of `VersionName::value_range`.
 #[unsafe(no_mangle)]
 pub extern "C" fn pe_c_version_text(view: &View, name: u32, out: &mut Range) -> u32
-    ensures { HandsOutText view.now.bytes.now view.now.image.now view.now.sections.now view.now.image.now.mode
+    ensures { HandsOutText view.now.bytes.now view.now.image.now view.now.sections.now
+        view.now.image.now.mode
         (name_at name) result out.old out.new }
 {
     let Some(name) = name_at(name) else {

@@ -47,7 +47,8 @@ pub struct VersionBlock {
 #[unsafe(no_mangle)]
 pub extern "C" fn pe_c_version_blocks(view: &View, out: &mut Range) -> u32
     ensures { HandsOutBlocks
-        view.now.bytes.now view.now.image.now view.now.sections.now view.now.image.now.mode result out.old out.new }
+        view.now.bytes.now view.now.image.now view.now.sections.now view.now.image.now.mode result
+        out.old out.new }
 {
     match content_of(view, RT_VERSION) {
         Ok(content) => hand_out_some(Ok(content.map(range_of)), out),

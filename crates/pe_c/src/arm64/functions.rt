@@ -41,7 +41,8 @@ pub struct Arm64Packed {
 #[tactic(auto, unfolding(crate::specs::Unwinding::exception_table_at))]
 fn table_of(view: &View) -> Result<Option<Range>>
     ensures { answer_of result
-        ≡ exception_table_at COFF_MACHINE_ARM64 8 view.now.bytes.now view.now.image.now view.now.sections.now view.now.image.now.mode }
+        ≡ exception_table_at COFF_MACHINE_ARM64 8 view.now.bytes.now view.now.image.now
+        view.now.sections.now view.now.image.now.mode }
 {
     let directory = directory(view.image, EXCEPTION_TABLE);
     if view.image.machine != COFF_MACHINE_ARM64 || is_absent(directory) {
@@ -66,13 +67,15 @@ fn table_of(view: &View) -> Result<Option<Range>>
 #[unsafe(no_mangle)]
 pub extern "C" fn pe_c_arm64_table(view: &View, out: &mut Range) -> u32
     ensures { HandsOutIf result out.old out.new
-        (exception_table_at COFF_MACHINE_ARM64 8 view.now.bytes.now view.now.image.now view.now.sections.now view.now.image.now.mode) }
+        (exception_table_at COFF_MACHINE_ARM64 8 view.now.bytes.now view.now.image.now
+        view.now.sections.now view.now.image.now.mode) }
 {
     hand_out_some(table_of(view), out)
 }
 
 fn find(view: &View, table: &Range, rva: u32) -> Result<Option<Arm64RuntimeFunction>>
-    ensures { LocatesArm64In (arm64_length_in view.now.bytes.now view.now.image.now view.now.sections.now)
+    ensures { LocatesArm64In (arm64_length_in view.now.bytes.now view.now.image.now
+        view.now.sections.now)
         (bytes_at view.now.bytes.now table.now) rva (answer_of result) }
 {
     let mut counted = CountedTable::new(slice_of(view.bytes, table)?);
@@ -96,7 +99,8 @@ pub extern "C" fn pe_c_find_arm64_function(
     out: &mut Arm64RuntimeFunction,
 ) -> u32
     ensures { HandsOutArm64Found
-        view.now.bytes.now view.now.image.now view.now.sections.now table.now rva result out.old out.new }
+        view.now.bytes.now view.now.image.now view.now.sections.now table.now rva result out.old
+        out.new }
 {
     hand_out_some(find(view, table, rva), out)
 }

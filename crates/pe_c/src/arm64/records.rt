@@ -131,7 +131,8 @@ fn info_at(bytes: &[u8], offset: usize) -> Result<Arm64Record>
 
 fn read_record(view: &View, function: Arm64RuntimeFunction) -> Result<Option<Arm64Record>>
     ensures { answer_of result
-        ≡ arm64_record_of view.now.bytes.now view.now.image.now view.now.sections.now view.now.image.now.mode function }
+        ≡ arm64_record_of view.now.bytes.now view.now.image.now view.now.sections.now
+        view.now.image.now.mode function }
 {
     let opts = options(view.image.mode);
     let alignment = view.image.file_alignment;
@@ -160,7 +161,8 @@ pub extern "C" fn pe_c_arm64_unwind_record(
     out: &mut Arm64Record,
 ) -> u32
     ensures { HandsOutIf result out.old out.new
-        (arm64_record_of view.now.bytes.now view.now.image.now view.now.sections.now view.now.image.now.mode function.now) }
+        (arm64_record_of view.now.bytes.now view.now.image.now view.now.sections.now
+        view.now.image.now.mode function.now) }
 {
     hand_out_some(read_record(view, *function), out)
 }
