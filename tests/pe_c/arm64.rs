@@ -3,7 +3,7 @@
 use super::made::{
     ARM64, ARM64_VERSION, EXCEPTION_BOUNDS, EXCEPTION_OFFSET, EXCEPTION_SIZE, FUNCTION_INDEX,
     MAPPED, OVER, PERMISSIVE, SHORT, STRICT, UNMAPPED, UNTOUCHED, X64, directory, having, image,
-    images_without_tables, in_mode, lies, of_range, range, sections, untouched, words,
+    images_without_tables, in_mode, lies, of_range, range, sections, untouched, view, words,
 };
 use crate::arm64::functions::{
     Arm64Packed, pe_c_arm64_function_at, pe_c_arm64_packed_fields, pe_c_arm64_table,
@@ -26,7 +26,7 @@ fn with_table(virtual_address: u32, size: u32) -> Image {
 
 fn table_of(bytes: &[u8], image: &Image, mode: u32) -> (u32, [u64; 2]) {
     let mut out = untouched();
-    let answer = pe_c_arm64_table(bytes, &in_mode(image, mode), &sections(), &mut out);
+    let answer = pe_c_arm64_table(&view(bytes, &in_mode(image, mode), &sections()), &mut out);
     (answer, of_range(out))
 }
 
@@ -76,7 +76,12 @@ fn functions_of_addresses(rt: HostRuntime) -> Result<(), Fail> {
     let whole = image(ARM64);
     let find = |bytes: &[u8], image: &Image, table: &Range, rva| {
         let mut out = OTHER;
-        let answer = pe_c_find_arm64_function(bytes, image, &sections(), table, rva, &mut out);
+        let answer = pe_c_find_arm64_function(
+            &view(bytes, image, &sections()),
+            table,
+            rva,
+            &mut out,
+        );
         (answer, out)
     };
     let table = range(4, 24);
@@ -229,7 +234,7 @@ fn record_of(bytes: &[u8], image: &Image, unwind_data: u32) -> (u32, Fields) {
         version: 12,
     };
     let function = function(0x5000, unwind_data);
-    let answer = pe_c_arm64_unwind_record(bytes, image, &sections(), &function, &mut out);
+    let answer = pe_c_arm64_unwind_record(&view(bytes, image, &sections()), &function, &mut out);
     let Arm64Record {
         scopes,
         codes,

@@ -1,10 +1,9 @@
 //! Steps of a stack walk on ARM64. The unwind data are those of the tests of pe_frame: records that clang makes, and packed
 //! data whose prolog llvm-readobj prints. Stacks are by hand: what is expected is the state at the function's entry.
 
-use super::made::{ARM64, ARM64_CUT, ARM64_VERSION, SHORT, UNMAPPED, image, sections};
+use super::made::{ARM64, ARM64_CUT, ARM64_VERSION, SHORT, UNMAPPED, image, sections, view};
 use crate::arm64::frames::{Arm64FrameRegisters, Arm64StackFrame, pe_c_step_arm64};
 use crate::results::{BAD_ADDRESS, BAD_OPERATION, DONE, MISSING, NOT_RISING};
-use crate::view::without_index;
 use pe_frame::MemoryPiece;
 use pe_images::{image as bytes_of, put};
 use pe_unwind::Arm64RuntimeFunction;
@@ -164,7 +163,7 @@ fn step_over(
     frame: &mut Arm64StackFrame,
 ) -> u32 {
     let (image, sections) = (image(ARM64), sections());
-    let view = without_index(bytes, &image, &sections);
+    let view = view(bytes, &image, &sections);
     pe_c_step_arm64(&view, memory, pieces, frame)
 }
 

@@ -2,7 +2,8 @@
 
 use super::made::{
     DIRECTORY_BLOCK_SIZE, DIRECTORY_BLOCK_TRUNCATED, DIRECTORY_NO_ARGUMENT, OVER, SHORT, UNMAPPED,
-    UNTOUCHED, X64, directory, having, image, lies, of_range, range, sections, untouched, words,
+    UNTOUCHED, X64, directory, having, image, lies, of_range, range, sections, untouched, view,
+    words,
 };
 use crate::base_relocations::{
     Relocation, RelocationBlock, pe_c_next_relocation, pe_c_next_relocation_block,
@@ -32,7 +33,7 @@ fn tables_of_blocks(rt: HostRuntime) -> Result<(), Fail> {
     ] {
         let image = having(image(X64), 5, directory(address, size));
         let mut out = untouched();
-        let answer = pe_c_relocation_blocks(&bytes, &image, &sections(), &mut out);
+        let answer = pe_c_relocation_blocks(&view(&bytes, &image, &sections()), &mut out);
         assert_eq!(rt; (answer, of_range(out)), want);
     }
     Ok(())

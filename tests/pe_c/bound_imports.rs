@@ -2,7 +2,7 @@
 
 use super::made::{
     DIRECTORY_BOUND_IMPORT_NAME, OVER, PERMISSIVE, SHORT, UNTOUCHED, X64, directory, having, image,
-    in_mode, lies, of_range, range, untouched,
+    in_mode, lies, of_range, range, untouched, view,
 };
 use crate::bound_imports::{
     BoundForwarder, BoundImport, pe_c_bound_imports, pe_c_next_bound_forwarder,
@@ -40,7 +40,7 @@ fn table() -> Range {
 
 fn find(bytes: &[u8], image: &Image) -> (u32, [u64; 2]) {
     let mut out = untouched();
-    let answer = pe_c_bound_imports(bytes, image, &mut out);
+    let answer = pe_c_bound_imports(&view(bytes, image, &[]), &mut out);
     (answer, of_range(out))
 }
 

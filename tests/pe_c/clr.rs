@@ -2,7 +2,8 @@
 
 use super::made::{
     BAD_MAGIC, DIRECTORY_CLR_HEADER_SIZE, DIRECTORY_STREAM_NAME, OVER, SHORT, UNMAPPED, UNTOUCHED,
-    X64, directory, having, image, in_mode, lies, of_range, range, sections, untouched, words,
+    X64, directory, having, image, in_mode, lies, of_range, range, sections, untouched, view,
+    words,
 };
 use crate::clr::{
     Metadata, MetadataStream, MetadataStreams, pe_c_clr_header, pe_c_clr_metadata,
@@ -35,7 +36,7 @@ fn no_header() -> ClrHeader {
 
 fn read(bytes: &[u8], image: &Image) -> (u32, ClrHeader) {
     let mut out = no_header();
-    let answer = pe_c_clr_header(bytes, image, &sections(), &mut out);
+    let answer = pe_c_clr_header(&view(bytes, image, &sections()), &mut out);
     (answer, out)
 }
 
@@ -118,7 +119,7 @@ fn root(bytes: &[u8], address: u32, size: u32) -> (u32, [[u64; 2]; 3], [u16; 4])
         flags: 9,
         spare: 0,
     };
-    let answer = pe_c_clr_metadata(bytes, &image(X64), &sections(), &header, &mut out);
+    let answer = pe_c_clr_metadata(&view(bytes, &image(X64), &sections()), &header, &mut out);
     let ranges = [out.version, out.streams.metadata, out.streams.headers];
     let numbers = [
         out.streams.count,

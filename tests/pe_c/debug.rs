@@ -35,7 +35,10 @@ fn tables_of_entries(rt: HostRuntime) {
     let bytes = [0; 0x50];
     let at = |image: &Image, mode| {
         let mut out = untouched();
-        let answer = pe_c_debug_entries(&bytes, &in_mode(image, mode), &sections(), &mut out);
+        let answer = pe_c_debug_entries(
+            &view(&bytes, &in_mode(image, mode), &sections()),
+            &mut out,
+        );
         (answer, of_range(out))
     };
     for mode in [STRICT, PERMISSIVE] {
@@ -131,7 +134,7 @@ fn key_of(bytes: &[u8], image: &Image, mode: u32) -> (u32, [u8; 16], [u32; 2], [
         spare: 9,
         name: untouched(),
     };
-    let answer = pe_c_symbol_key(bytes, &in_mode(image, mode), &sections(), &mut out);
+    let answer = pe_c_symbol_key(&view(bytes, &in_mode(image, mode), &sections()), &mut out);
     let SymbolKey {
         guid,
         age,
@@ -178,7 +181,7 @@ fn pdb20_of(bytes: &[u8], image: &Image, mode: u32) -> (u32, [u64; 2], [u32; 4])
         age: 7,
         spare: 8,
     };
-    let answer = pe_c_debug_pdb20(bytes, &in_mode(image, mode), &sections(), &mut out);
+    let answer = pe_c_debug_pdb20(&view(bytes, &in_mode(image, mode), &sections()), &mut out);
     let Pdb20 {
         name,
         offset,
@@ -199,13 +202,16 @@ const NO_FEATURES: VCFeatureInfo = VCFeatureInfo {
 
 fn features_of(bytes: &[u8], image: &Image, mode: u32) -> (u32, VCFeatureInfo) {
     let mut out = NO_FEATURES;
-    let answer = pe_c_debug_vc_features(bytes, &in_mode(image, mode), &sections(), &mut out);
+    let answer = pe_c_debug_vc_features(&view(bytes, &in_mode(image, mode), &sections()), &mut out);
     (answer, out)
 }
 
 fn characteristics_of(bytes: &[u8], image: &Image, mode: u32) -> (u32, u32) {
     let mut out = 9;
-    let answer = pe_c_debug_characteristics(bytes, &in_mode(image, mode), &sections(), &mut out);
+    let answer = pe_c_debug_characteristics(
+        &view(bytes, &in_mode(image, mode), &sections()),
+        &mut out,
+    );
     (answer, out)
 }
 
@@ -215,7 +221,7 @@ fn repro_of(bytes: &[u8], image: &Image, mode: u32) -> (u32, [u64; 2], [u32; 2])
         has_hash: 5,
         spare: 6,
     };
-    let answer = pe_c_debug_repro(bytes, &in_mode(image, mode), &sections(), &mut out);
+    let answer = pe_c_debug_repro(&view(bytes, &in_mode(image, mode), &sections()), &mut out);
     let Repro {
         hash,
         has_hash,
@@ -230,7 +236,7 @@ fn pogo_of(bytes: &[u8], image: &Image, mode: u32) -> (u32, [u64; 2], [u32; 2]) 
         signature: 5,
         spare: 6,
     };
-    let answer = pe_c_debug_pogo(bytes, &in_mode(image, mode), &sections(), &mut out);
+    let answer = pe_c_debug_pogo(&view(bytes, &in_mode(image, mode), &sections()), &mut out);
     let Pogo {
         entries,
         signature,

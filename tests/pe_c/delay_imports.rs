@@ -92,7 +92,7 @@ fn tables_of_entries(rt: HostRuntime) -> Result<(), Fail> {
     ] {
         let image = having(image(X64), 13, directory(address, size));
         let mut out = untouched();
-        let answer = pe_c_delay_imports(&bytes, &image, &sections(), &mut out);
+        let answer = pe_c_delay_imports(&view(&bytes, &image, &sections()), &mut out);
         assert_eq!(rt; (answer, of_range(out)), want);
     }
     Ok(())
@@ -110,7 +110,7 @@ fn next(
         functions: functions(UNTOUCHED, 7),
         descriptor: NO_ENTRY,
     };
-    let answer = pe_c_next_delay_import(bytes, image, &sections(), &mut walk, &mut out);
+    let answer = pe_c_next_delay_import(&view(bytes, image, &sections()), &mut walk, &mut out);
     (
         answer,
         [of_range(out.name), of_range(out.functions.left)],
@@ -213,7 +213,7 @@ fn step(
         ordinal: 7,
         has_name: 8,
     };
-    let answer = pe_c_next_delayed_function(bytes, image, &sections(), &mut walk, &mut out);
+    let answer = pe_c_next_delayed_function(&view(bytes, image, &sections()), &mut walk, &mut out);
     let numbers = [out.ordinal, out.has_name];
     (answer, of_range(out.name), numbers, of_range(walk.left))
 }

@@ -2,7 +2,7 @@
 
 use super::made::{
     MAPPED, OVER, PERMISSIVE, SHORT, STRICT, UNMAPPED, X64, directory, having, image, in_mode,
-    lies, of_range, range, sections,
+    lies, of_range, range, sections, view,
 };
 use crate::export_addresses::{AddressTable, Exported, pe_c_export_addresses, pe_c_export_at};
 use crate::exports::{Export, Exports, pe_c_export_tables, pe_c_next_export};
@@ -77,7 +77,7 @@ fn tables_of(bytes: &[u8], image: &Image, mode: u32) -> (u32, Walk) {
         addresses: range(5, 6),
         next: 7,
     };
-    let answer = pe_c_export_tables(bytes, &in_mode(image, mode), &sections(), &mut out);
+    let answer = pe_c_export_tables(&view(bytes, &in_mode(image, mode), &sections()), &mut out);
     (answer, of_walk(out))
 }
 
@@ -159,9 +159,7 @@ fn step(bytes: &[u8], mode: u32, walk: &mut Exports) -> (u32, Fields, Walk) {
         spare: 7,
     };
     let answer = pe_c_next_export(
-        bytes,
-        &in_mode(&image(X64), mode),
-        &sections(),
+        &view(bytes, &in_mode(&image(X64), mode), &sections()),
         walk,
         &mut out,
     );
@@ -279,7 +277,7 @@ fn table_at(bytes: &[u8], image: &Image) -> (u32, AddressTable) {
         ordinal_base: 7,
         has_name: 8,
     };
-    let answer = pe_c_export_addresses(bytes, image, &sections(), &mut out);
+    let answer = pe_c_export_addresses(&view(bytes, image, &sections()), &mut out);
     (answer, out)
 }
 
@@ -291,7 +289,12 @@ fn exported(bytes: &[u8], table: &AddressTable, index: u64) -> (u32, [u64; 2], [
         rva: 4,
         is_forwarder: 5,
     };
-    let answer = pe_c_export_at(bytes, &image(X64), &sections(), table, index, &mut out);
+    let answer = pe_c_export_at(
+        &view(bytes, &image(X64), &sections()),
+        table,
+        index,
+        &mut out,
+    );
     let numbers = [out.ordinal, u64::from(out.rva), u64::from(out.is_forwarder)];
     (answer, of_range(out.forwarder), numbers)
 }

@@ -2,7 +2,7 @@
 
 use super::made::{
     BAD_MAGIC, HEADER_POINTER, MAPPED, PERMISSIVE, SHORT, STRICT, directory, in_mode, section,
-    sections,
+    sections, view,
 };
 use crate::image::{Image, pe_c_image, pe_c_offset, pe_c_sections};
 use crate::results::{DONE, NOTHING, ROOM};
@@ -397,7 +397,7 @@ fn offset_in(mode: u32, sections: &[SectionTable], file_alignment: u32, rva: u32
         ..untouched()
     };
     let mut out = 7;
-    let answer = pe_c_offset(&image, sections, rva, &mut out);
+    let answer = pe_c_offset(&view(&[], &image, sections), rva, &mut out);
     (answer, out)
 }
 

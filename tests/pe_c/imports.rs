@@ -2,7 +2,7 @@
 
 use super::made::{
     IMPORT_NAME, OVER, PERMISSIVE, SHORT, STRICT, UNMAPPED, X64, directory, having, image, in_mode,
-    lies, of_range, range, sections,
+    lies, of_range, range, sections, view,
 };
 use crate::image::Image;
 use crate::imports::{
@@ -142,7 +142,11 @@ fn next_library(
     walk: &mut Libraries,
 ) -> (u32, Fields, (u64, u32, u32)) {
     let mut out = NO_LIBRARY;
-    let answer = pe_c_next_library(bytes, &in_mode(image, mode), &sections(), walk, &mut out);
+    let answer = pe_c_next_library(
+        &view(bytes, &in_mode(image, mode), &sections()),
+        walk,
+        &mut out,
+    );
     (answer, of_library(out), of_libraries(*walk))
 }
 
@@ -151,7 +155,11 @@ type Step = (u32, ([u64; 2], u64, u32, u32), [u64; 2], u64);
 
 fn next_import(bytes: &[u8], image: &Image, mode: u32, walk: &mut Imports) -> Step {
     let mut out = NO_IMPORT;
-    let answer = pe_c_next_import(bytes, &in_mode(image, mode), &sections(), walk, &mut out);
+    let answer = pe_c_next_import(
+        &view(bytes, &in_mode(image, mode), &sections()),
+        walk,
+        &mut out,
+    );
     (answer, of_import(out), of_range(walk.left), walk.rva)
 }
 
@@ -167,9 +175,7 @@ fn directories(rt: HostRuntime) -> Result<(), Fail> {
         for mode in [STRICT, PERMISSIVE] {
             let mut walk = libraries(9, 9);
             let answer = pe_c_import_libraries(
-                &bytes,
-                &in_mode(&image, mode),
-                &sections(),
+                &view(&bytes, &in_mode(&image, mode), &sections()),
                 &mut walk,
             );
             assert_eq!(rt; (answer, of_libraries(walk)), want);
@@ -298,7 +304,7 @@ fn pe32_imports(rt: HostRuntime) -> Result<(), Fail> {
     };
     let mut out = NO_LIBRARY;
     let mut walk = libraries(0x10, 0);
-    let answer = pe_c_next_library(&bytes, &pe32, &sections(), &mut walk, &mut out);
+    let answer = pe_c_next_library(&view(&bytes, &pe32, &sections()), &mut walk, &mut out);
     let mut walk = out.imports;
     assert_eq!(rt; (answer, of_range(walk.left)), (DONE, [0x60, 8]));
     assert_eq!(rt;

@@ -339,7 +339,7 @@ fn leaves_in_lists(rt: HostRuntime) -> Result<(), Fail> {
         name: none,
     };
     assert_eq!(rt;
-        pe_c_resource_leaves(&bytes, &image, &sections, &mut walk),
+        pe_c_resource_leaves(&view, &mut walk),
         DONE
     );
     for (answer, count, languages) in [

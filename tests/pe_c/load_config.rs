@@ -1,6 +1,6 @@
 //! The load configuration of an image: each field, and which are there.
 
-use super::made::{SHORT, UNMAPPED, X64, directory, having, image, in_mode, sections, words};
+use super::made::{SHORT, UNMAPPED, X64, directory, having, image, in_mode, sections, view, words};
 use crate::image::Image;
 use crate::load_config::{LoadConfig, pe_c_load_config};
 use crate::results::{DONE, NOTHING};
@@ -86,7 +86,7 @@ fn structure(alloc: Global, size: u32) -> Result<Vec<u8>, AllocError> {
 
 fn read(bytes: &[u8], image: &Image) -> (u32, LoadConfig) {
     let mut out = UNTOUCHED;
-    let answer = pe_c_load_config(bytes, image, &sections(), &mut out);
+    let answer = pe_c_load_config(&view(bytes, image, &sections()), &mut out);
     (answer, out)
 }
 

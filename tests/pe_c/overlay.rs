@@ -1,7 +1,8 @@
 //! The bytes after the headers and the raw data of all sections.
 
 use super::made::{
-    self, MAPPED, PERMISSIVE, STRICT, UNTOUCHED, X64, image, in_mode, of_range, sections, untouched,
+    self, MAPPED, PERMISSIVE, STRICT, UNTOUCHED, X64, image, in_mode, of_range, sections,
+    untouched, view,
 };
 use crate::image::Image;
 use crate::overlay::pe_c_overlay;
@@ -11,7 +12,7 @@ use pe_core::SectionTable;
 fn overlay_of(length: usize, image: &Image, sections: &[SectionTable]) -> (u32, [u64; 2]) {
     let bytes = [0; 0x1800];
     let mut out = untouched();
-    let answer = pe_c_overlay(&bytes[..length], image, sections, &mut out);
+    let answer = pe_c_overlay(&view(&bytes[..length], image, sections), &mut out);
     (answer, of_range(out))
 }
 

@@ -2,7 +2,7 @@
 
 use super::made::{
     FUNCTION_CYCLE, FUNCTION_LINK, SHORT, UNMAPPED, UNWIND_VERSION, X64, image, lies, of_range,
-    range, sections, words,
+    range, sections, view, words,
 };
 use super::unwinding::no_record;
 use crate::plan::{Plan, pe_c_next_record, pe_c_plan_from};
@@ -126,7 +126,12 @@ const NO_KEY: [u64; 4] = [1, 9, 10, 12];
 /// One step: the answer, what goes out, and the plan after it.
 fn step(bytes: &[u8], table: &Range, plan: &mut Plan) -> (u32, [u64; 4], [u64; 6]) {
     let mut out = no_record();
-    let answer = pe_c_next_record(bytes, &image(X64), &sections(), table, plan, &mut out);
+    let answer = pe_c_next_record(
+        &view(bytes, &image(X64), &sections()),
+        table,
+        plan,
+        &mut out,
+    );
     (answer, key_of(&out), fields_of(plan))
 }
 

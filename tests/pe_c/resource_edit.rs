@@ -2,7 +2,7 @@
 //! them. Its checksum is at 0xD0, the entry of the resource directory at 0x110, and the header of the resource section at 0x1A8.
 //! The bytes of the section follow from the format.
 
-use super::made::{SHORT, X64, image};
+use super::made::{SHORT, X64, image, view};
 use crate::image::Image;
 use crate::resource_edit::{pe_c_edit, pe_c_edited_length};
 use crate::results::DONE;
@@ -93,8 +93,14 @@ fn edited(
     let mut room = vec![in alloc; OLD; size]?;
     let (mut needed, mut length) = (OLD_LENGTH, OLD_LENGTH);
     let info: Image = image(X64);
-    let first = pe_c_edited_length(bytes, &info, records, data, &mut needed);
-    let second = pe_c_edit(bytes, &info, records, data, &mut room, &mut length);
+    let first = pe_c_edited_length(&view(bytes, &info, &[]), records, data, &mut needed);
+    let second = pe_c_edit(
+        &view(bytes, &info, &[]),
+        records,
+        data,
+        &mut room,
+        &mut length,
+    );
     Ok(([first, second], [needed, length], room))
 }
 

@@ -3,7 +3,7 @@
 use super::made::{
     MAPPED, OVER, PERMISSIVE, RESOURCE_BOUNDS, SHORT, STRICT, TREE_NO_ENTRIES, TREE_NOT_DATA,
     TREE_NOT_DIRECTORY, UNMAPPED, X64, directory, having, image, in_mode, lies, of_range, range,
-    sections,
+    sections, view,
 };
 use crate::image::Image;
 use crate::ranges::Range;
@@ -115,13 +115,13 @@ fn flat_walk(walk: ResourceLeaves) -> ([[u64; 2]; 4], [ResourceEntry; 2]) {
 
 fn start(bytes: &[u8], image: &Image) -> (u32, ResourceLeaves) {
     let mut out = walk(range(1, 2), range(3, 4), range(5, 6), range(7, 8));
-    let answer = pe_c_resource_leaves(bytes, image, &sections(), &mut out);
+    let answer = pe_c_resource_leaves(&view(bytes, image, &sections()), &mut out);
     (answer, out)
 }
 
 fn step(bytes: &[u8], image: &Image, walk: &mut ResourceLeaves) -> (u32, ResourceLeaf) {
     let mut out = NO_LEAF;
-    let answer = pe_c_next_resource_leaf(bytes, image, &sections(), walk, &mut out);
+    let answer = pe_c_next_resource_leaf(&view(bytes, image, &sections()), walk, &mut out);
     (answer, out)
 }
 

@@ -2,7 +2,7 @@
 
 use super::made::{
     MAPPED, PERMISSIVE, SHORT, STRICT, STRING_TABLE, UNTOUCHED, X64, image, in_mode, lies,
-    of_range, range, sections, untouched,
+    of_range, range, sections, untouched, view,
 };
 use crate::ranges::Range;
 use crate::results::{DONE, NOTHING};
@@ -29,7 +29,7 @@ fn with_strings(alloc: Global) -> Result<Vec<u8>, AllocError> {
 
 fn table_of(bytes: &[u8], mode: u32) -> (u32, [u64; 2]) {
     let mut out = untouched();
-    let answer = pe_c_string_table(bytes, &in_mode(&image(X64), mode), &mut out);
+    let answer = pe_c_string_table(&view(bytes, &in_mode(&image(X64), mode), &[]), &mut out);
     (answer, of_range(out))
 }
 

@@ -5,7 +5,7 @@
 use super::made::{
     BAD_MAGIC, CERTIFICATE_SIZE, CERTIFICATE_TABLE, HEADER_POINTER, NO_OPTIONAL_HEADER, PERMISSIVE,
     SHORT, SIGN_HEADERS, SIGN_NO_DIRECTORY, SIGN_SECTION, SIGN_TABLE_NOT_LAST, SIGN_TABLE_OFFSET,
-    STRICT, WRITE_FIT, X64, image, in_mode, of_range, untouched,
+    STRICT, WRITE_FIT, X64, image, in_mode, of_range, untouched, view,
 };
 use crate::results::DONE;
 use crate::signing::{
@@ -39,7 +39,7 @@ fn digest_of(bytes: &[u8]) -> (u32, Covered) {
         ranges: [untouched(); 4],
         zeros: 9,
     };
-    let number = pe_c_digest_ranges(bytes, &image(X64), &mut out);
+    let number = pe_c_digest_ranges(&view(bytes, &image(X64), &[]), &mut out);
     let [a, b, c, d] = out.ranges;
     (
         number,
@@ -56,7 +56,7 @@ fn checksum_of(bytes: &[u8]) -> (u32, (u64, u32, u32)) {
         value: 6,
         spare: 7,
     };
-    let number = pe_c_checksum(bytes, &image(X64), &mut out);
+    let number = pe_c_checksum(&view(bytes, &image(X64), &[]), &mut out);
     (number, (out.offset, out.value, out.spare))
 }
 
@@ -86,10 +86,14 @@ fn attached(
     let mut room = vec![in alloc; OLD; size]?;
     let (mut written, mut needed) = (OLD_LENGTH, OLD_LENGTH);
     let info = image(X64);
-    let first = pe_c_attached_length(bytes, &info, certificate, placement, &mut needed);
+    let first = pe_c_attached_length(
+        &view(bytes, &info, &[]),
+        certificate,
+        placement,
+        &mut needed,
+    );
     let second = pe_c_attach(
-        bytes,
-        &info,
+        &view(bytes, &info, &[]),
         certificate,
         placement,
         &mut room,
@@ -107,8 +111,8 @@ fn detached(
     let mut room = vec![in alloc; OLD; size]?;
     let (mut written, mut needed) = (OLD_LENGTH, OLD_LENGTH);
     let info = image(X64);
-    let first = pe_c_detached_length(bytes, &info, &mut needed);
-    let second = pe_c_detach(bytes, &info, &mut room, &mut written);
+    let first = pe_c_detached_length(&view(bytes, &info, &[]), &mut needed);
+    let second = pe_c_detach(&view(bytes, &info, &[]), &mut room, &mut written);
     Ok(([first, second], [needed, written], room))
 }
 
@@ -195,23 +199,23 @@ fn headers_are_those_of_the_bytes(rt: HostRuntime) -> Result<(), Fail> {
         spare: 7,
     };
     assert_eq!(rt;
-        pe_c_checksum(&low, &image(X64), &mut field),
+        pe_c_checksum(&view(&low, &image(X64), &[]), &mut field),
         HEADER_POINTER
     );
     assert_eq!(rt; (field.offset, field.value, field.spare), (5, 6, 7));
     let permissive = in_mode(&image(X64), PERMISSIVE);
-    assert!(rt; pe_c_checksum(&low, &permissive, &mut field) != HEADER_POINTER);
+    assert!(rt; pe_c_checksum(&view(&low, &permissive, &[]), &mut field) != HEADER_POINTER);
     let bytes = with_functions(rt.alloc())?;
     let mut lie = in_mode(&image(X64), STRICT);
     lie.checksum_offset = 3;
     lie.certificate_entry_offset = u64::MAX;
     lie.number_of_directories = 0;
     lie.number_of_sections = 0;
-    assert_eq!(rt; pe_c_checksum(&bytes, &lie, &mut field), DONE);
+    assert_eq!(rt; pe_c_checksum(&view(&bytes, &lie, &[]), &mut field), DONE);
     assert_eq!(rt; (field.offset, field.value), (0x98, 0x7C12));
     let mut length = 0;
     assert_eq!(rt;
-        pe_c_attached_length(&bytes, &lie, &CERTIFICATE, AFTER, &mut length),
+        pe_c_attached_length(&view(&bytes, &lie, &[]), &CERTIFICATE, AFTER, &mut length),
         DONE
     );
     assert_eq!(rt; length, 0x420);

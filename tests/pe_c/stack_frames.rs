@@ -2,12 +2,11 @@
 //! state before the prolog, with the return address popped.
 
 use super::made::{
-    FUNCTION_LINK, SHORT, UNMAPPED, UNWIND_CODE, UNWIND_VERSION, X64, image, sections,
+    FUNCTION_LINK, SHORT, UNMAPPED, UNWIND_CODE, UNWIND_VERSION, X64, image, sections, view,
 };
 use crate::ranges::Range;
 use crate::results::{BAD_ADDRESS, BAD_OPERATION, DONE, LONG_CHAIN, MISSING, NOT_RISING};
 use crate::stack_frames::{FrameRegisters, StackFrame, pe_c_step};
-use crate::view::without_index;
 use pe_frame::MemoryPiece;
 use pe_images::{image as bytes_of, put};
 use pe_unwind::RuntimeFunction;
@@ -171,7 +170,7 @@ fn step_over(
     frame: &mut StackFrame,
 ) -> u32 {
     let (image, sections) = (image(X64), sections());
-    let view = without_index(bytes, &image, &sections);
+    let view = view(bytes, &image, &sections);
     pe_c_step(&view, &TABLE, code, memory, pieces, frame)
 }
 
@@ -490,7 +489,7 @@ fn tables_outside_the_bytes_are_refused(rt: HostRuntime) -> Result<(), Fail> {
     let bytes = with_records(rt.alloc())?;
     let stack = stack_of(rt.alloc(), &[of_caller().general[RBP], RETURN_ADDRESS])?;
     let (image, sections) = (image(X64), sections());
-    let view = without_index(&bytes, &image, &sections);
+    let view = view(&bytes, &image, &sections);
     let pieces = [piece(ENTRY - 8, 0, 16)];
     let before = frame_at(0x1050, 5, changed(&[(RSP, ENTRY - 48)]));
     let last = u64::MAX;

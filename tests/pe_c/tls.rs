@@ -2,7 +2,7 @@
 
 use super::made::{
     DIRECTORY_VA_BELOW_BASE, OVER, SHORT, STRICT, UNMAPPED, UNTOUCHED, X64, directory, having,
-    image, in_mode, lies, of_range, range, sections, untouched, words,
+    image, in_mode, lies, of_range, range, sections, untouched, view, words,
 };
 use crate::image::Image;
 use crate::results::{DONE, NOTHING};
@@ -52,7 +52,7 @@ fn of_tls(image: Image) -> Image {
 
 fn read(bytes: &[u8], image: &Image) -> (u32, TlsDirectory) {
     let mut out = NONE;
-    let answer = pe_c_tls(bytes, image, &sections(), &mut out);
+    let answer = pe_c_tls(&view(bytes, image, &sections()), &mut out);
     (answer, out)
 }
 
@@ -92,7 +92,7 @@ fn callbacks(bytes: &[u8], image: &Image, address_of_callbacks: u64) -> (u32, [u
         ..NONE
     };
     let mut out = untouched();
-    let answer = pe_c_tls_callbacks(bytes, image, &sections(), &tls, &mut out);
+    let answer = pe_c_tls_callbacks(&view(bytes, image, &sections()), &tls, &mut out);
     (answer, of_range(out))
 }
 
@@ -122,7 +122,7 @@ fn tables_of_callbacks(rt: HostRuntime) -> Result<(), Fail> {
 fn step(bytes: &[u8], image: &Image, walk: [u64; 2]) -> (u32, u64, [u64; 2]) {
     let mut walk = range(walk[0], walk[1]);
     let mut out = 7;
-    let answer = pe_c_next_tls_callback(bytes, image, &mut walk, &mut out);
+    let answer = pe_c_next_tls_callback(&view(bytes, image, &[]), &mut walk, &mut out);
     (answer, out, of_range(walk))
 }
 

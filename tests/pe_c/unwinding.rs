@@ -46,7 +46,7 @@ fn with_table(virtual_address: u32, size: u32) -> Image {
 
 fn table_of(bytes: &[u8], image: &Image, mode: u32) -> (u32, [u64; 2]) {
     let mut out = untouched();
-    let answer = pe_c_function_table(bytes, &in_mode(image, mode), &sections(), &mut out);
+    let answer = pe_c_function_table(&view(bytes, &in_mode(image, mode), &sections()), &mut out);
     (answer, of_range(out))
 }
 
@@ -212,7 +212,12 @@ const UNTOUCHED_FIELDS: Fields = ([1, 2, 3, 4], [7, 10, 11, 12, 13, 12], [5, 6],
 
 fn record_of(bytes: &[u8], table: &Range, unwind: u32) -> (u32, Fields) {
     let mut out = no_record();
-    let answer = pe_c_unwind_record(bytes, &image(X64), &sections(), table, unwind, &mut out);
+    let answer = pe_c_unwind_record(
+        &view(bytes, &image(X64), &sections()),
+        table,
+        unwind,
+        &mut out,
+    );
     (answer, fields_of(out))
 }
 

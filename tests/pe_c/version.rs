@@ -3,6 +3,7 @@
 use super::made::{
     MAPPED, PERMISSIVE, RESOURCE_BOUNDS, RESOURCE_CYCLE, RESOURCE_STRING, SHORT, STRICT, UNMAPPED,
     UNTOUCHED, X64, directory, having, image, in_mode, lies, of_range, range, sections, untouched,
+    view,
 };
 use crate::image::Image;
 use crate::ranges::Range;
@@ -128,19 +129,23 @@ fn with_resources(size: usize) -> Image {
 
 fn fixed_of(bytes: &[u8], image: &Image, mode: u32) -> (u32, VsFixedFileInfo) {
     let mut out = no_version();
-    let answer = pe_c_fixed_version(bytes, &in_mode(image, mode), &sections(), &mut out);
+    let answer = pe_c_fixed_version(&view(bytes, &in_mode(image, mode), &sections()), &mut out);
     (answer, out)
 }
 
 fn text_of(bytes: &[u8], image: &Image, mode: u32, name: u32) -> (u32, [u64; 2]) {
     let mut out = untouched();
-    let answer = pe_c_version_text(bytes, &in_mode(image, mode), &sections(), name, &mut out);
+    let answer = pe_c_version_text(
+        &view(bytes, &in_mode(image, mode), &sections()),
+        name,
+        &mut out,
+    );
     (answer, of_range(out))
 }
 
 fn manifest_of(bytes: &[u8], image: &Image, mode: u32) -> (u32, [u64; 2]) {
     let mut out = untouched();
-    let answer = pe_c_manifest(bytes, &in_mode(image, mode), &sections(), &mut out);
+    let answer = pe_c_manifest(&view(bytes, &in_mode(image, mode), &sections()), &mut out);
     (answer, of_range(out))
 }
 

@@ -2,7 +2,7 @@
 
 use super::made::{
     OVER, PERMISSIVE, RESOURCE_BOUNDS, RESOURCE_STRING, SHORT, STRICT, UNMAPPED, UNTOUCHED, X64,
-    directory, having, image, in_mode, lies, of_range, range, sections, untouched,
+    directory, having, image, in_mode, lies, of_range, range, sections, untouched, view,
 };
 use crate::results::{DONE, NOTHING};
 use crate::version_blocks::{VersionBlock, pe_c_next_version_block, pe_c_version_blocks};
@@ -159,6 +159,6 @@ fn tree(alloc: Global) -> Result<Vec<u8>, Fail> {
 
 fn blocks_of(bytes: &[u8], image: &crate::image::Image, mode: u32) -> (u32, [u64; 2]) {
     let mut out = untouched();
-    let answer = pe_c_version_blocks(bytes, &in_mode(image, mode), &sections(), &mut out);
+    let answer = pe_c_version_blocks(&view(bytes, &in_mode(image, mode), &sections()), &mut out);
     (answer, of_range(out))
 }

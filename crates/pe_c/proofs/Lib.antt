@@ -58,4 +58,3 @@ pub mod IndexFound
 pub mod IndexMaps
 pub mod RecordCodes
 pub mod SplitRooms
-pub mod WithoutIndex

@@ -16,9 +16,13 @@ use Rattle.pe_c.specs.declared.export_addresses.Exported.{Exported}
 use Rattle.pe_c.specs.declared.image.Image.{Image}
 use Rattle.pe_c.specs.declared.ranges.Range.{Range}
 
--- the range of the text at an RVA, if the RVA is mapped and a text is there
+-- the range of the text at an offset, if there is an offset and a text is there
+abbrev pub text_from : List ℕ → Option ℕ → Option Range
+text_from b offset = option_and_then (λ p. option_map (λ text. record { offset = p; length = length text }) (text_at b p)) offset
+
+-- the same of an RVA, if it is mapped
 abbrev pub text_range : (ℕ → Option ℕ) → List ℕ → ℕ → Option Range
-text_range offset b rva = option_and_then (λ p. option_map (λ text. record { offset = p; length = length text }) (text_at b p)) (offset rva)
+text_range offset b rva = text_from b (offset rva)
 
 -- the range of the DLL's name; the RVA 0 is that of none
 abbrev pub dll_name : (ℕ → Option ℕ) → List ℕ → ℕ → Option Range

@@ -7,10 +7,10 @@ ghost use Rattle.pe_directories.specs.DirectoryRefusals.{directory_answer};
 ghost use Rattle.pe_c.specs.Directories.{DirectoryHandsOut, block_reported, first_in, left_after, relocation_reported, step_of, table_at};
 
 use crate::directories::{Result, range_left, table_at};
-use crate::image::{BASE_RELOCATION_TABLE, Image};
+use crate::image::BASE_RELOCATION_TABLE;
 use crate::ranges::{NO_BYTES, Range, slice_of};
 use crate::results::hand_out_found;
-use pe_core::SectionTable;
+use crate::view::View;
 use pe_directories::{RelocationBlock as Block, RelocationBlocks};
 
 /// A block of base relocations.
@@ -42,16 +42,11 @@ pub struct Relocation {
 ///
 /// Errors: `UNMAPPED`, `SHORT`.
 #[unsafe(no_mangle)]
-pub extern "C" fn pe_c_relocation_blocks(
-    bytes: &[u8],
-    image: &Image,
-    sections: &[SectionTable],
-    out: &mut Range,
-) -> u32
+pub extern "C" fn pe_c_relocation_blocks(view: &View, out: &mut Range) -> u32
     ensures { DirectoryHandsOut result out.old out.new
-        (table_at 5 bytes.now image.now sections.now) }
+        (table_at 5 view.now.bytes.now view.now.image.now view.now.sections.now) }
 {
-    hand_out_found(table_at(BASE_RELOCATION_TABLE, bytes, image, sections), out)
+    hand_out_found(table_at(view, BASE_RELOCATION_TABLE), out)
 }
 
 /// The next block of a walk. It is over after an error.

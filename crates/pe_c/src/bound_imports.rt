@@ -8,9 +8,10 @@ ghost use Rattle.pe_c.specs.BoundImports.{after_forwarder, bound_imports_at, bou
 ghost use Rattle.pe_c.specs.Directories.{DirectoryHandsOut, left_after, step_of};
 
 use crate::directories::{Result, range_left};
-use crate::image::{BOUND_IMPORT_TABLE, Image, directory, is_absent};
+use crate::image::{BOUND_IMPORT_TABLE, directory, is_absent};
 use crate::ranges::{NO_BYTES, Range, slice_of};
 use crate::results::hand_out_found;
+use crate::view::View;
 use crate::walks::next_entry;
 use pe_core::TableEntry;
 use pe_directories::{BoundForwarder as Forwarder, BoundImportDirectory};
@@ -44,14 +45,15 @@ pub struct BoundForwarder {
     pub spare: u32,
 }
 
-fn bound_imports_at(bytes: &[u8], image: &Image) -> Result<Option<Range>>
-    ensures { directory_answer (λ r. r) result ≡ bound_imports_at bytes.now image.now }
+fn bound_imports_at(view: &View) -> Result<Option<Range>>
+    ensures { directory_answer (λ r. r) result ≡ bound_imports_at view.now.bytes.now
+        view.now.image.now }
 {
-    let directory = directory(image, BOUND_IMPORT_TABLE);
+    let directory = directory(view.image, BOUND_IMPORT_TABLE);
     if is_absent(directory) {
         return Ok(None);
     }
-    let table = BoundImportDirectory::parse(bytes, directory)?;
+    let table = BoundImportDirectory::parse(view.bytes, directory)?;
     Ok(Some(Range {
         offset: u64::from(directory.virtual_address),
         length: table.bytes.len() as u64,
@@ -63,10 +65,11 @@ fn bound_imports_at(bytes: &[u8], image: &Image) -> Result<Option<Range>>
 ///
 /// Error: `SHORT`.
 #[unsafe(no_mangle)]
-pub extern "C" fn pe_c_bound_imports(bytes: &[u8], image: &Image, out: &mut Range) -> u32
-    ensures { DirectoryHandsOut result out.old out.new (bound_imports_at bytes.now image.now) }
+pub extern "C" fn pe_c_bound_imports(view: &View, out: &mut Range) -> u32
+    ensures { DirectoryHandsOut result out.old out.new (bound_imports_at view.now.bytes.now
+        view.now.image.now) }
 {
-    hand_out_found(bound_imports_at(bytes, image), out)
+    hand_out_found(bound_imports_at(view), out)
 }
 
 /// The range of the name at an offset from the start of the directory.

@@ -10,10 +10,11 @@ ghost use Rattle.pe_c.specs.Clr.{clr_header_at, clr_metadata_at, content_of, fir
 ghost use Rattle.pe_c.specs.Directories.{DirectoryHandsOut, step_of};
 
 use crate::directories::{Result, image_bytes, range_left};
-use crate::image::{CLR_RUNTIME_HEADER, Image, directory, is_absent};
+use crate::image::{CLR_RUNTIME_HEADER, directory, is_absent};
 use crate::ranges::{NO_BYTES, Range, range_of, slice_of};
 use crate::results::hand_out_found;
-use pe_core::{ByteRange, SectionTable};
+use crate::view::View;
+use pe_core::ByteRange;
 use pe_directories::{ClrHeader, ClrMetadata, ClrStream};
 
 /// The size of the fields of a metadata root before its version text, in bytes.
@@ -83,19 +84,15 @@ const NO_STREAMS: MetadataStreams = MetadataStreams {
     spare_too: 0,
 };
 
-fn clr_header_at(
-    bytes: &[u8],
-    image: &Image,
-    sections: &[SectionTable],
-) -> Result<Option<ClrHeader>>
+fn clr_header_at(view: &View) -> Result<Option<ClrHeader>>
     ensures { directory_answer (λ h. h) result
-        ≡ clr_header_at bytes.now image.now sections.now }
+        ≡ clr_header_at view.now.bytes.now view.now.image.now view.now.sections.now }
 {
-    let directory = directory(image, CLR_RUNTIME_HEADER);
+    let directory = directory(view.image, CLR_RUNTIME_HEADER);
     if is_absent(directory) {
         return Ok(None);
     }
-    let header = ClrHeader::parse(&image_bytes(bytes, image, sections), directory)?;
+    let header = ClrHeader::parse(&image_bytes(view), directory)?;
     Ok(Some(header))
 }
 
@@ -103,16 +100,11 @@ fn clr_header_at(
 ///
 /// Errors: `UNMAPPED`, `SHORT`; `DIRECTORY_CLR_HEADER_SIZE`.
 #[unsafe(no_mangle)]
-pub extern "C" fn pe_c_clr_header(
-    bytes: &[u8],
-    image: &Image,
-    sections: &[SectionTable],
-    out: &mut ClrHeader,
-) -> u32
+pub extern "C" fn pe_c_clr_header(view: &View, out: &mut ClrHeader) -> u32
     ensures { DirectoryHandsOut result out.old out.new
-        (clr_header_at bytes.now image.now sections.now) }
+        (clr_header_at view.now.bytes.now view.now.image.now view.now.sections.now) }
 {
-    hand_out_found(clr_header_at(bytes, image, sections), out)
+    hand_out_found(clr_header_at(view), out)
 }
 
 /// The metadata root at a range, which lies in the bytes.
@@ -141,17 +133,12 @@ fn metadata_in(bytes: &[u8], range: ByteRange) -> Result<Option<Metadata>>
     }))
 }
 
-fn clr_metadata_at(
-    bytes: &[u8],
-    image: &Image,
-    sections: &[SectionTable],
-    header: &ClrHeader,
-) -> Result<Option<Metadata>>
+fn clr_metadata_at(view: &View, header: &ClrHeader) -> Result<Option<Metadata>>
     ensures { directory_answer (λ m. m) result
-        ≡ clr_metadata_at bytes.now image.now sections.now header.now }
+        ≡ clr_metadata_at view.now.bytes.now view.now.image.now view.now.sections.now header.now }
 {
-    let range = image_bytes(bytes, image, sections).range_of(header.metadata)?;
-    metadata_in(bytes, range)
+    let range = image_bytes(view).range_of(header.metadata)?;
+    metadata_in(view.bytes, range)
 }
 
 /// Returns the root of the metadata to which a CLR header leads, with a walk over the streams. Strict and permissive mode make
@@ -160,17 +147,11 @@ fn clr_metadata_at(
 /// Errors: `UNMAPPED`; `SHORT` where the metadata are truncated, or do not hold the first 16 bytes of the root; `BAD_MAGIC`;
 /// `SHORT` where they do not hold the root.
 #[unsafe(no_mangle)]
-pub extern "C" fn pe_c_clr_metadata(
-    bytes: &[u8],
-    image: &Image,
-    sections: &[SectionTable],
-    header: &ClrHeader,
-    out: &mut Metadata,
-) -> u32
+pub extern "C" fn pe_c_clr_metadata(view: &View, header: &ClrHeader, out: &mut Metadata) -> u32
     ensures { DirectoryHandsOut result out.old out.new
-        (clr_metadata_at bytes.now image.now sections.now header.now) }
+        (clr_metadata_at view.now.bytes.now view.now.image.now view.now.sections.now header.now) }
 {
-    hand_out_found(clr_metadata_at(bytes, image, sections, header), out)
+    hand_out_found(clr_metadata_at(view, header), out)
 }
 
 /// The range of a stream's bytes, if they are all in the metadata at a range, which lies in the bytes.

@@ -15,11 +15,11 @@ use crate::debug_records::{
     Pdb20, Pogo, Repro, SymbolKey, characteristics_of, features_of, key_of, pdb20_of, pogo_of,
     repro_of,
 };
-use crate::image::{DEBUG_TABLE, Image, directory, is_absent};
+use crate::image::{DEBUG_TABLE, directory, is_absent};
 use crate::ranges::{Range, range_of};
 use crate::results::{hand_out_some, options};
 use crate::view::View;
-use pe_core::{Result, SectionTable};
+use pe_core::Result;
 use pe_records::{
     DebugData, IMAGE_DEBUG_TYPE_CODEVIEW, IMAGE_DEBUG_TYPE_EX_DLLCHARACTERISTICS,
     IMAGE_DEBUG_TYPE_POGO, IMAGE_DEBUG_TYPE_REPRO, IMAGE_DEBUG_TYPE_VC_FEATURE,
@@ -27,17 +27,18 @@ use pe_records::{
 };
 
 #[tactic(auto, unfolding(crate::specs::Debug::debug_entries_range))]
-fn table_of(bytes: &[u8], image: &Image, sections: &[SectionTable]) -> Result<Option<Range>>
+fn table_of(view: &View) -> Result<Option<Range>>
     ensures { answer_of result
-        ≡ debug_entries_range bytes.now image.now sections.now image.now.mode }
+        ≡ debug_entries_range view.now.bytes.now view.now.image.now view.now.sections.now
+        view.now.image.now.mode }
 {
-    let directory = directory(image, DEBUG_TABLE);
+    let directory = directory(view.image, DEBUG_TABLE);
     if is_absent(directory) {
         return Ok(None);
     }
-    let alignment = image.file_alignment;
-    let opts = options(image.mode);
-    let range = DebugData::table_range(bytes, directory, sections, alignment, &opts)?;
+    let alignment = view.image.file_alignment;
+    let opts = options(view.image.mode);
+    let range = DebugData::table_range(view.bytes, directory, view.sections, alignment, &opts)?;
     Ok(Some(range_of(range)))
 }
 
@@ -47,35 +48,27 @@ fn table_of(bytes: &[u8], image: &Image, sections: &[SectionTable]) -> Result<Op
 /// Errors: `UNMAPPED`; `DEBUG_BOUNDS` where the entries end past the end of the bytes. Permissive mode truncates them
 /// there.
 #[unsafe(no_mangle)]
-pub extern "C" fn pe_c_debug_entries(
-    bytes: &[u8],
-    image: &Image,
-    sections: &[SectionTable],
-    out: &mut Range,
-) -> u32
+pub extern "C" fn pe_c_debug_entries(view: &View, out: &mut Range) -> u32
     ensures { HandsOutIf result out.old out.new
-        (debug_entries_range bytes.now image.now sections.now image.now.mode) }
+        (debug_entries_range view.now.bytes.now view.now.image.now view.now.sections.now
+        view.now.image.now.mode) }
 {
-    hand_out_some(table_of(bytes, image, sections), out)
+    hand_out_some(table_of(view), out)
 }
 
 #[tactic(auto, unfolding(crate::specs::Debug::first_entry, pe_records::specs::DebugDirectory::directory_table))]
-fn first_entry(
-    bytes: &[u8],
-    image: &Image,
-    sections: &[SectionTable],
-    data_type: u32,
-) -> Result<Option<ImageDebugDirectory>>
-    ensures { answer_of result ≡ first_entry bytes.now image.now sections.now data_type }
+fn first_entry(view: &View, data_type: u32) -> Result<Option<ImageDebugDirectory>>
+    ensures { answer_of result ≡ first_entry view.now.bytes.now view.now.image.now
+        view.now.sections.now data_type }
 {
-    let directory = directory(image, DEBUG_TABLE);
+    let directory = directory(view.image, DEBUG_TABLE);
     if is_absent(directory) {
         return Ok(None);
     }
-    let alignment = image.file_alignment;
-    let opts = options(image.mode);
-    let range = DebugData::table_range(bytes, directory, sections, alignment, &opts)?;
-    Ok(ImageDebugDirectoryIterator::new(range.of(bytes), 0).find_type(data_type))
+    let alignment = view.image.file_alignment;
+    let opts = options(view.image.mode);
+    let range = DebugData::table_range(view.bytes, directory, view.sections, alignment, &opts)?;
+    Ok(ImageDebugDirectoryIterator::new(range.of(view.bytes), 0).find_type(data_type))
 }
 
 /// Returns the first entry of a type, `IMAGE_DEBUG_TYPE_` of winnt.h, in the debug directory: `NOTHING` where there is
@@ -91,15 +84,15 @@ pub extern "C" fn pe_c_first_debug_entry(
     ensures { HandsOutIf result out.old out.new
         (first_entry view.now.bytes.now view.now.image.now view.now.sections.now data_type) }
 {
-    let entry = first_entry(view.bytes, view.image, view.sections, data_type);
-    hand_out_some(entry, out)
+    hand_out_some(first_entry(view, data_type), out)
 }
 
-fn first_key(bytes: &[u8], image: &Image, sections: &[SectionTable]) -> Result<Option<SymbolKey>>
-    ensures { answer_of result ≡ read_first key_of IMAGE_DEBUG_TYPE_CODEVIEW bytes.now image.now sections.now }
+fn first_key(view: &View) -> Result<Option<SymbolKey>>
+    ensures { answer_of result ≡ read_first key_of IMAGE_DEBUG_TYPE_CODEVIEW view.now.bytes.now
+        view.now.image.now view.now.sections.now }
 {
-    match first_entry(bytes, image, sections, IMAGE_DEBUG_TYPE_CODEVIEW)? {
-        Some(entry) => key_of(bytes, image.mode, &entry),
+    match first_entry(view, IMAGE_DEBUG_TYPE_CODEVIEW)? {
+        Some(entry) => key_of(view.bytes, view.image.mode, &entry),
         None => Ok(None),
     }
 }
@@ -109,23 +102,20 @@ fn first_key(bytes: &[u8], image: &Image, sections: &[SectionTable]) -> Result<O
 ///
 /// Errors: those of `pe_c_first_debug_entry`, then those of `pe_c_symbol_key_of`.
 #[unsafe(no_mangle)]
-pub extern "C" fn pe_c_symbol_key(
-    bytes: &[u8],
-    image: &Image,
-    sections: &[SectionTable],
-    out: &mut SymbolKey,
-) -> u32
+pub extern "C" fn pe_c_symbol_key(view: &View, out: &mut SymbolKey) -> u32
     ensures { HandsOutIf result out.old out.new
-        (read_first key_of IMAGE_DEBUG_TYPE_CODEVIEW bytes.now image.now sections.now) }
+        (read_first key_of IMAGE_DEBUG_TYPE_CODEVIEW view.now.bytes.now view.now.image.now
+        view.now.sections.now) }
 {
-    hand_out_some(first_key(bytes, image, sections), out)
+    hand_out_some(first_key(view), out)
 }
 
-fn first_pdb20(bytes: &[u8], image: &Image, sections: &[SectionTable]) -> Result<Option<Pdb20>>
-    ensures { answer_of result ≡ read_first pdb20_of IMAGE_DEBUG_TYPE_CODEVIEW bytes.now image.now sections.now }
+fn first_pdb20(view: &View) -> Result<Option<Pdb20>>
+    ensures { answer_of result ≡ read_first pdb20_of IMAGE_DEBUG_TYPE_CODEVIEW view.now.bytes.now
+        view.now.image.now view.now.sections.now }
 {
-    match first_entry(bytes, image, sections, IMAGE_DEBUG_TYPE_CODEVIEW)? {
-        Some(entry) => pdb20_of(bytes, image.mode, &entry),
+    match first_entry(view, IMAGE_DEBUG_TYPE_CODEVIEW)? {
+        Some(entry) => pdb20_of(view.bytes, view.image.mode, &entry),
         None => Ok(None),
     }
 }
@@ -135,28 +125,21 @@ fn first_pdb20(bytes: &[u8], image: &Image, sections: &[SectionTable]) -> Result
 ///
 /// Errors: those of `pe_c_first_debug_entry`, then those of `pe_c_pdb20_of`.
 #[unsafe(no_mangle)]
-pub extern "C" fn pe_c_debug_pdb20(
-    bytes: &[u8],
-    image: &Image,
-    sections: &[SectionTable],
-    out: &mut Pdb20,
-) -> u32
+pub extern "C" fn pe_c_debug_pdb20(view: &View, out: &mut Pdb20) -> u32
     ensures { HandsOutIf result out.old out.new
-        (read_first pdb20_of IMAGE_DEBUG_TYPE_CODEVIEW bytes.now image.now sections.now) }
+        (read_first pdb20_of IMAGE_DEBUG_TYPE_CODEVIEW view.now.bytes.now view.now.image.now
+        view.now.sections.now) }
 {
-    hand_out_some(first_pdb20(bytes, image, sections), out)
+    hand_out_some(first_pdb20(view), out)
 }
 
-fn first_features(
-    bytes: &[u8],
-    image: &Image,
-    sections: &[SectionTable],
-) -> Result<Option<VCFeatureInfo>>
+fn first_features(view: &View) -> Result<Option<VCFeatureInfo>>
     ensures { answer_of result
-        ≡ read_first features_of IMAGE_DEBUG_TYPE_VC_FEATURE bytes.now image.now sections.now }
+        ≡ read_first features_of IMAGE_DEBUG_TYPE_VC_FEATURE view.now.bytes.now view.now.image.now
+        view.now.sections.now }
 {
-    match first_entry(bytes, image, sections, IMAGE_DEBUG_TYPE_VC_FEATURE)? {
-        Some(entry) => features_of(bytes, image.mode, &entry),
+    match first_entry(view, IMAGE_DEBUG_TYPE_VC_FEATURE)? {
+        Some(entry) => features_of(view.bytes, view.image.mode, &entry),
         None => Ok(None),
     }
 }
@@ -165,33 +148,21 @@ fn first_features(
 ///
 /// Errors: those of `pe_c_first_debug_entry`, then those of `pe_c_vc_features_of`.
 #[unsafe(no_mangle)]
-pub extern "C" fn pe_c_debug_vc_features(
-    bytes: &[u8],
-    image: &Image,
-    sections: &[SectionTable],
-    out: &mut VCFeatureInfo,
-) -> u32
+pub extern "C" fn pe_c_debug_vc_features(view: &View, out: &mut VCFeatureInfo) -> u32
     ensures { HandsOutIf result out.old out.new
-        (read_first features_of IMAGE_DEBUG_TYPE_VC_FEATURE bytes.now image.now sections.now) }
+        (read_first features_of IMAGE_DEBUG_TYPE_VC_FEATURE view.now.bytes.now view.now.image.now
+        view.now.sections.now) }
 {
-    hand_out_some(first_features(bytes, image, sections), out)
+    hand_out_some(first_features(view), out)
 }
 
-fn first_characteristics(
-    bytes: &[u8],
-    image: &Image,
-    sections: &[SectionTable],
-) -> Result<Option<u32>>
+fn first_characteristics(view: &View) -> Result<Option<u32>>
     ensures { answer_of result
-        ≡ read_first characteristics_of IMAGE_DEBUG_TYPE_EX_DLLCHARACTERISTICS bytes.now image.now sections.now }
+        ≡ read_first characteristics_of IMAGE_DEBUG_TYPE_EX_DLLCHARACTERISTICS view.now.bytes.now
+        view.now.image.now view.now.sections.now }
 {
-    match first_entry(
-        bytes,
-        image,
-        sections,
-        IMAGE_DEBUG_TYPE_EX_DLLCHARACTERISTICS,
-    )? {
-        Some(entry) => characteristics_of(bytes, image.mode, &entry),
+    match first_entry(view, IMAGE_DEBUG_TYPE_EX_DLLCHARACTERISTICS)? {
+        Some(entry) => characteristics_of(view.bytes, view.image.mode, &entry),
         None => Ok(None),
     }
 }
@@ -201,23 +172,20 @@ fn first_characteristics(
 ///
 /// Errors: those of `pe_c_first_debug_entry`, then those of `pe_c_characteristics_of`.
 #[unsafe(no_mangle)]
-pub extern "C" fn pe_c_debug_characteristics(
-    bytes: &[u8],
-    image: &Image,
-    sections: &[SectionTable],
-    out: &mut u32,
-) -> u32
+pub extern "C" fn pe_c_debug_characteristics(view: &View, out: &mut u32) -> u32
     ensures { HandsOutIf result out.old out.new
-        (read_first characteristics_of IMAGE_DEBUG_TYPE_EX_DLLCHARACTERISTICS bytes.now image.now sections.now) }
+        (read_first characteristics_of IMAGE_DEBUG_TYPE_EX_DLLCHARACTERISTICS view.now.bytes.now
+        view.now.image.now view.now.sections.now) }
 {
-    hand_out_some(first_characteristics(bytes, image, sections), out)
+    hand_out_some(first_characteristics(view), out)
 }
 
-fn first_repro(bytes: &[u8], image: &Image, sections: &[SectionTable]) -> Result<Option<Repro>>
-    ensures { answer_of result ≡ read_first repro_of IMAGE_DEBUG_TYPE_REPRO bytes.now image.now sections.now }
+fn first_repro(view: &View) -> Result<Option<Repro>>
+    ensures { answer_of result ≡ read_first repro_of IMAGE_DEBUG_TYPE_REPRO view.now.bytes.now
+        view.now.image.now view.now.sections.now }
 {
-    match first_entry(bytes, image, sections, IMAGE_DEBUG_TYPE_REPRO)? {
-        Some(entry) => repro_of(bytes, image.mode, &entry),
+    match first_entry(view, IMAGE_DEBUG_TYPE_REPRO)? {
+        Some(entry) => repro_of(view.bytes, view.image.mode, &entry),
         None => Ok(None),
     }
 }
@@ -226,23 +194,20 @@ fn first_repro(bytes: &[u8], image: &Image, sections: &[SectionTable]) -> Result
 ///
 /// Errors: those of `pe_c_first_debug_entry`, then those of `pe_c_repro_of`.
 #[unsafe(no_mangle)]
-pub extern "C" fn pe_c_debug_repro(
-    bytes: &[u8],
-    image: &Image,
-    sections: &[SectionTable],
-    out: &mut Repro,
-) -> u32
+pub extern "C" fn pe_c_debug_repro(view: &View, out: &mut Repro) -> u32
     ensures { HandsOutIf result out.old out.new
-        (read_first repro_of IMAGE_DEBUG_TYPE_REPRO bytes.now image.now sections.now) }
+        (read_first repro_of IMAGE_DEBUG_TYPE_REPRO view.now.bytes.now view.now.image.now
+        view.now.sections.now) }
 {
-    hand_out_some(first_repro(bytes, image, sections), out)
+    hand_out_some(first_repro(view), out)
 }
 
-fn first_pogo(bytes: &[u8], image: &Image, sections: &[SectionTable]) -> Result<Option<Pogo>>
-    ensures { answer_of result ≡ read_first pogo_of IMAGE_DEBUG_TYPE_POGO bytes.now image.now sections.now }
+fn first_pogo(view: &View) -> Result<Option<Pogo>>
+    ensures { answer_of result ≡ read_first pogo_of IMAGE_DEBUG_TYPE_POGO view.now.bytes.now
+        view.now.image.now view.now.sections.now }
 {
-    match first_entry(bytes, image, sections, IMAGE_DEBUG_TYPE_POGO)? {
-        Some(entry) => pogo_of(bytes, image.mode, &entry),
+    match first_entry(view, IMAGE_DEBUG_TYPE_POGO)? {
+        Some(entry) => pogo_of(view.bytes, view.image.mode, &entry),
         None => Ok(None),
     }
 }
@@ -252,14 +217,10 @@ fn first_pogo(bytes: &[u8], image: &Image, sections: &[SectionTable]) -> Result<
 ///
 /// Errors: those of `pe_c_first_debug_entry`, then those of `pe_c_pogo_of`.
 #[unsafe(no_mangle)]
-pub extern "C" fn pe_c_debug_pogo(
-    bytes: &[u8],
-    image: &Image,
-    sections: &[SectionTable],
-    out: &mut Pogo,
-) -> u32
+pub extern "C" fn pe_c_debug_pogo(view: &View, out: &mut Pogo) -> u32
     ensures { HandsOutIf result out.old out.new
-        (read_first pogo_of IMAGE_DEBUG_TYPE_POGO bytes.now image.now sections.now) }
+        (read_first pogo_of IMAGE_DEBUG_TYPE_POGO view.now.bytes.now view.now.image.now
+        view.now.sections.now) }
 {
-    hand_out_some(first_pogo(bytes, image, sections), out)
+    hand_out_some(first_pogo(view), out)
 }

@@ -10,10 +10,10 @@ ghost use Rattle.pe_c.specs.DelayImports.{library_of, dll_range, entry_with, fir
 ghost use Rattle.pe_c.specs.Directories.{DirectoryHandsOut, image_parts, left_after, step_of, table_at};
 
 use crate::directories::{Result, image_bytes, range_left, table_at};
-use crate::image::{DELAY_IMPORT_DESCRIPTOR, Image};
+use crate::image::DELAY_IMPORT_DESCRIPTOR;
 use crate::ranges::{NO_BYTES, Range, slice_of};
 use crate::results::hand_out_found;
-use pe_core::SectionTable;
+use crate::view::View;
 use pe_directories::{DelayImport, DelayImports, DelayedFunction as Function, ImageBytes, VaTable};
 
 /// The size of the hint before a function's name in bytes.
@@ -60,19 +60,11 @@ pub struct DelayedFunction {
 ///
 /// Errors: `UNMAPPED`, `SHORT`.
 #[unsafe(no_mangle)]
-pub extern "C" fn pe_c_delay_imports(
-    bytes: &[u8],
-    image: &Image,
-    sections: &[SectionTable],
-    out: &mut Range,
-) -> u32
+pub extern "C" fn pe_c_delay_imports(view: &View, out: &mut Range) -> u32
     ensures { DirectoryHandsOut result out.old out.new
-        (table_at 13 bytes.now image.now sections.now) }
+        (table_at 13 view.now.bytes.now view.now.image.now view.now.sections.now) }
 {
-    hand_out_found(
-        table_at(DELAY_IMPORT_DESCRIPTOR, bytes, image, sections),
-        out,
-    )
+    hand_out_found(table_at(view, DELAY_IMPORT_DESCRIPTOR), out)
 }
 
 /// The range of the name of an entry's DLL.
@@ -114,20 +106,20 @@ fn library_of(image: &ImageBytes<'_>, entry: DelayImport) -> Result<DelayLibrary
 }
 
 /// The next DLL of a walk. It is over after an error.
-pub fn next_library(image: &ImageBytes<'_>, walk: &mut Range) -> Result<Option<DelayLibrary>>
-    ensures library { directory_answer (λ x. x) result
-        ≡ step_of (λ x. x) (first_library_in (image_view image.now) walk.old) }
-    ensures walk { walk.new
-        ≡ left_after walk.old (first_library_in (image_view image.now) walk.old) }
+pub fn next_library(view: &View, walk: &mut Range) -> Result<Option<DelayLibrary>>
+    ensures library { directory_answer (λ x. x) result ≡ step_of (λ x. x) (first_library_in
+        (image_parts view.now.bytes.now view.now.image.now view.now.sections.now) walk.old) }
+    ensures walk { walk.new ≡ left_after walk.old (first_library_in
+        (image_parts view.now.bytes.now view.now.image.now view.now.sections.now) walk.old) }
 {
     let range = *walk;
     *walk = NO_BYTES;
-    let mut entries = DelayImports::new(slice_of(image.bytes, &range)?);
+    let mut entries = DelayImports::new(slice_of(view.bytes, &range)?);
     let Some(entry) = entries.next() else {
         *walk = range;
         return Ok(None);
     };
-    let library = library_of(image, entry?)?;
+    let library = library_of(&image_bytes(view), entry?)?;
     *walk = range_left(range, entries.rest());
     Ok(Some(library))
 }
@@ -140,21 +132,18 @@ pub fn next_library(image: &ImageBytes<'_>, walk: &mut Range) -> Result<Option<D
 /// of the table of what is imported.
 #[unsafe(no_mangle)]
 pub extern "C" fn pe_c_next_delay_import(
-    bytes: &[u8],
-    image: &Image,
-    sections: &[SectionTable],
+    view: &View,
     walk: &mut Range,
     out: &mut DelayLibrary,
 ) -> u32
     ensures library { DirectoryHandsOut result out.old out.new (step_of (λ x. x)
-        (first_library_in (image_parts bytes.now image.now sections.now) walk.old)) }
+        (first_library_in (image_parts view.now.bytes.now view.now.image.now view.now.sections.now)
+        walk.old)) }
     ensures walk { walk.new ≡ left_after walk.old
-        (first_library_in (image_parts bytes.now image.now sections.now) walk.old) }
+        (first_library_in (image_parts view.now.bytes.now view.now.image.now view.now.sections.now)
+        walk.old) }
 {
-    hand_out_found(
-        next_library(&image_bytes(bytes, image, sections), walk),
-        out,
-    )
+    hand_out_found(next_library(view, walk), out)
 }
 
 /// An entry of which the attributes alone are known.
@@ -201,17 +190,17 @@ fn function_of(image: &ImageBytes<'_>, entry: &DelayImport, lookup: u64) -> Resu
 
 /// The next function of a walk, whose attributes and bytes left are these. It is over after an error.
 pub fn next_function(
-    bytes: &[u8],
-    image: &Image,
-    sections: &[SectionTable],
+    view: &View,
     attributes: u32,
     left: &mut Range,
 ) -> Result<Option<DelayedFunction>>
     ensures function { directory_answer (λ x. x) result ≡ step_of (λ x. x)
-        (first_function_in image.now (image_parts bytes.now image.now sections.now)
+        (first_function_in view.now.image.now (image_parts view.now.bytes.now view.now.image.now
+        view.now.sections.now)
         attributes left.old) }
     ensures left { left.new ≡ left_after left.old
-        (first_function_in image.now (image_parts bytes.now image.now sections.now)
+        (first_function_in view.now.image.now (image_parts view.now.bytes.now view.now.image.now
+        view.now.sections.now)
         attributes left.old) }
 {
     let range = *left;
@@ -219,12 +208,12 @@ pub fn next_function(
         return Ok(None);
     }
     *left = NO_BYTES;
-    let mut table = VaTable::new(slice_of(bytes, &range)?, image.width == 64);
+    let mut table = VaTable::new(slice_of(view.bytes, &range)?, view.image.width == 64);
     let Some(lookup) = table.next() else {
         *left = range;
         return Ok(None);
     };
-    let parts = image_bytes(bytes, image, sections);
+    let parts = image_bytes(view);
     let function = function_of(&parts, &entry_with(attributes), lookup?)?;
     *left = range_left(range, table.rest());
     Ok(Some(function))
@@ -238,20 +227,17 @@ pub fn next_function(
 /// `DIRECTORY_DELAY_IMPORT_NAME`.
 #[unsafe(no_mangle)]
 pub extern "C" fn pe_c_next_delayed_function(
-    bytes: &[u8],
-    image: &Image,
-    sections: &[SectionTable],
+    view: &View,
     walk: &mut DelayedFunctions,
     out: &mut DelayedFunction,
 ) -> u32
     ensures function { DirectoryHandsOut result out.old out.new (step_of (λ x. x)
-        (first_of_walk image.now (image_parts bytes.now image.now sections.now) walk.old)) }
+        (first_of_walk view.now.image.now (image_parts view.now.bytes.now view.now.image.now
+        view.now.sections.now) walk.old)) }
     ensures walk { walk.new ≡ functions_after walk.old
-        (first_of_walk image.now (image_parts bytes.now image.now sections.now) walk.old) }
+        (first_of_walk view.now.image.now (image_parts view.now.bytes.now view.now.image.now
+        view.now.sections.now) walk.old) }
 {
     let attributes = walk.attributes;
-    hand_out_found(
-        next_function(bytes, image, sections, attributes, &mut walk.left),
-        out,
-    )
+    hand_out_found(next_function(view, attributes, &mut walk.left), out)
 }

@@ -6,26 +6,24 @@ ghost use Rattle.pe_directories.specs.DirectoryRefusals.{directory_answer};
 ghost use Rattle.pe_directories.specs.ImageParts.{image_view};
 ghost use Rattle.pe_c.specs.Directories.{image_parts, range_left, table_at};
 
-use crate::image::{Image, directory, is_absent};
+use crate::image::{directory, is_absent};
 use crate::ranges::{Range, range_of};
 use crate::results::options;
-use pe_core::SectionTable;
+use crate::view::View;
 use pe_directories::{DirectoryError, ImageBytes};
 
 /// The result of a call of pe_directories.
 pub type Result<T> = std::result::Result<T, DirectoryError>;
 
 /// The image as pe_directories takes it.
-pub fn image_bytes<'a>(
-    bytes: &'a [u8],
-    image: &Image,
-    sections: &'a [SectionTable],
-) -> ImageBytes<'a>
-    ensures { image_view result ≡ image_parts bytes.entry.now image.now sections.entry.now }
+pub fn image_bytes<'a>(view: &View<'a>) -> ImageBytes<'a>
+    ensures { image_view result
+        ≡ image_parts view.now.bytes.now view.now.image.now view.now.sections.now }
 {
+    let image = view.image;
     ImageBytes {
-        bytes,
-        sections,
+        bytes: view.bytes,
+        sections: view.sections,
         file_alignment: image.file_alignment,
         image_base: image.base,
         is_64: image.width == 64,
@@ -34,20 +32,15 @@ pub fn image_bytes<'a>(
 }
 
 /// The bytes of the directory with an index as a range, if it is not absent.
-pub fn table_at(
-    index: usize,
-    bytes: &[u8],
-    image: &Image,
-    sections: &[SectionTable],
-) -> Result<Option<Range>>
+pub fn table_at(view: &View, index: usize) -> Result<Option<Range>>
     ensures { directory_answer (λ x. x) result
-        ≡ table_at index bytes.now image.now sections.now }
+        ≡ table_at index view.now.bytes.now view.now.image.now view.now.sections.now }
 {
-    let directory = directory(image, index);
+    let directory = directory(view.image, index);
     if is_absent(directory) {
         return Ok(None);
     }
-    let range = image_bytes(bytes, image, sections).range_of(directory)?;
+    let range = image_bytes(view).range_of(directory)?;
     Ok(Some(range_of(range)))
 }
 

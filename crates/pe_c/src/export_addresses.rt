@@ -6,19 +6,17 @@
 ghost use Rattle.std.specs.Prelude.{◌≡◌};
 ghost use Rattle.pe_core.specs.Exports.{export_data_view};
 ghost use Rattle.pe_core.specs.Refusals.{answer_of};
-ghost use Rattle.pe_c.specs.ExportAddresses.{address_table, address_table_at, dll_name, exported_with, exported_at, text_range};
+ghost use Rattle.pe_c.specs.ExportAddresses.{address_table, address_table_at, dll_name, exported_with, exported_at, text_from};
 ghost use Rattle.pe_c.specs.HandsOut.{HandsOutIf};
 ghost use Rattle.pe_c.specs.Views.{map_of};
 ghost use Rattle.pe_c.specs.Images.{export_directory, map_of_image};
 
-use crate::exports::export_table;
-use crate::image::{EXPORT_TABLE, Image, directory, is_absent};
+use crate::exports::{export_data, export_table};
+use crate::image::{EXPORT_TABLE, directory, is_absent, offset_of};
 use crate::ranges::{NO_BYTES, Range, slice_of};
-use crate::results::{hand_out_some, options};
-use crate::view::{View, map_by, without_index};
-use pe_core::{
-    DataDirectory, ExportAddress, ExportAddresses, ExportData, Result, SectionTable, text_at,
-};
+use crate::results::hand_out_some;
+use crate::view::{View, map_by};
+use pe_core::{DataDirectory, ExportAddress, ExportAddresses, ExportData, Result, text_at};
 
 /// The address table of an export directory, and what it takes to read it.
 #[repr(C)]
@@ -50,12 +48,12 @@ pub struct Exported {
     pub is_forwarder: u32,
 }
 
-/// The range of the text at an RVA, if the RVA is mapped and a text is there.
-fn text_range(view: &View, rva: u32) -> Option<Range>
-    ensures { result ≡ text_range (map_of view.now) view.now.bytes.now rva }
+/// The range of the text at an offset, if there is an offset and a text is there.
+fn text_from(bytes: &[u8], offset: Option<usize>) -> Option<Range>
+    ensures { result ≡ text_from bytes.now offset }
 {
-    let offset = map_by(view, rva)?;
-    let text = text_at(view.bytes, offset)?;
+    let offset = offset?;
+    let text = text_at(bytes, offset)?;
     Some(Range {
         offset: offset as u64,
         length: text.len() as u64,
@@ -64,49 +62,44 @@ fn text_range(view: &View, rva: u32) -> Option<Range>
 
 /// The range of the DLL's name. The RVA 0 is that of none.
 fn dll_name(view: &View, rva: u32) -> Option<Range>
-    ensures { result ≡ dll_name (map_of view.now) view.now.bytes.now rva }
+    ensures { result ≡ dll_name (map_of_image view.now.image.now view.now.sections.now)
+        view.now.bytes.now rva }
 {
     if rva == 0 {
         return None;
     }
-    text_range(view, rva)
+    text_from(view.bytes, offset_of(rva, view.image, view.sections))
 }
 
 /// The address table of export data.
-#[tactic(auto, unfolding(crate::specs::SectionIndexes::sections_by))]
-fn table_of(
-    bytes: &[u8],
-    export_data: &ExportData,
-    image: &Image,
-    sections: &[SectionTable],
-) -> AddressTable
-    ensures { result ≡ address_table (map_of_image image.now sections.now) bytes.now
-        (export_directory image.now) (export_data_view export_data.now) }
+fn table_of(view: &View, export_data: &ExportData) -> AddressTable
+    ensures { result ≡ address_table (map_of_image view.now.image.now view.now.sections.now)
+        view.now.bytes.now (export_directory view.now.image.now)
+        (export_data_view export_data.now) }
 {
     let fields = &export_data.directory;
     let size = 4 * u64::from(fields.address_table_entries);
-    let name = dll_name(&without_index(bytes, image, sections), fields.name_rva);
+    let name = dll_name(view, fields.name_rva);
     AddressTable {
         name: name.unwrap_or(NO_BYTES),
-        addresses: export_table(fields.address_table_rva, size, image, sections),
-        directory: directory(image, EXPORT_TABLE),
+        addresses: export_table(view, fields.address_table_rva, size),
+        directory: directory(view.image, EXPORT_TABLE),
         ordinal_base: fields.ordinal_base,
         has_name: u32::from(name.is_some()),
     }
 }
 
 #[tactic(auto, unfolding(crate::specs::ExportAddresses::address_table_at))]
-fn table_at(bytes: &[u8], image: &Image, sections: &[SectionTable]) -> Result<Option<AddressTable>>
-    ensures { answer_of result ≡ address_table_at bytes.now image.now sections.now }
+fn table_at(view: &View) -> Result<Option<AddressTable>>
+    ensures { answer_of result ≡ address_table_at view.now.bytes.now view.now.image.now
+        view.now.sections.now }
 {
-    let directory = directory(image, EXPORT_TABLE);
+    let directory = directory(view.image, EXPORT_TABLE);
     if is_absent(directory) {
         return Ok(None);
     }
-    let alignment = image.file_alignment;
-    let opts = options(image.mode);
-    let export_data = ExportData::parse_with_opts(bytes, directory, sections, alignment, &opts)?;
-    Ok(Some(table_of(bytes, &export_data, image, sections)))
+    let export_data = export_data(view, directory)?;
+    Ok(Some(table_of(view, &export_data)))
 }
 
 /// Returns the address table of an image's export directory, its ordinal base and the DLL's name: `NOTHING` where the
@@ -114,16 +107,11 @@ fn table_at(bytes: &[u8], image: &Image, sections: &[SectionTable]) -> Result<Op
 ///
 /// Errors: those of `pe_c_export_tables`.
 #[unsafe(no_mangle)]
-pub extern "C" fn pe_c_export_addresses(
-    bytes: &[u8],
-    image: &Image,
-    sections: &[SectionTable],
-    out: &mut AddressTable,
-) -> u32
+pub extern "C" fn pe_c_export_addresses(view: &View, out: &mut AddressTable) -> u32
     ensures { HandsOutIf result out.old out.new
-        (address_table_at bytes.now image.now sections.now) }
+        (address_table_at view.now.bytes.now view.now.image.now view.now.sections.now) }
 {
-    hand_out_some(table_at(bytes, image, sections), out)
+    hand_out_some(table_at(view), out)
 }
 
 /// The entry of an export, with the range of a forwarder's text.
@@ -131,7 +119,7 @@ fn exported_with(view: &View, address: ExportAddress) -> Exported
     ensures { result ≡ exported_with (map_of view.now) view.now.bytes.now address }
 {
     let forwarder = if address.is_forwarder {
-        text_range(view, address.rva)
+        text_from(view.bytes, map_by(view, address.rva))
     } else {
         None
     };
@@ -165,18 +153,14 @@ pub fn exported_at(view: &View, table: &AddressTable, index: u64) -> Result<Opti
 ///
 /// Errors: `SHORT` where the table is not inside the bytes.
 #[unsafe(no_mangle)]
-#[tactic(auto, unfolding(crate::specs::SectionIndexes::sections_by))]
 pub extern "C" fn pe_c_export_at(
-    bytes: &[u8],
-    image: &Image,
-    sections: &[SectionTable],
+    view: &View,
     table: &AddressTable,
     index: u64,
     out: &mut Exported,
 ) -> u32
     ensures { HandsOutIf result out.old out.new
-        (exported_at (map_of_image image.now sections.now) bytes.now table.now index) }
+        (exported_at (map_of view.now) view.now.bytes.now table.now index) }
 {
-    let view = without_index(bytes, image, sections);
-    hand_out_some(exported_at(&view, table, index), out)
+    hand_out_some(exported_at(view, table, index), out)
 }

@@ -4,18 +4,18 @@
 //! https://learn.microsoft.com/windows/win32/debug/pe-format#the-edata-section-image-only
 
 ghost use Rattle.std.specs.Prelude.{◌≡◌, ◌+◌, ◌*◌, ◌/◌, ◌≤◌, length};
-ghost use Rattle.pe_core.specs.Exports.{export_data_view};
+ghost use Rattle.pe_core.specs.Exports.{export_data_at, export_data_view};
 ghost use Rattle.pe_core.specs.Refusals.{ReturnsAs, answer_of};
 ghost use Rattle.pe_c.specs.HandsOut.{HandsOutIf};
 ghost use Rattle.pe_c.specs.Exports.{HandsOutExport, FindsNext, StepsExports, export_table, tables_at, tables_or_short, reported_entry, view_of, walk_over};
 ghost use Rattle.pe_c.specs.Images.{map_of_image};
 ghost use Rattle.pe_c.specs.Views.{map_of};
 
-use crate::image::{EXPORT_TABLE, Image, directory, is_absent, offset_of};
+use crate::image::{EXPORT_TABLE, directory, is_absent, offset_of};
 use crate::ranges::{NO_BYTES, Range, range_from, slice_of};
 use crate::results::{hand_out_some, options};
-use crate::view::{View, map_by, without_index};
-use pe_core::{ExportData, Result, SectionTable, read_u32, text_at, u16_at, u32_at};
+use crate::view::{View, map_by};
+use pe_core::{DataDirectory, ExportData, Result, read_u32, text_at, u16_at, u32_at};
 
 /// A walk over the exports of an image: the tables of its export directory, and the index of the next name.
 #[repr(C)]
@@ -50,42 +50,53 @@ pub struct Export {
 }
 
 /// The range of a table of so many bytes at an RVA. An empty table needs no mapped RVA.
-pub fn export_table(rva: u32, size: u64, image: &Image, sections: &[SectionTable]) -> Range
-    ensures { result ≡ export_table (map_of_image image.now sections.now) rva size }
+pub fn export_table(view: &View, rva: u32, size: u64) -> Range
+    ensures { result
+        ≡ export_table (map_of_image view.now.image.now view.now.sections.now) rva size }
 {
     if size == 0 {
         return NO_BYTES;
     }
-    range_from(size, offset_of(rva, image, sections))
+    range_from(size, offset_of(rva, view.image, view.sections))
 }
 
-fn walk_over(export_data: &ExportData, image: &Image, sections: &[SectionTable]) -> Exports
-    ensures { result ≡ walk_over (map_of_image image.now sections.now)
+fn walk_over(view: &View, export_data: &ExportData) -> Exports
+    ensures { result ≡ walk_over (map_of_image view.now.image.now view.now.sections.now)
         (export_data_view export_data.now) }
 {
     let directory = &export_data.directory;
     let names = u64::from(directory.number_of_name_pointers);
     let addresses = u64::from(directory.address_table_entries);
     Exports {
-        names: export_table(directory.name_pointer_rva, 4 * names, image, sections),
-        ordinals: export_table(directory.ordinal_table_rva, 2 * names, image, sections),
-        addresses: export_table(directory.address_table_rva, 4 * addresses, image, sections),
+        names: export_table(view, directory.name_pointer_rva, 4 * names),
+        ordinals: export_table(view, directory.ordinal_table_rva, 2 * names),
+        addresses: export_table(view, directory.address_table_rva, 4 * addresses),
         next: 0,
     }
 }
 
-#[tactic(auto, unfolding(crate::specs::Exports::tables_at))]
-fn tables_at(bytes: &[u8], image: &Image, sections: &[SectionTable]) -> Result<Option<Exports>>
-    ensures { answer_of result ≡ tables_at bytes.now image.now sections.now }
+/// The export directory of an image, whose entry among the directories this is.
+pub fn export_data<'a>(view: &View<'a>, directory: DataDirectory) -> Result<ExportData<'a>>
+    ensures { ReturnsAs export_data_view result
+        (export_data_at (map_of_image view.now.image.now view.now.sections.now)
+        view.now.bytes.now directory.virtual_address) }
 {
-    let directory = directory(image, EXPORT_TABLE);
+    let (image, sections) = (view.image, view.sections);
+    let opts = options(image.mode);
+    ExportData::parse_with_opts(view.bytes, directory, sections, image.file_alignment, &opts)
+}
+
+#[tactic(auto, unfolding(crate::specs::Exports::tables_at))]
+fn tables_at(view: &View) -> Result<Option<Exports>>
+    ensures { answer_of result ≡ tables_at view.now.bytes.now view.now.image.now
+        view.now.sections.now }
+{
+    let directory = directory(view.image, EXPORT_TABLE);
     if is_absent(directory) {
         return Ok(None);
     }
-    let alignment = image.file_alignment;
-    let opts = options(image.mode);
-    let export_data = ExportData::parse_with_opts(bytes, directory, sections, alignment, &opts)?;
-    Ok(Some(walk_over(&export_data, image, sections)))
+    let export_data = export_data(view, directory)?;
+    Ok(Some(walk_over(view, &export_data)))
 }
 
 /// Returns the tables of an image's export directory as a walk at its start: `NOTHING` where the directory is absent.
@@ -93,15 +104,11 @@ fn tables_at(bytes: &[u8], image: &Image, sections: &[SectionTable]) -> Result<O
 ///
 /// Errors: `UNMAPPED`, `SHORT` of the directory; `UNMAPPED`, `SHORT` of each table: of RVAs, of names, of ordinals.
 #[unsafe(no_mangle)]
-pub extern "C" fn pe_c_export_tables(
-    bytes: &[u8],
-    image: &Image,
-    sections: &[SectionTable],
-    out: &mut Exports,
-) -> u32
-    ensures { HandsOutIf result out.old out.new (tables_at bytes.now image.now sections.now) }
+pub extern "C" fn pe_c_export_tables(view: &View, out: &mut Exports) -> u32
+    ensures { HandsOutIf result out.old out.new (tables_at view.now.bytes.now view.now.image.now
+        view.now.sections.now) }
 {
-    hand_out_some(tables_at(bytes, image, sections), out)
+    hand_out_some(tables_at(view), out)
 }
 
 /// The three tables of a walk.
@@ -139,7 +146,8 @@ fn reported_entry(view: &View, tables: &Tables<'_>, i: usize) -> Option<Export>
 
 /// The first entry of the name table, from `from` on, that has an export, and the index after it.
 fn find_next(view: &View, tables: &Tables<'_>, from: usize) -> Option<(Export, u64)>
-    ensures { FindsNext (reported_entry (map_of view.now) view.now.bytes.now (view_of tables.now)) from (length tables.now.names.now / 4) result }
+    ensures { FindsNext (reported_entry (map_of view.now) view.now.bytes.now (view_of tables.now))
+        from (length tables.now.names.now / 4) result }
 {
     for i in from..tables.names.len() / 4 {
         if let Some(export) = reported_entry(view, tables, i) {
@@ -195,16 +203,9 @@ pub fn step(view: &View, walk: &mut Exports) -> Result<Option<Export>>
 ///
 /// Errors: `SHORT` where the tables are not inside the bytes. After it the walk is over.
 #[unsafe(no_mangle)]
-#[tactic(auto, unfolding(crate::specs::SectionIndexes::sections_by))]
-pub extern "C" fn pe_c_next_export(
-    bytes: &[u8],
-    image: &Image,
-    sections: &[SectionTable],
-    walk: &mut Exports,
-    out: &mut Export,
-) -> u32
+pub extern "C" fn pe_c_next_export(view: &View, walk: &mut Exports, out: &mut Export) -> u32
     ensures { HandsOutExport
-        (map_of_image image.now sections.now) bytes.now walk.old walk.new result out.old out.new }
+        (map_of view.now) view.now.bytes.now walk.old walk.new result out.old out.new }
 {
-    hand_out_some(step(&without_index(bytes, image, sections), walk), out)
+    hand_out_some(step(view, walk), out)
 }

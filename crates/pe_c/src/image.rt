@@ -11,8 +11,10 @@ ghost use Rattle.pe_core.specs.Records.{section_table};
 ghost use Rattle.pe_core.specs.Rows.{rows};
 ghost use Rattle.pe_c.specs.HandsOut.{HandsOut, HandsOutIf};
 ghost use Rattle.pe_c.specs.Images.{all_directories, certificate_entry, directories_at, directory, or_absent, is_absent, image_info_of, image_at, map_of_image, with_optional, PutsSections, PutsSectionsAt};
+ghost use Rattle.pe_c.specs.Views.{map_of};
 
 use crate::results::{DONE, NOTHING, ROOM, hand_out, number_of, options};
+use crate::view::{View, map_by};
 use pe_core::{
     DataDirectories, DataDirectory, Header, MAGIC_64, OptionalHeader, Result, SectionTable,
     find_offset, require_bytes,
@@ -325,15 +327,10 @@ pub extern "C" fn pe_c_sections(bytes: &[u8], image: &Image, room: &mut [Section
 /// alignment is not a power of two. In an image as loaded an RVA is its own offset. The offset may be past the end of
 /// the bytes.
 #[unsafe(no_mangle)]
-pub extern "C" fn pe_c_offset(
-    image: &Image,
-    sections: &[SectionTable],
-    rva: u32,
-    out: &mut u64,
-) -> u32
-    ensures { HandsOutIf result out.old out.new (Ok (map_of_image image.now sections.now rva)) }
+pub extern "C" fn pe_c_offset(view: &View, rva: u32, out: &mut u64) -> u32
+    ensures { HandsOutIf result out.old out.new (Ok (map_of view.now rva)) }
 {
-    match offset_of(rva, image, sections) {
+    match map_by(view, rva) {
         Some(offset) => {
             *out = offset as u64;
             DONE

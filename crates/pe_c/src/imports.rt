@@ -17,7 +17,7 @@ use crate::image::{IMPORT_TABLE, Image, directory, is_absent};
 use crate::ranges::{NO_BYTES, Range, range_from};
 use crate::results::{hand_out_some, options};
 use crate::section_index::sections_by;
-use crate::view::{View, map_by, without_index};
+use crate::view::{View, map_by};
 use crate::walks::next_entry;
 use pe_core::{
     Error, ImportDirectoryEntry, Reason, Result, SectionTable, lookup_number, lookup_size,
@@ -120,14 +120,14 @@ fn name_at(bytes: &[u8], offset: usize, rva: u32) -> Result<&str>
     }
 }
 
-fn libraries_at(image: &Image, sections: &[SectionTable]) -> Result<Option<Libraries>>
-    ensures { answer_of result ≡ libraries_at image.now sections.now }
+fn libraries_at(view: &View) -> Result<Option<Libraries>>
+    ensures { answer_of result ≡ libraries_at view.now.image.now view.now.sections.now }
 {
-    let directory = directory(image, IMPORT_TABLE);
+    let directory = directory(view.image, IMPORT_TABLE);
     if is_absent(directory) {
         return Ok(None);
     }
-    let offset = require_offset(directory.virtual_address, image, sections)?;
+    let offset = require_offset(directory.virtual_address, view.image, view.sections)?;
     Ok(Some(Libraries {
         next: offset as u64,
         is_over: 0,
@@ -140,15 +140,11 @@ fn libraries_at(image: &Image, sections: &[SectionTable]) -> Result<Option<Libra
 ///
 /// Errors: `UNMAPPED`.
 #[unsafe(no_mangle)]
-pub extern "C" fn pe_c_import_libraries(
-    _bytes: &[u8],
-    image: &Image,
-    sections: &[SectionTable],
-    out: &mut Libraries,
-) -> u32
-    ensures { HandsOutIf result out.old out.new (libraries_at image.now sections.now) }
+pub extern "C" fn pe_c_import_libraries(view: &View, out: &mut Libraries) -> u32
+    ensures { HandsOutIf result out.old out.new (libraries_at view.now.image.now
+        view.now.sections.now) }
 {
-    hand_out_some(libraries_at(image, sections), out)
+    hand_out_some(libraries_at(view), out)
 }
 
 /// The entries of the list at a file offset, none without an offset. `Short` where no zero entry ends them.
@@ -230,21 +226,14 @@ pub fn library_step(view: &View, walk: Libraries) -> (Result<Option<Library>>, L
 /// Errors: `SHORT` where the record is truncated; `UNMAPPED`, `IMPORT_NAME` of its name; `SHORT` where no zero entry
 /// ends its list. After the last and after an error the walk is over.
 #[unsafe(no_mangle)]
-#[tactic(auto, unfolding(crate::specs::SectionIndexes::sections_by))]
-pub extern "C" fn pe_c_next_library(
-    bytes: &[u8],
-    image: &Image,
-    sections: &[SectionTable],
-    walk: &mut Libraries,
-    out: &mut Library,
-) -> u32
+pub extern "C" fn pe_c_next_library(view: &View, walk: &mut Libraries, out: &mut Library) -> u32
     ensures returned { HandsOutIf result out.old out.new
-        (library_step (map_of_image image.now sections.now)
-        (entry_size (image.now.width == 64)) bytes.now walk.old).0 }
-    ensures walk { walk.new ≡ (library_step (map_of_image image.now sections.now)
-        (entry_size (image.now.width == 64)) bytes.now walk.old).1 }
+        (library_step (map_of view.now)
+        (entry_size (view.now.image.now.width == 64)) view.now.bytes.now walk.old).0 }
+    ensures walk { walk.new ≡ (library_step (map_of view.now)
+        (entry_size (view.now.image.now.width == 64)) view.now.bytes.now walk.old).1 }
 {
-    let (reported, after) = library_step(&without_index(bytes, image, sections), *walk);
+    let (reported, after) = library_step(view, *walk);
     *walk = after;
     hand_out_some(reported, out)
 }
@@ -320,22 +309,12 @@ pub fn import_step(view: &View, walk: &mut Imports) -> Result<Option<Import>>
 /// Errors: `SHORT` where the walk is not inside the bytes, or its entry is truncated; `UNMAPPED` of the entry's RVA;
 /// `SHORT` of the hint there; `IMPORT_NAME` of the name. After an error the walk is over.
 #[unsafe(no_mangle)]
-#[tactic(auto, unfolding(crate::specs::SectionIndexes::sections_by))]
-pub extern "C" fn pe_c_next_import(
-    bytes: &[u8],
-    image: &Image,
-    sections: &[SectionTable],
-    walk: &mut Imports,
-    out: &mut Import,
-) -> u32
+pub extern "C" fn pe_c_next_import(view: &View, walk: &mut Imports, out: &mut Import) -> u32
     ensures returned { HandsOutIf result out.old out.new
-        (import_step (map_of_image image.now sections.now)
-        (entry_size (image.now.width == 64)) bytes.now walk.old).0 }
-    ensures walk { walk.new ≡ (import_step (map_of_image image.now sections.now)
-        (entry_size (image.now.width == 64)) bytes.now walk.old).1 }
+        (import_step (map_of view.now)
+        (entry_size (view.now.image.now.width == 64)) view.now.bytes.now walk.old).0 }
+    ensures walk { walk.new ≡ (import_step (map_of view.now)
+        (entry_size (view.now.image.now.width == 64)) view.now.bytes.now walk.old).1 }
 {
-    hand_out_some(
-        import_step(&without_index(bytes, image, sections), walk),
-        out,
-    )
+    hand_out_some(import_step(view, walk), out)
 }

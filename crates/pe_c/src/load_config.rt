@@ -10,9 +10,9 @@ ghost use Rattle.pe_c.specs.Exports.{one_if_some, or_zero};
 ghost use Rattle.pe_c.specs.LoadConfigs.{config_reported, load_config_at};
 
 use crate::directories::{Result, image_bytes};
-use crate::image::{Image, LOAD_CONFIG_TABLE, directory, is_absent};
+use crate::image::{LOAD_CONFIG_TABLE, directory, is_absent};
 use crate::results::hand_out_found;
-use pe_core::SectionTable;
+use crate::view::View;
 use pe_directories::LoadConfig as Structure;
 
 /// The load configuration (`IMAGE_LOAD_CONFIG_DIRECTORY32`, `IMAGE_LOAD_CONFIG_DIRECTORY64`), up to the guard flags. A field
@@ -131,19 +131,15 @@ fn config_reported(config: &Structure) -> LoadConfig
     }
 }
 
-fn load_config_at(
-    bytes: &[u8],
-    image: &Image,
-    sections: &[SectionTable],
-) -> Result<Option<LoadConfig>>
+fn load_config_at(view: &View) -> Result<Option<LoadConfig>>
     ensures { directory_answer (λ c. c) result
-        ≡ load_config_at bytes.now image.now sections.now }
+        ≡ load_config_at view.now.bytes.now view.now.image.now view.now.sections.now }
 {
-    let directory = directory(image, LOAD_CONFIG_TABLE);
+    let directory = directory(view.image, LOAD_CONFIG_TABLE);
     if is_absent(directory) {
         return Ok(None);
     }
-    let config = Structure::parse(&image_bytes(bytes, image, sections), directory)?;
+    let config = Structure::parse(&image_bytes(view), directory)?;
     Ok(Some(config_reported(&config)))
 }
 
@@ -152,14 +148,9 @@ fn load_config_at(
 ///
 /// Errors: `UNMAPPED`; `SHORT` of the 4 bytes of its size.
 #[unsafe(no_mangle)]
-pub extern "C" fn pe_c_load_config(
-    bytes: &[u8],
-    image: &Image,
-    sections: &[SectionTable],
-    out: &mut LoadConfig,
-) -> u32
+pub extern "C" fn pe_c_load_config(view: &View, out: &mut LoadConfig) -> u32
     ensures { DirectoryHandsOut result out.old out.new
-        (load_config_at bytes.now image.now sections.now) }
+        (load_config_at view.now.bytes.now view.now.image.now view.now.sections.now) }
 {
-    hand_out_found(load_config_at(bytes, image, sections), out)
+    hand_out_found(load_config_at(view), out)
 }

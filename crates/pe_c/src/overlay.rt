@@ -5,33 +5,27 @@ ghost use Rattle.std.specs.Prelude.{◌≡◌, Ok};
 ghost use Rattle.pe_c.specs.HandsOut.{HandsOutIf};
 ghost use Rattle.pe_c.specs.Overlays.{overlay_at};
 
-use crate::image::Image;
 use crate::ranges::{Range, range_of};
 use crate::results::{hand_out_some, options};
-use pe_core::SectionTable;
+use crate::view::View;
 use pe_directories::overlay_range;
 
-fn overlay_at(bytes: &[u8], image: &Image, sections: &[SectionTable]) -> Option<Range>
-    ensures { result ≡ overlay_at bytes.now image.now sections.now }
+fn overlay_at(view: &View) -> Option<Range>
+    ensures { result ≡ overlay_at view.now.bytes.now view.now.image.now view.now.sections.now }
 {
-    if !options(image.mode).resolve_rva {
+    if !options(view.image.mode).resolve_rva {
         return None;
     }
-    let overlay = overlay_range(bytes.len(), image.size_of_headers, sections)?;
+    let overlay = overlay_range(view.bytes.len(), view.image.size_of_headers, view.sections)?;
     Some(range_of(overlay))
 }
 
 /// Returns the range of the bytes after the headers and the raw data of all sections: `NOTHING` where there are none, and in an
 /// image as loaded. It may hold what headers lead to: the certificate table, COFF symbols. It never returns an error.
 #[unsafe(no_mangle)]
-pub extern "C" fn pe_c_overlay(
-    bytes: &[u8],
-    image: &Image,
-    sections: &[SectionTable],
-    out: &mut Range,
-) -> u32
+pub extern "C" fn pe_c_overlay(view: &View, out: &mut Range) -> u32
     ensures { HandsOutIf result out.old out.new
-        (Ok (overlay_at bytes.now image.now sections.now)) }
+        (Ok (overlay_at view.now.bytes.now view.now.image.now view.now.sections.now)) }
 {
-    hand_out_some(Ok(overlay_at(bytes, image, sections)), out)
+    hand_out_some(Ok(overlay_at(view)), out)
 }

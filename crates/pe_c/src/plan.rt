@@ -8,11 +8,11 @@ ghost use Rattle.pe_core.specs.Refusals.{answer_of};
 ghost use Rattle.pe_c.specs.Plans.{goes_on, ended, plan_from, returned_record, after_record, StepsPlan, HandsOutPlan};
 ghost use Rattle.pe_c.specs.Unwinding.{links_at};
 
-use crate::image::Image;
 use crate::ranges::Range;
 use crate::results::{DONE, hand_out_some};
 use crate::unwinding::{UnwindRecord, read_record};
-use pe_core::{Error, Reason, Result, SectionTable};
+use crate::view::View;
+use pe_core::{Error, Reason, Result};
 
 /// The records that are left from a function to the root of its chain. `pe_c_plan_from` starts it.
 #[repr(C)]
@@ -90,20 +90,15 @@ fn advance(plan: &mut Plan, next: UnwindRecord) -> Result<Option<UnwindRecord>>
     }
 }
 
-fn next_record(
-    bytes: &[u8],
-    image: &Image,
-    sections: &[SectionTable],
-    table: &Range,
-    plan: &mut Plan,
-) -> Result<Option<UnwindRecord>>
-    ensures { StepsPlan bytes.now (links_at bytes.now image.now sections.now table.now) plan.old
+fn next_record(view: &View, table: &Range, plan: &mut Plan) -> Result<Option<UnwindRecord>>
+    ensures { StepsPlan view.now.bytes.now (links_at view.now.bytes.now view.now.image.now
+        view.now.sections.now table.now) plan.old
         (answer_of result) plan.new }
 {
     if plan.is_over != 0 {
         return Ok(None);
     }
-    match read_record(bytes, image, sections, table, plan.unwind) {
+    match read_record(view, table, plan.unwind) {
         Ok(record) => advance(plan, record),
         Err(error) => {
             plan.is_over = 1;
@@ -118,15 +113,14 @@ fn next_record(
 /// After an error the plan is over.
 #[unsafe(no_mangle)]
 pub extern "C" fn pe_c_next_record(
-    bytes: &[u8],
-    image: &Image,
-    sections: &[SectionTable],
+    view: &View,
     table: &Range,
     plan: &mut Plan,
     out: &mut UnwindRecord,
 ) -> u32
-    ensures { HandsOutPlan bytes.now (links_at bytes.now image.now sections.now table.now)
+    ensures { HandsOutPlan view.now.bytes.now (links_at view.now.bytes.now view.now.image.now
+        view.now.sections.now table.now)
         plan.old plan.new result out.old out.new }
 {
-    hand_out_some(next_record(bytes, image, sections, table, plan), out)
+    hand_out_some(next_record(view, table, plan), out)
 }

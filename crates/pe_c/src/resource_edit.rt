@@ -10,9 +10,9 @@ ghost use Rattle.pe_edit.specs.RecordRefusals.{record_kind_of};
 ghost use Rattle.pe_rewrite.specs.RewriteRefusals.{rewrite_kind_of};
 ghost use Rattle.pe_c.specs.ResourceEdits.{HandsOutByNumber, HandsOutFile, NumberReturns, NumberReturnsWritten, edit_number, edited_at, headers_numbered, length_numbered, record_number, records_numbered, rewrite_number, written_numbered};
 
-use crate::image::Image;
 use crate::results::{DONE, number_of};
 use crate::signing::headers_of;
+use crate::view::View;
 use pe_core::Header;
 use pe_edit::{EditError, Leaves, RecordError, ResourceRecord, require_records};
 use pe_rewrite::{RewriteError, edited_len, write_edited};
@@ -65,10 +65,11 @@ fn number_of_record(error: &RecordError) -> u32
 }
 
 /// The headers of the bytes, in the mode of an image, or the number of an error.
-fn headers<'a>(bytes: &'a [u8], image: &Image) -> Result<Header<'a>, u32>
-    ensures { NumberReturns header_view result (headers_numbered bytes.entry.now image.now) }
+fn headers<'a>(view: &View<'a>) -> Result<Header<'a>, u32>
+    ensures { NumberReturns header_view result (headers_numbered view.now.bytes.now
+        view.now.image.now) }
 {
-    match headers_of(bytes, image) {
+    match headers_of(view) {
         Ok(header) => Ok(header),
         Err(error) => Err(number_of(&error)),
     }
@@ -84,18 +85,13 @@ fn tested(resources: &[ResourceRecord], data: &[u8]) -> Result<(), u32>
     }
 }
 
-fn edited_length(
-    bytes: &[u8],
-    image: &Image,
-    resources: &[ResourceRecord],
-    data: &[u8],
-) -> Result<u64, u32>
+fn edited_length(view: &View, resources: &[ResourceRecord], data: &[u8]) -> Result<u64, u32>
     ensures { NumberReturns (λ n. n) result
-        (length_numbered (edited_at bytes.now image.now data.now resources.now)) }
+        (length_numbered (edited_at view.now.bytes.now view.now.image.now data.now resources.now)) }
 {
-    let header = headers(bytes, image)?;
+    let header = headers(view)?;
     tested(resources, data)?;
-    match edited_len(bytes, &header, &Leaves::Records(resources, data)) {
+    match edited_len(view.bytes, &header, &Leaves::Records(resources, data)) {
         Ok(length) => Ok(length as u64),
         Err(error) => Err(number_of_rewrite(&error)),
     }
@@ -106,16 +102,15 @@ fn edited_length(
 /// Errors: those of `pe_c_edit`, but for that of the room.
 #[unsafe(no_mangle)]
 pub extern "C" fn pe_c_edited_length(
-    bytes: &[u8],
-    image: &Image,
+    view: &View,
     resources: &[ResourceRecord],
     data: &[u8],
     out: &mut u64,
 ) -> u32
     ensures { HandsOutByNumber result out.old out.new
-        (length_numbered (edited_at bytes.now image.now data.now resources.now)) }
+        (length_numbered (edited_at view.now.bytes.now view.now.image.now data.now resources.now)) }
 {
-    match edited_length(bytes, image, resources, data) {
+    match edited_length(view, resources, data) {
         Ok(length) => {
             *out = length;
             DONE
@@ -125,19 +120,19 @@ pub extern "C" fn pe_c_edited_length(
 }
 
 fn edit_to(
-    bytes: &[u8],
-    image: &Image,
+    view: &View,
     resources: &[ResourceRecord],
     data: &[u8],
     room: &mut [u8],
 ) -> Result<usize, u32>
     ensures { NumberReturnsWritten result
-        (written_numbered (edited_at bytes.now image.now data.now resources.now) room.old)
+        (written_numbered (edited_at view.now.bytes.now view.now.image.now data.now resources.now)
+        room.old)
         room.old room.new }
 {
-    let header = headers(bytes, image)?;
+    let header = headers(view)?;
     tested(resources, data)?;
-    match write_edited(bytes, &header, &Leaves::Records(resources, data), room) {
+    match write_edited(view.bytes, &header, &Leaves::Records(resources, data), room) {
         Ok(length) => Ok(length),
         Err(error) => Err(number_of_rewrite(&error)),
     }
@@ -154,17 +149,17 @@ fn edit_to(
 /// After an error `room` is unchanged.
 #[unsafe(no_mangle)]
 pub extern "C" fn pe_c_edit(
-    bytes: &[u8],
-    image: &Image,
+    view: &View,
     resources: &[ResourceRecord],
     data: &[u8],
     room: &mut [u8],
     out: &mut u64,
 ) -> u32
     ensures { HandsOutFile result out.old out.new room.old room.new
-        (written_numbered (edited_at bytes.now image.now data.now resources.now) room.old) }
+        (written_numbered (edited_at view.now.bytes.now view.now.image.now data.now resources.now)
+        room.old) }
 {
-    match edit_to(bytes, image, resources, data, room) {
+    match edit_to(view, resources, data, room) {
         Ok(length) => {
             *out = length as u64;
             DONE

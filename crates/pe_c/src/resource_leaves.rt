@@ -6,16 +6,15 @@ ghost use Rattle.std.specs.Prelude.{◌≡◌, ◌≤◌, ◌^◌};
 ghost use Rattle.pe_core.specs.Refusals.{answer_of};
 ghost use Rattle.pe_resource.specs.Leaves.{tree_answer};
 ghost use Rattle.pe_c.specs.HandsOut.{HandsOutIf};
-ghost use Rattle.pe_c.specs.Images.{map_of_image};
 ghost use Rattle.pe_c.specs.Views.{map_of};
 ghost use Rattle.pe_c.specs.ResourceLeaves.{StartsLeaves, TreeHandsOut, after_item, content_of, first_item, image_tree, items_left, leaf_reported, leaves_start, leaves_walk, name_in, position_of, walk_at};
 
-use crate::image::{Image, RESOURCE_TABLE, directory, is_absent};
+use crate::image::{RESOURCE_TABLE, directory, is_absent};
 use crate::ranges::{NO_BYTES, Range, range_of, slice_of};
 use crate::results::{DONE, NOTHING, hand_out_leaf, number_of, options};
 use crate::section_index::sections_by;
-use crate::view::{View, without_index};
-use pe_core::{ByteRange, Result, SectionTable};
+use crate::view::View;
+use pe_core::{ByteRange, Result};
 use pe_resource::{LeafPosition, ResourceData, ResourceEntry, ResourceTreeError};
 
 /// What names a type, a resource or a language: an id, or a name.
@@ -191,24 +190,20 @@ const NO_ENTRY: ResourceEntry = ResourceEntry {
 /// Errors: `UNMAPPED`, `SHORT` of the first directory; `RESOURCE_BOUNDS` where the data are not in the file, and in strict mode
 /// where the first directory or its entries are not all in the data.
 #[unsafe(no_mangle)]
-pub extern "C" fn pe_c_resource_leaves(
-    bytes: &[u8],
-    image: &Image,
-    sections: &[SectionTable],
-    out: &mut ResourceLeaves,
-) -> u32
-    ensures tree { StartsLeaves bytes.now image.now sections.now result out.old out.new
-        (image_tree bytes.now image.now sections.now) }
+pub extern "C" fn pe_c_resource_leaves(view: &View, out: &mut ResourceLeaves) -> u32
+    ensures tree { StartsLeaves view.now.bytes.now view.now.image.now view.now.sections.now result
+        out.old out.new
+        (image_tree view.now.bytes.now view.now.image.now view.now.sections.now) }
     ensures walk { HandsOutIf result out.old out.new
-        (leaves_start bytes.now image.now sections.now) }
+        (leaves_start view.now.bytes.now view.now.image.now view.now.sections.now) }
 {
-    let directory = directory(image, RESOURCE_TABLE);
+    let directory = directory(view.image, RESOURCE_TABLE);
     if is_absent(directory) {
         return NOTHING;
     }
-    let alignment = image.file_alignment;
-    let opts = options(image.mode);
-    match ResourceData::leaf_position(bytes, directory, sections, alignment, &opts) {
+    let alignment = view.image.file_alignment;
+    let opts = options(view.image.mode);
+    match ResourceData::leaf_position(view.bytes, directory, view.sections, alignment, &opts) {
         Ok(Some((data, position))) => {
             *out = walk_at(range_of(data), &position);
             DONE
@@ -247,19 +242,16 @@ pub fn next_leaf(
 /// Errors, after which the walk is over: `SHORT` where `walk` is not inside the bytes, or where a directory, its entries, a
 /// data entry or a name is truncated; `TREE_NOT_DIRECTORY`, `TREE_NOT_DATA`, `TREE_NO_ENTRIES` of an entry that has no leaf.
 #[unsafe(no_mangle)]
-#[tactic(auto, unfolding(crate::specs::SectionIndexes::sections_by))]
 pub extern "C" fn pe_c_next_resource_leaf(
-    bytes: &[u8],
-    image: &Image,
-    sections: &[SectionTable],
+    view: &View,
     walk: &mut ResourceLeaves,
     out: &mut ResourceLeaf,
 ) -> u32
     ensures leaf { TreeHandsOut result out.old out.new
-        (first_item (items_left bytes.now (map_of_image image.now sections.now) walk.old)) }
-    ensures left { items_left bytes.now (map_of_image image.now sections.now) walk.new
-        ≡ after_item (items_left bytes.now (map_of_image image.now sections.now) walk.old) }
-    ensures walk { walk.new ≡ leaves_walk bytes.now (map_of_image image.now sections.now) walk.old }
+        (first_item (items_left view.now.bytes.now (map_of view.now) walk.old)) }
+    ensures left { items_left view.now.bytes.now (map_of view.now) walk.new
+        ≡ after_item (items_left view.now.bytes.now (map_of view.now) walk.old) }
+    ensures walk { walk.new ≡ leaves_walk view.now.bytes.now (map_of view.now) walk.old }
 {
-    hand_out_leaf(next_leaf(&without_index(bytes, image, sections), walk), out)
+    hand_out_leaf(next_leaf(view, walk), out)
 }

@@ -7,9 +7,9 @@ ghost use Rattle.pe_core.specs.Refusals.{answer_of};
 ghost use Rattle.pe_c.specs.HandsOut.{HandsOutIf};
 ghost use Rattle.pe_c.specs.SectionNames.{long_name_at, strings_at, strings_in};
 
-use crate::image::Image;
 use crate::ranges::{Range, slice_of};
 use crate::results::{hand_out_some, options};
+use crate::view::View;
 use pe_core::{CoffHeader, DosHeader, Result, SectionTable, Strtab};
 use pe_directories::{long_section_name, string_offset};
 
@@ -34,11 +34,11 @@ fn strings_in(bytes: &[u8]) -> Result<Option<Range>>
     }
 }
 
-fn strings_at(bytes: &[u8], image: &Image) -> Result<Option<Range>>
-    ensures { answer_of result ≡ strings_at bytes.now image.now }
+fn strings_at(view: &View) -> Result<Option<Range>>
+    ensures { answer_of result ≡ strings_at view.now.bytes.now view.now.image.now }
 {
-    if options(image.mode).resolve_rva {
-        strings_in(bytes)
+    if options(view.image.mode).resolve_rva {
+        strings_in(view.bytes)
     } else {
         Ok(None)
     }
@@ -49,10 +49,10 @@ fn strings_at(bytes: &[u8], image: &Image) -> Result<Option<Range>>
 ///
 /// Errors: `SHORT` of the headers; `SHORT` where the symbols are truncated; `STRING_TABLE` where the table is.
 #[unsafe(no_mangle)]
-pub extern "C" fn pe_c_string_table(bytes: &[u8], image: &Image, out: &mut Range) -> u32
-    ensures { HandsOutIf result out.old out.new (strings_at bytes.now image.now) }
+pub extern "C" fn pe_c_string_table(view: &View, out: &mut Range) -> u32
+    ensures { HandsOutIf result out.old out.new (strings_at view.now.bytes.now view.now.image.now) }
 {
-    hand_out_some(strings_at(bytes, image), out)
+    hand_out_some(strings_at(view), out)
 }
 
 fn long_name_at(bytes: &[u8], table: &Range, section: &SectionTable) -> Result<Option<Range>>

@@ -3,8 +3,8 @@
 //! certificates, so a signature stays valid when it is attached. The certificate table is the end of the file.
 //! https://learn.microsoft.com/windows/win32/debug/pe-format#process-for-generating-the-authenticode-pe-image-hash
 //!
-//! Each call reads the headers from the bytes, in the mode of the image that is passed: its other fields make no
-//! difference, so a wrong one cannot lead a write astray.
+//! Each call reads the headers from the bytes, in the mode of the image that is passed: its other fields, and the
+//! sections, make no difference, so a wrong one cannot lead a write astray.
 
 ghost use Rattle.std.specs.Prelude.{◌≡◌};
 ghost use Rattle.pe_core.specs.Header.{header_view};
@@ -14,9 +14,9 @@ ghost use Rattle.pe_sign.specs.SignRefusals.{sign_answer_of};
 ghost use Rattle.pe_c.specs.HandsOut.{HandsOut};
 ghost use Rattle.pe_c.specs.Signing.{SignHandsOut, SignHandsOutWritten, attached_at, checksum_at, detached_at, digest_at, digest_reported, headers_of, placement_of};
 
-use crate::image::Image;
 use crate::ranges::{Range, range_of};
 use crate::results::{DONE, hand_out, hand_out_signed, number_of_signing, options};
+use crate::view::View;
 use pe_core::Header;
 use pe_sign::{
     DigestRanges, Placement, SignError, attach, attached_len, checksum, checksum_range, detach,
@@ -46,10 +46,10 @@ pub struct ChecksumField {
 }
 
 /// The headers of the bytes, in the mode of an image.
-pub fn headers_of<'a>(bytes: &'a [u8], image: &Image) -> pe_core::Result<Header<'a>>
-    ensures { ReturnsAs header_view result (headers_of bytes.entry.now image.now) }
+pub fn headers_of<'a>(view: &View<'a>) -> pe_core::Result<Header<'a>>
+    ensures { ReturnsAs header_view result (headers_of view.now.bytes.now view.now.image.now) }
 {
-    Header::parse_with_opts(bytes, &options(image.mode))
+    Header::parse_with_opts(view.bytes, &options(view.image.mode))
 }
 
 /// The ranges of a digest as callers get them.
@@ -68,11 +68,11 @@ fn digest_reported(digest: &DigestRanges) -> Digest
     }
 }
 
-fn digest_at(bytes: &[u8], image: &Image) -> pe_core::Result<Digest>
-    ensures { answer_of result ≡ digest_at bytes.now image.now }
+fn digest_at(view: &View) -> pe_core::Result<Digest>
+    ensures { answer_of result ≡ digest_at view.now.bytes.now view.now.image.now }
 {
-    let header = headers_of(bytes, image)?;
-    let digest = digest_ranges(bytes, &header)?;
+    let header = headers_of(view)?;
+    let digest = digest_ranges(view.bytes, &header)?;
     Ok(digest_reported(&digest))
 }
 
@@ -81,18 +81,18 @@ fn digest_at(bytes: &[u8], image: &Image) -> pe_core::Result<Digest>
 ///
 /// Errors: those of `pe_c_image`; `NO_OPTIONAL_HEADER`.
 #[unsafe(no_mangle)]
-pub extern "C" fn pe_c_digest_ranges(bytes: &[u8], image: &Image, out: &mut Digest) -> u32
-    ensures { HandsOut result out.old out.new (digest_at bytes.now image.now) }
+pub extern "C" fn pe_c_digest_ranges(view: &View, out: &mut Digest) -> u32
+    ensures { HandsOut result out.old out.new (digest_at view.now.bytes.now view.now.image.now) }
 {
-    hand_out(digest_at(bytes, image), out)
+    hand_out(digest_at(view), out)
 }
 
-fn checksum_at(bytes: &[u8], image: &Image) -> pe_core::Result<ChecksumField>
-    ensures { answer_of result ≡ checksum_at bytes.now image.now }
+fn checksum_at(view: &View) -> pe_core::Result<ChecksumField>
+    ensures { answer_of result ≡ checksum_at view.now.bytes.now view.now.image.now }
 {
-    let header = headers_of(bytes, image)?;
+    let header = headers_of(view)?;
     let field = checksum_range(&header)?;
-    let value = checksum(bytes, &header)?;
+    let value = checksum(view.bytes, &header)?;
     Ok(ChecksumField {
         offset: field.offset as u64,
         value,
@@ -105,10 +105,10 @@ fn checksum_at(bytes: &[u8], image: &Image) -> pe_core::Result<ChecksumField>
 ///
 /// Errors: those of `pe_c_image`; `NO_OPTIONAL_HEADER`.
 #[unsafe(no_mangle)]
-pub extern "C" fn pe_c_checksum(bytes: &[u8], image: &Image, out: &mut ChecksumField) -> u32
-    ensures { HandsOut result out.old out.new (checksum_at bytes.now image.now) }
+pub extern "C" fn pe_c_checksum(view: &View, out: &mut ChecksumField) -> u32
+    ensures { HandsOut result out.old out.new (checksum_at view.now.bytes.now view.now.image.now) }
 {
-    hand_out(checksum_at(bytes, image), out)
+    hand_out(checksum_at(view), out)
 }
 
 /// Where a certificate is attached, by a number.
@@ -122,17 +122,12 @@ fn placement_of(number: u32) -> Placement
     }
 }
 
-fn attached_length(
-    bytes: &[u8],
-    image: &Image,
-    certificate: &[u8],
-    placement: u32,
-) -> Result<u64, SignError>
+fn attached_length(view: &View, certificate: &[u8], placement: u32) -> Result<u64, SignError>
     ensures { sign_answer_of result ≡ length_of
-        (attached_at placement bytes.now image.now certificate.now) }
+        (attached_at placement view.now.bytes.now view.now.image.now certificate.now) }
 {
-    let header = headers_of(bytes, image)?;
-    let length = attached_len(bytes, &header, certificate, placement_of(placement))?;
+    let header = headers_of(view)?;
+    let length = attached_len(view.bytes, &header, certificate, placement_of(placement))?;
     Ok(length as u64)
 }
 
@@ -141,31 +136,36 @@ fn attached_length(
 /// Errors: those of `pe_c_attach`, but for that of the room.
 #[unsafe(no_mangle)]
 pub extern "C" fn pe_c_attached_length(
-    bytes: &[u8],
-    image: &Image,
+    view: &View,
     certificate: &[u8],
     placement: u32,
     out: &mut u64,
 ) -> u32
     ensures { SignHandsOut result out.old out.new
-        (length_of (attached_at placement bytes.now image.now certificate.now)) }
+        (length_of (attached_at placement view.now.bytes.now view.now.image.now certificate.now)) }
 {
-    hand_out_signed(attached_length(bytes, image, certificate, placement), out)
+    hand_out_signed(attached_length(view, certificate, placement), out)
 }
 
 fn attach_to(
-    bytes: &[u8],
-    image: &Image,
+    view: &View,
     certificate: &[u8],
     placement: u32,
     room: &mut [u8],
 ) -> Result<usize, SignError>
     ensures { SignReturnsWritten result
-        (written (attached_at placement bytes.now image.now certificate.now) room.old)
+        (written (attached_at placement view.now.bytes.now view.now.image.now certificate.now)
+        room.old)
         room.old room.new }
 {
-    let header = headers_of(bytes, image)?;
-    attach(bytes, &header, certificate, placement_of(placement), room)
+    let header = headers_of(view)?;
+    attach(
+        view.bytes,
+        &header,
+        certificate,
+        placement_of(placement),
+        room,
+    )
 }
 
 /// Attaches a certificate: writes the file with it to the start of `room`, and its length to `out`. The rest of the room is
@@ -177,17 +177,17 @@ fn attach_to(
 /// certificate; `SIGN_TOO_LARGE`; `WRITE_FIT` if the file does not fit into the room. After an error `room` is unchanged.
 #[unsafe(no_mangle)]
 pub extern "C" fn pe_c_attach(
-    bytes: &[u8],
-    image: &Image,
+    view: &View,
     certificate: &[u8],
     placement: u32,
     room: &mut [u8],
     out: &mut u64,
 ) -> u32
     ensures { SignHandsOutWritten result out.old out.new room.old room.new
-        (written (attached_at placement bytes.now image.now certificate.now) room.old) }
+        (written (attached_at placement view.now.bytes.now view.now.image.now certificate.now)
+        room.old) }
 {
-    match attach_to(bytes, image, certificate, placement, room) {
+    match attach_to(view, certificate, placement, room) {
         Ok(length) => {
             *out = length as u64;
             DONE
@@ -196,11 +196,11 @@ pub extern "C" fn pe_c_attach(
     }
 }
 
-fn detached_length(bytes: &[u8], image: &Image) -> Result<u64, SignError>
-    ensures { sign_answer_of result ≡ length_of (detached_at bytes.now image.now) }
+fn detached_length(view: &View) -> Result<u64, SignError>
+    ensures { sign_answer_of result ≡ length_of (detached_at view.now.bytes.now view.now.image.now) }
 {
-    let header = headers_of(bytes, image)?;
-    let length = detached_len(bytes, &header)?;
+    let header = headers_of(view)?;
+    let length = detached_len(view.bytes, &header)?;
     Ok(length as u64)
 }
 
@@ -208,18 +208,19 @@ fn detached_length(bytes: &[u8], image: &Image) -> Result<u64, SignError>
 ///
 /// Errors: those of `pe_c_detach`, but for that of the room.
 #[unsafe(no_mangle)]
-pub extern "C" fn pe_c_detached_length(bytes: &[u8], image: &Image, out: &mut u64) -> u32
-    ensures { SignHandsOut result out.old out.new (length_of (detached_at bytes.now image.now)) }
+pub extern "C" fn pe_c_detached_length(view: &View, out: &mut u64) -> u32
+    ensures { SignHandsOut result out.old out.new (length_of (detached_at view.now.bytes.now
+        view.now.image.now)) }
 {
-    hand_out_signed(detached_length(bytes, image), out)
+    hand_out_signed(detached_length(view), out)
 }
 
-fn detach_to(bytes: &[u8], image: &Image, room: &mut [u8]) -> Result<usize, SignError>
+fn detach_to(view: &View, room: &mut [u8]) -> Result<usize, SignError>
     ensures { SignReturnsWritten result
-        (written (detached_at bytes.now image.now) room.old) room.old room.new }
+        (written (detached_at view.now.bytes.now view.now.image.now) room.old) room.old room.new }
 {
-    let header = headers_of(bytes, image)?;
-    detach(bytes, &header, room)
+    let header = headers_of(view)?;
+    detach(view.bytes, &header, room)
 }
 
 /// Detaches all certificates: writes the file without them to the start of `room`, and its length to `out`. The rest of the
@@ -228,11 +229,11 @@ fn detach_to(bytes: &[u8], image: &Image, room: &mut [u8]) -> Result<usize, Sign
 /// Errors: those of `pe_c_attach` up to `SIGN_SECTION`; `WRITE_FIT` if the file does not fit into the room. After an error
 /// `room` is unchanged.
 #[unsafe(no_mangle)]
-pub extern "C" fn pe_c_detach(bytes: &[u8], image: &Image, room: &mut [u8], out: &mut u64) -> u32
+pub extern "C" fn pe_c_detach(view: &View, room: &mut [u8], out: &mut u64) -> u32
     ensures { SignHandsOutWritten result out.old out.new room.old room.new
-        (written (detached_at bytes.now image.now) room.old) }
+        (written (detached_at view.now.bytes.now view.now.image.now) room.old) }
 {
-    match detach_to(bytes, image, room) {
+    match detach_to(view, room) {
         Ok(length) => {
             *out = length as u64;
             DONE

@@ -6,20 +6,21 @@ ghost use Rattle.pe_directories.specs.DirectoryRefusals.{directory_answer};
 ghost use Rattle.pe_c.specs.Directories.{DirectoryHandsOut, callbacks_at, first_va_in, left_after, step_of, tls_at};
 
 use crate::directories::{Result, image_bytes, range_left};
-use crate::image::{Image, TLS_TABLE, directory, is_absent};
+use crate::image::{TLS_TABLE, directory, is_absent};
 use crate::ranges::{NO_BYTES, Range, slice_of};
 use crate::results::hand_out_found;
-use pe_core::SectionTable;
+use crate::view::View;
 use pe_directories::{TlsDirectory, VaTable};
 
-fn tls_at(bytes: &[u8], image: &Image, sections: &[SectionTable]) -> Result<Option<TlsDirectory>>
-    ensures { directory_answer (λ t. t) result ≡ tls_at bytes.now image.now sections.now }
+fn tls_at(view: &View) -> Result<Option<TlsDirectory>>
+    ensures { directory_answer (λ t. t) result ≡ tls_at view.now.bytes.now view.now.image.now
+        view.now.sections.now }
 {
-    let directory = directory(image, TLS_TABLE);
+    let directory = directory(view.image, TLS_TABLE);
     if is_absent(directory) {
         return Ok(None);
     }
-    let tls = TlsDirectory::parse(&image_bytes(bytes, image, sections), directory)?;
+    let tls = TlsDirectory::parse(&image_bytes(view), directory)?;
     Ok(Some(tls))
 }
 
@@ -27,34 +28,24 @@ fn tls_at(bytes: &[u8], image: &Image, sections: &[SectionTable]) -> Result<Opti
 ///
 /// Errors: `UNMAPPED`, `SHORT`.
 #[unsafe(no_mangle)]
-pub extern "C" fn pe_c_tls(
-    bytes: &[u8],
-    image: &Image,
-    sections: &[SectionTable],
-    out: &mut TlsDirectory,
-) -> u32
-    ensures { DirectoryHandsOut result out.old out.new (tls_at bytes.now image.now sections.now) }
+pub extern "C" fn pe_c_tls(view: &View, out: &mut TlsDirectory) -> u32
+    ensures { DirectoryHandsOut result out.old out.new (tls_at view.now.bytes.now view.now.image.now
+        view.now.sections.now) }
 {
-    hand_out_found(tls_at(bytes, image, sections), out)
+    hand_out_found(tls_at(view), out)
 }
 
-fn callbacks_at(
-    bytes: &[u8],
-    image: &Image,
-    sections: &[SectionTable],
-    tls: &TlsDirectory,
-) -> Result<Option<Range>>
+fn callbacks_at(view: &View, tls: &TlsDirectory) -> Result<Option<Range>>
     ensures { directory_answer (λ r. r) result
-        ≡ callbacks_at bytes.now image.now sections.now tls.now }
+        ≡ callbacks_at view.now.bytes.now view.now.image.now view.now.sections.now tls.now }
 {
     if tls.address_of_callbacks == 0 {
         return Ok(None);
     }
-    let image = image_bytes(bytes, image, sections);
-    let offset = image.offset_of_va(tls.address_of_callbacks)?;
+    let offset = image_bytes(view).offset_of_va(tls.address_of_callbacks)?;
     Ok(Some(Range {
         offset: offset as u64,
-        length: bytes.len().saturating_sub(offset) as u64,
+        length: view.bytes.len().saturating_sub(offset) as u64,
     }))
 }
 
@@ -63,31 +54,26 @@ fn callbacks_at(
 ///
 /// Errors: `DIRECTORY_VA_BELOW_BASE`, `UNMAPPED`.
 #[unsafe(no_mangle)]
-pub extern "C" fn pe_c_tls_callbacks(
-    bytes: &[u8],
-    image: &Image,
-    sections: &[SectionTable],
-    tls: &TlsDirectory,
-    out: &mut Range,
-) -> u32
+pub extern "C" fn pe_c_tls_callbacks(view: &View, tls: &TlsDirectory, out: &mut Range) -> u32
     ensures { DirectoryHandsOut result out.old out.new
-        (callbacks_at bytes.now image.now sections.now tls.now) }
+        (callbacks_at view.now.bytes.now view.now.image.now view.now.sections.now tls.now) }
 {
-    hand_out_found(callbacks_at(bytes, image, sections, tls), out)
+    hand_out_found(callbacks_at(view, tls), out)
 }
 
 /// The next callback of a walk. It is over after an error.
-fn next_callback(bytes: &[u8], image: &Image, walk: &mut Range) -> Result<Option<u64>>
+fn next_callback(view: &View, walk: &mut Range) -> Result<Option<u64>>
     ensures callback { directory_answer (λ x. x) result
-        ≡ step_of (λ x. x) (first_va_in image.now bytes.now walk.old) }
-    ensures walk { walk.new ≡ left_after walk.old (first_va_in image.now bytes.now walk.old) }
+        ≡ step_of (λ x. x) (first_va_in view.now.image.now view.now.bytes.now walk.old) }
+    ensures walk { walk.new ≡ left_after walk.old (first_va_in view.now.image.now view.now.bytes.now
+        walk.old) }
 {
     let range = *walk;
     if range.offset == 0 && range.length == 0 {
         return Ok(None);
     }
     *walk = NO_BYTES;
-    let mut table = VaTable::new(slice_of(bytes, &range)?, image.width == 64);
+    let mut table = VaTable::new(slice_of(view.bytes, &range)?, view.image.width == 64);
     let Some(callback) = table.next() else {
         *walk = range;
         return Ok(None);
@@ -102,15 +88,11 @@ fn next_callback(bytes: &[u8], image: &Image, walk: &mut Range) -> Result<Option
 ///
 /// Error: `SHORT` where the bytes end before the table does, or where `walk` is not inside the bytes: then the walk is over.
 #[unsafe(no_mangle)]
-pub extern "C" fn pe_c_next_tls_callback(
-    bytes: &[u8],
-    image: &Image,
-    walk: &mut Range,
-    out: &mut u64,
-) -> u32
+pub extern "C" fn pe_c_next_tls_callback(view: &View, walk: &mut Range, out: &mut u64) -> u32
     ensures callback { DirectoryHandsOut result out.old out.new
-        (step_of (λ x. x) (first_va_in image.now bytes.now walk.old)) }
-    ensures walk { walk.new ≡ left_after walk.old (first_va_in image.now bytes.now walk.old) }
+        (step_of (λ x. x) (first_va_in view.now.image.now view.now.bytes.now walk.old)) }
+    ensures walk { walk.new ≡ left_after walk.old (first_va_in view.now.image.now view.now.bytes.now
+        walk.old) }
 {
-    hand_out_found(next_callback(bytes, image, walk), out)
+    hand_out_found(next_callback(view, walk), out)
 }

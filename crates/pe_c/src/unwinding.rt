@@ -15,13 +15,12 @@ ghost use Rattle.pe_c.specs.Exports.{one_if_some};
 ghost use Rattle.pe_c.specs.Unwinding.{exception_table_at, LocatesIn, HandsOutFound, function_in, or_no_function, handler_kind, handler_address, handler_range, flat_record, flat_record_at, FindsOffset, FollowsToRecord, HandsOutRecord, links_at, from_frame, saving, plain, flat, StepsOver, WalksIn, HandsOutCode, scopes_at};
 ghost use Rattle.pe_c.specs.Walks.{next_of, walk_of};
 
-use crate::image::{EXCEPTION_TABLE, Image, directory, is_absent};
+use crate::image::{EXCEPTION_TABLE, directory, is_absent};
 use crate::ranges::{NO_BYTES, Range, last_range, range_of, slice_of};
 use crate::results::{DONE, NOTHING, hand_out, hand_out_some, number_of, options};
+use crate::view::View;
 use crate::walks::next_entry;
-use pe_core::{
-    ByteRange, COFF_MACHINE_X86_64, CountedTable, Result, SectionTable, TableEntry, mapped_offset,
-};
+use pe_core::{ByteRange, COFF_MACHINE_X86_64, CountedTable, Result, TableEntry, mapped_offset};
 use pe_unwind::{
     ExceptionData, Register, RuntimeFunction, ScopeTableEntry, StackFrameOffset, UnwindCode,
     UnwindCodeIterator, UnwindHandler, UnwindInfo, UnwindOperation, scope_table_size, search,
@@ -97,21 +96,22 @@ pub struct Code {
 }
 
 #[tactic(auto, unfolding(crate::specs::Unwinding::exception_table_at))]
-fn table_of(bytes: &[u8], image: &Image, sections: &[SectionTable]) -> Result<Option<Range>>
+fn table_of(view: &View) -> Result<Option<Range>>
     ensures { answer_of result
-        ≡ exception_table_at COFF_MACHINE_X86_64 12 bytes.now image.now sections.now image.now.mode }
+        ≡ exception_table_at COFF_MACHINE_X86_64 12 view.now.bytes.now view.now.image.now
+        view.now.sections.now view.now.image.now.mode }
 {
-    let directory = directory(image, EXCEPTION_TABLE);
-    if image.machine != COFF_MACHINE_X86_64 || is_absent(directory) {
+    let directory = directory(view.image, EXCEPTION_TABLE);
+    if view.image.machine != COFF_MACHINE_X86_64 || is_absent(directory) {
         return Ok(None);
     }
-    let alignment = image.file_alignment;
+    let alignment = view.image.file_alignment;
     let exceptions = ExceptionData::parse_with_opts(
-        bytes,
+        view.bytes,
         directory,
-        sections,
+        view.sections,
         alignment,
-        &options(image.mode),
+        &options(view.image.mode),
     )?;
     Ok(Some(range_of(exceptions.table_range())))
 }
@@ -121,16 +121,12 @@ fn table_of(bytes: &[u8], image: &Image, sections: &[SectionTable]) -> Result<Op
 ///
 /// Errors: `EXCEPTION_SIZE`, `UNMAPPED`, `EXCEPTION_OFFSET`, `EXCEPTION_BOUNDS`.
 #[unsafe(no_mangle)]
-pub extern "C" fn pe_c_function_table(
-    bytes: &[u8],
-    image: &Image,
-    sections: &[SectionTable],
-    out: &mut Range,
-) -> u32
+pub extern "C" fn pe_c_function_table(view: &View, out: &mut Range) -> u32
     ensures { HandsOutIf result out.old out.new
-        (exception_table_at COFF_MACHINE_X86_64 12 bytes.now image.now sections.now image.now.mode) }
+        (exception_table_at COFF_MACHINE_X86_64 12 view.now.bytes.now view.now.image.now
+        view.now.sections.now view.now.image.now.mode) }
 {
-    hand_out_some(table_of(bytes, image, sections), out)
+    hand_out_some(table_of(view), out)
 }
 
 fn find(bytes: &[u8], table: &Range, rva: u32) -> Result<Option<RuntimeFunction>>
@@ -258,58 +254,44 @@ fn record_at(bytes: &[u8], offset: usize) -> Result<UnwindRecord>
 /// compilers write no links.
 #[cold]
 #[inline(never)]
-fn linked_offset(
-    bytes: &[u8],
-    image: &Image,
-    sections: &[SectionTable],
-    table: &Range,
-    unwind: u32,
-) -> Result<usize>
-    ensures { FindsOffset (links_at bytes.now image.now sections.now table.now) unwind
+fn linked_offset(view: &View, table: &Range, unwind: u32) -> Result<usize>
+    ensures { FindsOffset (links_at view.now.bytes.now view.now.image.now view.now.sections.now
+        table.now) unwind
         (answer_of result) }
 {
     let table = ByteRange {
         offset: table.offset as usize,
         length: table.length as usize,
     };
-    let exceptions = ExceptionData::of_table(bytes, table, image.file_alignment)?;
-    exceptions.record_offset(unwind, sections, &options(image.mode))
+    let exceptions = ExceptionData::of_table(view.bytes, table, view.image.file_alignment)?;
+    exceptions.record_offset(unwind, view.sections, &options(view.image.mode))
 }
 
 /// The same, where an even RVA, which is no link, needs none of the table.
 #[inline(always)]
 #[tactic(auto, using(crate::proofs::EvenRecords::even_offsets))]
-fn find_record_offset(
-    bytes: &[u8],
-    image: &Image,
-    sections: &[SectionTable],
-    table: &Range,
-    unwind: u32,
-) -> Result<usize>
-    ensures { FindsOffset (links_at bytes.now image.now sections.now table.now) unwind
+fn find_record_offset(view: &View, table: &Range, unwind: u32) -> Result<usize>
+    ensures { FindsOffset (links_at view.now.bytes.now view.now.image.now view.now.sections.now
+        table.now) unwind
         (answer_of result) }
 {
     if unwind % 2 == 1 {
-        return linked_offset(bytes, image, sections, table, unwind);
+        return linked_offset(view, table, unwind);
     }
-    let _entries = slice_of(bytes, table)?;
+    let _entries = slice_of(view.bytes, table)?;
+    let (image, sections) = (view.image, view.sections);
     mapped_offset(unwind, sections, image.file_alignment, &options(image.mode))
 }
 
 /// The unwind record of an unwind RVA, as `pe_c_unwind_record` returns it.
 #[inline(always)]
-pub fn read_record(
-    bytes: &[u8],
-    image: &Image,
-    sections: &[SectionTable],
-    table: &Range,
-    unwind: u32,
-) -> Result<UnwindRecord>
-    ensures { FollowsToRecord bytes.now (links_at bytes.now image.now sections.now table.now) unwind
+pub fn read_record(view: &View, table: &Range, unwind: u32) -> Result<UnwindRecord>
+    ensures { FollowsToRecord view.now.bytes.now (links_at view.now.bytes.now view.now.image.now
+        view.now.sections.now table.now) unwind
         (answer_of result) }
 {
-    let offset = find_record_offset(bytes, image, sections, table, unwind)?;
-    record_at(bytes, offset)
+    let offset = find_record_offset(view, table, unwind)?;
+    record_at(view.bytes, offset)
 }
 
 /// Reads the unwind record of an unwind RVA, which is a field of a function of the table at this range. An odd RVA is a
@@ -319,17 +301,16 @@ pub fn read_record(
 /// `FUNCTION_CYCLE` where the links never end; `UNMAPPED` of the record's RVA; `SHORT`, `UNWIND_VERSION` of the record.
 #[unsafe(no_mangle)]
 pub extern "C" fn pe_c_unwind_record(
-    bytes: &[u8],
-    image: &Image,
-    sections: &[SectionTable],
+    view: &View,
     table: &Range,
     unwind: u32,
     out: &mut UnwindRecord,
 ) -> u32
-    ensures { HandsOutRecord bytes.now (links_at bytes.now image.now sections.now table.now) unwind
+    ensures { HandsOutRecord view.now.bytes.now (links_at view.now.bytes.now view.now.image.now
+        view.now.sections.now table.now) unwind
         result out.old out.new }
 {
-    hand_out(read_record(bytes, image, sections, table, unwind), out)
+    hand_out(read_record(view, table, unwind), out)
 }
 
 /// Whether an offset counts from the frame register, and the offset in bytes.

@@ -11,51 +11,44 @@ ghost use Rattle.pe_resource.specs.Contents.{inner};
 ghost use Rattle.pe_c.specs.HandsOut.{HandsOutIf};
 ghost use Rattle.pe_c.specs.Versions.{IsContentOf, HandsOutManifest, content_at, fixed_at, fixed_in, HandsOutFixed, value_at, name_at, text_in, HandsOutText};
 
-use crate::image::{Image, RESOURCE_TABLE, directory, is_absent};
+use crate::image::{RESOURCE_TABLE, directory, is_absent};
 use crate::ranges::{Range, range_of};
 use crate::results::{NOTHING, hand_out_some, number_of, options};
-use pe_core::{ByteRange, Result, SectionTable, require_bytes};
+use crate::view::View;
+use pe_core::{ByteRange, Result, require_bytes};
 use pe_resource::{RT_MANIFEST, RT_VERSION, ResourceData, VersionName, VsFixedFileInfo};
 
 /// The range of the content of the first resource with an id, if the image has resources and this one.
-pub fn content_of(
-    bytes: &[u8],
-    image: &Image,
-    sections: &[SectionTable],
-    id: u16,
-) -> Result<Option<ByteRange>>
-    ensures content { IsContentOf bytes.now image.now sections.now image.now.mode id
+pub fn content_of(view: &View, id: u16) -> Result<Option<ByteRange>>
+    ensures content { IsContentOf view.now.bytes.now view.now.image.now view.now.sections.now
+        view.now.image.now.mode id
         (answer_of result) }
-    ensures within { IfOk result (λ c. IfSome c (IsWithin bytes.now)) }
+    ensures within { IfOk result (λ c. IfSome c (IsWithin view.now.bytes.now)) }
 {
-    let directory = directory(image, RESOURCE_TABLE);
+    let directory = directory(view.image, RESOURCE_TABLE);
     if is_absent(directory) {
         return Ok(None);
     }
-    let alignment = image.file_alignment;
+    let alignment = view.image.file_alignment;
     ResourceData::content_range(
-        bytes,
+        view.bytes,
         directory,
         id,
-        sections,
+        view.sections,
         alignment,
-        &options(image.mode),
+        &options(view.image.mode),
     )
 }
 
 /// Returns the range of the manifest: `NOTHING` without one. What the version information says makes no difference.
 /// Errors are those of `ResourceData::content_range`.
 #[unsafe(no_mangle)]
-pub extern "C" fn pe_c_manifest(
-    bytes: &[u8],
-    image: &Image,
-    sections: &[SectionTable],
-    out: &mut Range,
-) -> u32
+pub extern "C" fn pe_c_manifest(view: &View, out: &mut Range) -> u32
     ensures { HandsOutManifest
-        bytes.now image.now sections.now image.now.mode result out.old out.new }
+        view.now.bytes.now view.now.image.now view.now.sections.now view.now.image.now.mode result
+        out.old out.new }
 {
-    match content_of(bytes, image, sections, RT_MANIFEST) {
+    match content_of(view, RT_MANIFEST) {
         Ok(content) => hand_out_some(Ok(content.map(range_of)), out),
         Err(error) => number_of(&error),
     }
@@ -75,16 +68,12 @@ fn fixed_at(bytes: &[u8], content: Option<ByteRange>) -> Result<Option<VsFixedFi
 /// Reads the fixed file information: `NOTHING` without version information, or where it has none. Errors are those of
 /// `ResourceData::content_range`, then those of `VsFixedFileInfo::of_strings`.
 #[unsafe(no_mangle)]
-pub extern "C" fn pe_c_fixed_version(
-    bytes: &[u8],
-    image: &Image,
-    sections: &[SectionTable],
-    out: &mut VsFixedFileInfo,
-) -> u32
-    ensures { HandsOutFixed bytes.now image.now sections.now image.now.mode result out.old out.new }
+pub extern "C" fn pe_c_fixed_version(view: &View, out: &mut VsFixedFileInfo) -> u32
+    ensures { HandsOutFixed view.now.bytes.now view.now.image.now view.now.sections.now
+        view.now.image.now.mode result out.old out.new }
 {
-    match content_of(bytes, image, sections, RT_VERSION) {
-        Ok(content) => hand_out_some(fixed_at(bytes, content), out),
+    match content_of(view, RT_VERSION) {
+        Ok(content) => hand_out_some(fixed_at(view.bytes, content), out),
         Err(error) => number_of(&error),
     }
 }
@@ -131,21 +120,16 @@ fn name_at(number: u32) -> Option<VersionName>
 /// units with the zeros after the text. `NOTHING` without version information, where it has no string of that name, and
 /// for a number above 11. Errors are those of `ResourceData::content_range`, then those of `VersionName::value_range`.
 #[unsafe(no_mangle)]
-pub extern "C" fn pe_c_version_text(
-    bytes: &[u8],
-    image: &Image,
-    sections: &[SectionTable],
-    name: u32,
-    out: &mut Range,
-) -> u32
-    ensures { HandsOutText bytes.now image.now sections.now image.now.mode
+pub extern "C" fn pe_c_version_text(view: &View, name: u32, out: &mut Range) -> u32
+    ensures { HandsOutText view.now.bytes.now view.now.image.now view.now.sections.now
+        view.now.image.now.mode
         (name_at name) result out.old out.new }
 {
     let Some(name) = name_at(name) else {
         return NOTHING;
     };
-    match content_of(bytes, image, sections, RT_VERSION) {
-        Ok(content) => hand_out_some(value_at(bytes, name, content), out),
+    match content_of(view, RT_VERSION) {
+        Ok(content) => hand_out_some(value_at(view.bytes, name, content), out),
         Err(error) => number_of(&error),
     }
 }

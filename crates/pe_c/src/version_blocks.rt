@@ -10,11 +10,11 @@ ghost use Rattle.pe_c.specs.HandsOut.{HandsOutIf};
 ghost use Rattle.pe_c.specs.VersionBlocks.{HandsOutBlocks, block_step, block_walk, refusal_of, reported};
 
 use crate::directories::range_left;
-use crate::image::Image;
 use crate::ranges::{NO_BYTES, Range, range_of, slice_of};
 use crate::results::{hand_out_some, number_of};
 use crate::version::content_of;
-use pe_core::{Error, Reason, Result, SectionTable, rounded_up};
+use crate::view::View;
+use pe_core::{Error, Reason, Result, rounded_up};
 use pe_resource::{
     RT_VERSION, Translation, VersionBlock as Block, VersionBlockError, VersionBlocks,
 };
@@ -45,16 +45,12 @@ pub struct VersionBlock {
 /// Returns the version information as a walk over its blocks, of which the first is all of it: `NOTHING` without one. Errors
 /// are those of `ResourceData::content_range`.
 #[unsafe(no_mangle)]
-pub extern "C" fn pe_c_version_blocks(
-    bytes: &[u8],
-    image: &Image,
-    sections: &[SectionTable],
-    out: &mut Range,
-) -> u32
+pub extern "C" fn pe_c_version_blocks(view: &View, out: &mut Range) -> u32
     ensures { HandsOutBlocks
-        bytes.now image.now sections.now image.now.mode result out.old out.new }
+        view.now.bytes.now view.now.image.now view.now.sections.now view.now.image.now.mode result
+        out.old out.new }
 {
-    match content_of(bytes, image, sections, RT_VERSION) {
+    match content_of(view, RT_VERSION) {
         Ok(content) => hand_out_some(Ok(content.map(range_of)), out),
         Err(error) => number_of(&error),
     }

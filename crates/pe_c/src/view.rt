@@ -1,7 +1,7 @@
 //! An image as calls take it: its bytes, its headers, which say how it is read, its section headers, and an index of these where
 //! the caller has made one.
 
-ghost use Rattle.std.specs.Prelude.{◌≡◌, []};
+ghost use Rattle.std.specs.Prelude.{◌≡◌};
 ghost use Rattle.pe_c.specs.Views.{map_of};
 
 use crate::image::{Image, offset_of};
@@ -18,25 +18,6 @@ pub struct View<'a> {
     pub sections: &'a [SectionTable],
     /// What `pe_c_index` wrote for these sections; no entries without an index.
     pub index: &'a [IndexEntry],
-}
-
-/// A view without an index, of the parts that older calls take.
-pub fn without_index<'a>(
-    bytes: &'a [u8],
-    image: &'a Image,
-    sections: &'a [SectionTable],
-) -> View<'a>
-    ensures bytes { result.bytes.now ≡ bytes.entry.now }
-    ensures image { result.image.now ≡ image.entry.now }
-    ensures sections { result.sections.now ≡ sections.entry.now }
-    ensures index { result.index.now ≡ [] }
-{
-    View {
-        bytes,
-        image,
-        sections,
-        index: &[],
-    }
 }
 
 /// The offset of an RVA.

@@ -8,10 +8,11 @@ ghost use Rattle.pe_c.specs.Arm64.{HandsOutArm64Found, LocatesArm64In, arm64_fun
 ghost use Rattle.pe_c.specs.Ranges.{bytes_at};
 ghost use Rattle.pe_c.specs.Unwinding.{exception_table_at};
 
-use crate::image::{EXCEPTION_TABLE, Image, directory, is_absent};
+use crate::image::{EXCEPTION_TABLE, directory, is_absent};
 use crate::ranges::{Range, range_of, slice_of};
 use crate::results::{DONE, hand_out, hand_out_some, options};
-use pe_core::{COFF_MACHINE_ARM64, CountedTable, Result, SectionMap, SectionTable};
+use crate::view::View;
+use pe_core::{COFF_MACHINE_ARM64, CountedTable, Result, SectionMap};
 use pe_unwind::{Arm64RuntimeFunction, ExceptionData, search_arm64};
 
 /// Packed unwind data, as `pe_c_arm64_packed_fields` reads it from an entry of the function table.
@@ -38,18 +39,23 @@ pub struct Arm64Packed {
 }
 
 #[tactic(auto, unfolding(crate::specs::Unwinding::exception_table_at))]
-fn table_of(bytes: &[u8], image: &Image, sections: &[SectionTable]) -> Result<Option<Range>>
+fn table_of(view: &View) -> Result<Option<Range>>
     ensures { answer_of result
-        ≡ exception_table_at COFF_MACHINE_ARM64 8 bytes.now image.now sections.now image.now.mode }
+        ≡ exception_table_at COFF_MACHINE_ARM64 8 view.now.bytes.now view.now.image.now
+        view.now.sections.now view.now.image.now.mode }
 {
-    let directory = directory(image, EXCEPTION_TABLE);
-    if image.machine != COFF_MACHINE_ARM64 || is_absent(directory) {
+    let directory = directory(view.image, EXCEPTION_TABLE);
+    if view.image.machine != COFF_MACHINE_ARM64 || is_absent(directory) {
         return Ok(None);
     }
-    let alignment = image.file_alignment;
-    let opts = options(image.mode);
+    let alignment = view.image.file_alignment;
+    let opts = options(view.image.mode);
     let exceptions = ExceptionData::parse_arm64_with_opts(
-        bytes, directory, sections, alignment, &opts,
+        view.bytes,
+        directory,
+        view.sections,
+        alignment,
+        &opts,
     )?;
     Ok(Some(range_of(exceptions.table_range())))
 }
@@ -59,31 +65,23 @@ fn table_of(bytes: &[u8], image: &Image, sections: &[SectionTable]) -> Result<Op
 ///
 /// Errors: `EXCEPTION_SIZE`, `UNMAPPED`, `EXCEPTION_OFFSET`, `EXCEPTION_BOUNDS`.
 #[unsafe(no_mangle)]
-pub extern "C" fn pe_c_arm64_table(
-    bytes: &[u8],
-    image: &Image,
-    sections: &[SectionTable],
-    out: &mut Range,
-) -> u32
+pub extern "C" fn pe_c_arm64_table(view: &View, out: &mut Range) -> u32
     ensures { HandsOutIf result out.old out.new
-        (exception_table_at COFF_MACHINE_ARM64 8 bytes.now image.now sections.now image.now.mode) }
+        (exception_table_at COFF_MACHINE_ARM64 8 view.now.bytes.now view.now.image.now
+        view.now.sections.now view.now.image.now.mode) }
 {
-    hand_out_some(table_of(bytes, image, sections), out)
+    hand_out_some(table_of(view), out)
 }
 
-fn find(
-    bytes: &[u8],
-    image: &Image,
-    sections: &[SectionTable],
-    table: &Range,
-    rva: u32,
-) -> Result<Option<Arm64RuntimeFunction>>
-    ensures { LocatesArm64In (arm64_length_in bytes.now image.now sections.now)
-        (bytes_at bytes.now table.now) rva (answer_of result) }
+fn find(view: &View, table: &Range, rva: u32) -> Result<Option<Arm64RuntimeFunction>>
+    ensures { LocatesArm64In (arm64_length_in view.now.bytes.now view.now.image.now
+        view.now.sections.now)
+        (bytes_at view.now.bytes.now table.now) rva (answer_of result) }
 {
-    let mut counted = CountedTable::new(slice_of(bytes, table)?);
+    let mut counted = CountedTable::new(slice_of(view.bytes, table)?);
+    let (image, sections) = (view.image, view.sections);
     let sections = SectionMap::new(sections, image.file_alignment, &options(image.mode));
-    search_arm64(&mut counted, rva, bytes, &sections)
+    search_arm64(&mut counted, rva, view.bytes, &sections)
 }
 
 /// Returns the function that covers an RVA, by one `search_arm64` of pe_unwind in the function table at this range:
@@ -95,17 +93,16 @@ fn find(
 /// truncated.
 #[unsafe(no_mangle)]
 pub extern "C" fn pe_c_find_arm64_function(
-    bytes: &[u8],
-    image: &Image,
-    sections: &[SectionTable],
+    view: &View,
     table: &Range,
     rva: u32,
     out: &mut Arm64RuntimeFunction,
 ) -> u32
     ensures { HandsOutArm64Found
-        bytes.now image.now sections.now table.now rva result out.old out.new }
+        view.now.bytes.now view.now.image.now view.now.sections.now table.now rva result out.old
+        out.new }
 {
-    hand_out_some(find(bytes, image, sections, table, rva), out)
+    hand_out_some(find(view, table, rva), out)
 }
 
 pub fn function_in(bytes: &[u8], table: &Range, index: u64) -> Result<Arm64RuntimeFunction>

@@ -9,11 +9,12 @@ ghost use Rattle.pe_c.specs.HandsOut.{HandsOutIf};
 ghost use Rattle.pe_c.specs.Arm64.{arm64_handler_range, arm64_handler_address, has_arm64_handler, first_count, flat_info, flat_info_at, arm64_record_of, flat_scope, flat_scope_at};
 ghost use Rattle.pe_c.specs.Walks.{next_of, walk_of};
 
-use crate::image::{EXCEPTION_TABLE, Image, directory};
+use crate::image::{EXCEPTION_TABLE, directory};
 use crate::ranges::{NO_BYTES, Range, last_range};
 use crate::results::{hand_out_some, options};
+use crate::view::View;
 use crate::walks::next_entry;
-use pe_core::{Result, SectionTable, TableEntry};
+use pe_core::{Result, TableEntry};
 use pe_unwind::{
     Arm64EpilogScope, Arm64RuntimeFunction, Arm64UnwindExtension, Arm64UnwindHeader,
     Arm64UnwindInfo, ExceptionData,
@@ -128,24 +129,24 @@ fn info_at(bytes: &[u8], offset: usize) -> Result<Arm64Record>
     Ok(flat_info(&info, bytes, offset))
 }
 
-fn read_record(
-    bytes: &[u8],
-    image: &Image,
-    sections: &[SectionTable],
-    function: Arm64RuntimeFunction,
-) -> Result<Option<Arm64Record>>
+fn read_record(view: &View, function: Arm64RuntimeFunction) -> Result<Option<Arm64Record>>
     ensures { answer_of result
-        ≡ arm64_record_of bytes.now image.now sections.now image.now.mode function }
+        ≡ arm64_record_of view.now.bytes.now view.now.image.now view.now.sections.now
+        view.now.image.now.mode function }
 {
-    let opts = options(image.mode);
-    let alignment = image.file_alignment;
-    let table = directory(image, EXCEPTION_TABLE);
+    let opts = options(view.image.mode);
+    let alignment = view.image.file_alignment;
+    let table = directory(view.image, EXCEPTION_TABLE);
     let exceptions = ExceptionData::parse_arm64_with_opts(
-        bytes, table, sections, alignment, &opts,
+        view.bytes,
+        table,
+        view.sections,
+        alignment,
+        &opts,
     )?;
-    match exceptions.record_offset_arm64(function, sections, &opts) {
+    match exceptions.record_offset_arm64(function, view.sections, &opts) {
         None => Ok(None),
-        Some(offset) => Ok(Some(info_at(bytes, offset?)?)),
+        Some(offset) => Ok(Some(info_at(view.bytes, offset?)?)),
     }
 }
 
@@ -155,16 +156,15 @@ fn read_record(
 /// `ARM64_VERSION` of the record, whose version has to be 0.
 #[unsafe(no_mangle)]
 pub extern "C" fn pe_c_arm64_unwind_record(
-    bytes: &[u8],
-    image: &Image,
-    sections: &[SectionTable],
+    view: &View,
     function: &Arm64RuntimeFunction,
     out: &mut Arm64Record,
 ) -> u32
     ensures { HandsOutIf result out.old out.new
-        (arm64_record_of bytes.now image.now sections.now image.now.mode function.now) }
+        (arm64_record_of view.now.bytes.now view.now.image.now view.now.sections.now
+        view.now.image.now.mode function.now) }
 {
-    hand_out_some(read_record(bytes, image, sections, *function), out)
+    hand_out_some(read_record(view, *function), out)
 }
 
 /// An epilog scope as numbers.

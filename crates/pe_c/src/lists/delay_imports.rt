@@ -8,7 +8,6 @@ ghost use Rattle.pe_c.specs.Lists.{HandsOutList, Numbered};
 use crate::delay_imports::{
     DelayLibrary, DelayedFunction, DelayedFunctions, next_function, next_library,
 };
-use crate::directories::image_bytes;
 use crate::lists::{Steps, hand_out_list};
 use crate::ranges::Range;
 use crate::results::number_of_directory;
@@ -25,8 +24,7 @@ impl<'a> Steps<Range, DelayLibrary> for Libraries<'a> {
         (image_parts s.view.now.bytes.now s.view.now.image.now s.view.now.sections.now)) };
 
     fn step(&self, walk: &mut Range) -> Result<Option<DelayLibrary>, u32> {
-        let view = self.view;
-        match next_library(&image_bytes(view.bytes, view.image, view.sections), walk) {
+        match next_library(self.view, walk) {
             Ok(library) => Ok(library),
             Err(error) => Err(number_of_directory(&error)),
         }
@@ -61,10 +59,7 @@ impl<'a> Steps<DelayedFunctions, DelayedFunction> for Functions<'a> {
         (image_parts s.view.now.bytes.now s.view.now.image.now s.view.now.sections.now)) };
 
     fn step(&self, walk: &mut DelayedFunctions) -> Result<Option<DelayedFunction>, u32> {
-        let view = self.view;
-        let attributes = walk.attributes;
-        let left = &mut walk.left;
-        match next_function(view.bytes, view.image, view.sections, attributes, left) {
+        match next_function(self.view, walk.attributes, &mut walk.left) {
             Ok(function) => Ok(function),
             Err(error) => Err(number_of_directory(&error)),
         }

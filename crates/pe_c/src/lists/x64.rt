@@ -111,7 +111,7 @@ pub extern "C" fn pe_c_record_codes(
         (links_at view.now.bytes.now view.now.image.now view.now.sections.now table.now) unwind
         result out.old out.new codes.old codes.new written.old written.new }
 {
-    match read_record(view.bytes, view.image, view.sections, table, unwind) {
+    match read_record(view, table, unwind) {
         Ok(record) => {
             let mut walk = record.codes;
             let steps = Codes { bytes: view.bytes };
