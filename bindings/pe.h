@@ -423,11 +423,12 @@ uint32_t pe_c_headers(const uint8_t *bytes, size_t length, uint32_t mode, pe_c_h
 
 /* Makes an index of the sections at the start of the array, and writes how many entries it has: two for each section. The array
  * has to have four for each, of which the second half is left open; what follows is unchanged. Calls that take a view with these
- * entries return what they return without them, and map an RVA in steps that grow with the logarithm of the number of sections,
- * not with that number itself: 65,535 in a hostile file. pe_c_rva, pe_c_first_debug_entry, pe_c_record_codes and the lists of
- * delay imports make no use of it. Few calls, and images with few sections, as most, gain nothing by it. No entries, and
- * PE_C_DONE, where no section is searched: in an image as loaded, and where the file alignment is not a power of two. An index in
- * the view that is passed makes no difference. An index of other sections gives wrong offsets, and no other harm.
+ * entries return what they return without them. pe_c_offset, pe_c_section_at, pe_c_range_at and the steps and lists of exports,
+ * imports and resource leaves map an RVA by it in steps that grow with the logarithm of the number of sections, not with that
+ * number itself: 65,535 in a hostile file. Other calls make no use of it. Few calls, and images with few sections, as most, gain
+ * nothing by it. No entries, and PE_C_DONE, where no section is searched: in an image as loaded, and where the file alignment is
+ * not a power of two. An index in the view that is passed makes no difference. An index of other sections gives wrong offsets, and
+ * no other harm.
  * Errors: PE_C_ROOM where the array has too few entries; then `written` is how many it has to have. */
 uint32_t pe_c_index(const pe_c_view *view, pe_c_index_entry *room, size_t entries, uint64_t *written) PE_C_RESULT(1, 4);
 
@@ -2431,7 +2432,7 @@ uint32_t pe_c_list_codes(const pe_c_view *view, pe_c_walk *walk, pe_c_code *entr
                          uint64_t *written) PE_C_RESULT(1, 2, 5);
 
 /* Returns the unwind record of an unwind RVA as pe_c_unwind_record does, and lists its codes: out->codes is the walk after them.
- * A record has at most 255 codes. It makes no use of an index.
+ * A record has at most 255 codes.
  * Errors, after which `out` is unchanged too: those of pe_c_unwind_record; PE_C_ROOM; of the first code those of
  * pe_c_next_code. */
 uint32_t pe_c_record_codes(const pe_c_view *view, const pe_c_range *table, uint32_t unwind, pe_c_record *out,
@@ -2481,13 +2482,11 @@ uint32_t pe_c_list_relocation_blocks(const pe_c_view *view, pe_c_range *walk, pe
 uint32_t pe_c_list_relocations(const pe_c_view *view, uint32_t page_rva, pe_c_range *walk, pe_c_relocation *entries,
                                size_t number_of_entries, uint64_t *written) PE_C_RESULT(1, 3, 6);
 
-/* Lists the DLLs of a delay import directory. It makes no use of an index. Errors: PE_C_ROOM; those of
- * pe_c_next_delay_import. */
+/* Lists the DLLs of a delay import directory. Errors: PE_C_ROOM; those of pe_c_next_delay_import. */
 uint32_t pe_c_list_delay_imports(const pe_c_view *view, pe_c_range *walk, pe_c_delay_import *entries,
                                  size_t number_of_entries, uint64_t *written) PE_C_RESULT(1, 2, 5);
 
-/* Lists what is imported of a DLL that is loaded later. It makes no use of an index. Errors: PE_C_ROOM; those of
- * pe_c_next_delayed_function. */
+/* Lists what is imported of a DLL that is loaded later. Errors: PE_C_ROOM; those of pe_c_next_delayed_function. */
 uint32_t pe_c_list_delayed_functions(const pe_c_view *view, pe_c_delayed_functions *walk, pe_c_delayed_function *entries,
                                      size_t number_of_entries, uint64_t *written) PE_C_RESULT(1, 2, 5);
 
