@@ -201,7 +201,10 @@ enum {
 enum { PE_C_STRICT = 0, PE_C_PERMISSIVE = 1, PE_C_MAPPED = 2 };
 
 /* Writes the text of a result to the start of the array, in UTF-8, truncated at the array's end and not NUL-terminated.
- * Returns the length of the whole text in bytes, which is below 128. */
+ * Returns the length of the whole text in bytes, which is below 128.
+ *
+ *     uint8_t text[128];
+ *     printf("%.*s\n", (int)pe_c_text(result, text, sizeof text), (const char *)text); */
 size_t pe_c_text(uint32_t number, uint8_t *room, size_t length);
 
 /* ---- the image

@@ -86,11 +86,9 @@ static uint32_t read_image(image *it, uint32_t mode)
 
 static int refused(const image *it, uint32_t result, const char *advice)
 {
-    uint8_t text[128] = {0};
-    size_t length = pe_c_text(result, text, sizeof text);
-    if (length > sizeof text)
-        length = sizeof text;
-    fprintf(stderr, "pe_list: \"%s\" is refused: %.*s%s\n", it->file, (int)length, (const char *)text, advice);
+    uint8_t text[128];
+    int length = (int)pe_c_text(result, text, sizeof text);
+    fprintf(stderr, "pe_list: \"%s\" is refused: %.*s%s\n", it->file, length, (const char *)text, advice);
     return REFUSED;
 }
 
