@@ -1,7 +1,7 @@
-/* Lists exports of an image by pe_c_list_exports, with an index of its sections or without: indexes FILE index|none MOST
+/* Reads an image with an index of its sections or without: indexes FILE index|none list|step|offset MOST
  *
- * Of the exports that have a name MOST are read, and their number is printed. The text `index` makes the index alone where MOST is
- * 0. */
+ * Of the exports that have a name MOST are read, by pe_c_list_exports or pe_c_next_export, or MOST RVAs are mapped by pe_c_offset. How
+ * many there are is printed. The text `index` makes the index alone where MOST is 0. */
 #include "pe.h"
 
 #include <stdio.h>
@@ -24,8 +24,8 @@ static uint8_t *read_all(const char *name, size_t *length)
     return bytes;
 }
 
-/* The exports of a view that have a name, MOST at most. */
-static uint64_t count_exports(const pe_c_view *view, uint64_t most)
+/* The exports of a view that have a name, MOST at most, several in a call. */
+static uint64_t list_exports(const pe_c_view *view, uint64_t most)
 {
     pe_c_exports walk = PE_C_EMPTY;
     if (pe_c_export_tables(view, &walk) != PE_C_DONE)
@@ -42,9 +42,30 @@ static uint64_t count_exports(const pe_c_view *view, uint64_t most)
     return count;
 }
 
+/* The same, a step a call. */
+static uint64_t step_exports(const pe_c_view *view, uint64_t most)
+{
+    pe_c_exports walk = PE_C_EMPTY;
+    pe_c_export entry = PE_C_EMPTY;
+    uint64_t count = 0;
+    if (pe_c_export_tables(view, &walk) == PE_C_DONE)
+        while (count < most && pe_c_next_export(view, &walk, &entry) == PE_C_DONE)
+            count++;
+    return count;
+}
+
+/* Offsets of RVAs in the last section. */
+static uint64_t map_offsets(const pe_c_view *view, uint64_t most)
+{
+    uint64_t count = 0, offset = 0;
+    while (count < most && pe_c_offset(view, 0x1000 + (uint32_t)count, &offset) == PE_C_DONE)
+        count++;
+    return count;
+}
+
 int main(int argc, char **argv)
 {
-    if (argc != 4)
+    if (argc != 5)
         return 2;
     pe_c_view view = PE_C_EMPTY;
     pe_c_image_info image = PE_C_EMPTY;
@@ -67,7 +88,10 @@ int main(int argc, char **argv)
         view.index = index;
         view.entries = (size_t)entries;
     }
-    printf("%llu\n", (unsigned long long)count_exports(&view, strtoull(argv[3], NULL, 10)));
+    const uint64_t most = strtoull(argv[4], NULL, 10);
+    printf("%llu\n", (unsigned long long)(strcmp(argv[3], "list") == 0 ? list_exports(&view, most)
+                                          : strcmp(argv[3], "step") == 0 ? step_exports(&view, most)
+                                                                         : map_offsets(&view, most)));
     free(bytes);
     free(sections);
     free(index);
