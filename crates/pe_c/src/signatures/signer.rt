@@ -246,19 +246,19 @@ fn find_attribute(bytes: &[u8], walk: &Range, number: u32) -> (Read<Option<Signe
 pub extern "C" fn pe_c_find_attribute(
     bytes: &[u8],
     walk: &mut Range,
-    number: u32,
+    id: u32,
     failure: &mut SignatureFailure,
     out: &mut SignerAttribute,
 ) -> u32
     ensures attribute { (items : List (Result Element SignatureError)) →
         Items first_element (left_place bytes.now walk.old) items →
         SignatureHandsOutIf result failure.old failure.new out.old out.new
-        (attribute_with_number bytes.now walk.old number items).0 }
+        (attribute_with_number bytes.now walk.old id items).0 }
     ensures walk { (items : List (Result Element SignatureError)) →
         Items first_element (left_place bytes.now walk.old) items →
-        walk.new ≡ (attribute_with_number bytes.now walk.old number items).1 }
+        walk.new ≡ (attribute_with_number bytes.now walk.old id items).1 }
 {
-    let (found, left) = find_attribute(bytes, walk, number);
+    let (found, left) = find_attribute(bytes, walk, id);
     *walk = left;
     hand_out_part_if(found, failure, out)
 }
