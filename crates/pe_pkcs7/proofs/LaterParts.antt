@@ -1,10 +1,10 @@
 -- What is read of bytes that stand later in others is what is read of them, further on: a lemma for each definition.
-use Rattle.std.proofs.Common.{◌≡◌, ℕ, ◌+◌, ◌||◌, Bool, true, false, List, take, Option, Some, None, Result, Ok, Err, if◌then◌else◌, refl, arith}
+use Rattle.std.proofs.Common.{◌≡◌, ℕ, ◌+◌, ◌||◌, Bool, true, false, List, take, Option, Some, None, Result, if◌then◌else◌, refl, arith}
 use Rattle.std.specs.Prelude.{nat_lt, ◌==◌}
 use Rattle.std.specs.Str.{bytes_eq}
 use Rattle.pe_core.proofs.Comparisons.{lt_is_not}
-use Rattle.pe_core.specs.Refusals.{outcome, ◌>>=◌}
-use Rattle.pe_pkcs7.specs.Certificates.{certificate, extension, key_usage, subject_fields, time_field, to_be_signed, usage_bits, validity}
+use Rattle.pe_core.specs.Refusals.{◌>>=◌}
+use Rattle.pe_pkcs7.specs.Certificates.{certificate, extension, key_usage, subject_fields, time_field, to_be_signed, validity}
 use Rattle.pe_pkcs7.specs.Fields.{after, content_bytes, field, optional}
 use Rattle.pe_pkcs7.specs.Names.{attribute_at, attribute_in, name_attribute}
 use Rattle.pe_pkcs7.specs.ObjectIds.{SIGNED_DATA}
@@ -13,7 +13,7 @@ use Rattle.pe_pkcs7.specs.Signers.{signer_identifier, signer_info, issuer_and_se
 use Rattle.pe_pkcs7.specs.Tags.{BOOLEAN, INTEGER, BIT_STRING, OCTET_STRING, OBJECT_IDENTIFIER, UTC_TIME, GENERALIZED_TIME, SEQUENCE, SET, tagged, tagged_string}
 use Rattle.pe_pkcs7.specs.Times.{is_time, or_bad_time, time_by_tag, time_of}
 use Rattle.pe_pkcs7.specs.TimeStamps.{last_fields, tst_info, tst_info_fields}
-use Rattle.pe_pkcs7.specs.Later.{later, later_if, later_error, later_result, the_same, later_content_info, later_signed_data, later_encapsulated_content, later_algorithm_identifier, later_type_and_value, later_digest_info, later_indirect_data, later_image_data, later_opus_info, later_signer_info, later_issuer_and_serial, later_attribute, later_certificate, later_to_be_signed, later_validity, later_extension, later_tst_info, later_name, later_name_attribute}
+use Rattle.pe_pkcs7.specs.Later.{later, later_if, later_result, the_same, later_content_info, later_signed_data, later_encapsulated_content, later_algorithm_identifier, later_type_and_value, later_digest_info, later_indirect_data, later_image_data, later_opus_info, later_signer_info, later_issuer_and_serial, later_attribute, later_certificate, later_to_be_signed, later_validity, later_extension, later_tst_info, later_name, later_name_attribute}
 use Rattle.pe_pkcs7.specs.declared.certificate.SubjectFields.{SubjectFields}
 use Rattle.pe_pkcs7.specs.declared.der.Element.{Element}
 use Rattle.pe_pkcs7.specs.declared.error.SignatureError.{SignatureError}
