@@ -251,7 +251,13 @@ fn show_content(rt: &HostRuntime, bytes: &[u8], info: ContentInfo, depth: usize)
     }
     if let Some(certificates) = signed.certificates {
         for x in Elements::new(bytes, certificates) {
-            show_certificate(rt, bytes, x?)?;
+            let certificate = x?;
+            // Others are attribute certificates, as in Microsoft's time stamps (RFC 5652, 10.2.2).
+            if certificate.tag == 0x30 {
+                show_certificate(rt, bytes, certificate)?;
+            } else {
+                show(rt, "other_certificate", certificate)?;
+            }
         }
     }
     show_if_there(rt, "crls", signed.crls)?;
