@@ -587,14 +587,20 @@ fn attributes_of_a_type(rt: HostRuntime) {
     );
     let result = pe_c_find_attribute(SOUGHT, &mut walk, 102, &mut failure, &mut out);
     assert!(rt; result == DONE && is_untouched(&failure));
-    assert_eq!(rt; (out.kind.octets.offset, out.kind.octets.length, out.kind.id), (22, 9, 102));
+    assert_eq!(rt;
+        (out.kind.octets.offset, out.kind.octets.length, out.kind.id),
+        (22, 9, 102)
+    );
     assert_eq!(rt; (out.values.offset, out.values.length), (33, 2));
     assert_eq!(rt; (walk.offset, walk.length), (35, 24));
     let result = pe_c_find_attribute(SOUGHT, &mut walk, 102, &mut failure, &mut out);
     assert!(rt; result == 507 && is_failure(&failure, 507, 42, 0, (0, 0)));
     assert_eq!(rt; (walk.offset, walk.length, out.values.offset), (42, 17, 33));
     let result = pe_c_find_attribute(SOUGHT, &mut walk, 102, &mut failure, &mut out);
-    assert_eq!(rt; (result, out.values.offset, walk.offset, walk.length), (DONE, 57, 59, 0));
+    assert_eq!(rt;
+        (result, out.values.offset, walk.offset, walk.length),
+        (DONE, 57, 59, 0)
+    );
     let result = pe_c_find_attribute(SOUGHT, &mut walk, 102, &mut failure, &mut out);
     assert_eq!(rt; (result, walk.offset, walk.length), (NOTHING, 59, 0));
     walk = Range {
