@@ -254,7 +254,8 @@ fn attributes_of_a_kind() {
     let attribute = |kind: &[u8], value: u8| der(0x30, &[der(6, kind), der(0x31, &der(4, &[value]))].concat());
     let (stamp, other) = ([0x2B, 6, 1, 4, 1, 0x82, 0x37, 3, 3, 1], [0x55, 4, 3]);
     let damaged = der(0x30, &der(6, &stamp));
-    let unsigned = [attribute(&other, 1), attribute(&stamp, 2), damaged, attribute(&other, 3), attribute(&stamp, 4)].concat();
+    let unsigned =
+        [attribute(&other, 1), attribute(&stamp, 2), damaged, attribute(&other, 3), attribute(&stamp, 4)].concat();
     let algorithm = der(0x30, &der(6, &other));
     let named = der(0x30, &[der(0x30, &[]), der(2, &[1])].concat());
     let signer = [der(2, &[1]), named, algorithm.clone(), algorithm, der(4, &[]), der(0xA1, &unsigned)].concat();
