@@ -1167,6 +1167,12 @@ uint32_t pe_c_signer(const uint8_t *bytes, size_t length, const pe_c_range *rang
 uint32_t pe_c_attribute(const uint8_t *bytes, size_t length, const pe_c_range *range, pe_c_signature_failure *failure,
                         pe_c_signer_attribute *out) PE_C_RESULT(3, 4, 5);
 
+/* Finds an attribute of a signer by the id of its type, such as PE_C_OID_MESSAGE_DIGEST: the first in a walk over signed_attributes
+ * or unsigned_attributes. Moves `walk` past it, so that the next call finds the next one. PE_C_NOTHING where there is none. An
+ * attribute before it that is refused is an error, after which `walk` is past that one; after another error it is over. */
+uint32_t pe_c_find_attribute(const uint8_t *bytes, size_t length, pe_c_range *walk, uint32_t id,
+                             pe_c_signature_failure *failure, pe_c_signer_attribute *out) PE_C_RESULT(3, 5, 6);
+
 /* Reads what a signer says of the program. */
 uint32_t pe_c_opus_info(const uint8_t *bytes, size_t length, const pe_c_range *range, pe_c_signature_failure *failure,
                         pe_c_spc_opus_info *out) PE_C_RESULT(3, 4, 5);

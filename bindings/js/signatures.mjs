@@ -116,8 +116,7 @@ function* each(image, call, list, isSearched = false) {
 
 /** The first value of the first attribute of a kind; undefined without one. */
 function value(image, attributes, kind) {
-  for (const it of each(image, 'pe_c_attribute', attributes)) {
-    if (it.type.id !== kind) continue;
+  for (const it of image.items('pe_c_find_attribute', { ...attributes }, { id: kind })) {
     for (const element of image.items('pe_c_next_element', { ...it.values })) return element.whole;
   }
   return undefined;

@@ -649,6 +649,9 @@ test('who signed, and when', () => {
   const ours = attributes(signer.signed_attributes), value = (name) => ours.get(constants[`PE_C_OID_${name}`]);
   assert.deepEqual(numbers(value('MESSAGE_DIGEST').content), [673, 705]);
   assert.deepEqual(timeOf(alone, value('SIGNING_TIME').whole), [2026, 11, 27, 1, 0, 4]);
+  const walk = { ...signer.signed_attributes }, find = (id) => alone.call('pe_c_find_attribute', { walk, id });
+  assert.deepEqual(numbers([...alone.elements(find(constants.PE_C_OID_MESSAGE_DIGEST).values)][0].content), [673, 705]);
+  assert.deepEqual([numbers(walk)[0], find(constants.PE_C_OID_MESSAGE_DIGEST), walk.length], [705, null, 0n]);
   const opus = alone.call('pe_c_opus_info', { range: value('SPC_SP_OPUS_INFO').whole });
   assert.equal(alone.utf8(opus.more_info), 'https://example.org/');
   const stamp = attributes(signer.unsigned_attributes).get(constants.PE_C_OID_TIME_STAMP_TOKEN);

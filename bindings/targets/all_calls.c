@@ -385,6 +385,10 @@ static void signer(const struct file *file, const pe_c_range *range, int depth)
     CALL(pe_c_signer, found, BYTES, range, &failure, &found);
     name(file, &found.issuer);
     attribute(file, range, depth);
+    pe_c_signer_attribute one = PE_C_EMPTY;
+    pe_c_range sought = found.signed_attributes;
+    while (IS_DONE(pe_c_find_attribute, one, BYTES, &sought, PE_C_OID_MESSAGE_DIGEST, &failure, &one))
+        add_bytes(&sought, sizeof sought);
     WALK(INNER, pe_c_next_element, element, BYTES, &found.signed_attributes, &failure, &element)
         attribute(file, &element.whole, depth);
     while (IS_DONE(pe_c_next_element, element, BYTES, &found.unsigned_attributes, &failure, &element))

@@ -14,7 +14,8 @@ use crate::signatures::signature::{
     pe_c_signature,
 };
 use crate::signatures::signer::{
-    OpusInfo, Signer, SignerAttribute, pe_c_attribute, pe_c_opus_info, pe_c_signer,
+    OpusInfo, Signer, SignerAttribute, pe_c_attribute, pe_c_find_attribute, pe_c_opus_info,
+    pe_c_signer,
 };
 use crate::signatures::time::{TimeStamp, UtcTime, pe_c_time, pe_c_time_stamp};
 use crate::signatures::x509::{X509, X509Extension, pe_c_extension, pe_c_key_usage, pe_c_x509};
@@ -562,6 +563,53 @@ fn refused_fields(rt: HostRuntime) {
     assert!(rt; result == 508 && is_failure(&failure, 508, 7, 2, (0, 0x31)));
     let (result, failure) = refused_attribute(b"\x30\x09\x06\x03\x55\x04\x03\x31\x00\x05\x00");
     assert!(rt; result == 509 && is_failure(&failure, 509, 9, 0, (2, 0)));
+}
+
+/// `contentType` at 1, `messageDigest` at 18, an attribute without values at 35, `messageDigest` at 42.
+const SOUGHT: &[u8] = b"\0\
+    \x30\x0F\x06\x09\x2A\x86\x48\x86\xF7\x0D\x01\x09\x03\x31\x02\x04\x00\
+    \x30\x0F\x06\x09\x2A\x86\x48\x86\xF7\x0D\x01\x09\x04\x31\x02\x04\x00\
+    \x30\x05\x06\x03\x55\x04\x03\
+    \x30\x0F\x06\x09\x2A\x86\x48\x86\xF7\x0D\x01\x09\x04\x31\x02\x04\x00";
+
+#[test]
+fn attributes_of_a_type(rt: HostRuntime) {
+    let mut walk = Range {
+        offset: 1,
+        length: 58,
+    };
+    let (mut failure, mut out) = (
+        UNTOUCHED,
+        SignerAttribute {
+            kind: NO_OID,
+            values: NO,
+        },
+    );
+    let result = pe_c_find_attribute(SOUGHT, &mut walk, 102, &mut failure, &mut out);
+    assert!(rt; result == DONE && is_untouched(&failure));
+    assert_eq!(rt;
+        (out.kind.octets.offset, out.kind.octets.length, out.kind.id),
+        (22, 9, 102)
+    );
+    assert_eq!(rt; (out.values.offset, out.values.length), (33, 2));
+    assert_eq!(rt; (walk.offset, walk.length), (35, 24));
+    let result = pe_c_find_attribute(SOUGHT, &mut walk, 102, &mut failure, &mut out);
+    assert!(rt; result == 507 && is_failure(&failure, 507, 42, 0, (0, 0)));
+    assert_eq!(rt; (walk.offset, walk.length, out.values.offset), (42, 17, 33));
+    let result = pe_c_find_attribute(SOUGHT, &mut walk, 102, &mut failure, &mut out);
+    assert_eq!(rt;
+        (result, out.values.offset, walk.offset, walk.length),
+        (DONE, 57, 59, 0)
+    );
+    let result = pe_c_find_attribute(SOUGHT, &mut walk, 102, &mut failure, &mut out);
+    assert_eq!(rt; (result, walk.offset, walk.length), (NOTHING, 59, 0));
+    walk = Range {
+        offset: 2,
+        length: 58,
+    };
+    let result = pe_c_find_attribute(SOUGHT, &mut walk, 102, &mut failure, &mut out);
+    assert!(rt; result == 2 && is_failure(&failure, 2, 2, 58, (0, 0)));
+    assert_eq!(rt; (walk.offset, walk.length), (0, 0));
 }
 
 #[test]

@@ -5,9 +5,9 @@
 
 use pe_pkcs7::{
     AlgorithmIdentifier, Attribute, COUNTER_SIGNATURE, Certificate, ContentInfo, DigestInfo,
-    Element, Elements, EncapsulatedContent, Extension, IssuerAndSerial, MESSAGE_DIGEST,
-    NESTED_SIGNATURE, NameAttributes, SIGNING_TIME, SPC_INDIRECT_DATA, SPC_SP_OPUS_INFO,
-    SignatureError, SignedData, SignerInfo, SpcIndirectData, SpcPeImageData, SpcSpOpusInfo,
+    Element, Elements, EncapsulatedContent, Extension, IssuerAndSerial, KEY_USAGE,
+    MESSAGE_DIGEST, NESTED_SIGNATURE, NameAttributes, SIGNING_TIME, SPC_INDIRECT_DATA,
+    SPC_SP_OPUS_INFO, SignatureError, SignedData, SignerInfo, SpcIndirectData, SpcPeImageData, SpcSpOpusInfo,
     TIME_STAMP_TOKEN, TST_INFO, Time, ToBeSigned, TstInfo, TypeAndValue, Validity, element_at,
 };
 use std::{env, fs, io};
@@ -89,6 +89,16 @@ fn show_algorithm(rt: &HostRuntime, name: &str, bytes: &[u8], x: Element) -> Sho
     show_if_there(rt, "parameters", algorithm.parameters)
 }
 
+fn show_usage(rt: &HostRuntime, bytes: &[u8], extension: Extension) -> Shown {
+    if extension.kind.content_is(bytes, &KEY_USAGE) {
+        match extension.key_usage(bytes)? {
+            Some(usage) => println!(rt; "key_usage {usage}")?,
+            None => println!(rt; "key_usage none")?,
+        }
+    }
+    Ok(())
+}
+
 fn show_certificate(rt: &HostRuntime, bytes: &[u8], x: Element) -> Shown {
     show(rt, "certificate", x)?;
     let certificate = Certificate::parse(bytes, x)?;
@@ -117,6 +127,7 @@ fn show_certificate(rt: &HostRuntime, bytes: &[u8], x: Element) -> Shown {
             show(rt, "extension", extension.kind)?;
             show_if_there(rt, "critical", extension.critical)?;
             show(rt, "extension_value", extension.value)?;
+            show_usage(rt, bytes, extension)?;
         }
     }
     Ok(())
@@ -240,7 +251,13 @@ fn show_content(rt: &HostRuntime, bytes: &[u8], info: ContentInfo, depth: usize)
     }
     if let Some(certificates) = signed.certificates {
         for x in Elements::new(bytes, certificates) {
-            show_certificate(rt, bytes, x?)?;
+            let certificate = x?;
+            // Others are attribute certificates, as in Microsoft's time stamps (RFC 5652, 10.2.2).
+            if certificate.tag == 0x30 {
+                show_certificate(rt, bytes, certificate)?;
+            } else {
+                show(rt, "other_certificate", certificate)?;
+            }
         }
     }
     show_if_there(rt, "crls", signed.crls)?;

@@ -479,13 +479,15 @@ fn read_by_lies(bytes: &[u8], random: &mut Random, seen: &mut Seen) {
     call!(pe_c_name(&range, &mut failure), NameWalk);
     call!(pe_c_time(&range, &mut failure), UtcTime);
     let (mut elements, mut name) = (range, sys::NameWalk { left: range, rdn_end: random.edge(number) });
+    let (mut attributes, id) = (range, random.edge(number) as u32 % 112);
     for _ in 0..MOST {
         let (mut element, mut attribute) = (sys::DerElement::default(), sys::NameAttribute::default());
-        let mut usage = 0;
+        let (mut usage, mut found) = (0, sys::SignerAttribute::default());
         // SAFETY: as above.
         unsafe {
             sys::pe_c_next_element(start, length, &mut elements, &mut failure, &mut element);
             sys::pe_c_key_usage(start, length, &elements, &mut failure, &mut usage);
+            sys::pe_c_find_attribute(start, length, &mut attributes, id, &mut failure, &mut found);
             sys::pe_c_next_name_attribute(start, length, &mut name, &mut failure, &mut attribute);
         }
     }

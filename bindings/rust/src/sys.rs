@@ -2258,6 +2258,8 @@ calls_of_bytes! {
     pe_c_signer(range: *const Range, failure: *mut SignatureFailure) -> SignerInfo;
     /// Reads an attribute of a signer.
     pe_c_attribute(range: *const Range, failure: *mut SignatureFailure) -> SignerAttribute;
+    /// Finds an attribute of a signer by the id of its type.
+    pe_c_find_attribute(walk: *mut Range, id: u32, failure: *mut SignatureFailure) -> SignerAttribute;
     /// Reads what a signer says of the program.
     pe_c_opus_info(range: *const Range, failure: *mut SignatureFailure) -> SpcOpusInfo;
     /// Reads a certificate of X.509.

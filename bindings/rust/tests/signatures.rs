@@ -203,8 +203,13 @@ fn texts_of_names() {
 
 /// Signed data with these elements as its certificates.
 fn with_certificates(certificates: &[u8]) -> Vec<u8> {
+    with_parts(certificates, &[])
+}
+
+/// Signed data with these elements as its certificates, and these as its signers.
+fn with_parts(certificates: &[u8], signers: &[u8]) -> Vec<u8> {
     let content = der(0x30, &der(6, &[0x2A, 0x86, 0x48, 0x86, 0xF7, 0x0D, 1, 7, 1]));
-    let parts = [der(2, &[1]), der(0x31, &[]), content, der(0xA0, certificates), der(0x31, &[])].concat();
+    let parts = [der(2, &[1]), der(0x31, &[]), content, der(0xA0, certificates), der(0x31, signers)].concat();
     let kind = der(6, &[0x2A, 0x86, 0x48, 0x86, 0xF7, 0x0D, 1, 7, 2]);
     der(0x30, &[kind, der(0xA0, &der(0x30, &parts))].concat())
 }
@@ -241,6 +246,32 @@ fn one_damaged_certificate() {
     let signature = Signature::parse(&bytes).unwrap();
     let found: Vec<_> = signature.certificates().map(|it| it.map(|it| it.serial().to_vec()).ok()).collect();
     assert_eq!(found, [None, Some(vec![4, 3]), None, Some(vec![4, 3])]);
+}
+
+/// Attributes of one kind among others, one of them damaged, which is an error of its own.
+#[test]
+fn attributes_of_a_kind() {
+    let attribute = |kind: &[u8], value: u8| der(0x30, &[der(6, kind), der(0x31, &der(4, &[value]))].concat());
+    let (stamp, other) = ([0x2B, 6, 1, 4, 1, 0x82, 0x37, 3, 3, 1], [0x55, 4, 3]);
+    let damaged = der(0x30, &der(6, &stamp));
+    let unsigned =
+        [attribute(&other, 1), attribute(&stamp, 2), damaged, attribute(&other, 3), attribute(&stamp, 4)].concat();
+    let algorithm = der(0x30, &der(6, &other));
+    let named = der(0x30, &[der(0x30, &[]), der(2, &[1])].concat());
+    let signer = [der(2, &[1]), named, algorithm.clone(), algorithm, der(4, &[]), der(0xA1, &unsigned)].concat();
+    let bytes = with_parts(&[], &der(0x30, &signer));
+    let signer = Signature::parse(&bytes).unwrap().signers().next().unwrap().unwrap();
+    let mut walk = signer.unsigned_attributes();
+    let mut value = || {
+        let found = walk.find_kind(KnownOid::TIME_STAMP_TOKEN).map_err(|error| error.error)?;
+        Ok(found.map(|it| it.values().next().unwrap().unwrap().to_vec()))
+    };
+    assert_eq!([value(), value()], [Ok(Some(vec![4, 1, 2])), Err(Error::SIGNATURE_MISSING)]);
+    assert_eq!([value(), value()], [Ok(Some(vec![4, 1, 4])), Ok(None)]);
+    // Each of them is read as a signature, which it is not.
+    let errors: Vec<_> = signer.time_stamps().map(|it| it.unwrap_err().error).collect();
+    assert_eq!(errors, [Error::SIGNATURE_TAG, Error::SIGNATURE_MISSING, Error::SIGNATURE_TAG]);
+    assert!(signer.nested_signatures().map(|it| it.unwrap_err().error).eq([Error::SIGNATURE_MISSING]));
 }
 
 /// The octets of some object identifiers, and their numbers with dots, as `openssl asn1parse -genstr OID:..` has them.

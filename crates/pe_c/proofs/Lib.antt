@@ -51,6 +51,7 @@ pub mod ResourceEdits
 pub mod DumpEntries
 pub mod DumpRanges
 pub mod SignatureRuns
+pub mod SoughtAttributes
 pub mod IndexCuts
 pub mod IndexSearches
 pub mod IndexHalves

@@ -1,24 +1,26 @@
 -- What calls return of a signature: what is signed, its signers, their attributes, times. `b` are the caller's bytes, `x` is the
 -- element that is read.
-use Rattle.std.specs.Prelude.{ℕ, ◌==◌, List, Option, Some, None, Result, Ok, if◌then◌else◌}
+use Rattle.std.specs.Prelude.{◌≡◌, ℕ, ◌==◌, List, Option, Some, None, Result, Ok, Err, if◌then◌else◌}
 use Rattle.pe_core.specs.Refusals.{◌>>=◌}
-use Rattle.pe_pkcs7.specs.Fields.{content_bytes}
+use Rattle.pe_pkcs7.specs.Fields.{content_bytes, first_element}
 use Rattle.pe_pkcs7.specs.ObjectIds.{attribute_number, content_type_number}
 use Rattle.pe_pkcs7.specs.SignedDatas.{content_info, digest_info, encapsulated_content, signed_data, spc_indirect_data, spc_pe_image_data, spc_sp_opus_info, type_and_value}
-use Rattle.pe_pkcs7.specs.Signers.{attribute, issuer_and_serial, signer_info}
+use Rattle.pe_pkcs7.specs.Signers.{Sought, attribute, first_with_number, issuer_and_serial, signer_info}
 use Rattle.pe_pkcs7.specs.Tags.{SEQUENCE, SET}
 use Rattle.pe_pkcs7.specs.Times.{time_of}
 use Rattle.pe_pkcs7.specs.TimeStamps.{tst_info}
+use Rattle.pe_pkcs7.specs.Walks.{Items}
 use Rattle.pe_pkcs7.specs.declared.der.Element.{Element}
 use Rattle.pe_pkcs7.specs.declared.error.SignatureError.{SignatureError}
 use Rattle.pe_pkcs7.specs.declared.indirect_data.DigestInfo.{DigestInfo}
 use Rattle.pe_pkcs7.specs.declared.signed_data.EncapsulatedContent.{EncapsulatedContent}
 use Rattle.pe_pkcs7.specs.declared.signed_data.SignedData as parts
+use Rattle.pe_pkcs7.specs.declared.signer.Attribute.{Attribute}
 use Rattle.pe_pkcs7.specs.declared.signer.SignerInfo.{SignerInfo}
 use Rattle.pe_pkcs7.specs.declared.time_stamp.TstInfo.{TstInfo}
 use Rattle.pe_c.specs.Exports.{one_if_some}
 use Rattle.pe_c.specs.Ranges.{no_bytes}
-use Rattle.pe_c.specs.SignatureParts.{after_tag, algorithm_at, content_range, oid_part, optional_content, optional_whole, read_in, whole_range}
+use Rattle.pe_c.specs.SignatureParts.{after_tag, algorithm_at, content_range, left_from, left_place, oid_part, optional_content, optional_whole, read_in, refused, up_to_range, whole_range}
 use Rattle.pe_c.specs.declared.ranges.Range.{Range}
 use Rattle.pe_c.specs.declared.signatures.elements.Algorithm.{Algorithm}
 use Rattle.pe_c.specs.declared.signatures.refused.SignatureFailure.{SignatureFailure}
@@ -115,12 +117,32 @@ signer_in = read_in signer_at
 
 -- ---- attributes
 
+abbrev pub attribute_part : List ℕ → Attribute → SignerAttribute
+attribute_part b a = record { kind = oid_part a.kind (attribute_number (content_bytes b a.kind)); values = content_range a.values }
+
 abbrev pub attribute_at : List ℕ → Element → Result SignerAttribute SignatureError
-attribute_at b x =
-    attribute b x >>= λ a. Ok (record { kind = oid_part a.kind (attribute_number (content_bytes b a.kind)); values = content_range a.values })
+attribute_at b x = attribute b x >>= λ a. Ok (attribute_part b a)
 
 abbrev pub attribute_in : List ℕ → Range → Result SignerAttribute SignatureFailure
 attribute_in = read_in attribute_at
+
+-- what a search through the bytes s returns
+abbrev pub attribute_sought : List ℕ → Result (Option Attribute) SignatureError → Result (Option SignerAttribute) SignatureFailure
+attribute_sought s (Ok None) = Ok None
+attribute_sought s (Ok (Some a)) = Ok (Some (attribute_part s a))
+attribute_sought s (Err e) = Err (refused e)
+
+-- what a search through a walk returns, and what it leaves: nothing of a walk that is not inside the bytes
+abbrev pub sought_in : Range → Result (List ℕ) SignatureFailure → Sought → Result (Option SignerAttribute) SignatureFailure × Range
+sought_in w (Ok s) sought = (attribute_sought s sought.0, left_from w sought.1)
+sought_in w (Err f) sought = (Err f, no_bytes)
+
+-- of the elements of a walk, the first attribute whose type has the number
+abbrev pub attribute_with_number : List ℕ → Range → ℕ → List (Result Element SignatureError) → Result (Option SignerAttribute) SignatureFailure × Range
+attribute_with_number b w number items = sought_in w (up_to_range b w) (first_with_number (left_place b w).0 number w.offset items)
+
+abbrev pub FindsInWalk : List ℕ → Range → ℕ → Result (Option SignerAttribute) SignatureFailure × Range → Type 0
+FindsInWalk b w number found = (items : List (Result Element SignatureError)) → Items first_element (left_place b w) items → found ≡ attribute_with_number b w number items
 
 -- the tag of an element; 0 without one
 abbrev pub tag_of : Option Element → ℕ

@@ -10,7 +10,7 @@ ghost use Rattle.pe_core.specs.Offsets.{bytes_in};
 ghost use Rattle.pe_core.specs.SectionMap.{rounded_up};
 ghost use Rattle.pe_core.specs.Sections.{sections_offset};
 ghost use Rattle.pe_core.specs.declared.options.ParseMode.TheVariants.{Strict};
-ghost use Rattle.pe_pkcs7.specs.Later.{IsToldAt};
+ghost use Rattle.pe_pkcs7.specs.Later.{IsReadAt};
 ghost use Rattle.pe_records.specs.Certificates.{CertificateView, IsListing, IsListingFrom};
 ghost use Rattle.pe_sign.specs.Attaching.{attached_of, before_table, is_signed, table_start, with_both_fields};
 ghost use Rattle.pe_sign.specs.Checksum.{checksum_of};
@@ -170,24 +170,24 @@ pub fn attached_certificates_are_listed()
     pe_records::laws::certificates::joined_tables_are_listed();
 }
 
-/// What is attached is told as it was: of every part of the certificates that were given, as the signature in one of them, what
+/// What is attached reads as it did: of every part of the certificates that were given, as the signature in one of them, what
 /// pe_pkcs7 reads of the file up to the part's end, by the offsets of the file, is what it reads of that part alone, each element and each error as many
 /// bytes further on. The part stands in the file where the certificates do: after those that the image had and their padding, or from
 /// where the certificate table starts.
-pub fn attached_signatures_are_told()
+pub fn attached_signatures_are_read()
     ensures after { (b : List ℕ) (h : HeaderView) (certificate f : List ℕ) (l : LeftOut) (p n : ℕ) →
         left_out_of h ≡ Ok l → attached_of Placement.After b h certificate ≡ Ok f → is_signed l ≡ true →
-        p + n ≤ length certificate → IsToldAt f (range certificate p n)
+        p + n ≤ length certificate → IsReadAt f (range certificate p n)
         (l.certificates.offset + rounded_up l.certificates.length 8 + p) }
     ensures first { (b : List ℕ) (h : HeaderView) (certificate f : List ℕ) (l : LeftOut) (p n : ℕ) →
         left_out_of h ≡ Ok l → attached_of Placement.After b h certificate ≡ Ok f → is_signed l ≡ false →
         p + n ≤ length certificate →
-        IsToldAt f (range certificate p n) (table_start Placement.After l (length b) + p) }
+        IsReadAt f (range certificate p n) (table_start Placement.After l (length b) + p) }
     ensures in_place { (b : List ℕ) (h : HeaderView) (certificate f : List ℕ) (l : LeftOut) (p n : ℕ) →
         left_out_of h ≡ Ok l → attached_of Placement.InPlace b h certificate ≡ Ok f →
         p + n ≤ length certificate →
-        IsToldAt f (range certificate p n) (table_start Placement.InPlace l (length b) + p) }
+        IsReadAt f (range certificate p n) (table_start Placement.InPlace l (length b) + p) }
 {
     pe_sign::laws::written_tables_have_the_certificate();
-    pe_pkcs7::laws::signatures_are_told_where_they_stand();
+    pe_pkcs7::laws::signatures_are_read_where_they_stand();
 }

@@ -1,18 +1,18 @@
 -- Bytes that stand later in others, and the elements that are read of them.
-use Rattle.std.proofs.Common.{◌≡◌, ℕ, zero, suc, ◌+◌, ◌-◌, ◌*◌, ◌%◌, ◌<◌, ◌≤◌, ◌&&◌, ◌||◌, Bool, true, false, List, [], ◌∷◌, ◌++◌, length, take, drop, Option, Some, None, Result, Ok, Err, if◌then◌else◌, refl, ap, sym, ◌∙◌, subst, arith}
+use Rattle.std.proofs.Common.{◌≡◌, ℕ, zero, suc, ◌+◌, ◌-◌, ◌<◌, ◌≤◌, ◌&&◌, Bool, true, false, List, [], ◌∷◌, length, take, drop, Option, Some, None, Result, Ok, Err, if◌then◌else◌, refl, ap, sym, ◌∙◌, arith}
 use Rattle.std.proofs.lemmas.Bool.Decides.{nat_tests}
-use Rattle.std.proofs.lemmas.List.{length-append, length-take, places, same_lists, get_or-take, get_or_past}
+use Rattle.std.proofs.lemmas.List.{length-take, places, same_lists, get_or-take, get_or_past}
 use Rattle.std.specs.Prelude.{slice_index, nat_le, nat_lt, ◌==◌}
 use Rattle.pe_core.proofs.Ranges.{byte_of_range}
 use Rattle.pe_core.specs.Bytes.{range}
 use Rattle.pe_core.specs.Offsets.{StandAt}
 use Rattle.pe_core.specs.Refusals.{outcome, ◌>>=◌}
-use Rattle.pe_pkcs7.specs.Der.{be, unless, lacks, octets_after, head_tests, length_octets, content_length, is_longer, length_tests, element_of, element_at}
-use Rattle.pe_pkcs7.specs.Fields.{up_to_end, any_field, any_optional, with_tag, field, optional, after, ends_at, part_of, only_element, only_if_there, only_with_tag, content_bytes, element_bytes}
+use Rattle.pe_pkcs7.specs.Der.{be, unless, lacks, octets_after, head_tests, length_octets, content_length, length_tests, element_of, element_at}
+use Rattle.pe_pkcs7.specs.Fields.{any_field, any_optional, with_tag, field, optional, after, ends_at, part_of, only_element, only_if_there, only_with_tag, content_bytes, element_bytes}
 use Rattle.pe_pkcs7.specs.Later.{later, later_if, later_error, later_result}
 use Rattle.pe_pkcs7.specs.declared.der.Element.{Element}
 use Rattle.pe_pkcs7.specs.declared.error.SignatureError.{SignatureError}
-use Rattle.pe_pkcs7.specs.declared.error.SignatureError.TheVariants.{Truncated, TagNumber, IndefiniteLength, LengthOctets, LengthForm, PastParent, Missing, Tag, Trailing}
+use Rattle.pe_pkcs7.specs.declared.error.SignatureError.TheVariants.{Missing, Tag, Trailing}
 
 -- ---- bytes
 

@@ -1,13 +1,10 @@
 -- What is read of bytes that stand later in others is what is read of them, further on: a lemma for each definition.
-use Rattle.std.proofs.Common.{◌≡◌, ℕ, ◌+◌, ◌≤◌, ◌||◌, Bool, true, false, List, [], ◌∷◌, length, take, Option, Some, None, Result, Ok, Err, if◌then◌else◌, refl, ap, ◌∙◌, arith}
+use Rattle.std.proofs.Common.{◌≡◌, ℕ, ◌+◌, ◌||◌, Bool, true, false, List, take, Option, Some, None, Result, if◌then◌else◌, refl, arith}
 use Rattle.std.specs.Prelude.{nat_lt, ◌==◌}
 use Rattle.std.specs.Str.{bytes_eq}
 use Rattle.pe_core.proofs.Comparisons.{lt_is_not}
-use Rattle.pe_core.proofs.Ranges.{length_range, range_in_range}
-use Rattle.pe_core.specs.Bytes.{range}
-use Rattle.pe_core.specs.Offsets.{StandAt}
-use Rattle.pe_core.specs.Refusals.{outcome, ◌>>=◌}
-use Rattle.pe_pkcs7.specs.Certificates.{certificate, extension, key_usage, subject_fields, time_field, to_be_signed, usage_bits, validity}
+use Rattle.pe_core.specs.Refusals.{◌>>=◌}
+use Rattle.pe_pkcs7.specs.Certificates.{certificate, extension, key_usage, subject_fields, time_field, to_be_signed, validity}
 use Rattle.pe_pkcs7.specs.Fields.{after, content_bytes, field, optional}
 use Rattle.pe_pkcs7.specs.Names.{attribute_at, attribute_in, name_attribute}
 use Rattle.pe_pkcs7.specs.ObjectIds.{SIGNED_DATA}
@@ -16,7 +13,7 @@ use Rattle.pe_pkcs7.specs.Signers.{signer_identifier, signer_info, issuer_and_se
 use Rattle.pe_pkcs7.specs.Tags.{BOOLEAN, INTEGER, BIT_STRING, OCTET_STRING, OBJECT_IDENTIFIER, UTC_TIME, GENERALIZED_TIME, SEQUENCE, SET, tagged, tagged_string}
 use Rattle.pe_pkcs7.specs.Times.{is_time, or_bad_time, time_by_tag, time_of}
 use Rattle.pe_pkcs7.specs.TimeStamps.{last_fields, tst_info, tst_info_fields}
-use Rattle.pe_pkcs7.specs.Later.{later, later_if, later_error, later_result, the_same, IsToldAt, later_content_info, later_signed_data, later_encapsulated_content, later_algorithm_identifier, later_type_and_value, later_digest_info, later_indirect_data, later_image_data, later_opus_info, later_signer_info, later_issuer_and_serial, later_attribute, later_certificate, later_to_be_signed, later_validity, later_extension, later_tst_info, later_name_attribute}
+use Rattle.pe_pkcs7.specs.Later.{later, later_if, later_result, the_same, later_content_info, later_signed_data, later_encapsulated_content, later_algorithm_identifier, later_type_and_value, later_digest_info, later_indirect_data, later_image_data, later_opus_info, later_signer_info, later_issuer_and_serial, later_attribute, later_certificate, later_to_be_signed, later_validity, later_extension, later_tst_info, later_name, later_name_attribute}
 use Rattle.pe_pkcs7.specs.declared.certificate.SubjectFields.{SubjectFields}
 use Rattle.pe_pkcs7.specs.declared.der.Element.{Element}
 use Rattle.pe_pkcs7.specs.declared.error.SignatureError.{SignatureError}
@@ -25,7 +22,7 @@ use Rattle.pe_pkcs7.specs.declared.name.NameAttribute.{NameAttribute}
 use Rattle.pe_pkcs7.specs.declared.signed_data.ContentInfo.{ContentInfo}
 use Rattle.pe_pkcs7.specs.declared.time.Time.{Time}
 use Rattle.pe_pkcs7.specs.declared.time_stamp.LastFields.{LastFields}
-use Rattle.pe_pkcs7.proofs.LaterBytes.{StandLater, stands, cut, lt_later, in_turn, in_part, outcome_later, element_later, content_later, octets_of_later, any_field_later, any_optional_later, optional_later, field_later, with_tag_later, after_later, ends_later, only_later, only_if_there_later, only_with_tag_later}
+use Rattle.pe_pkcs7.proofs.LaterBytes.{StandLater, cut, lt_later, in_turn, in_part, outcome_later, content_later, any_field_later, any_optional_later, optional_later, field_later, with_tag_later, after_later, ends_later, only_later, only_if_there_later, only_with_tag_later}
 
 -- ---- fields after those that may be left out
 
@@ -257,9 +254,6 @@ tst_info_later k b c h x = in_part _ _ _ OCTET_STRING k b c h x (λ s t l.
     in_turn _ _ _ _ _ _ _ (only_later k s t l x) (λ y.
     stamp_fields_later k s t l y))
 
-abbrev later_name : ℕ → NameAttribute → NameAttribute
-later_name k a = record { kind = later k a.kind; value = later k a.value; starts_rdn = a.starts_rdn }
-
 named_later : (k : ℕ) (b c : List ℕ) → StandLater k b c → (x : Element) (starts : Bool) → name_attribute c (later k x) starts ≡ later_result (later_name k) k (name_attribute b x starts)
 unfolding name_attribute
 named_later k b c h x starts = in_part _ _ _ SEQUENCE k b c h x (λ s t l.
@@ -292,48 +286,3 @@ name_later k b c h e p = rw (lt_later p e (p + k) (e + k) k refl refl)
 pub name_start_later : (k : ℕ) (b c : List ℕ) → StandLater k b c → (p : ℕ) → attribute_at c 0 (p + k) ≡ later_result (later_name_attribute k) k (attribute_at b 0 p)
 unfolding attribute_at
 name_start_later k b c h p = rw (lt_is_not (p + k) 0 (omega arith), lt_is_not p 0 (omega arith)) (next_later k b c h p)
-
--- ---- all of it
-
-pub told : (f b : List ℕ) (k : ℕ) → StandAt f k b → IsToldAt f b k
-told f b k at =
-    let c : List ℕ = take (k + length b) f in
-    let h : StandLater k b c = stands f b k at in
-    record {
-      element = element_later k b c h;
-      contents = content_later k b c h;
-      octets = octets_of_later k b c h;
-      info = content_info_later k b c h;
-      signed = signed_data_later k b c h;
-      encapsulated = encapsulated_later k b c h;
-      algorithm = algorithm_later k b c h;
-      typed_value = type_and_value_later k b c h;
-      digest = digest_info_later k b c h;
-      indirect_data = indirect_data_later k b c h;
-      image_data = image_data_later k b c h;
-      opus_info = opus_info_later k b c h;
-      signer = signer_info_later k b c h;
-      signer_name = issuer_and_serial_later k b c h;
-      signer_attribute = attribute_later k b c h;
-      x509 = certificate_later k b c h;
-      x509_fields = to_be_signed_later k b c h;
-      valid = validity_later k b c h;
-      x509_extension = extension_later k b c h;
-      usage = key_usage_later k b c h;
-      time = time_later k b c h;
-      stamp = tst_info_later k b c h;
-      name = name_later k b c h;
-      name_start = name_start_later k b c h;
-    }
-
--- a part of bytes that stand in a file
-part_stands : (f b : List ℕ) (k p n : ℕ) → StandAt f k b → p + n ≤ length b → StandAt f (k + p) (range b p n)
-part_stands f b k p n at le =
-    let size : length (range b p n) ≡ n = length_range b p n le in
-    record {
-      inside = omega (arith, size, at.inside, le);
-      here = rw size (range_in_range f k (length b) p n at.inside le ∙ ap (λ (xs : List ℕ). range xs p n) at.here);
-    }
-
-pub part_told : (f b : List ℕ) (k p n : ℕ) → StandAt f k b → p + n ≤ length b → IsToldAt f (range b p n) (k + p)
-part_told f b k p n at le = told f (range b p n) (k + p) (part_stands f b k p n at le)

@@ -7,3 +7,7 @@ pub mod Shrinking
 pub mod Hashing
 pub mod LaterBytes
 pub mod LaterParts
+pub mod AttributeSearch
+pub mod NameLists
+pub mod LaterNames
+pub mod LaterSignatures

@@ -1,9 +1,9 @@
 -- What is read of bytes that stand later in a file: the same, further on. `k` is how many bytes of the file stand before.
-use Rattle.std.specs.Prelude.{◌≡◌, ℕ, ◌+◌, List, length, take, Option, Some, None, Result, Ok, Err}
+use Rattle.std.specs.Prelude.{◌≡◌, ℕ, ◌+◌, List, length, map, take, Option, Some, None, Result, Ok, Err}
 use Rattle.pe_pkcs7.specs.Certificates.{certificate, extension, key_usage, to_be_signed, validity}
 use Rattle.pe_pkcs7.specs.Der.{element_at}
 use Rattle.pe_pkcs7.specs.Fields.{content_bytes, element_bytes}
-use Rattle.pe_pkcs7.specs.Names.{attribute_at}
+use Rattle.pe_pkcs7.specs.Names.{NameItems, attribute_at}
 use Rattle.pe_pkcs7.specs.SignedDatas.{algorithm_identifier, content_info, digest_info, encapsulated_content, signed_data, spc_indirect_data, spc_pe_image_data, spc_sp_opus_info, type_and_value}
 use Rattle.pe_pkcs7.specs.Signers.{attribute, issuer_and_serial, signer_info}
 use Rattle.pe_pkcs7.specs.Times.{time_of}
@@ -148,10 +148,12 @@ later_tst_info k r = record {
   tsa = later_if k r.tsa;
 }
 
+abbrev pub later_name : ℕ → NameAttribute → NameAttribute
+later_name k a = record { kind = later k a.kind; value = later k a.value; starts_rdn = a.starts_rdn }
+
 -- an attribute of a name, with the end of its relative distinguished name and where what follows starts
 abbrev pub later_name_attribute : ℕ → NameAttribute × (ℕ × ℕ) → NameAttribute × (ℕ × ℕ)
-later_name_attribute k r =
-    (record { kind = later k r.0.kind; value = later k r.0.value; starts_rdn = r.0.starts_rdn }, (r.1.0 + k, r.1.1 + k))
+later_name_attribute k r = (later_name k r.0, (r.1.0 + k, r.1.1 + k))
 
 -- ---- what is read of a file
 
@@ -163,10 +165,10 @@ ReadsLater read further f b k = (x : Element) → read (take (k + length b) f) (
 abbrev pub the_same : {Y : Type 0} → ℕ → Y → Y
 the_same k y = y
 
--- so do the definitions of elements, records, times and the attributes of a name, of a signature b; with the octets of elements, which
--- are the same. The attributes of a name are read from where one starts to the end of its relative distinguished name, which is 0
--- before the first
-pub record IsToldAt (f b : List ℕ) (k : ℕ) : Type 0 where
+-- so do the definitions of elements, records, times and names, of a signature b; with the octets of elements, which are the same.
+-- Of a name, such as an issuer or a subject, all attributes that a walk returns, and its error; and each of them from where it starts
+-- to the end of its relative distinguished name, which is 0 before the first
+pub record IsReadAt (f b : List ℕ) (k : ℕ) : Type 0 where
   pub element : (p : ℕ) → element_at (take (k + length b) f) (p + k) ≡ later_result (later k) k (element_at b p)
   pub contents : (x : Element) → content_bytes (take (k + length b) f) (later k x) ≡ content_bytes b x
   pub octets : (x : Element) → element_bytes (take (k + length b) f) (later k x) ≡ element_bytes b x
@@ -191,3 +193,5 @@ pub record IsToldAt (f b : List ℕ) (k : ℕ) : Type 0 where
   pub stamp : ReadsLater tst_info later_tst_info f b k
   pub name : (e p : ℕ) → attribute_at (take (k + length b) f) (e + k) (p + k) ≡ later_result (later_name_attribute k) k (attribute_at b e p)
   pub name_start : (p : ℕ) → attribute_at (take (k + length b) f) 0 (p + k) ≡ later_result (later_name_attribute k) k (attribute_at b 0 p)
+  pub names : (x : Element) (items : List (Result NameAttribute SignatureError)) → NameItems b x items →
+      NameItems (take (k + length b) f) (later k x) (map (later_result (later_name k) k) items)

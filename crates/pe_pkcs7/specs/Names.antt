@@ -1,15 +1,16 @@
 -- Names: the attributes of the relative distinguished names in turn. (RFC 5280, 4.1.2.4.) `b` are the bytes up to the end of a
 -- Name, `e` is the end of the relative distinguished name that is read, `p` is where its next attribute starts.
-use Rattle.std.specs.Prelude.{ℕ, ◌+◌, ◌-◌, ◌||◌, List, length, take, Bool, true, false, nat_lt, Option, Some, None, Result, Ok, if◌then◌else◌}
+use Rattle.std.specs.Prelude.{◌≡◌, ℕ, ◌+◌, ◌-◌, ◌||◌, List, [], ◌∷◌, length, take, Bool, true, false, nat_lt, Option, Some, None, Result, Ok, Err, if◌then◌else◌}
 use Rattle.std.specs.Option.{option_map}
 use Rattle.pe_core.specs.Refusals.{◌>>=◌}
-use Rattle.pe_pkcs7.specs.Fields.{any_field, field, ends_at, part_of}
+use Rattle.pe_pkcs7.specs.Fields.{any_field, field, ends_at, first_element, part_of, with_tag}
 use Rattle.pe_pkcs7.specs.Tags.{OBJECT_IDENTIFIER, SEQUENCE, SET}
-use Rattle.pe_pkcs7.specs.Walks.{First}
+use Rattle.pe_pkcs7.specs.Walks.{First, Items, ItemsLeft}
 use Rattle.pe_pkcs7.specs.declared.der.Element.{Element}
 use Rattle.pe_pkcs7.specs.declared.name.NameAttribute.{NameAttribute}
 use Rattle.pe_pkcs7.specs.declared.name.NameAttributes.{NameAttributes}
 use Rattle.pe_pkcs7.specs.declared.error.SignatureError.{SignatureError}
+use Rattle.pe_pkcs7.specs.declared.error.SignatureError.TheVariants.{Missing}
 
 -- AttributeTypeAndValue ::= SEQUENCE { type OBJECT IDENTIFIER, value ANY }
 unfoldable pub name_attribute : List ℕ → Element → Bool → Result NameAttribute SignatureError
@@ -58,3 +59,44 @@ name_left s = option_map (λ p. record { name = s.name.now; end = s.end; offset 
 abbrev pub most_attributes : Option NameLeft → ℕ
 most_attributes None = 0
 most_attributes (Some s) = length s.name - s.offset + 1
+
+-- the items of a walk through the name that an element is; its error, if it is none
+abbrev pub ItemsOf : Result (Option NameLeft) SignatureError → List (Result NameAttribute SignatureError) → Type 0
+ItemsOf (Ok left) items = ItemsLeft first_name_attribute left items
+ItemsOf (Err e) items = items ≡ Err e ∷ []
+
+abbrev pub NameItems : List ℕ → Element → List (Result NameAttribute SignatureError) → Type 0
+NameItems b x items = ItemsOf (whole_name b x) items
+
+-- ---- the list of the grammar, by the elements of the Name and of each relative distinguished name. Nothing follows an error
+
+abbrev pub Attributes : Type 0
+Attributes = List (Result NameAttribute SignatureError)
+
+-- an attribute, and those after it
+abbrev pub before : Result NameAttribute SignatureError → Attributes → Attributes
+before (Ok a) more = Ok a ∷ more
+before (Err e) more = Err e ∷ []
+
+-- the attributes that elements are, and those after them; the first of a relative distinguished name starts it
+abbrev pub each_before : List ℕ → Bool → List (Result Element SignatureError) → Attributes → Attributes
+each_before s starts [] more = more
+each_before s starts (Err e ∷ elements) more = Err e ∷ []
+each_before s starts (Ok x ∷ elements) more = before (name_attribute s x starts) (each_before s false elements more)
+
+-- RelativeDistinguishedName ::= SET SIZE (1..MAX) OF AttributeTypeAndValue, with its content at p
+abbrev pub rdn_before : List ℕ → ℕ → List (Result Element SignatureError) → Attributes → Attributes
+rdn_before s p [] more = Err (Missing p) ∷ []
+rdn_before s p (x ∷ elements) more = each_before s true (x ∷ elements) more
+
+-- the attributes of a relative distinguished name, if the element is a SET, and those after them
+abbrev pub RdnBefore : List ℕ → Result Element SignatureError → Attributes → Attributes → Type 0
+RdnBefore b (Err e) more all = all ≡ Err e ∷ []
+RdnBefore b (Ok r) more all = (elements : List (Result Element SignatureError)) ×
+    Items first_element (take r.end b, r.content) elements × (all ≡ rdn_before (take r.end b) r.content elements more)
+
+-- Name ::= SEQUENCE OF RelativeDistinguishedName: the attributes of each in turn, by the elements of the SEQUENCE
+abbrev pub IsName : List ℕ → List (Result Element SignatureError) → Attributes → Type 0
+IsName b [] all = all ≡ []
+IsName b (Err e ∷ rdns) all = all ≡ Err e ∷ []
+IsName b (Ok r ∷ rdns) all = (more : Attributes) × IsName b rdns more × RdnBefore b (with_tag SET r) more all

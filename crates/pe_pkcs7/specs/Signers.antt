@@ -1,8 +1,10 @@
 -- Signers and their attributes. (RFC 5652: 5.3, 11; RFC 5280: 4.1.2.4.) `b` are the bytes of the signature.
-use Rattle.std.specs.Prelude.{ℕ, ◌==◌, ◌||◌, List, [], ◌∷◌, drop, Result}
+use Rattle.std.specs.Prelude.{◌≡◌, ℕ, ◌==◌, ◌||◌, List, [], ◌∷◌, length, drop, Option, Some, None, Result, Ok, Err, if◌then◌else◌}
 use Rattle.pe_core.specs.Refusals.{outcome, ◌>>=◌}
-use Rattle.pe_pkcs7.specs.Fields.{any_field, field, element_bytes, optional, after, ends_at, part_of}
+use Rattle.pe_pkcs7.specs.Fields.{any_field, field, content_bytes, element_bytes, first_element, optional, after, ends_at, part_of}
+use Rattle.pe_pkcs7.specs.ObjectIds.{attribute_number}
 use Rattle.pe_pkcs7.specs.Tags.{INTEGER, OCTET_STRING, OBJECT_IDENTIFIER, SEQUENCE, SET, tagged, tagged_string}
+use Rattle.pe_pkcs7.specs.Walks.{Items}
 use Rattle.pe_pkcs7.specs.declared.der.Element.{Element}
 use Rattle.pe_pkcs7.specs.declared.signer.SignerInfo.{SignerInfo}
 use Rattle.pe_pkcs7.specs.declared.signer.IssuerAndSerial.{IssuerAndSerial}
@@ -60,3 +62,25 @@ attribute b x =
 -- message digest calculation along with the length and content octets of the SignedAttributes value.
 abbrev pub signed_octets : List ℕ → Element → List ℕ
 signed_octets b x = SET ∷ drop 1 (element_bytes b x)
+
+-- ---- an attribute by its type
+
+-- what a search returns: the attribute if there is one, and the offset after what was read
+abbrev pub Sought : Type 0
+Sought = Result (Option Attribute) SignatureError × ℕ
+
+-- an attribute that ends at p, if its type has the number; else what is found after it
+abbrev pub this_or : List ℕ → ℕ → ℕ → Result Attribute SignatureError → Sought → Sought
+this_or s number p (Ok a) later = if attribute_number (content_bytes s a.kind) == number then (Ok (Some a), p) else later
+this_or s number p (Err e) later = (Err e, p)
+
+-- of elements from p on, the first attribute whose type has the number; an error before it is the result
+abbrev pub first_with_number : List ℕ → ℕ → ℕ → List (Result Element SignatureError) → Sought
+first_with_number s number p [] = (Ok None, p)
+first_with_number s number p (Err e ∷ more) = (Err e, length s)
+first_with_number s number p (Ok x ∷ more) = this_or s number x.end (attribute s x) (first_with_number s number x.end more)
+
+-- the same of the elements of the bytes s from p on
+abbrev pub FindsAttribute : List ℕ → ℕ → ℕ → Sought → Type 0
+FindsAttribute s number p sought =
+    (items : List (Result Element SignatureError)) → Items first_element (s, p) items → sought ≡ first_with_number s number p items

@@ -1,19 +1,19 @@
 //! What the contracts say together.
 
-ghost use Rattle.std.specs.Prelude.{◌≡◌, ◌+◌, ◌<◌, ◌≤◌, ◌%◌, ◌^◌, ◌++◌, ℕ, List, length, take, drop, Result, Ok};
+ghost use Rattle.std.specs.Prelude.{◌≡◌, ◌+◌, ◌<◌, ◌≤◌, ◌%◌, ◌^◌, ◌++◌, ◌↔◌, ℕ, List, length, take, drop, Result, Ok};
 ghost use Rattle.std.specs.Iterator.{Drains};
 ghost use Rattle.pe_core.specs.Bytes.{AreBytes, range};
 ghost use Rattle.pe_core.specs.Offsets.{StandAt};
 ghost use Rattle.pe_pkcs7.specs.Fields.{first_element, elements_left, content_bytes, element_bytes};
-ghost use Rattle.pe_pkcs7.specs.Names.{first_name_attribute, name_left};
+ghost use Rattle.pe_pkcs7.specs.Names.{IsName, first_name_attribute, name_left};
 ghost use Rattle.pe_pkcs7.specs.Signers.{signed_octets};
-ghost use Rattle.pe_pkcs7.specs.Walks.{ItemsLeft, HasOneList};
+ghost use Rattle.pe_pkcs7.specs.Walks.{Items, ItemsLeft, HasOneList};
 ghost use Rattle.pe_pkcs7.specs.declared.error.SignatureError.{SignatureError};
 ghost use Rattle.pe_pkcs7.specs.declared.fields.Elements.{Elements};
 ghost use Rattle.pe_pkcs7.specs.declared.name.NameAttribute.{NameAttribute};
 ghost use Rattle.pe_pkcs7.specs.declared.name.NameAttributes.{NameAttributes};
 ghost use Rattle.pe_pkcs7.specs.Der.{element_at};
-ghost use Rattle.pe_pkcs7.specs.Later.{IsToldAt};
+ghost use Rattle.pe_pkcs7.specs.Later.{IsReadAt};
 ghost use Rattle.pe_pkcs7.specs.Encoding.{der, content_in, octets_in};
 ghost use Rattle.pe_pkcs7.specs.declared.der.Element.{Element};
 
@@ -66,13 +66,21 @@ pub fn walks_return_the_list()
     ensures name { HasOneList first_name_attribute }
 {}
 
-/// A signature is told the same wherever it stands: what is read of a file in which its bytes stand, up to their end and by the
+/// The attributes of a name are those of the grammar: of each relative distinguished name in the order of the name, of each of them
+/// its elements in their order, and nothing else. `b` are the bytes up to the end of the name, whose content starts at `p`.
+pub fn names_are_relative_distinguished_names()
+    ensures { (b : List ℕ) (p : ℕ) (rdns : List (Result Element SignatureError))
+        (all : List (Result NameAttribute SignatureError)) → Items first_element (b, p) rdns →
+        IsName b rdns all ↔ Items first_name_attribute (record { name = b; end = 0; offset = p }) all }
+{}
+
+/// A signature reads the same wherever it stands: what is read of a file in which its bytes stand, up to their end and by the
 /// offsets of the file, is what is read of them alone, each element and each error as many bytes further on. So is a part of bytes
 /// that stand in a file, as the body in the entry of a certificate: the signature in a certificate that `attach` of pe_sign writes is
 /// that of the certificate that it was given.
-#[tactic(auto, using(crate::proofs::LaterParts::told))]
-pub fn signatures_are_told_where_they_stand()
-    ensures whole { (f b : List ℕ) (k : ℕ) → StandAt f k b → IsToldAt f b k }
+#[tactic(auto, using(crate::proofs::LaterSignatures::all_read))]
+pub fn signatures_are_read_where_they_stand()
+    ensures whole { (f b : List ℕ) (k : ℕ) → StandAt f k b → IsReadAt f b k }
     ensures part { (f b : List ℕ) (k p n : ℕ) → StandAt f k b → p + n ≤ length b →
-        IsToldAt f (range b p n) (k + p) }
+        IsReadAt f (range b p n) (k + p) }
 {}

@@ -43,6 +43,6 @@ pub use object_ids::{
     name_number,
 };
 pub use signed_data::{ContentInfo, EncapsulatedContent, SignedData};
-pub use signer::{Attribute, IssuerAndSerial, SignerInfo};
+pub use signer::{Attribute, IssuerAndSerial, SignerInfo, find_attribute_at};
 pub use time::Time;
 pub use time_stamp::TstInfo;

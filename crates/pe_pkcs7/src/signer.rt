@@ -5,11 +5,12 @@
 
 ghost use Rattle.std.specs.Prelude.{◌≡◌, ◌∷◌};
 ghost use Rattle.std.specs.Option.{option_map};
-ghost use Rattle.pe_pkcs7.specs.Signers.{signer_identifier, signer_info, issuer_and_serial, attribute, signed_octets};
+ghost use Rattle.pe_pkcs7.specs.Signers.{FindsAttribute, signer_identifier, signer_info, issuer_and_serial, attribute, signed_octets};
 
-use crate::der::Element;
+use crate::der::{Element, element_at};
 use crate::error::{Result, SignatureError};
 use crate::fields::{after, any_field, field, optional, part_of, require_end};
+use crate::object_ids::attribute_number;
 use crate::tags::{
     INTEGER, OBJECT_IDENTIFIER, OCTET_STRING, SEQUENCE, SET, TAGGED_0, TAGGED_1, TAGGED_STRING_0,
 };
@@ -138,4 +139,34 @@ impl Attribute {
         require_end(part, values.end)?;
         Ok(Attribute { kind, values })
     }
+}
+
+/// The next attribute of a type among those from `offset` on: of `signed_attributes` or `unsigned_attributes`, whose bytes up to
+/// their end are `part`. `number` is that of the type, as `attribute_number` has it. `None` without one. With it comes the offset
+/// where a search for the next one starts: after the attribute; after one that is refused; at the end.
+///
+/// Errors of what stands before it: those of `element_at`, after which nothing is left; those of `Attribute::parse`.
+pub fn find_attribute_at(
+    part: &[u8],
+    offset: usize,
+    number: u32,
+) -> (Result<Option<Attribute>>, usize)
+    ensures { FindsAttribute part.now number offset result }
+{
+    let mut next = offset;
+    while next < part.len() {
+        let element = match element_at(part, next) {
+            Ok(element) => element,
+            Err(error) => return (Err(error), part.len()),
+        };
+        next = element.end;
+        match Attribute::parse(part, element) {
+            Ok(attribute) if attribute_number(attribute.kind.content_of(part)) == number => {
+                return (Ok(Some(attribute)), next);
+            }
+            Ok(_) => {}
+            Err(error) => return (Err(error), next),
+        }
+    }
+    (Ok(None), next)
 }

@@ -728,6 +728,21 @@ SIGNED_LIST(elements, pe_c_range, (walk = range, PE_C_DONE), pe_c_der_element, p
 SIGNED_LIST(name_attributes, pe_c_name_walk, pe_c_name(BYTES, &range, &failure, &walk), pe_c_name_attribute,
             pe_c_next_name_attribute, ROW_OF(name_attribute))
 
+static PyObject *attributes(Image *self, PyObject *arguments)
+{
+    unsigned long long offset, length;
+    unsigned int id;
+    pe_c_signature_failure failure = PE_C_EMPTY;
+    pe_c_signer_attribute item = PE_C_EMPTY;
+    if (!PyArg_ParseTuple(arguments, "KKI", &offset, &length, &id))
+        return NULL;
+    OPEN_OWN
+    pe_c_range walk = {offset, length};
+    rows = rows_of(self, &budget);
+    EACH(&rows, pe_c_find_attribute(BYTES, &walk, id, &failure, &item), ROW_OF(signer_attribute));
+    return finished(&rows);
+}
+
 /* ---- minidumps: each call reads the stream of a kind */
 
 static uint32_t stream_of(Image *self, uint32_t kind, pe_c_range *out)
@@ -1135,7 +1150,7 @@ static PyMethodDef methods[] = {
     WITHOUT(coff_header), WITHOUT(coff_strings), WITHOUT(symbols), WITHOUT(te_header), WITHOUT(te_symbol_key),
     WITHOUT(dump_memory64), WITHOUT(checksum), WITHOUT(digest_ranges), WITHOUT(detach), WITH_ONE(offset_of),
     WITH_ONE(find_function), WITH_ONE(find_arm64_function), WITH_ONE(unwind_records), WITH_SOME(arm64_unwind),
-    WITH_SOME(version_blocks), WITH_SOME(elements), WITH_SOME(name_attributes),
+    WITH_SOME(version_blocks), WITH_SOME(elements), WITH_SOME(name_attributes), WITH_SOME(attributes),
     WITH_SOME(frames), WITH_SOME(arm64_frames), WITH_SOME(histogram), WITH_SOME(attach), WITH_SOME(edited),
     {NULL, NULL, 0, NULL}};
 

@@ -183,7 +183,6 @@ class Signer(_Inside):
         self.row: SignerInfo = reader._asked("signer", "signer", at.offset, at.length)
         self.digest_algorithm = algorithm_of(self.row.digest_algorithm.oid)
         self.signature_algorithm = algorithm_of(self.row.signature_algorithm.oid)
-        self._attributes = self._read_attributes()
 
     @property
     def issuer(self) -> Name:
@@ -204,19 +203,14 @@ class Signer(_Inside):
         """That of the signer, if the signature has it."""
         return self._reader._certificate_of(self.row)
 
-    def _read_attributes(self) -> dict[KnownOid, list[Range]]:
-        """The values of the attributes that have a number: those of the signed ones, then of the others."""
-        found: dict[KnownOid, list[Range]] = {}
-        for walk in (self.row.signed_attributes, self.row.unsigned_attributes):
-            for it in self._reader._elements(walk) if walk is not None else ():
-                attribute, number, _ = self._reader._read("attribute", it.whole.offset, it.whole.length)
-                if not number and attribute.type.id:
-                    values = [one.whole for one in self._reader._elements(attribute.values)]
-                    found.setdefault(KnownOid(attribute.type.id), []).extend(values)
-        return found
+    def _values(self, kind: KnownOid) -> list[Range]:
+        """The values of the attributes of a kind: those of the signed ones, then of the others, each up to the first that is refused."""
+        walks = [it for it in (self.row.signed_attributes, self.row.unsigned_attributes) if it is not None]
+        found = [it for at in walks for it in self._reader._read("attributes", at.offset, at.length, kind)[0] or ()]
+        return [one.whole for it in found for one in self._reader._elements(it.values)]
 
     def _first(self, kind: KnownOid) -> Range | None:
-        return next(iter(self._attributes.get(kind, [])), None)
+        return next(iter(self._values(kind)), None)
 
     @property
     def signing_time(self) -> str | None:
@@ -247,7 +241,7 @@ class Signer(_Inside):
         return text_of(0x16, it.more_info) if it and it.more_info_tag == 0x80 else None
 
     def _made(self, kind: KnownOid, make: typing.Callable[[Range], T]) -> Part[T]:
-        return _all_of(self._attributes.get(kind, []), make)
+        return _all_of(self._values(kind), make)
 
     @property
     def counter_signatures(self) -> Part[Signer]:

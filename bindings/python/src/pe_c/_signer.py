@@ -60,10 +60,9 @@ def _first(signature: Signature, walk: Range) -> Range | None:
 
 def _value(signature: Signature, walk: Range | None, kind: KnownOid) -> Range | None:
     """The first value of the attributes of a kind; None without one. Raises Error where what comes before it is refused."""
-    found, number, _ = signature._read("elements", walk.offset, walk.length) if walk is not None else ((), 0, False)
-    for it in found or ():
-        attribute = signature._asked("attribute", "attribute", it.whole.offset, it.whole.length)
-        at = _first(signature, attribute.values) if attribute.type.id == kind else None
+    found, number, _ = signature._read("attributes", walk.offset, walk.length, kind) if walk is not None else ((), 0, False)
+    for attribute in found or ():
+        at = _first(signature, attribute.values)
         if at is not None:
             return at
     if number:

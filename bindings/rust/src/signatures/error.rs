@@ -88,6 +88,18 @@ pub(crate) fn read<T: Default>(
     Ok(look(bytes, call, range)?.unwrap_or_default())
 }
 
+/// The next attribute of a signer in a walk whose type has this number.
+pub(crate) fn find_attribute(
+    bytes: &[u8],
+    walk: &mut sys::Range,
+    id: u32,
+) -> Result<Option<sys::SignerAttribute>, SignatureError> {
+    let (mut failure, mut out) = (sys::SignatureFailure::default(), sys::SignerAttribute::default());
+    // SAFETY: as in `look`.
+    let number = unsafe { sys::pe_c_find_attribute(bytes.as_ptr(), bytes.len(), walk, id, &mut failure, &mut out) };
+    returned(number, failure, out)
+}
+
 /// The next item of a walk.
 pub(crate) fn step<W, T: Default>(
     bytes: &[u8],

@@ -1,6 +1,6 @@
 //! The signers of a signature, and their attributes.
 
-use super::error::{look, read};
+use super::error::{find_attribute, look, read};
 use super::{list, of, Algorithm, Elements, KnownOid, Name, Oid, Signature, SignatureError, Time};
 use crate::sys;
 use alloc::string::String;
@@ -149,11 +149,10 @@ impl<'a> Signer<'a> {
 
     /// The values of all unsigned attributes of a kind. An attribute that is refused is an error of its own.
     fn values(&self, kind: KnownOid) -> impl Iterator<Item = Result<sys::DerElement, SignatureError>> + 'a {
-        let bytes = self.bytes;
-        self.unsigned_attributes().flat_map(move |attribute| {
+        let (bytes, mut attributes) = (self.bytes, self.unsigned_attributes());
+        core::iter::from_fn(move || attributes.find_kind(kind).transpose()).flat_map(move |attribute| {
             let (values, error) = match attribute {
-                Ok(it) if it.parts.kind.id == kind.number() => (it.parts.values, None),
-                Ok(_) => (sys::Range::default(), None),
+                Ok(it) => (it.parts.values, None),
                 Err(error) => (sys::Range::default(), Some(Err(error))),
             };
             Elements::new(bytes, values).chain(error)
@@ -178,15 +177,11 @@ impl<'a> Attributes<'a> {
     ///
     /// # Errors
     ///
-    /// Those of the attributes up to this one.
+    /// That of the first attribute that is refused, if it stands before one of this kind; others follow it.
     pub fn find_kind(&mut self, kind: KnownOid) -> Result<Option<Attribute<'a>>, SignatureError> {
-        for attribute in self {
-            let attribute = attribute?;
-            if attribute.kind() == kind {
-                return Ok(Some(attribute));
-            }
-        }
-        Ok(None)
+        let bytes = self.0.bytes;
+        let found = find_attribute(bytes, &mut self.0.walk, kind.number())?;
+        Ok(found.map(|parts| Attribute { bytes, parts }))
     }
 }
 

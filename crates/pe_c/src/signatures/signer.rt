@@ -2,17 +2,26 @@
 //! the signer's certificate by issuer and serial number, compares the attribute `messageDigest` with the digest of what is signed,
 //! and checks the signature over the signed attributes.
 
-ghost use Rattle.std.specs.Prelude.{◌≡◌};
-ghost use Rattle.pe_c.specs.SignatureParts.{SignatureHandsOut, after_tag};
-ghost use Rattle.pe_c.specs.Signatures.{attribute_at, attribute_in, certificate_of, opus_info_at, opus_info_in, signer_at, signer_in, signer_part, tag_of};
+ghost use Rattle.std.specs.Prelude.{◌≡◌, List, Result};
+ghost use Rattle.pe_pkcs7.specs.Fields.{first_element};
+ghost use Rattle.pe_pkcs7.specs.Walks.{Items};
+ghost use Rattle.pe_pkcs7.specs.declared.der.Element.{Element};
+ghost use Rattle.pe_pkcs7.specs.declared.error.SignatureError.{SignatureError};
+ghost use Rattle.pe_c.specs.SignatureParts.{SignatureHandsOut, SignatureHandsOutIf, after_tag, left_from, left_place};
+ghost use Rattle.pe_c.specs.Signatures.{FindsInWalk, attribute_at, attribute_in, attribute_part, attribute_sought, attribute_with_number, certificate_of, opus_info_at, opus_info_in, signer_at, signer_in, signer_part, tag_of};
 
 use super::elements::{
     Algorithm, Oid, algorithm_at, content_range, last_before, oid_part, optional_content,
     whole_range,
 };
-use super::refused::{Parsed, Read, SignatureFailure, element_in, hand_out_part};
+use super::refused::{
+    Parsed, Read, SignatureFailure, element_in, hand_out_part, hand_out_part_if, up_to_range,
+};
 use crate::ranges::{NO_BYTES, Range};
-use pe_pkcs7::{Attribute, Element, IssuerAndSerial, SignerInfo, SpcSpOpusInfo, attribute_number};
+use pe_pkcs7::{
+    Attribute, Element, IssuerAndSerial, SignerInfo, SpcSpOpusInfo, attribute_number,
+    find_attribute_at,
+};
 
 /// The tag of a `SET`.
 const SET: u32 = 0x31;
@@ -151,15 +160,23 @@ pub struct SignerAttribute {
     pub values: Range,
 }
 
+/// An attribute as callers get it.
+fn attribute_part(bytes: &[u8], attribute: Attribute) -> SignerAttribute
+    ensures { result ≡ attribute_part bytes.now attribute }
+{
+    let Attribute { kind, values } = attribute;
+    SignerAttribute {
+        kind: oid_part(kind, attribute_number(kind.content_of(bytes))),
+        values: content_range(values),
+    }
+}
+
 /// The attribute that an element is. Errors: those of `Attribute::parse`.
 fn attribute_at(bytes: &[u8], element: Element) -> Parsed<SignerAttribute>
     ensures { result ≡ attribute_at bytes.now element }
 {
-    let Attribute { kind, values } = Attribute::parse(bytes, element)?;
-    Ok(SignerAttribute {
-        kind: oid_part(kind, attribute_number(kind.content_of(bytes))),
-        values: content_range(values),
-    })
+    let attribute = Attribute::parse(bytes, element)?;
+    Ok(attribute_part(bytes, attribute))
 }
 
 fn read_attribute(bytes: &[u8], range: &Range) -> Read<SignerAttribute>
@@ -183,6 +200,67 @@ pub extern "C" fn pe_c_attribute(
         (attribute_in bytes.now range.now) }
 {
     hand_out_part(read_attribute(bytes, range), failure, out)
+}
+
+/// What a search returns.
+fn attribute_sought(part: &[u8], found: Parsed<Option<Attribute>>) -> Read<Option<SignerAttribute>>
+    ensures { result ≡ attribute_sought part.now found }
+{
+    match found? {
+        Some(attribute) => Ok(Some(attribute_part(part, attribute))),
+        None => Ok(None),
+    }
+}
+
+/// What a walk has left from an offset on.
+fn left_from(walk: &Range, offset: usize) -> Range
+    ensures { result ≡ left_from walk.now offset }
+{
+    let offset = offset as u64;
+    Range {
+        offset,
+        length: walk
+            .length
+            .saturating_sub(offset.saturating_sub(walk.offset)),
+    }
+}
+
+/// The first attribute of a type in a walk, and what the walk has left.
+fn find_attribute(bytes: &[u8], walk: &Range, number: u32) -> (Read<Option<SignerAttribute>>, Range)
+    ensures { FindsInWalk bytes.now walk.now number result }
+{
+    match up_to_range(bytes, walk) {
+        Ok(part) => {
+            let (found, next) = find_attribute_at(part, walk.offset as usize, number);
+            (attribute_sought(part, found), left_from(walk, next))
+        }
+        Err(failure) => (Err(failure), NO_BYTES),
+    }
+}
+
+/// Returns the next attribute of a type in a walk, and moves `walk` past it. `NOTHING`, which ends the walk, where there is none.
+///
+/// Errors, in order: `SHORT` where `walk` is not inside the bytes; of the first attribute in it that has the type or is refused,
+/// those of an element, after which the walk is over; those of `Attribute::parse`, after which it is past the attribute.
+#[unsafe(no_mangle)]
+pub extern "C" fn pe_c_find_attribute(
+    bytes: &[u8],
+    walk: &mut Range,
+    id: u32,
+    failure: &mut SignatureFailure,
+    out: &mut SignerAttribute,
+) -> u32
+    ensures attribute { (items : List (Result Element SignatureError)) →
+        Items first_element (left_place bytes.now walk.old) items →
+        SignatureHandsOutIf result failure.old failure.new out.old out.new
+        (attribute_with_number bytes.now walk.old id items).0 }
+    ensures walk { (items : List (Result Element SignatureError)) →
+        Items first_element (left_place bytes.now walk.old) items →
+        walk.new ≡ (attribute_with_number bytes.now walk.old id items).1 }
+{
+    let (found, left) = find_attribute(bytes, walk, id);
+    *walk = left;
+    hand_out_part_if(found, failure, out)
 }
 
 /// What a signer says of the program.
