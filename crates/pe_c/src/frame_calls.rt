@@ -105,15 +105,12 @@ fn next_frame<W: WalkRecord, L: LoadedModules, M: Memory>(
     if position.remaining == 0 {
         return NOTHING;
     }
-    match position.next(modules, memory) {
-        Some(frame) => {
-            walk.put_frame(&frame);
-            DONE
-        }
-        None => {
-            walk.put_end(&position.end);
-            NOTHING
-        }
+    if position.advance(modules, memory) {
+        walk.put_frame(&position.frame);
+        DONE
+    } else {
+        walk.put_end(&position.end);
+        NOTHING
     }
 }
 
