@@ -176,7 +176,8 @@ fn leaf_frame<L: CallSites>(
     }
 }
 
-/// The frame that is found from registers without records.
+/// The frame that is found from registers without records. Out of line, as few frames are found so.
+#[inline(never)]
 fn without_records<L: CallSites, M: Memory>(
     modules: &L,
     memory: &M,
@@ -194,7 +195,10 @@ fn without_records<L: CallSites, M: Memory>(
 fn is_bottom<L: CallSites, M: Memory>(modules: &L, memory: &M, registers: &Registers) -> bool
     ensures { result ≡ is_bottom (M.word memory.now) (L.list modules.now) registers.now }
 {
-    registers.rip == 0 && without_records(modules, memory, registers).is_none()
+    if registers.rip != 0 {
+        return false;
+    }
+    without_records(modules, memory, registers).is_none()
 }
 
 /// The frame of the caller of a leaf function, whatever it returns to.
