@@ -2,7 +2,7 @@
 //! frame outwards. The caller keeps the walk between two calls, in a record with the registers of its machine, and holds the
 //! modules and the memory.
 
-ghost use Rattle.std.specs.Prelude.{◌≡◌, ◌<◌, ◌==◌, ⊥, Ok};
+ghost use Rattle.std.specs.Prelude.{◌≡◌, ◌<◌, ◌==◌, Ok};
 ghost use Rattle.pe_frame.specs.FrameWalks.{Process, state_of, walk_after};
 ghost use Rattle.pe_c.specs.FrameCalls.{FillsFrames, HandsOutFrame, HandsOutFrames, HandsOutNext, WalkRecords, end_address, end_error, end_number, state_in, way_number, way_of};
 ghost use Rattle.pe_c.specs.declared.results.TheConstants.{NOTHING};
