@@ -54,7 +54,11 @@ impl<F: WalkFrame> WalkPosition<F> {
     }
 
     /// Makes the frame the one that follows: the first as it is, and then the caller of each.
-    fn follow<L: LoadedModules, M: Memory>(&mut self, modules: &L, memory: &M) -> Result<(), WalkEnd>
+    fn follow<L: LoadedModules, M: Memory>(
+        &mut self,
+        modules: &L,
+        memory: &M,
+    ) -> Result<(), WalkEnd>
         ensures follows { Follows F.Calls
             (state_of (record { memory = M.word memory.now; modules = L.modules modules.now }) self.old)
             (frame_left result self.new.frame) }

@@ -1,7 +1,12 @@
-use Rattle.std.proofs.Common.{length-set, ◌∙◌, arith}
+use Rattle.std.proofs.Common.{length-set, refl, ◌∙◌, arith}
 use Rattle.pe_frame.specs.FrameWalks.{Process}
 use Rattle.pe_c.proofs.NextFrames.{one_more, others_stay}
 use Rattle.pe_c.proofs.frame_calls.next_frames.Goals as goal
+
+pub loop-i-init : goal.loop-i-init
+loop-i-init g c =
+    let p : Process = record { memory = g.M.Memory.word c.args.memory.now; modules = g.L.LoadedModules.modules c.args.modules.now } in
+    record { frames = refl; others = refl; position = c.position-position.ensures p; same = refl }
 
 pub loop-i-preserved : goal.loop-i-preserved
 loop-i-preserved g c =
