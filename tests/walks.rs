@@ -374,12 +374,12 @@ fn section(start: u32, size: u32, characteristics: u32) -> SectionTable {
 /// A frame: rip, rsp, how it was found, and whether it has called.
 type Frame = (u64, u64, Way, bool);
 
-/// The walk from this top frame through the program, over these words from address 0x1000 on, has these frames and ends so.
-fn expect_frames(
+/// The walk from this top frame through the program, over this memory, has these frames and ends so.
+fn expect_frames_over<M: Memory>(
     rt: &impl Abort,
     alloc: Global,
     top: (u64, u64),
-    words: &[u64],
+    memory: &M,
     frames: &[Frame],
     end: &str,
 ) -> Result<(), Fail> {
@@ -395,12 +395,7 @@ fn expect_frames(
         ..module(APP, &program, &data)
     }];
     let modules = Modules::new(&modules).map_err(|_| "one module ascends")?;
-    let bytes = bytes_of(alloc, words)?;
-    let memory = Stack {
-        start: 0x1000,
-        bytes: &bytes,
-    };
-    let mut walk = StackFrames::new(modules, &memory, registers(top.0, top.1), 100);
+    let mut walk = StackFrames::new(modules, memory, registers(top.0, top.1), 100);
     for frame in frames {
         let found = walk.next().ok_or("a frame")?;
         let registers = found.registers;
@@ -418,6 +413,23 @@ fn expect_frames(
     let why = walk.end().ok_or("an end")?;
     assert_eq!(rt; text(alloc, why)?.as_str(), end);
     Ok(())
+}
+
+/// The same over these words from address 0x1000 on.
+fn expect_frames(
+    rt: &impl Abort,
+    alloc: Global,
+    top: (u64, u64),
+    words: &[u64],
+    frames: &[Frame],
+    end: &str,
+) -> Result<(), Fail> {
+    let bytes = bytes_of(alloc, words)?;
+    let memory = Stack {
+        start: 0x1000,
+        bytes: &bytes,
+    };
+    expect_frames_over(rt, alloc, top, &memory, frames, end)
 }
 
 const BOTTOM: &str = "bottom of the stack";
@@ -505,6 +517,44 @@ fn a_frame_at_no_call_was_interrupted(rt: HostRuntime) -> Result<(), Fail> {
         at_the_call(0x1040, Way::Records),
     ];
     expect_frames(&rt, alloc, (APP + 0x70, 0x1000), &words, &frames, BOTTOM)
+}
+
+/// A fiber runs on a stack of its own. Its frames end at the bottom of that, and those of the thread that switched to it at the
+/// bottom of the thread's stack, whichever of the two is higher.
+#[test]
+fn a_fiber_has_a_stack_of_its_own(rt: HostRuntime) -> Result<(), Fail> {
+    let alloc = rt.alloc();
+    // The function that pushes rbx twice, the second one at its call; its outermost frame returns to 0.
+    let fiber = bytes_of(alloc, &[0, 0, 0, 0, 0xB1, APP + 0x50, 0, 0, 0, 0, 0xB2, 0])?;
+    // The thread has called a function without a record, which switched to the fiber.
+    let thread = bytes_of(alloc, &OUTERMOST)?;
+    for start in [0x400, 0x8000] {
+        let own = Stack {
+            start,
+            bytes: &fiber,
+        };
+        let other = Stack {
+            start: 0x1000,
+            bytes: &thread,
+        };
+        let pieces = if start < 0x1000 {
+            [own, other]
+        } else {
+            [other, own]
+        };
+        let memory = StackPieces::new(&pieces);
+        let frames = [
+            (APP + 0x48, start, Way::Top, false),
+            at_the_call(start + 0x30, Way::Records),
+        ];
+        expect_frames_over(&rt, alloc, (APP + 0x48, start), &memory, &frames, BOTTOM)?;
+        let frames = [
+            (APP + 0x90, 0x1000, Way::Top, false),
+            at_the_call(0x1008, Way::Leaf),
+        ];
+        expect_frames_over(&rt, alloc, (APP + 0x90, 0x1000), &memory, &frames, BOTTOM)?;
+    }
+    Ok(())
 }
 
 #[test]

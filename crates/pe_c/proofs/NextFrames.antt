@@ -42,6 +42,22 @@ module _ {W F : Type 0} (Calls : Process → F → Result F WalkEnd → Type 0) 
   done old next s w new start some h is kept =
       done_by (m.remaining old) old next s new some (subst (λ (v : FrameWalk Process F). Advances Calls v (Some s) new) start h) is kept
 
+  -- where the walk is then: the position from which it went on says the same
+
+  same_with : (old next : W) (s : F) (new : FrameWalk Process F) (found : Result F WalkEnd) → Some s ≡ returned_frame found → new ≡ walk_after (at old) found → at next ≡ walk_after (at old) (Ok s) → new ≡ at next
+  same_with old next s new (Ok x) answer after is =
+      let this : x ≡ s = cc answer in
+      after ∙ (ap (λ (f : F). walk_after (at old) (Ok f)) this ∙ sym is)
+  same_with old next s new (Err e) answer after is = absurd (cc answer)
+
+  same_by : (n : ℕ) (old next : W) (s : F) (new : FrameWalk Process F) → 0 < n → AdvancesBy Calls n (at old) (Some s) new → at next ≡ walk_after (at old) (Ok s) → new ≡ at next
+  same_by zero old next s new some h is = absurd (omega (arith, some))
+  same_by (suc n) old next s new some h is = same_with old next s new h.0 h.2 h.3 is
+
+  pub same_position : (old next : W) (s : F) (w new : FrameWalk Process F) → w ≡ at old → 0 < m.remaining old → Advances Calls w (Some s) new → at next ≡ walk_after (at old) (Ok s) → new ≡ at next
+  same_position old next s w new start some h is =
+      same_by (m.remaining old) old next s new some (subst (λ (v : FrameWalk Process F). Advances Calls v (Some s) new) start h) is
+
   -- ---- the end
 
   over_with : (old next : W) (new : FrameWalk Process F) (found : Result F WalkEnd) → Follows Calls (at old) found → None ≡ returned_frame found → new ≡ walk_after (at old) found → next ≡ m.after_end old new.end → HandsOut 100 old next

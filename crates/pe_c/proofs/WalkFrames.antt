@@ -1,16 +1,18 @@
 -- Frames in the records of walks: what is written there is read again.
-use Rattle.std.proofs.Common.{◌≡◌, ℕ, ◌+◌, ◌*◌, ◌/◌, ◌%◌, ◌^◌, ◌<◌, Bool, true, false, List, length, slice_index, refl, sym, ◌∙◌, subst, arith}
+use Rattle.std.proofs.Common.{◌≡◌, ℕ, ◌+◌, ◌-◌, ◌*◌, ◌/◌, ◌%◌, ◌^◌, ◌<◌, Bool, true, false, List, length, slice_index, Ok, refl, ap, sym, ◌∙◌, subst, arith}
 use Rattle.std.specs.Prelude.{◌==◌}
 use Rattle.std.proofs.lemmas.List.{ext_get_or}
 use Rattle.std.proofs.lemmas.Bool.Decides.{nat_tests}
 use Rattle.std.proofs.lemmas.Nat.{div-add-mod'}
 use Rattle.pe_core.specs.Rows.{each}
 use Rattle.pe_core.proofs.EntryItems.{get_or-each, length-each}
+use Rattle.pe_frame.specs.FrameWalks.{Process, walk_after}
 use Rattle.pe_frame.specs.declared.walk.StackFrame.{StackFrame}
+use Rattle.pe_frame.specs.declared.walk.WalkEnd.TheVariants as ends
 use Rattle.pe_frame.specs.declared.walk.Way.{Way}
 use Rattle.pe_frame.specs.declared.walk.Way.TheVariants.{Top, Records, Leaf, Interrupt, Scanned}
 use Rattle.pe_c.specs.StackFrames.{half_xmm, whole_xmm}
-use Rattle.pe_c.specs.FrameCalls.{bit_of, is_set, way_number, way_of}
+use Rattle.pe_c.specs.FrameCalls.{bit_of, is_set, state_in, way_number, way_of}
 use Rattle.pe_c.specs.StackWalks.{after_frame, frame_in, stack_walks}
 use Rattle.pe_c.specs.declared.stack_walk.StackWalk.{StackWalk}
 use Rattle.pe_c.proofs.FrameRuns.{KeepWalks}
@@ -61,6 +63,11 @@ same_bit false = refl
 
 pub kept : (w : StackWalk) (s : StackFrame) → length (s.registers).xmm ≡ 16 → frame_in (after_frame w s) ≡ s
 kept w s all = rw (registers_of_halves (s.registers).xmm all, same_way s.way, same_bit s.has_called) refl
+
+-- where the walk is then
+pub position_after : (p : Process) (w : StackWalk) (s : StackFrame) → length (s.registers).xmm ≡ 16 → state_in stack_walks p (after_frame w s) ≡ walk_after (state_in stack_walks p w) (Ok s)
+position_after p w s all =
+    ap (λ (f : StackFrame). record { process = p; frame = f; has_returned = true; remaining = w.remaining - 1; end = ends.Bound }) (kept w s all)
 
 pub keep_walks : KeepWalks stack_walks
 keep_walks = record {

@@ -2,9 +2,10 @@
 //! frame outwards. The caller keeps the walk between two calls, in a record with the registers of its machine, and holds the
 //! modules and the memory.
 
-ghost use Rattle.std.specs.Prelude.{◌≡◌, ◌<◌, ◌==◌};
-ghost use Rattle.pe_frame.specs.FrameWalks.{Process, state_of};
+ghost use Rattle.std.specs.Prelude.{◌≡◌, ◌<◌, ◌==◌, Ok};
+ghost use Rattle.pe_frame.specs.FrameWalks.{Process, state_of, walk_after};
 ghost use Rattle.pe_c.specs.FrameCalls.{FillsFrames, HandsOutFrame, HandsOutFrames, HandsOutNext, WalkRecords, end_address, end_error, end_number, state_in, way_number, way_of};
+ghost use Rattle.pe_c.specs.declared.results.TheConstants.{NOTHING};
 
 use crate::results::{DONE, LONG_CHAIN, NOTHING, number_of};
 use crate::stack_frames::reported;
@@ -30,7 +31,9 @@ pub trait WalkRecord: Copy {
     fn put_frame(&mut self, frame: &Self::Frame)
         requires { 0 < records.remaining self.old }
         ensures after { self.new ≡ records.after_frame self.old frame.now }
-        ensures kept { records.frame self.new ≡ frame.now };
+        ensures kept { records.frame self.new ≡ frame.now }
+        ensures position { (p : Process) →
+            state_in records p self.new ≡ walk_after (state_in records p self.old) (Ok frame.now) };
 
     /// Writes why the walk is over.
     fn put_end(&mut self, end: &WalkEnd)
@@ -91,6 +94,35 @@ pub fn error_of_end(end: &WalkEnd) -> (u32, Option<u64>)
     }
 }
 
+/// The next frame of a walk over these modules and this memory, from the position at which its record is. After a frame it is at
+/// that of the record again.
+fn next_frame_from<W: WalkRecord, L: LoadedModules, M: Memory>(
+    modules: &L,
+    memory: &M,
+    position: &mut WalkPosition<W::Frame>,
+    walk: &mut W,
+) -> u32
+    requires { state_of (record { memory = M.word memory.now; modules = L.modules modules.now }) position.old
+        ≡ state_in W.records (record { memory = M.word memory.now; modules = L.modules modules.now }) walk.old }
+    ensures next { HandsOutNext W.Frame.Calls W.records
+        (record { memory = M.word memory.now; modules = L.modules modules.now })
+        result walk.old walk.new }
+    ensures position { (result ≡ NOTHING → ⊥) →
+        state_of (record { memory = M.word memory.now; modules = L.modules modules.now }) position.new
+        ≡ state_in W.records (record { memory = M.word memory.now; modules = L.modules modules.now }) walk.new }
+{
+    if position.remaining == 0 {
+        return NOTHING;
+    }
+    if position.advance(modules, memory) {
+        walk.put_frame(&position.frame);
+        DONE
+    } else {
+        walk.put_end(&position.end);
+        NOTHING
+    }
+}
+
 /// The next frame of a walk over these modules and this memory.
 fn next_frame<W: WalkRecord, L: LoadedModules, M: Memory>(
     modules: &L,
@@ -102,19 +134,7 @@ fn next_frame<W: WalkRecord, L: LoadedModules, M: Memory>(
         result walk.old walk.new }
 {
     let mut position = walk.position();
-    if position.remaining == 0 {
-        return NOTHING;
-    }
-    match position.next(modules, memory) {
-        Some(frame) => {
-            walk.put_frame(&frame);
-            DONE
-        }
-        None => {
-            walk.put_end(&position.end);
-            NOTHING
-        }
-    }
+    next_frame_from(modules, memory, &mut position, walk)
 }
 
 /// The next frames of a walk: in each slot the walk as it is after a frame. Returns how many there are.
@@ -129,8 +149,9 @@ fn next_frames<W: WalkRecord, L: LoadedModules, M: Memory>(
         (record { memory = M.word memory.now; modules = L.modules modules.now })
         result frames.old frames.new walk.old walk.new }
 {
+    let mut position = walk.position();
     for i in 0..frames.len() {
-        if next_frame(modules, memory, walk) == NOTHING {
+        if next_frame_from(modules, memory, &mut position, walk) == NOTHING {
             return i;
         }
         frames[i] = *walk;

@@ -270,7 +270,8 @@ fn exceptions_by<'a>(image: &View<'a>, table: &Range) -> Result<ExceptionData<'a
     ExceptionData::of_table(image.bytes, table, image.image.file_alignment)
 }
 
-/// The same by the function table of an image.
+/// The same by the function table of an image. Out of line, so that leaf functions do not pay for its room.
+#[inline(never)]
 fn step_by_table<M: Memory>(
     image: &View<'_>,
     table: &Range,

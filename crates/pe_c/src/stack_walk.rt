@@ -8,6 +8,7 @@ ghost use Rattle.std.specs.Option.{option_map};
 ghost use Rattle.pe_core.specs.Refusals.{answer_by};
 ghost use Rattle.pe_frame.specs.AddressRanges.{AreAscending, has_address};
 ghost use Rattle.pe_frame.specs.Arm64Walks as arm64;
+ghost use Rattle.pe_frame.specs.FrameWalks.{frame_left};
 ghost use Rattle.pe_frame.specs.Modules.{is_after_call_arm64_of, is_after_call_of, is_code_return_arm64_of, is_code_return_of, module_at, module_base, module_size};
 ghost use Rattle.pe_frame.specs.Walks.{Calls, CallsIn, lookup_address};
 ghost use Rattle.pe_c.specs.FrameCalls.{HandsOutFrame, HandsOutFrames};
@@ -209,25 +210,25 @@ impl<'a> ViewedModules<'a> {
         first_with(self.views, self.is_ascending, address)
     }
 
-    /// The frame of the caller of a frame, by the module that has its lookup address, or why there is none.
-    fn caller_in<M: Memory>(
+    /// Makes a frame that of its caller, by the module that has its lookup address, or says why there is none.
+    fn become_caller_in<M: Memory>(
         &self,
         view: &ModuleView<'_>,
-        frame: &StackFrame,
+        frame: &mut StackFrame,
         memory: &M,
-    ) -> std::result::Result<StackFrame, WalkEnd>
+    ) -> std::result::Result<(), WalkEnd>
         requires table { IsTrue (has_table view.now) }
         requires has { IsTrue (has_address module_base module_size
-            (lookup_address frame.now) (module_of view.now)) }
-        ensures { CallsIn (M.word memory.now) (modules_of self.now.views.now) frame.now
-            (Some (module_of view.now)) result }
+            (lookup_address frame.old) (module_of view.now)) }
+        ensures { CallsIn (M.word memory.now) (modules_of self.now.views.now) frame.old
+            (Some (module_of view.now)) (frame_left result frame.new) }
     {
         let exceptions = exceptions_of(view);
         let module = module_with(view, exceptions.as_ref());
         caller_in_module(self, &module, frame, memory)
     }
 
-    /// The same on ARM64.
+    /// The frame of the caller of a frame on ARM64, or why there is none.
     fn caller_in_arm64<M: Memory>(
         &self,
         view: &ModuleView<'_>,
@@ -282,13 +283,13 @@ impl<'a> CallSites for ViewedModules<'a> {
 impl<'a> LoadedModules for ViewedModules<'a> {
     ghost modules = { λ m. modules_of m.views.now };
 
-    fn caller_of<M: Memory>(
+    fn become_caller<M: Memory>(
         &self,
-        frame: &StackFrame,
+        frame: &mut StackFrame,
         memory: &M,
-    ) -> std::result::Result<StackFrame, WalkEnd> {
+    ) -> std::result::Result<(), WalkEnd> {
         match self.find(frame.lookup_address()) {
-            Some(view) => self.caller_in(view, frame, memory),
+            Some(view) => self.become_caller_in(view, frame, memory),
             None => caller_outside(self, frame, memory),
         }
     }

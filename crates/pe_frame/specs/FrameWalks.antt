@@ -36,6 +36,11 @@ FollowsBy Calls false w answer = answer ≡ Ok w.frame
 abbrev pub Follows : {P F : Type 0} → (P → F → Result F WalkEnd → Type 0) → FrameWalk P F → Result F WalkEnd → Type 0
 Follows Calls w answer = FollowsBy Calls w.has_returned w answer
 
+-- what a call leaves that makes a frame that of its caller: the caller, or why there is none
+abbrev pub frame_left : {F : Type 0} → Result Unit WalkEnd → F → Result F WalkEnd
+frame_left (Ok u) s = Ok s
+frame_left (Err e) s = Err e
+
 -- the walk after it
 abbrev pub walk_after : {P F : Type 0} → FrameWalk P F → Result F WalkEnd → FrameWalk P F
 walk_after w (Ok s) = record { process = w.process; frame = s; has_returned = true; remaining = w.remaining - 1; end = w.end }

@@ -30,7 +30,9 @@ pub(crate) trait KnownBytes {
         ensures { result ≡ byte self.now address };
 }
 
-/// The little-endian number of the eight bytes at an address. `None` if they are not all known.
+/// The little-endian number of the eight bytes at an address. `None` if they are not all known. Out of line, as nearly all words
+/// stand in one piece, where one lookup finds them.
+#[inline(never)]
 pub(crate) fn known_word<B: KnownBytes>(memory: &B, address: u64) -> Option<u64>
     ensures { result ≡ known_word (B.byte memory.now) address }
 {

@@ -1,8 +1,8 @@
 //! Where a walk of a stack is, on any machine: what a caller keeps between two frames, without the modules and the memory that the
 //! walk is over.
 
-ghost use Rattle.std.specs.Prelude.{◌≡◌, Result};
-ghost use Rattle.pe_frame.specs.FrameWalks.{Process};
+ghost use Rattle.std.specs.Prelude.{◌≡◌, if◌then◌else◌, Result, Some, None};
+ghost use Rattle.pe_frame.specs.FrameWalks.{Process, frame_left};
 ghost use Rattle.pe_frame.specs.declared.walk.WalkEnd.{WalkEnd};
 
 use crate::memory::Memory;
@@ -14,11 +14,15 @@ pub trait WalkFrame: Copy {
     // What may be the caller of a frame, or the reason why it has none.
     ghost Calls: { Process → Self → Result Self WalkEnd → Type 0 };
 
-    /// The frame of its caller, or why there is none.
-    fn caller<L: LoadedModules, M: Memory>(&self, modules: &L, memory: &M) -> Result<Self, WalkEnd>
+    /// Makes it that of its caller, or says why there is none: then it means nothing.
+    fn become_caller<L: LoadedModules, M: Memory>(
+        &mut self,
+        modules: &L,
+        memory: &M,
+    ) -> Result<(), WalkEnd>
         ensures { Calls
             (record { memory = M.word memory.now; modules = L.modules modules.now })
-            self.now result };
+            self.old (frame_left result self.new) };
 }
 
 /// Where a walk is, without the modules and the memory that it is over. A caller may keep it between two frames.
@@ -49,42 +53,63 @@ impl<F: WalkFrame> WalkPosition<F> {
         }
     }
 
-    /// The frame that follows: the first as it is, and then the caller of each.
-    fn following<L: LoadedModules, M: Memory>(&self, modules: &L, memory: &M) -> Result<F, WalkEnd>
-        ensures { Follows F.Calls
-            (state_of (record { memory = M.word memory.now; modules = L.modules modules.now }) self.now)
-            result }
+    /// Makes the frame the one that follows: the first as it is, and then the caller of each.
+    fn follow<L: LoadedModules, M: Memory>(
+        &mut self,
+        modules: &L,
+        memory: &M,
+    ) -> Result<(), WalkEnd>
+        ensures follows { Follows F.Calls
+            (state_of (record { memory = M.word memory.now; modules = L.modules modules.now }) self.old)
+            (frame_left result self.new.frame) }
+        ensures others { self.new ≡ record self.old { frame = self.new.frame } }
     {
         if self.has_returned {
-            self.frame.caller(modules, memory)
+            self.frame.become_caller(modules, memory)
         } else {
-            Ok(self.frame)
+            Ok(())
+        }
+    }
+
+    /// Goes on to the next frame of the walk over these modules and this memory, which is `frame` then. False once the walk is
+    /// over.
+    #[tactic(auto, using(crate::proofs::FrameWalks::advanced))]
+    pub fn advance<L: LoadedModules, M: Memory>(&mut self, modules: &L, memory: &M) -> bool
+        ensures { Advances F.Calls
+            (state_of (record { memory = M.word memory.now; modules = L.modules modules.now }) self.old)
+            (if result then Some self.new.frame else None)
+            (state_of (record { memory = M.word memory.now; modules = L.modules modules.now }) self.new) }
+    {
+        if self.remaining == 0 {
+            return false;
+        }
+        let frame = self.frame;
+        match self.follow(modules, memory) {
+            Ok(()) => {
+                self.has_returned = true;
+                self.remaining -= 1;
+                true
+            }
+            Err(end) => {
+                self.frame = frame;
+                self.remaining = 0;
+                self.end = end;
+                false
+            }
         }
     }
 
     /// The next frame of the walk over these modules and this memory. `None` once the walk is over.
-    #[tactic(auto, using(crate::proofs::FrameWalks::advanced))]
     pub fn next<L: LoadedModules, M: Memory>(&mut self, modules: &L, memory: &M) -> Option<F>
         ensures { Advances F.Calls
             (state_of (record { memory = M.word memory.now; modules = L.modules modules.now }) self.old)
             result
             (state_of (record { memory = M.word memory.now; modules = L.modules modules.now }) self.new) }
     {
-        if self.remaining == 0 {
-            return None;
-        }
-        match self.following(modules, memory) {
-            Ok(frame) => {
-                self.frame = frame;
-                self.has_returned = true;
-                self.remaining -= 1;
-                Some(frame)
-            }
-            Err(end) => {
-                self.remaining = 0;
-                self.end = end;
-                None
-            }
+        if self.advance(modules, memory) {
+            Some(self.frame)
+        } else {
+            None
         }
     }
 }

@@ -2,6 +2,7 @@
 
 ghost use Rattle.std.specs.Prelude.{◌≡◌, List};
 ghost use Rattle.pe_frame.specs.Arm64Walks as arm64;
+ghost use Rattle.pe_frame.specs.FrameWalks.{frame_left};
 ghost use Rattle.pe_frame.specs.Modules.{is_after_call, is_after_call_arm64, is_code_return, is_code_return_arm64};
 ghost use Rattle.pe_frame.specs.Walks.{Calls};
 ghost use Rattle.pe_frame.specs.declared.modules.Module.{Module};
@@ -38,14 +39,15 @@ pub trait LoadedModules {
     // The modules, of which the first that has an address is that of the address.
     ghost modules: { Self → List Module };
 
-    /// The frame of the caller of a frame, or why there is none: [`caller_in_module`] by the module that has the lookup address
-    /// of the frame, or [`caller_outside`] if none does.
-    fn caller_of<M: Memory>(&self, frame: &StackFrame, memory: &M) -> Result<StackFrame, WalkEnd>
+    /// Makes a frame that of its caller, or says why there is none: [`caller_in_module`] by the module that has the lookup address
+    /// of the frame, or [`caller_outside`] if none does. Where there is none the frame means nothing. A frame of 400 bytes is
+    /// changed where it is, since moving it takes longer than the step.
+    fn become_caller<M: Memory>(&self, frame: &mut StackFrame, memory: &M) -> Result<(), WalkEnd>
         ensures { Calls
             (record { memory = M.word memory.now; modules = modules self.now })
-            frame.now result };
+            frame.old (frame_left result frame.new) };
 
-    /// The same on ARM64: [`caller_in_module_arm64`] or [`caller_outside_arm64`].
+    /// The frame of the caller of a frame on ARM64, or why there is none: [`caller_in_module_arm64`] or [`caller_outside_arm64`].
     fn caller_of_arm64<M: Memory>(
         &self,
         frame: &Arm64StackFrame,
@@ -79,7 +81,7 @@ impl<'a> CallSites for Modules<'a> {
 impl<'a> LoadedModules for Modules<'a> {
     ghost modules = { λ m. m.modules.now };
 
-    fn caller_of<M: Memory>(&self, frame: &StackFrame, memory: &M) -> Result<StackFrame, WalkEnd> {
+    fn become_caller<M: Memory>(&self, frame: &mut StackFrame, memory: &M) -> Result<(), WalkEnd> {
         match self.find(frame.lookup_address()) {
             Some(module) => caller_in_module(self, module, frame, memory),
             None => caller_outside(self, frame, memory),

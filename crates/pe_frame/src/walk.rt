@@ -14,8 +14,9 @@ ghost use Rattle.std.specs.Option.{option_map};
 ghost use Rattle.std.specs.Iterator.{at_most};
 ghost use Rattle.pe_frame.specs.AddressRanges.{has_address};
 ghost use Rattle.pe_frame.specs.InPlace.{changed_with};
+ghost use Rattle.pe_frame.specs.FrameWalks.{frame_left};
 ghost use Rattle.pe_frame.specs.Modules.{module_base, module_size};
-ghost use Rattle.pe_frame.specs.Walks.{frame_of, lookup_address, code_of_frame, code_return, scanned, leaf_frame, without_records, is_bottom, after_leaf, caller_of_leaf, caller_outside, frame_after, CallsFound, CallsIn};
+ghost use Rattle.pe_frame.specs.Walks.{has_called, frame_of, lookup_address, code_of_frame, code_return, scanned, leaf_frame, without_records, is_bottom, after_leaf, caller_of_leaf, caller_outside, frame_after, CallsFound, CallsIn};
 ghost use Rattle.pe_frame.specs.declared.modules.Module.{Module};
 
 use crate::error::FrameError;
@@ -84,22 +85,36 @@ pub enum WalkEnd {
     Step(FrameError),
 }
 
+/// Whether the function of a frame has called, which was found in this way.
+fn has_called<L: CallSites>(modules: &L, way: Way, rip: u64) -> bool
+    ensures { result ≡ has_called (L.list modules.now) way rip }
+{
+    match way {
+        Way::Top => false,
+        Way::Records => modules.ends_call(rip),
+        Way::Leaf => true,
+        Way::Interrupt => false,
+        Way::Scanned => true,
+    }
+}
+
 /// A frame with these registers, found in this way.
 fn frame_of<L: CallSites>(modules: &L, way: Way, registers: Registers) -> StackFrame
     ensures { result ≡ frame_of (L.list modules.now) way registers }
 {
-    let has_called = match way {
-        Way::Top => false,
-        Way::Records => modules.ends_call(registers.rip),
-        Way::Leaf => true,
-        Way::Interrupt => false,
-        Way::Scanned => true,
-    };
     StackFrame {
         registers,
         way,
-        has_called,
+        has_called: has_called(modules, way, registers.rip),
     }
+}
+
+/// Makes a frame one that was found in this way, with the registers that it has.
+fn found_in<L: CallSites>(modules: &L, way: Way, frame: &mut StackFrame)
+    ensures { frame.new ≡ frame_of (L.list modules.now) way frame.old.registers }
+{
+    frame.way = way;
+    frame.has_called = has_called(modules, way, frame.registers.rip);
 }
 
 impl StackFrame {
@@ -161,7 +176,8 @@ fn leaf_frame<L: CallSites>(
     }
 }
 
-/// The frame that is found from registers without records.
+/// The frame that is found from registers without records. Out of line, as few frames are found so.
+#[inline(never)]
 fn without_records<L: CallSites, M: Memory>(
     modules: &L,
     memory: &M,
@@ -179,7 +195,10 @@ fn without_records<L: CallSites, M: Memory>(
 fn is_bottom<L: CallSites, M: Memory>(modules: &L, memory: &M, registers: &Registers) -> bool
     ensures { result ≡ is_bottom (M.word memory.now) (L.list modules.now) registers.now }
 {
-    registers.rip == 0 && without_records(modules, memory, registers).is_none()
+    if registers.rip != 0 {
+        return false;
+    }
+    without_records(modules, memory, registers).is_none()
 }
 
 /// The frame of the caller of a leaf function, whatever it returns to.
@@ -213,19 +232,36 @@ fn caller_of_leaf<L: CallSites, M: Memory>(
     }
 }
 
-/// The frame of the caller of a frame in no module, or why there is none.
+/// Puts the frame of a caller in place of another, if there is one.
+fn put(caller: Result<StackFrame, WalkEnd>, frame: &mut StackFrame) -> Result<(), WalkEnd>
+    ensures { frame_left result frame.new ≡ caller }
+{
+    match caller {
+        Ok(caller) => {
+            *frame = caller;
+            Ok(())
+        }
+        Err(end) => Err(end),
+    }
+}
+
+/// Makes a frame in no module that of its caller, or says why there is none: then the frame means nothing.
 pub fn caller_outside<L: CallSites, M: Memory>(
     modules: &L,
-    frame: &StackFrame,
+    frame: &mut StackFrame,
     memory: &M,
-) -> Result<StackFrame, WalkEnd>
-    ensures { result ≡ caller_outside (M.word memory.now) (L.list modules.now) frame.now }
+) -> Result<(), WalkEnd>
+    ensures { frame_left result frame.new
+        ≡ caller_outside (M.word memory.now) (L.list modules.now) frame.old }
 {
     if frame.has_called {
         return Err(WalkEnd::NoModule);
     }
     match without_records(modules, memory, &frame.registers) {
-        Some(caller) => Ok(caller),
+        Some(caller) => {
+            *frame = caller;
+            Ok(())
+        }
         None => Err(WalkEnd::NoModule),
     }
 }
@@ -252,40 +288,44 @@ fn code_of_frame<'a>(found: &FrameFunction<'a>, frame: &StackFrame, rva: u32) ->
         .code(found.exceptions, rva, found.function.end_address)
 }
 
-/// What a step left, as a frame.
+/// Makes a frame what a step left of it, whose registers are those of the caller.
 fn frame_after<L: CallSites, M: Memory>(
     modules: &L,
     memory: &M,
     left: Result<bool, FrameError>,
-    registers: &Registers,
-) -> Result<StackFrame, WalkEnd>
-    ensures { result ≡ frame_after (M.word memory.now) (L.list modules.now)
-        (changed_with left registers.now) }
+    frame: &mut StackFrame,
+) -> Result<(), WalkEnd>
+    ensures { frame_left result frame.new ≡ frame_after (M.word memory.now) (L.list modules.now)
+        (changed_with left frame.old.registers) }
 {
     match left {
-        Ok(true) => Ok(frame_of(modules, Way::Interrupt, *registers)),
+        Ok(true) => {
+            found_in(modules, Way::Interrupt, frame);
+            Ok(())
+        }
         Ok(false) => {
-            if is_bottom(modules, memory, registers) {
+            if is_bottom(modules, memory, &frame.registers) {
                 return Err(WalkEnd::Bottom);
             }
-            Ok(frame_of(modules, Way::Records, *registers))
+            found_in(modules, Way::Records, frame);
+            Ok(())
         }
         Err(error) => Err(WalkEnd::Step(error)),
     }
 }
 
-/// The frame of the caller, by the records of the function that lookup found. `rva` is that of the frame.
+/// Makes a frame that of its caller, by the records of the function that lookup found. `rva` is that of the frame.
 fn caller_by_records<L: CallSites, M: Memory>(
     modules: &L,
     found: &FrameFunction<'_>,
-    frame: &StackFrame,
+    frame: &mut StackFrame,
     rva: u32,
     memory: &M,
-) -> Result<StackFrame, WalkEnd>
-    requires { rva ≡ frame.now.registers.rip - found.now.module.now.base }
+) -> Result<(), WalkEnd>
+    requires { rva ≡ frame.old.registers.rip - found.now.module.now.base }
     ensures { CallsFound (M.word memory.now) (L.list modules.now)
         found.now.module.now found.now.exceptions.now
-        frame.now (Some found.now.function) result }
+        frame.old (Some found.now.function) (frame_left result frame.new) }
 {
     let FrameFunction {
         module,
@@ -298,29 +338,29 @@ fn caller_by_records<L: CallSites, M: Memory>(
         sections: module.sections,
         opts: module.opts,
     };
-    let mut registers = frame.registers;
-    let caller = &mut registers;
+    let caller = &mut frame.registers;
     let left = match step_in_function_in_place(&functions, function, rva, code, caller, memory) {
         Ok(Some(left)) => left,
         Ok(None) => return Err(WalkEnd::LongChain),
         Err(error) => return Err(WalkEnd::Records(error)),
     };
-    frame_after(modules, memory, left, &registers)
+    frame_after(modules, memory, left, frame)
 }
 
-/// The frame of the caller of a frame, by the module that has its lookup address, or why there is none.
+/// Makes a frame that of its caller, by the module that has its lookup address, or says why there is none: then the frame
+/// means nothing.
 pub fn caller_in_module<L: CallSites, M: Memory>(
     modules: &L,
     module: &Module<'_>,
-    frame: &StackFrame,
+    frame: &mut StackFrame,
     memory: &M,
-) -> Result<StackFrame, WalkEnd>
-    requires { IsTrue (has_address module_base module_size (lookup_address frame.now) module.now) }
+) -> Result<(), WalkEnd>
+    requires { IsTrue (has_address module_base module_size (lookup_address frame.old) module.now) }
     ensures { CallsIn (M.word memory.now) (L.list modules.now)
-        frame.now (Some module.now) result }
+        frame.old (Some module.now) (frame_left result frame.new) }
 {
     let Some(exceptions) = module.exceptions else {
-        return caller_of_leaf(modules, frame, memory);
+        return put(caller_of_leaf(modules, frame, memory), frame);
     };
     let mut table = exceptions.table();
     match search(&mut table, module.rva_of(frame.lookup_address())) {
@@ -333,7 +373,7 @@ pub fn caller_in_module<L: CallSites, M: Memory>(
             let rva = module.rva_of(frame.registers.rip);
             caller_by_records(modules, &found, frame, rva, memory)
         }
-        None => caller_of_leaf(modules, frame, memory),
+        None => put(caller_of_leaf(modules, frame, memory), frame),
     }
 }
 
@@ -342,12 +382,12 @@ impl WalkFrame for StackFrame {
 
     ghost Calls = { Calls };
 
-    fn caller<L: LoadedModules, M: Memory>(
-        &self,
+    fn become_caller<L: LoadedModules, M: Memory>(
+        &mut self,
         modules: &L,
         memory: &M,
-    ) -> Result<StackFrame, WalkEnd> {
-        modules.caller_of(self, memory)
+    ) -> Result<(), WalkEnd> {
+        modules.become_caller(self, memory)
     }
 }
 

@@ -71,7 +71,7 @@ impl<'a, A: Allocator + Copy + Drop> CallSites for IndexedModules<'a, A> {
 impl<'a, A: Allocator + Copy + Drop> LoadedModules for IndexedModules<'a, A> {
     ghost modules = { λ m. m.modules.ranges.now };
 
-    fn caller_of<M: Memory>(&self, frame: &StackFrame, memory: &M) -> Result<StackFrame, WalkEnd> {
+    fn become_caller<M: Memory>(&self, frame: &mut StackFrame, memory: &M) -> Result<(), WalkEnd> {
         match self.find(frame.lookup_address()) {
             Some(module) => caller_in_module(self, module, frame, memory),
             None => caller_outside(self, frame, memory),

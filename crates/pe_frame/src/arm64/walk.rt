@@ -292,12 +292,18 @@ impl WalkFrame for Arm64StackFrame {
 
     ghost Calls = { Calls };
 
-    fn caller<L: LoadedModules, M: Memory>(
-        &self,
+    fn become_caller<L: LoadedModules, M: Memory>(
+        &mut self,
         modules: &L,
         memory: &M,
-    ) -> Result<Arm64StackFrame, WalkEnd> {
-        modules.caller_of_arm64(self, memory)
+    ) -> Result<(), WalkEnd> {
+        match modules.caller_of_arm64(self, memory) {
+            Ok(caller) => {
+                *self = caller;
+                Ok(())
+            }
+            Err(end) => Err(end),
+        }
     }
 }
 
