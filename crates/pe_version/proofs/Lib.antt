@@ -6,3 +6,6 @@ pub mod VersionsRead
 pub mod OneText
 pub mod Making
 pub mod Whole
+pub mod ValuesRead
+pub mod Flat
+pub mod Named

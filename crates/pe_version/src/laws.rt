@@ -1,10 +1,16 @@
 //! Laws over the definitions. Each is the contract of a function that does nothing.
 
 ghost use Rattle.std.specs.Prelude.{◌≡◌, ◌++◌, List, Ok, Some, false, map, ℕ};
+ghost use Rattle.std.specs.Option.{option_map};
 ghost use Rattle.std.specs.Str.{bytes_eq};
 ghost use Rattle.pe_resource.specs.VersionBlocks.{blocks, first_block};
 ghost use Rattle.pe_version.specs.VersionRefusals.{block_of};
 ghost use Rattle.pe_version.specs.WrittenBlocks.{AllFit, BlockValue, Fits, blocks_bytes, padded_block, read_block};
+ghost use Rattle.pe_resource.specs.VersionFields.{VersionView, file_strings, value_named, version_in, version_key};
+ghost use Rattle.pe_resource.specs.VersionStrings.{strings};
+ghost use Rattle.pe_resource.specs.declared.version.VersionName.{VersionName};
+ghost use Rattle.pe_version.specs.VersionReads.{value_read};
+ghost use Rattle.pe_version.specs.VersionStrings.{flat, flat_blocks, padded, text_with_name, texts_of};
 ghost use Rattle.pe_version.specs.VersionValues.{NumbersFit, TextValue, Value, as_read, text_named, version_of, version_read, with_text};
 
 /// pe_resource's walk reads a written block as it was given, and goes on with what follows it; blocks one after the other are
@@ -40,4 +46,30 @@ pub fn one_text_is_set()
         text_named new.name (with_text new ss) ≡ Some new.text }
     ensures others { (name : List ℕ) (new : TextValue) (ss : List TextValue) → bytes_eq name new.name ≡ false →
         text_named name (with_text new ss) ≡ text_named name ss }
+{}
+
+/// Version information that is written is read as the value that was written: what is read, changed and written again keeps the
+/// rest.
+#[tactic(auto, using(crate::proofs::ValuesRead::value_is_read))]
+pub fn written_values_are_read()
+    ensures { (v : Value) (s : List ℕ) → NumbersFit v → version_of v ≡ Ok s → value_read s ≡ Ok (Some v) }
+{}
+
+/// `VersionInfo` of pe_resource, which reads the blocks one after the other, reads as its strings exactly the blocks of written version
+/// information, each before those in it.
+#[tactic(auto, using(crate::proofs::Flat::strings_are))]
+pub fn written_versions_are_read_as_strings()
+    ensures { (v : Value) (s : List ℕ) → version_of v ≡ Ok s →
+        strings s ≡ map (λ k. Ok (flat k)) (flat_blocks v) }
+{}
+
+/// `VersionInfo` reads the fixed file information that was written, and for each of its twelve names the text of the first string with
+/// that name, with zeros up to a multiple of four.
+#[tactic(auto, using(crate::proofs::Named::version_is, crate::proofs::Named::text_is))]
+pub fn written_texts_are_found()
+    ensures whole { (v : Value) (s : List ℕ) → NumbersFit v → version_of v ≡ Ok s → version_in s
+        ≡ Ok (record { fixed_info = Some v.fixed; strings = file_strings (map flat (flat_blocks v)) }) }
+    ensures text { (v : Value) (s : List ℕ) (n : VersionName) (w : VersionView) → NumbersFit v → version_of v ≡ Ok s →
+        version_in s ≡ Ok w → value_named n w.strings
+        ≡ option_map padded (text_with_name (version_key n) (texts_of v)) }
 {}
