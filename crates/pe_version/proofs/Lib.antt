@@ -9,3 +9,4 @@ pub mod Whole
 pub mod ValuesRead
 pub mod Flat
 pub mod Named
+pub mod Setting
