@@ -248,9 +248,9 @@ fn pointers_of_debug_data_move(rt: HostRuntime) -> Result<(), Fail> {
     let leaves = [resource(1, &CONTENT)];
     write_edited(&bytes, &header_of(&bytes)?, &list(&leaves), &mut out)?;
     assert_eq!(rt; &out[0x200..0x234], &bytes[0x200..0x234]);
-    assert_eq!(rt; &out[0x234..0x238], &[0, 8, 0, 0]);
+    assert_eq!(rt; &out[0x234..0x238], [0, 8, 0, 0].as_slice());
     assert_eq!(rt; &out[0x238..0x600], &bytes[0x238..0x600]);
-    assert_eq!(rt; &out[0x800..], b"PDB70");
+    assert_eq!(rt; &out[0x800..], b"PDB70".as_slice());
     Ok(())
 }
 

@@ -222,7 +222,7 @@ const ABC: usize = 0xB8;
 /// One text of windres' is changed, and written with all others.
 #[test]
 fn one_text_is_changed(rt: HostRuntime) -> Result<(), Fail> {
-    let mut bytes = whole(rt.alloc())?;
+    let bytes = whole(rt.alloc())?;
     let Some(mut value) = read_version(rt.alloc(), &bytes)? else {
         return Err("no version information".into());
     };
@@ -231,9 +231,10 @@ fn one_text_is_changed(rt: HostRuntime) -> Result<(), Fail> {
     assert_eq!(rt; value.tables[1].translation.language, 0x407);
     value.tables[0].strings[0].text = b"X\0y\0z\0\0\0";
     let made = value.to_bytes(rt.alloc())?;
-    assert_eq!(rt; &bytes[ABC..ABC + 8], b"A\0b\0c\0\0\0");
-    put(&mut bytes, ABC, b"X\0y\0z\0");
-    assert_eq!(rt; made.as_slice(), bytes.as_slice());
+    assert_eq!(rt; &bytes[ABC..ABC + 8], b"A\0b\0c\0\0\0".as_slice());
+    let mut wanted = whole(rt.alloc())?;
+    put(&mut wanted, ABC, b"X\0y\0z\0");
+    assert_eq!(rt; made.as_slice(), wanted.as_slice());
     Ok(())
 }
 
