@@ -173,7 +173,7 @@ enum {
     PE_C_BLOCK_TOO_LONG = 470,      /* version block has more than 65,535 bytes */
     PE_C_EDIT_NO_HEADER_ROOM = 471, /* headers have no room for another section header */
     PE_C_EDIT_IMAGE_TOO_LARGE = 472, /* image with the resources ends after 4 GB */
-    PE_C_EDIT_DEBUG_DATA = 473,     /* data of a debug entry end after the data of the sections */
+    PE_C_EDIT_DEBUG_DATA = 473,     /* debug entries or their data lie where the resources go */
     PE_C_SIGNATURE_TRUNCATED = 501, /* element of a signature truncated before its content */
     PE_C_SIGNATURE_TAG_NUMBER = 502, /* element of a signature has a tag number above 30 */
     PE_C_SIGNATURE_INDEFINITE_LENGTH = 503, /* element of a signature has an indefinite length */
@@ -2209,7 +2209,7 @@ uint32_t pe_c_edited_length(const pe_c_view *view, const pe_c_resource *resource
  * sections do not end in the file, at a multiple of the file alignment; PE_C_EDIT_SHARED_SECTION where the entry point or a
  * directory leads after the image in memory; PE_C_EDIT_SYMBOLS where COFF symbols start before the end of the data and end after
  * it; PE_C_EDIT_OVERLAP where a section ends after the image in memory, or shares bytes with the headers;
- * PE_C_EDIT_DEBUG_DATA where the data of a debug entry end after the data of the sections; PE_C_WRITE_FIT where the file does
+ * PE_C_EDIT_DEBUG_DATA where debug entries or their data lie where the resources go; PE_C_WRITE_FIT where the file does
  * not fit into the array. */
 uint32_t pe_c_edit(const pe_c_view *view, const pe_c_resource *resources, size_t resource_count, const uint8_t *data,
                    size_t data_length, uint8_t *room, size_t room_length, uint64_t *out) PE_C_RESULT(1, 8);

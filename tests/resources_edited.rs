@@ -214,7 +214,6 @@ fn numbers_in_refusals_at_the_end(rt: HostRuntime) -> Result<(), Fail> {
         (0x84, &[0, 5, 0, 0, 15][..], "Symbols(1280)"),
         (0x1B4, &[0, 0x40][..], "Overlap(1)"),
         (0x18A, &[1][..], "Overlap(0)"),
-        (0x130, &[0, 0x10, 0, 0, 28][..], "DebugData(512)"),
     ] {
         let bytes = with_part(without_resources(rt.alloc())?, offset, part);
         let shown = refused(rt.alloc(), &bytes, &leaves)?;
@@ -223,35 +222,53 @@ fn numbers_in_refusals_at_the_end(rt: HostRuntime) -> Result<(), Fail> {
     Ok(())
 }
 
-/// The data of debug entries stay: they end by the end of the sections' data. The entries are in a section or in the headers.
-#[test]
-fn debug_data_after_the_sections_are_refused(rt: HostRuntime) -> Result<(), Fail> {
-    let leaves = [resource(1, &CONTENT)];
-    // The entry at 0x200 in the file, at the RVA 0x1000: its data are 0x100 bytes from 0x500 on, or one more.
-    let section = [
-        (0x130, &[0, 0x10, 0, 0, 28][..]),
-        (0x218, &[0, 5, 0, 0][..]),
-    ];
-    for (size, text) in [(0, "edited"), (1, "DebugData(512)")] {
-        let mut bytes = without_resources(rt.alloc())?;
-        put(&mut bytes, &section);
-        put(&mut bytes, &[(0x210, &[size, 1, 0, 0])]);
-        let mut out = vec![in rt.alloc(); OLD; LENGTH + 0x200]?;
-        let header = header_of(&bytes)?;
-        let shown = match write_edited(&bytes, &header, &list(&leaves), &mut out) {
-            Ok(_) => String::from_str(rt.alloc(), "edited")?,
-            Err(error) => format!(in rt.alloc(); "{error:?}")?,
-        };
-        assert_eq!(rt; shown.as_str(), text);
-    }
-    // The entry at 4, in the headers: its data start one byte after the sections'.
-    let mut bytes = without_resources(rt.alloc())?;
+/// Two entries at 0x200 in the file, at the RVA 0x1000: the data of the first are 0x100 bytes in a section, those of the second are
+/// five bytes after all sections.
+fn with_debug_data(alloc: Global) -> Result<Vec<u8>, Fail> {
+    let mut bytes = without_resources(alloc)?;
     put(
         &mut bytes,
-        &[(0x130, &[4, 0, 0, 0, 28]), (0x1C, &[1, 6, 0, 0])],
+        &[
+            (0x130, &[0, 0x10, 0, 0, 56]),
+            (0x210, &[0, 1, 0, 0]),
+            (0x218, &[0, 5, 0, 0]),
+            (0x22C, &[5, 0, 0, 0]),
+            (0x234, &[0, 6, 0, 0]),
+            (0x600, b"PDB70"),
+        ],
     );
-    let shown = refused(rt.alloc(), &bytes, &leaves)?;
-    assert_eq!(rt; shown.as_str(), "DebugData(4)");
+    Ok(bytes)
+}
+
+/// The pointer to the data after the sections moves with them, by the size of the new section, and no other.
+#[test]
+fn pointers_of_debug_data_move(rt: HostRuntime) -> Result<(), Fail> {
+    let bytes = with_debug_data(rt.alloc())?;
+    let mut out = vec![in rt.alloc(); OLD; LENGTH + 0x200]?;
+    let leaves = [resource(1, &CONTENT)];
+    write_edited(&bytes, &header_of(&bytes)?, &list(&leaves), &mut out)?;
+    assert_eq!(rt; &out[0x200..0x234], &bytes[0x200..0x234]);
+    assert_eq!(rt; &out[0x234..0x238], [0, 8, 0, 0].as_slice());
+    assert_eq!(rt; &out[0x238..0x600], &bytes[0x238..0x600]);
+    assert_eq!(rt; &out[0x800..], b"PDB70".as_slice());
+    Ok(())
+}
+
+/// Refused at the entry whose data are only in part after those of the sections, or get an offset of more than 32 bits; and at the
+/// first entry, where they are not between the section headers and the data.
+#[test]
+fn debug_data_that_can_not_move(rt: HostRuntime) -> Result<(), Fail> {
+    let leaves = [resource(1, &CONTENT)];
+    for (offset, part, text) in [
+        (0x210, &[1][..], "DebugData(512)"),
+        (0x234, &[0, 0xFE, 0xFF, 0xFF][..], "DebugData(540)"),
+        (0x130, &[0xF7, 1, 0, 0][..], "DebugData(503)"),
+        (0x134, &[32, 4][..], "DebugData(512)"),
+    ] {
+        let bytes = with_part(with_debug_data(rt.alloc())?, offset, part);
+        let shown = refused(rt.alloc(), &bytes, &leaves)?;
+        assert_eq!(rt; shown.as_str(), text);
+    }
     Ok(())
 }
 
@@ -345,7 +362,7 @@ fn texts_of_refusals(rt: HostRuntime) -> Result<(), Fail> {
         ),
         (
             RewriteError::DebugData(0x200),
-            "data of the debug entry at file offset 0x200 end after the data of the sections",
+            "debug entries or their data, at file offset 0x200, lie where the resources go",
         ),
         (
             RewriteError::NoRoom {

@@ -3,9 +3,10 @@
 
 use pe_resource::{Translation, VsFixedFileInfo};
 use pe_version::{
-    NewBlock, StringTable, VersionError, VersionText, VersionValue, block_len, version_bytes,
-    write_block,
+    NewBlock, StringTable, VersionError, VersionText, VersionValue, block_len, read_version,
+    version_bytes, write_block,
 };
+use std::alloc::Global;
 use std::test::Fail;
 
 /// What a byte of a buffer is before a call.
@@ -202,6 +203,70 @@ fn bytes_of_version_information(rt: HostRuntime) -> Result<(), Fail> {
     };
     let Err(VersionError::Text) = version_bytes(rt.alloc(), &value) else {
         return Err("half a code unit is accepted".into());
+    };
+    Ok(())
+}
+
+/// The bytes of windres.
+fn whole(alloc: Global) -> Result<Vec<u8>, Fail> {
+    let mut bytes = Vec::new(alloc);
+    for part in WHOLE {
+        bytes.extend_from_slice(part)?;
+    }
+    Ok(bytes)
+}
+
+/// Where the text `Abc` starts: in the table at 0x80, after its head and key, 24 bytes, and those of the string, 32.
+const ABC: usize = 0xB8;
+
+/// One text of windres' is changed, and written with all others.
+#[test]
+fn one_text_is_changed(rt: HostRuntime) -> Result<(), Fail> {
+    let bytes = whole(rt.alloc())?;
+    let Some(mut value) = read_version(rt.alloc(), &bytes)? else {
+        return Err("no version information".into());
+    };
+    assert_eq!(rt; value.fixed.file_version_ls, 0x30004);
+    assert_eq!(rt; value.translations[1].code_page, 0xABCD);
+    assert_eq!(rt; value.tables[1].translation.language, 0x407);
+    value.tables[0].strings[0].text = b"X\0y\0z\0\0\0";
+    let made = value.to_bytes(rt.alloc())?;
+    assert_eq!(rt; &bytes[ABC..ABC + 8], b"A\0b\0c\0\0\0".as_slice());
+    let mut wanted = whole(rt.alloc())?;
+    put(&mut wanted, ABC, b"X\0y\0z\0");
+    assert_eq!(rt; made.as_slice(), wanted.as_slice());
+    Ok(())
+}
+
+fn put(bytes: &mut [u8], offset: usize, part: &[u8]) {
+    for (place, byte) in bytes.iter_mut().skip(offset).zip(part) {
+        *place = *byte;
+    }
+}
+
+/// The first key, that of a table, the length of a table, that of a string, each wrong; and nothing at all.
+#[test]
+fn what_is_not_read(rt: HostRuntime) -> Result<(), Fail> {
+    for (offset, part, text) in [
+        (6, b"W", "no fixed file information"),
+        (
+            0x86,
+            b"G",
+            "key of a string table has no language and code page",
+        ),
+        (0x80, b"\x05", "version block of 5 bytes, smaller than 6"),
+        (0x98, b"\x05", "version block of 5 bytes, smaller than 6"),
+    ] {
+        let mut bytes = whole(rt.alloc())?;
+        put(&mut bytes, offset, part);
+        let Err(error) = read_version(rt.alloc(), &bytes) else {
+            return Err("version information is read".into());
+        };
+        let shown = format!(in rt.alloc(); "{error}")?;
+        assert_eq!(rt; shown.as_str(), text);
+    }
+    let Ok(None) = read_version(rt.alloc(), b"") else {
+        return Err("version information of no bytes".into());
     };
     Ok(())
 }

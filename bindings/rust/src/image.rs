@@ -219,7 +219,7 @@ errors! {
     EDIT_NO_HEADER_ROOM = 471;
     /// Image with the resources ends after 4 GB.
     EDIT_IMAGE_TOO_LARGE = 472;
-    /// Data of a debug entry end after the data of the sections.
+    /// Debug entries or their data lie where the resources go.
     EDIT_DEBUG_DATA = 473;
     /// Element of a signature truncated before its content.
     SIGNATURE_TRUNCATED = 501;

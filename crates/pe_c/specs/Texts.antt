@@ -136,7 +136,7 @@ edit_texts =
     codes "version block has more than 65,535 bytes" ∷
     codes "headers have no room for another section header" ∷
     codes "image with the resources ends after 4 GB" ∷
-    codes "data of a debug entry end after the data of the sections" ∷
+    codes "debug entries or their data lie where the resources go" ∷
     []
 
 -- the text of a refusal of resources that are written, by its number from 451 on

@@ -166,7 +166,7 @@ fn edit_text(number: u32) -> &'static str
         19 => "version block has more than 65,535 bytes",
         20 => "headers have no room for another section header",
         21 => "image with the resources ends after 4 GB",
-        22 => "data of a debug entry end after the data of the sections",
+        22 => "debug entries or their data lie where the resources go",
         _ => "unknown result",
     }
 }

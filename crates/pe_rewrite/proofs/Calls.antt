@@ -1,12 +1,12 @@
 -- What the calls return.
-use Rattle.std.proofs.Common.{◌≡◌, ℕ, ◌+◌, ◌^◌, ◌<◌, Bool, true, false, List, [], ◌∷◌, length, Result, Ok, Err, refl, ap, sym, ◌∙◌, subst}
+use Rattle.std.proofs.Common.{◌≡◌, ℕ, ◌+◌, ◌^◌, ◌<◌, Bool, true, false, List, [], ◌∷◌, length, Result, Ok, Err, ap, sym, ◌∙◌, subst}
 use Rattle.std.specs.Prelude.{nat_le, if◌then◌else◌}
 use Rattle.pe_core.specs.Bytes.{fit_at, splice}
 use Rattle.pe_core.specs.Header.{HeaderView}
 use Rattle.pe_core.specs.Refusals.{Refusal, WriteFit, outcome, ◌>>=◌}
 use Rattle.pe_edit.specs.Written.{Leaf, section}
 use Rattle.pe_edit.specs.EditRefusals.{section_of}
-use Rattle.pe_rewrite.specs.Edited.{Inside, Lies, RoomLies, at_end, edited_file, edited_length, in_place, moved_file, or_at_end, roomy_file, wants_room, written}
+use Rattle.pe_rewrite.specs.Edited.{CanMove, Inside, Lies, at_end, edited_file, edited_length, in_place, moved_file, or_at_end, roomy_file, wants_room, with_pointers, written}
 use Rattle.pe_rewrite.specs.Places.{place_of}
 use Rattle.pe_rewrite.specs.RewriteRefusals.{RewriteRefusal, Image, RewriteReturns, RewriteReturnsWritten}
 use Rattle.pe_rewrite.specs.declared.error.RewriteError.{RewriteError}
@@ -14,9 +14,10 @@ use Rattle.pe_rewrite.specs.Rooms.{room_of}
 use Rattle.pe_rewrite.specs.declared.place.Place.{Place}
 use Rattle.pe_rewrite.specs.declared.room.Room.{Room}
 use Rattle.pe_rewrite.proofs.Placed.{placed_value, place_lies, place_made, placed}
+use Rattle.pe_rewrite.proofs.Pointers.{can_move, length_can, lies_with}
 use Rattle.pe_rewrite.proofs.Results.{length_value, written_done, written_short}
 use Rattle.pe_rewrite.proofs.RoomWrites.{room_inside, roomy_length}
-use Rattle.pe_rewrite.proofs.Roomy.{has_room, room_lies, room_made, room_small}
+use Rattle.pe_rewrite.proofs.Roomy.{has_debug, has_room, room_made, room_small}
 use Rattle.pe_rewrite.proofs.Writes.{length-edited, length_edited_inside}
 
 pub lies : (b : List ℕ) (h : HeaderView) (xs : List Leaf) (p : Place) → place_of b h xs ≡ Ok p → Lies h p (length b)
@@ -45,8 +46,8 @@ file_returned b h xs p old new u e i is = written_done (in_place b h xs) (edited
 moved_value : (b : List ℕ) (h : HeaderView) (xs : List Leaf) (m : Room) → room_of b h xs ≡ Ok m → at_end b h xs ≡ Ok (moved_file h m xs b)
 moved_value b h xs m e = ap (λ (r : Result Room RewriteRefusal). r >>= λ n. Ok (moved_file h n xs b)) e
 
-pub lies_moved : (b : List ℕ) (h : HeaderView) (xs : List Leaf) (m : Room) → room_of b h xs ≡ Ok m → RoomLies h m (length b)
-lies_moved b h xs m e = room_lies b h xs m (has_room b h xs m e)
+pub moves : (b : List ℕ) (h : HeaderView) (xs : List Leaf) (m : Room) → room_of b h xs ≡ Ok m → CanMove h m b
+moves b h xs m e = can_move b h xs m (has_room b h xs m e) (has_debug b h xs m e)
 
 pub made_moved : (b : List ℕ) (h : HeaderView) (xs : List Leaf) (m : Room) → room_of b h xs ≡ Ok m → section_of m.place.section.virtual_address xs ≡ Ok (section m.place.section.virtual_address xs)
 made_moved b h xs m e = (room_made b h xs m (has_room b h xs m e)).made
@@ -59,9 +60,10 @@ more_small b h xs m e = room_small b h xs m (has_room b h xs m e)
 
 moved_length : (b : List ℕ) (h : HeaderView) (xs : List Leaf) (m : Room) → room_of b h xs ≡ Ok m → length (moved_file h m xs b) ≡ length b + m.more
 moved_length b h xs m e =
-    let l : RoomLies h m (length b) = lies_moved b h xs m e in
-    let size : length (roomy_file h m b) ≡ length b + m.more = roomy_length h m b l in
-    length_edited_inside h m.place xs (roomy_file h m b) (subst (λ (n : ℕ). Inside h m.place n) (sym size) (room_inside h m (length b) l)) (size_moved b h xs m e) ∙ size
+    let c : CanMove h m b = moves b h xs m e in
+    let f : List ℕ = with_pointers m b in
+    let size : length (roomy_file h m f) ≡ length b + m.more = roomy_length h m f (lies_with h m b c) ∙ ap (λ (n : ℕ). n + m.more) (length_can h m b c) in
+    length_edited_inside h m.place xs (roomy_file h m f) (subst (λ (n : ℕ). Inside h m.place n) (sym size) (room_inside h m (length b) c.lies)) (size_moved b h xs m e) ∙ size
 
 pub moved_length_returned : (b : List ℕ) (h : HeaderView) (xs : List Leaf) (m : Room) (n : ℕ) → room_of b h xs ≡ Ok m → n ≡ length b + m.more → edited_length (at_end b h xs) ≡ Ok n
 moved_length_returned b h xs m n e is = length_value (at_end b h xs) (moved_file h m xs b) n (moved_value b h xs m e) (moved_length b h xs m e ∙ sym is)

@@ -12,8 +12,10 @@ pub mod RoomHeaders
 pub mod WrittenSections
 pub mod WrittenLeaves
 pub mod RoomPlaced
+pub mod Pointers
 pub mod RoomMapped
 pub mod WrittenImages
 pub mod RoomImages
+pub mod DebugMoved
 pub mod Calls
 pub mod WrittenTrees

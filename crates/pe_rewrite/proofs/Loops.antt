@@ -12,7 +12,7 @@ use Rattle.pe_core.specs.Header.{OptionalHeaderView}
 use Rattle.pe_core.specs.declared.data_directories.DataDirectory.{DataDirectory}
 use Rattle.pe_sign.proofs.SectionRows.{one_fails}
 use Rattle.pe_rewrite.specs.Places.{index_of, is_alone, is_apart, is_outside, leads_out, section_header, sections_apart}
-use Rattle.pe_rewrite.specs.Rooms.{is_before_or_same, is_last}
+use Rattle.pe_rewrite.specs.Rooms.{debug_moves, entries_lie, entry_moves, is_before_or_same, is_last}
 use Rattle.pe_rewrite.specs.RewriteRefusals.{NoSection}
 use Rattle.pe_rewrite.specs.declared.place.Target.{Target}
 use Rattle.pe_rewrite.specs.declared.room.LastSection.{LastSection}
@@ -61,6 +61,9 @@ last_fails b h t l k lt e = one_fails (is_before_or_same b h t l) (λ j. j) h.co
 and_false : (a : Bool) → (a && false) ≡ false
 and_false true = refl
 and_false false = refl
+
+pub debug_fails : (b : List ℕ) (h : HeaderView) (l : LastSection) (k : ℕ) → k < l.debug.count → entry_moves b l k ≡ false → debug_moves b h l ≡ false
+debug_fails b h l k lt e = ap (λ (t : Bool). entries_lie h l && t) (one_fails (entry_moves b l) (λ j. j) l.debug.count k lt e) ∙ and_false (entries_lie h l)
 
 pub alone_fails : (s : SectionTable) (o : OptionalHeaderView) (ds : List DataDirectory) (k : ℕ) → ds ≡ o.data_directories → k < length ds → leads_out s ds k ≡ false → is_alone s (Some o) ≡ false
 alone_fails s o ds k is lt e =

@@ -1,5 +1,5 @@
 -- The section map of an image in whose resource section alone a size in memory changes.
-use Rattle.std.proofs.Common.{◌≡◌, ℕ, zero, suc, ◌+◌, ◌-◌, ◌*◌, ◌/◌, ◌<◌, ◌≤◌, ◌≢◌, Bool, true, false, cond, List, [], ◌∷◌, ◌++◌, map, max, Option, Some, None, refl, ap, sym, ◌∙◌, ⊎_elim, arith}
+use Rattle.std.proofs.Common.{◌≡◌, ℕ, zero, suc, ◌+◌, ◌-◌, ◌*◌, ◌/◌, ◌<◌, ◌≤◌, ◌≢◌, Bool, true, false, cond, List, [], ◌∷◌, ◌++◌, map, max, Option, Some, None, refl, ap, sym, ◌∙◌, subst, ⊎_elim, arith}
 use Rattle.std.specs.Prelude.{filter, nat_le, not, if◌then◌else◌}
 use Rattle.std.specs.Int.{is_power_of_two}
 use Rattle.std.specs.Option.{option_map}
@@ -7,8 +7,10 @@ use Rattle.std.proofs.lemmas.Bool.{cases_lt}
 use Rattle.std.proofs.lemmas.Bool.Decides.{nat_tests}
 use Rattle.std.proofs.Math.Nat.{add-mul, le-div_iff_mul-le, lt-div-mul-add, mul-le-mul_right, one-mul}
 use Rattle.pe_core.specs.Rows.{each}
-use Rattle.pe_core.specs.SectionMap.{covers, first, offset_by, offset_of, raw_start, reach, rounded_up}
+use Rattle.pe_core.specs.SectionMap.{covers, first, offset_by, offset_of, section_map, raw_start, reach, rounded_up}
+use Rattle.pe_core.specs.Options.{default_options}
 use Rattle.pe_core.specs.Sections.{raw_end}
+use Rattle.pe_core.specs.declared.options.ParseOptions.{ParseOptions}
 use Rattle.pe_core.specs.declared.section_table.SectionTable.{SectionTable}
 use Rattle.pe_core.proofs.EntryItems.{each_same}
 use Rattle.pe_core.proofs.Reaches.{outside, past_raw_end, reach_by_raw}
@@ -94,6 +96,56 @@ unfolding offset_of
 by_each resolve alignment f n a =
     ap (λ (o : Option ℕ). if not resolve then Some a else (if is_power_of_two alignment then o else None))
     (sym (ap first_some (sym (map_each (offset_by alignment a) f n)) ∙ by_sections alignment a (each f n)))
+
+-- by one section more
+step_by : (t : Bool) (x y : Option ℕ) → (if t then or_else x y else None) ≡ or_else (if t then x else None) (if t then y else None)
+step_by true x y = refl
+step_by false x y = refl
+
+map_step : (alignment a n : ℕ) (f : ℕ → SectionTable) → offset_of true alignment (each f (suc n)) a ≡ or_else (offset_of true alignment (each f n) a) (offset_of true alignment (f n ∷ []) a)
+unfolding each
+map_step alignment a n f =
+    let g : ℕ → Option ℕ = λ k. offset_by alignment a (f k) in
+    let power : Bool = is_power_of_two alignment in
+    let one : offset_of true alignment (f n ∷ []) a ≡ (if power then g n else None) = by_each true alignment (λ k. f n) 1 a ∙ ap (λ (o : Option ℕ). if power then o else None) (one_more (g n)) in
+    by_each true alignment f (suc n) a ∙ ap (λ (o : Option ℕ). if power then o else None) (first_each g n) ∙ step_by power (first_some (each g n)) (g n)
+    ∙ ap (λ (o : Option ℕ). or_else o (if power then g n else None)) (sym (by_each true alignment f n a))
+    ∙ ap (λ (o : Option ℕ). or_else (offset_of true alignment (each f n) a) o) (sym one)
+
+none_both : (t : Bool) → ◌≡◌ {A = Option ℕ} (if t then None else None) None
+none_both true = refl
+none_both false = refl
+
+-- no section leads there, so far
+pub map_start : (alignment a : ℕ) (f : ℕ → SectionTable) → offset_of true alignment (each f 0) a ≡ None
+map_start alignment a f =
+    by_each true alignment f 0 a ∙ ap (λ (o : Option ℕ). if is_power_of_two alignment then o else None) (first_none (λ k. offset_by alignment a (f k))) ∙ none_both (is_power_of_two alignment)
+
+pub map_more : (alignment a n : ℕ) (f : ℕ → SectionTable) → offset_of true alignment (each f n) a ≡ None → offset_of true alignment (f n ∷ []) a ≡ None → offset_of true alignment (each f (suc n)) a ≡ None
+map_more alignment a n f none last = map_step alignment a n f ∙ ap (λ (o : Option ℕ). or_else o (offset_of true alignment (f n ∷ []) a)) none ∙ last
+
+-- the first that does
+pub map_found : (alignment a q n i : ℕ) (f : ℕ → SectionTable) → i < n → offset_of true alignment (each f i) a ≡ None → offset_of true alignment (f i ∷ []) a ≡ Some q → offset_of true alignment (each f n) a ≡ Some q
+map_found alignment a q zero i f lt none some = absurd (omega (arith, lt))
+map_found alignment a q (suc n) i f lt none some =
+    let last : ℕ → Option ℕ = λ k. offset_of true alignment (f k ∷ []) a in
+    map_step alignment a n f ∙ ⊎_elim
+    (λ (below : i < n). ap (λ (o : Option ℕ). or_else o (last n)) (map_found alignment a q n i f below none some))
+    (λ (from : n ≤ i).
+    let is : n ≡ i = omega (arith, from, lt) in
+    ap (λ (o : Option ℕ). or_else o (last n)) (ap (λ (k : ℕ). offset_of true alignment (each f k) a) is ∙ none) ∙ ap last is ∙ some)
+    (cases_lt i n)
+
+-- so that the map of one section with the default options says it
+pub one_section : (o : ParseOptions) (alignment a : ℕ) (s t : SectionTable) (v : Option ℕ) → o ≡ default_options → s ≡ t → v ≡ section_map o (s ∷ []) alignment a → offset_of true alignment (t ∷ []) a ≡ v
+one_section o alignment a s t v all same is =
+    let resolve : o.resolve_rva ≡ true = ap (λ (x : ParseOptions). x.resolve_rva) all in
+    ap (λ (u : SectionTable). offset_of true alignment (u ∷ []) a) (sym same) ∙ ap (λ (r : Bool). offset_of r alignment (s ∷ []) a) (sym resolve) ∙ sym is
+
+pub map_next : (alignment a n : ℕ) (f : ℕ → SectionTable) → offset_of true alignment (each f n) a ≡ None → offset_of true alignment (f n ∷ []) a ≡ None → offset_of true alignment (each f (n + 1)) a ≡ None
+map_next alignment a n f none last =
+    let next : suc n ≡ n + 1 = omega arith in
+    subst (λ (k : ℕ). offset_of true alignment (each f k) a ≡ None) next (map_more alignment a n f none last)
 
 -- sections that lead to the same offsets
 pub maps_alike : (resolve : Bool) (alignment : ℕ) (f g : ℕ → SectionTable) (n a : ℕ) → ((k : ℕ) → k < n → offset_by alignment a (f k) ≡ offset_by alignment a (g k)) →

@@ -1,9 +1,9 @@
 -- The bytes of a file with room for resources: what stays, what moves, and what is written.
-use Rattle.std.proofs.Common.{◌≡◌, ℕ, ◌+◌, ◌-◌, ◌^◌, ◌<◌, ◌≤◌, ◌&&◌, Bool, true, false, List, [], ◌∷◌, ◌++◌, length, get_or, take, drop, replicate, refl, ap, sym, ◌∙◌, subst, arith, length-append}
+use Rattle.std.proofs.Common.{◌≡◌, ℕ, ◌+◌, ◌-◌, ◌^◌, ◌<◌, ◌≤◌, ◌&&◌, false, List, [], ◌∷◌, ◌++◌, length, get_or, take, drop, replicate, refl, ap, sym, ◌∙◌, subst, arith, length-append}
 use Rattle.std.specs.Prelude.{nat_le, nat_lt}
 use Rattle.std.proofs.lemmas.Bool.Decides.{nat_tests}
 use Rattle.std.proofs.lemmas.List.{get_or_append_left, get_or-append_right, get_or-drop, get_or-take, length-replicate, length-take-le}
-use Rattle.pe_core.specs.Bytes.{bytes_of, le, range, splice}
+use Rattle.pe_core.specs.Bytes.{bytes_of, le, splice}
 use Rattle.pe_core.specs.Header.{HeaderView}
 use Rattle.pe_core.specs.Records.{section_table}
 use Rattle.pe_core.specs.Spelling.{spell_section}
@@ -17,7 +17,7 @@ use Rattle.pe_rewrite.specs.declared.room.Room.{Room}
 use Rattle.pe_rewrite.proofs.Roomy.{SmallRow}
 use Rattle.pe_rewrite.proofs.RoomWrites.{length_apart, length_row, room_fit}
 use Rattle.pe_rewrite.proofs.Stays.{Misses, Past, byte_changed, number_there}
-use Rattle.pe_rewrite.proofs.Writes.{Fit, length-changed}
+use Rattle.pe_rewrite.proofs.Writes.{Fit}
 
 -- ---- zeros put in
 

@@ -1,14 +1,12 @@
 -- The headers of a file with room for resources.
 use Rattle.std.proofs.Common.{◌≡◌, ℕ, ◌+◌, ◌*◌, ◌<◌, ◌≤◌, ◌==◌, ◌||◌, Bool, true, false, List, [], length, get_or, set, Ok, Some, None, refl, ap, sym, ◌∙◌, subst, arith}
-use Rattle.std.specs.Prelude.{slice_range, slice_set, if◌then◌else◌}
+use Rattle.std.specs.Prelude.{slice_range, if◌then◌else◌}
 use Rattle.pe_core.specs.Bytes.{AreBytes, le, holds}
 use Rattle.pe_core.specs.Directories.{absent_directory, kept}
 use Rattle.pe_core.specs.Header.{HeaderView, OptionalHeaderView, directories_offset, is_pe32_plus, optional_header, optional_header_tests, header, header_tests, header_at}
 use Rattle.pe_core.specs.Records.{dos_header, coff_header, standard_fields_32, standard_fields_64, windows_fields_32, windows_fields_64, data_directory}
 use Rattle.pe_core.specs.Refusals.{outcome}
 use Rattle.pe_core.specs.Rows.{rows}
-use Rattle.pe_core.specs.declared.data_directories.DataDirectory.{DataDirectory}
-use Rattle.pe_core.specs.declared.header.CoffHeader.{CoffHeader}
 use Rattle.pe_core.specs.declared.options.ParseMode.{ParseMode}
 use Rattle.pe_core.proofs.Comparisons.{le_is}
 use Rattle.pe_core.proofs.EntryItems.{length-each}
@@ -308,16 +306,17 @@ headers_with_room f b mode h o m e some far at_e s r =
 
 -- ---- the file that is written
 
-same_of : (h : HeaderView) (m : Room) (b : List ℕ) (n : ℕ) → RoomLies h m (length b) → m.place.entry + 8 ≤ n → n ≤ m.place.row → Same (roomy_file h m b) b h.dos_header.pe_pointer m.place.entry n
-same_of h m b n l from to =
+-- b has the bytes of c before the section header
+same_of : (h : HeaderView) (m : Room) (c b : List ℕ) (n : ℕ) → ((k : ℕ) → k < m.place.row → get_or c k 0 ≡ get_or b k 0) → length c ≡ length b → RoomLies h m (length c) → m.place.entry + 8 ≤ n → n ≤ m.place.row → Same (roomy_file h m c) b h.dos_header.pe_pointer m.place.entry n
+same_of h m c b n head size l from to =
     let q : ℕ = h.dos_header.pe_pointer in
-    let stays : (k : ℕ) → k < n → Past (q + 6) 2 k → Past (q + 12) 4 k → Past (q + 32) 4 k → Past (q + 80) 4 k → Past m.place.entry 8 k → get_or (roomy_file h m b) k 0 ≡ get_or b k 0 =
-    λ k lt a c d e f. roomy_byte h m b k l (omega (arith, lt, to, l.row)) a c d e f (range_below m.place.row 40 k (omega (arith, lt, to))) in
+    let stays : (k : ℕ) → k < n → Past (q + 6) 2 k → Past (q + 12) 4 k → Past (q + 32) 4 k → Past (q + 80) 4 k → Past m.place.entry 8 k → get_or (roomy_file h m c) k 0 ≡ get_or b k 0 =
+    λ k lt a i d e f. roomy_byte h m c k l (omega (arith, lt, to, l.row)) a i d e f (range_below m.place.row 40 k (omega (arith, lt, to))) ∙ head k (omega (arith, lt, to)) in
     record {
       sum = l.sum;
       entry = from;
-      inside = omega (arith, roomy_length h m b l, to, l.row, l.end);
-      inside_before = omega (arith, to, l.row, l.end);
+      inside = omega (arith, roomy_length h m c l, to, l.row, l.end);
+      inside_before = omega (arith, to, l.row, l.end, size);
       stub = λ k lt. stays k (omega (arith, lt, l.sum, from)) (range_below (q + 6) 2 k lt) (range_below (q + 12) 4 k (omega (arith, lt))) (range_below (q + 32) 4 k (omega (arith, lt))) (range_below (q + 80) 4 k (omega (arith, lt))) (range_below m.place.entry 8 k (omega (arith, lt, l.sum)));
       time = λ k ge lt. stays k (omega (arith, lt, l.sum, from)) (range_past (q + 6) 2 k (omega (arith, ge))) (range_below (q + 12) 4 k lt) (range_below (q + 32) 4 k (omega (arith, lt))) (range_below (q + 80) 4 k (omega (arith, lt))) (range_below m.place.entry 8 k (omega (arith, lt, l.sum)));
       count = λ k ge lt. stays k (omega (arith, lt, l.sum, from)) (range_past (q + 6) 2 k (omega (arith, ge))) (range_past (q + 12) 4 k (omega (arith, ge))) (range_below (q + 32) 4 k lt) (range_below (q + 80) 4 k (omega (arith, lt))) (range_below m.place.entry 8 k (omega (arith, lt, l.sum)));
@@ -370,8 +369,9 @@ entry_lies b h xs m x =
     let row : m.place.row ≡ sections_offset h + 40 * x.section.index = ap (λ (r : Room). r.place.row) (sym x.value) in
     record { at = omega (arith, at); inside = omega (arith, at, end, x.of.many); end = omega (arith, row, x.headers.directories) }
 
--- its headers are parsed
-pub roomy_headers : (mode : ParseMode) (b : List ℕ) (h : HeaderView) (xs : List Leaf) (m : Room) → AreBytes b → header_at b mode ≡ Ok h → HasRoom b h xs m → header_at (roomy_file h m b) mode ≡ Ok (headers_roomy m h)
-roomy_headers mode b h xs m small e x =
-    let lies : EntryLies h x.of.optional m = entry_lies b h xs m x in
-    headers_with_room (roomy_file h m b) b mode h x.of.optional m e x.of.some x.fits.dos lies.at (same_of h m b (directories_end h) (room_lies b h xs m x) lies.inside lies.end) (read_of b h xs m small x)
+-- the headers of an image b are parsed in a file c with the same headers, when it has room
+pub roomy_headers : (mode : ParseMode) (c b : List ℕ) (h : HeaderView) (xs : List Leaf) (m : Room) → AreBytes c → ((k : ℕ) → k < m.place.row → get_or c k 0 ≡ get_or b k 0) → length c ≡ length b → header_at b mode ≡ Ok h → HasRoom c h xs m →
+    header_at (roomy_file h m c) mode ≡ Ok (headers_roomy m h)
+roomy_headers mode c b h xs m small head size e x =
+    let lies : EntryLies h x.of.optional m = entry_lies c h xs m x in
+    headers_with_room (roomy_file h m c) b mode h x.of.optional m e x.of.some x.fits.dos lies.at (same_of h m c b (directories_end h) head size (room_lies c h xs m x) lies.inside lies.end) (read_of c h xs m small x)

@@ -1,5 +1,5 @@
 -- The laws, of a file that an edit writes with its resources at the end.
-use Rattle.std.proofs.Common.{◌≡◌, ℕ, suc, ◌+◌, ◌-◌, ◌*◌, ◌/◌, ◌%◌, ◌^◌, ◌<◌, ◌≤◌, ◌≢◌, ◌==◌, ◌&&◌, ◌||◌, ◌⊎◌, inl, inr, Bool, true, false, List, [], ◌∷◌, ◌++◌, length, get_or, take, drop, map, max, Option, Some, None, Result, Ok, Err, refl, ap, sym, ◌∙◌, subst, ⊎_elim, arith, length-append}
+use Rattle.std.proofs.Common.{◌≡◌, ℕ, suc, ◌+◌, ◌-◌, ◌*◌, ◌%◌, ◌^◌, ◌<◌, ◌≤◌, ◌≢◌, ◌&&◌, ◌||◌, ◌⊎◌, inl, inr, Bool, true, false, List, ◌∷◌, ◌++◌, length, get_or, take, drop, map, max, Option, Some, None, Result, Ok, Err, refl, ap, sym, ◌∙◌, ⊎_elim, arith, length-append}
 use Rattle.std.specs.Prelude.{nat_le, nat_lt, if◌then◌else◌}
 use Rattle.std.specs.Int.{is_power_of_two}
 use Rattle.std.specs.Option.{option_map}
@@ -10,7 +10,7 @@ use Rattle.pe_core.specs.Header.{HeaderView, OptionalHeaderView, header_at}
 use Rattle.pe_core.specs.Refusals.{◌>>=◌}
 use Rattle.pe_core.specs.Rows.{each}
 use Rattle.pe_core.specs.SectionMap.{offset_of, section_map}
-use Rattle.pe_core.specs.Sections.{raw_end, sections_offset}
+use Rattle.pe_core.specs.Sections.{sections_offset}
 use Rattle.pe_core.specs.declared.options.ParseMode.{ParseMode}
 use Rattle.pe_core.specs.declared.options.ParseOptions.{ParseOptions}
 use Rattle.pe_core.specs.declared.section_table.SectionTable.{SectionTable}
@@ -18,17 +18,16 @@ use Rattle.pe_core.proofs.EntryItems.{get_or-each, length-each}
 use Rattle.pe_resource.specs.Contents.{file_bytes}
 use Rattle.pe_edit.specs.Written.{Each, Leaf, Numbers, section}
 use Rattle.pe_sign.proofs.Digests.{range_past}
-use Rattle.pe_rewrite.specs.Edited.{RoomLies, at_end, edited_file, edited_of, grown_size, in_place, is_moved_over, is_written, moved_file, or_at_end, roomy_file, sum_by, sum_of, wants_room, with_resources, with_sum}
+use Rattle.pe_rewrite.specs.Edited.{RoomLies, at_end, edited_file, edited_of, grown_size, in_place, is_moved_over, is_pointer, is_written, moved_file, or_at_end, roomy_file, sum_by, sum_of, wants_room, with_pointers, with_resources, with_sum}
 use Rattle.pe_rewrite.specs.Places.{is_outside, section_header, section_headers}
 use Rattle.pe_rewrite.specs.RewriteRefusals.{RewriteRefusal}
 use Rattle.pe_rewrite.specs.Rooms.{room_of}
 use Rattle.pe_rewrite.specs.WrittenImages.{edited_headers, entry_of, headers_roomy, leaves_of_image, optional_roomy, resized, sections_with}
-use Rattle.pe_rewrite.specs.declared.place.Place.{Place}
 use Rattle.pe_rewrite.specs.declared.place.Target.{Target}
 use Rattle.pe_rewrite.specs.declared.room.Room.{Room}
-use Rattle.pe_rewrite.proofs.Placed.{Placed, place_lies}
-use Rattle.pe_rewrite.proofs.Results.{first_ok}
-use Rattle.pe_rewrite.proofs.RoomBytes.{SmallRoom, roomy_byte, roomy_byte_after}
+use Rattle.pe_rewrite.proofs.Placed.{Placed}
+use Rattle.pe_rewrite.proofs.Pointers.{byte_with, head_with, length_with, pointer_missed, room_with, rows_with, small_with, tail_with}
+use Rattle.pe_rewrite.proofs.RoomBytes.{roomy_byte, roomy_byte_after}
 use Rattle.pe_rewrite.proofs.RoomHeaders.{roomy_headers, small_room}
 use Rattle.pe_rewrite.proofs.RoomMapped.{roomy_map, roomy_mapped}
 use Rattle.pe_rewrite.proofs.RoomPlaced.{TableIs, other_header, roomy_placed, table_is}
@@ -56,7 +55,7 @@ file_roomy : (h : HeaderView) (m : Room) (f : List ℕ) → with_sum (headers_ro
 unfolding with_sum
 file_roomy h m f = ap (λ (n : ℕ). splice f (h.dos_header.pe_pointer + 88) (bytes_of 4 n)) (sum_roomy h.dos_header.pe_pointer h.optional_header m f)
 
-some_is : {X : Type 0} (x y : X) → Some x ≡ Some y → x ≡ y
+pub some_is : {X : Type 0} (x y : X) → Some x ≡ Some y → x ≡ y
 some_is x y e = cc
 
 alignment_of : (b : List ℕ) (h : HeaderView) (xs : List Leaf) (m : Room) (x : HasRoom b h xs m) (w : OptionalHeaderView) → h.optional_header ≡ Some w → w.windows_fields.file_alignment ≡ x.target.file_alignment
@@ -66,17 +65,24 @@ alignment_of b h xs m x w some =
 
 -- f is the file with the leaves in this room
 pub record IsMoved (b : List ℕ) (h : HeaderView) (xs : List Leaf) (m : Room) (f : List ℕ) : Type 0 where
-  pub room : HasRoom b h xs m
-  pub file : IsFile (roomy_file h m b) (headers_roomy m h) xs m.place f
+  pub old : HasRoom b h xs m
+  pub small : AreBytes (with_pointers m b)
+  pub room : HasRoom (with_pointers m b) h xs m
+  pub file : IsFile (roomy_file h m (with_pointers m b)) (headers_roomy m h) xs m.place f
 
 pub is_moved : (b : List ℕ) (h : HeaderView) (xs : List Leaf) (m : Room) (f : List ℕ) → AreBytes b → room_of b h xs ≡ Ok m → at_end b h xs ≡ Ok f → IsMoved b h xs m f
 is_moved b h xs m f small e i =
-    let x : HasRoom b h xs m = has_room b h xs m e in
+    let old : HasRoom b h xs m = has_room b h xs m e in
+    let c : List ℕ = with_pointers m b in
+    let now : AreBytes c = small_with b h xs m old small in
+    let x : HasRoom c h xs m = room_with b h xs m small old in
     record {
+      old = old;
+      small = now;
       room = x;
       file = record {
-        placed = roomy_placed b h xs m small x;
-        file = file_roomy h m (with_resources m.place (section m.place.section.virtual_address xs) (roomy_file h m b)) ∙ moved_is b h xs m f e i;
+        placed = roomy_placed c h xs m now x;
+        file = file_roomy h m (with_resources m.place (section m.place.section.virtual_address xs) (roomy_file h m c)) ∙ moved_is b h xs m f e i;
       };
     }
 
@@ -88,7 +94,17 @@ size_in_memory b h xs m small x = (small_room b h xs m small x).row.virtual_size
 pub length_moved : (b : List ℕ) (h : HeaderView) (xs : List Leaf) (m : Room) (f : List ℕ) → AreBytes b → room_of b h xs ≡ Ok m → at_end b h xs ≡ Ok f → length f ≡ length b + m.more
 length_moved b h xs m f small e i =
     let y : IsMoved b h xs m f = is_moved b h xs m f small e i in
-    length_stays_placed (roomy_file h m b) (headers_roomy m h) xs m.place f y.file ∙ roomy_length h m b (room_lies b h xs m y.room)
+    let c : List ℕ = with_pointers m b in
+    length_stays_placed (roomy_file h m c) (headers_roomy m h) xs m.place f y.file ∙ roomy_length h m c (room_lies c h xs m y.room)
+    ∙ ap (λ (n : ℕ). n + m.more) (length_with b h xs m y.old)
+
+-- a byte of the file with room, in no field that changes, is that of the file that is written
+pub roomy_stays : (b : List ℕ) (h : HeaderView) (xs : List Leaf) (m : Room) (f : List ℕ) (k : ℕ) → IsMoved b h xs m f → is_written h m.place k ≡ false → get_or f k 0 ≡ get_or (roomy_file h m (with_pointers m b)) k 0
+roomy_stays b h xs m f k y out = bytes_stay_placed (roomy_file h m (with_pointers m b)) (headers_roomy m h) xs m.place f k y.file out
+
+first_false : (t u : Bool) → (t || u) ≡ false → (t ≡ false) × (u ≡ false)
+first_false false u e = (refl, e)
+first_false true u e = absurd cc
 
 six_of : (a b c d e w : Bool) → (a || (b || (c || (d || (e || w))))) ≡ false → (a ≡ false) × ((b ≡ false) × ((c ≡ false) × ((d ≡ false) × ((e ≡ false) × (w ≡ false)))))
 six_of false false false false false false h = (refl, (refl, (refl, (refl, (refl, refl)))))
@@ -113,23 +129,27 @@ bytes_before b h xs m f k small e i lt over =
     let in_row : Bool = nat_le (m.place.row + 8) k && nat_lt k (m.place.row + 8 + 4) in
     let in_entry : Bool = nat_le m.place.entry k && nat_lt k (m.place.entry + 8) in
     let in_sum : Bool = nat_le (p + 88) k && nat_lt k (p + 88 + 4) in
-    let s = six_of (nat_le (p + 6) k && nat_lt k (p + 6 + 2)) (nat_le (p + 12) k && nat_lt k (p + 12 + 4)) (nat_le (p + 32) k && nat_lt k (p + 32 + 4)) (nat_le (p + 80) k && nat_lt k (p + 80 + 4)) (nat_le m.place.row k && nat_lt k (m.place.row + 40)) (is_written h m.place k) over in
-    bytes_stay_placed (roomy_file h m b) (headers_roomy m h) xs m.place f k y.file s.1.1.1.1.1
-    ∙ roomy_byte h m b k (room_lies b h xs m y.room) lt s.0 s.1.0 s.1.1.0 s.1.1.1.0 (third_of in_raw in_row in_entry in_sum s.1.1.1.1.1) s.1.1.1.1.0
+    let apart = first_false (is_pointer m.debug k) _ over in
+    let s = six_of (nat_le (p + 6) k && nat_lt k (p + 6 + 2)) (nat_le (p + 12) k && nat_lt k (p + 12 + 4)) (nat_le (p + 32) k && nat_lt k (p + 32 + 4)) (nat_le (p + 80) k && nat_lt k (p + 80 + 4)) (nat_le m.place.row k && nat_lt k (m.place.row + 40)) (is_written h m.place k) apart.1 in
+    let c : List ℕ = with_pointers m b in
+    roomy_stays b h xs m f k y s.1.1.1.1.1
+    ∙ roomy_byte h m c k (room_lies c h xs m y.room) lt s.0 s.1.0 s.1.1.0 s.1.1.1.0 (third_of in_raw in_row in_entry in_sum s.1.1.1.1.1) s.1.1.1.1.0
+    ∙ byte_with b h xs m k y.old (pointer_missed m.debug k apart.0)
 
-four_false : (a b c d : Bool) → a ≡ false → b ≡ false → c ≡ false → d ≡ false → (a || (b || (c || d))) ≡ false
+pub four_false : (a b c d : Bool) → a ≡ false → b ≡ false → c ≡ false → d ≡ false → (a || (b || (c || d))) ≡ false
 four_false a b c d i j k l = rw (i, j, k, l) refl
 
 pub bytes_after : (b : List ℕ) (h : HeaderView) (xs : List Leaf) (m : Room) (f : List ℕ) (k : ℕ) → AreBytes b → room_of b h xs ≡ Ok m → at_end b h xs ≡ Ok f → m.end ≤ k → get_or f (k + m.more) 0 ≡ get_or b k 0
 bytes_after b h xs m f k small e i from =
     let y : IsMoved b h xs m f = is_moved b h xs m f small e i in
-    let l : RoomLies h m (length b) = room_lies b h xs m y.room in
+    let c : List ℕ = with_pointers m b in
+    let l : RoomLies h m (length c) = room_lies c h xs m y.room in
     let p : ℕ = h.dos_header.pe_pointer in
     let q : ℕ = k + m.more in
-    bytes_stay_placed (roomy_file h m b) (headers_roomy m h) xs m.place f q y.file
+    roomy_stays b h xs m f q y
     (four_false _ _ _ _ (range_past m.place.section.pointer_to_raw_data m.place.section.size_of_raw_data q (omega (arith, l.section, from))) (range_past (m.place.row + 8) 4 q (omega (arith, l.row, from)))
     (range_past m.place.entry 8 q (omega (arith, l.entry, l.row, from))) (range_past (p + 88) 4 q (omega (arith, l.sum, l.entry, l.row, from))))
-    ∙ roomy_byte_after h m b k l from
+    ∙ roomy_byte_after h m c k l from ∙ tail_with b h xs m k y.old from
 
 pub more_multiple : (b : List ℕ) (h : HeaderView) (xs : List Leaf) (m : Room) (w : OptionalHeaderView) → room_of b h xs ≡ Ok m → h.optional_header ≡ Some w → m.more % w.windows_fields.file_alignment ≡ 0
 more_multiple b h xs m w e some =
@@ -141,7 +161,9 @@ more_multiple b h xs m w e some =
 pub headers_moved : (mode : ParseMode) (b : List ℕ) (h : HeaderView) (xs : List Leaf) (m : Room) (f : List ℕ) → AreBytes b → header_at b mode ≡ Ok h → room_of b h xs ≡ Ok m → at_end b h xs ≡ Ok f → header_at f mode ≡ Ok (edited_headers m.place (sum_of h f) (headers_roomy m h))
 headers_moved mode b h xs m f small parsed e i =
     let y : IsMoved b h xs m f = is_moved b h xs m f small e i in
-    headers_parsed_placed mode (roomy_file h m b) (headers_roomy m h) xs m.place f (roomy_headers mode b h xs m small parsed y.room) y.file
+    let c : List ℕ = with_pointers m b in
+    let head : (k : ℕ) → k < m.place.row → get_or c k 0 ≡ get_or b k 0 = λ k lt. head_with b h xs m k y.old (omega (arith, lt, (table_is b h xs m y.old).row, (table_is b h xs m y.old).count)) in
+    headers_parsed_placed mode (roomy_file h m c) (headers_roomy m h) xs m.place f (roomy_headers mode c b h xs m y.small head (length_with b h xs m y.old) parsed y.room) y.file
     ∙ ap (λ (n : ℕ). Ok (edited_headers m.place n (headers_roomy m h))) (sum_roomy h.dos_header.pe_pointer h.optional_header m f)
 
 -- ---- the sections
@@ -195,7 +217,8 @@ pub sections_moved : (b : List ℕ) (h : HeaderView) (xs : List Leaf) (m : Room)
     section_headers f (headers_roomy m h) ≡ sections_with i (resized (grown_size m.place) m.place.section) (section_headers b h)
 sections_moved b h xs m f i small e j row =
     let y : IsMoved b h xs m f = is_moved b h xs m f small e j in
-    ap (λ (g : List ℕ). section_headers g (headers_roomy m h)) (sym y.file.file) ∙ sections_by b h xs m y.room small i row
+    ap (λ (g : List ℕ). section_headers g (headers_roomy m h)) (sym y.file.file) ∙ sections_by (with_pointers m b) h xs m y.room y.small i row
+    ∙ ap (sections_with i (resized (grown_size m.place) m.place.section)) (rows_with b h xs m y.old)
 
 -- ---- the map
 
@@ -203,24 +226,27 @@ pub map_moved : (o : ParseOptions) (b : List ℕ) (h : HeaderView) (xs : List Le
     section_map o (section_headers f (headers_roomy m h)) alignment a ≡ section_map o (section_headers b h) alignment a
 map_moved o b h xs m f alignment a small e i out =
     let y : IsMoved b h xs m f = is_moved b h xs m f small e i in
-    map_is_same_placed o (roomy_file h m b) (headers_roomy m h) xs m.place f alignment a (size_in_memory b h xs m small y.room) y.file out
-    ∙ roomy_map b h xs m y.room o.resolve_rva alignment a small out
+    let c : List ℕ = with_pointers m b in
+    map_is_same_placed o (roomy_file h m c) (headers_roomy m h) xs m.place f alignment a (size_in_memory c h xs m y.small y.room) y.file out
+    ∙ roomy_map c h xs m y.room o.resolve_rva alignment a y.small out ∙ ap (λ (s : List SectionTable). section_map o s alignment a) (rows_with b h xs m y.old)
 
 -- the optional header, by that of the image
 some_roomy : (h : HeaderView) (m : Room) (w : OptionalHeaderView) → h.optional_header ≡ Some w → (headers_roomy m h).optional_header ≡ Some (optional_roomy m w)
 some_roomy h m w some = ap (option_map (optional_roomy m)) some
 
 pub byte_moved : (o : ParseOptions) (b : List ℕ) (h : HeaderView) (xs : List Leaf) (m : Room) (f : List ℕ) (w : OptionalHeaderView) (a q : ℕ) → AreBytes b → room_of b h xs ≡ Ok m → at_end b h xs ≡ Ok f → h.optional_header ≡ Some w → o.resolve_rva ≡ true → is_outside m.place.section a ≡ true →
-    section_map o (section_headers b h) w.windows_fields.file_alignment a ≡ Some q → get_or f q 0 ≡ get_or b q 0
-byte_moved o b h xs m f w a q small e i some resolves out mapped =
+    section_map o (section_headers b h) w.windows_fields.file_alignment a ≡ Some q → is_pointer m.debug q ≡ false → get_or f q 0 ≡ get_or b q 0
+byte_moved o b h xs m f w a q small e i some resolves out mapped apart =
     let y : IsMoved b h xs m f = is_moved b h xs m f small e i in
-    let x : HasRoom b h xs m = y.room in
+    let c : List ℕ = with_pointers m b in
+    let x : HasRoom c h xs m = y.room in
     let n : ℕ = w.windows_fields.file_alignment in
-    let same : n ≡ x.target.file_alignment = alignment_of b h xs m x w some in
-    let there : section_map o (section_headers (roomy_file h m b) (headers_roomy m h)) n a ≡ Some q = roomy_map b h xs m x o.resolve_rva n a small out ∙ mapped in
-    let resolved : offset_of true n (section_headers b h) a ≡ Some q = ap (λ (r : Bool). offset_of r n (section_headers b h) a) (sym resolves) ∙ mapped in
-    mapped_byte_placed o (roomy_file h m b) (headers_roomy m h) xs m.place f (optional_roomy m w) a q y.file (some_roomy h m w some) resolves out there
-    ∙ roomy_mapped b h xs m x n a q same (ap is_power_of_two same ∙ x.headers.power) out resolved
+    let same : n ≡ x.target.file_alignment = alignment_of c h xs m x w some in
+    let before : section_map o (section_headers c h) n a ≡ Some q = ap (λ (s : List SectionTable). section_map o s n a) (rows_with b h xs m y.old) ∙ mapped in
+    let there : section_map o (section_headers (roomy_file h m c) (headers_roomy m h)) n a ≡ Some q = roomy_map c h xs m x o.resolve_rva n a y.small out ∙ before in
+    let resolved : offset_of true n (section_headers c h) a ≡ Some q = ap (λ (r : Bool). offset_of r n (section_headers c h) a) (sym resolves) ∙ before in
+    mapped_byte_placed o (roomy_file h m c) (headers_roomy m h) xs m.place f (optional_roomy m w) a q y.file (some_roomy h m w some) resolves out there
+    ∙ roomy_mapped c h xs m x n a q same (ap is_power_of_two same ∙ x.headers.power) out resolved ∙ byte_with b h xs m q y.old (pointer_missed m.debug q apart)
 
 -- ---- the leaves
 
@@ -228,13 +254,13 @@ pub directory_moved : (o : ParseOptions) (b : List ℕ) (h : HeaderView) (xs : L
     file_bytes f m.place.length (section_map o (section_headers f (headers_roomy m h)) w.windows_fields.file_alignment m.place.section.virtual_address) ≡ Ok (section m.place.section.virtual_address xs)
 directory_moved o b h xs m f w small e i some resolves =
     let y : IsMoved b h xs m f = is_moved b h xs m f small e i in
-    directory_read_placed o (roomy_file h m b) (headers_roomy m h) xs m.place f (optional_roomy m w) (size_in_memory b h xs m small y.room) y.file (some_roomy h m w some) resolves
+    directory_read_placed o (roomy_file h m (with_pointers m b)) (headers_roomy m h) xs m.place f (optional_roomy m w) (size_in_memory (with_pointers m b) h xs m y.small y.room) y.file (some_roomy h m w some) resolves
 
 pub leaves_moved : (o : ParseOptions) (b : List ℕ) (h : HeaderView) (xs : List Leaf) (m : Room) (f : List ℕ) (w : OptionalHeaderView) → AreBytes b → Each Numbers xs → room_of b h xs ≡ Ok m → at_end b h xs ≡ Ok f → h.optional_header ≡ Some w → o.resolve_rva ≡ true →
     leaves_of_image o f (entry_of m.place) (section_headers f (headers_roomy m h)) w.windows_fields.file_alignment ≡ Ok (map (λ x. Ok x) xs)
 leaves_moved o b h xs m f w small numbers e i some resolves =
     let y : IsMoved b h xs m f = is_moved b h xs m f small e i in
-    leaves_found_placed o (roomy_file h m b) (headers_roomy m h) xs m.place f (optional_roomy m w) (size_in_memory b h xs m small y.room) numbers y.file (some_roomy h m w some) resolves
+    leaves_found_placed o (roomy_file h m (with_pointers m b)) (headers_roomy m h) xs m.place f (optional_roomy m w) (size_in_memory (with_pointers m b) h xs m y.small y.room) numbers y.file (some_roomy h m w some) resolves
 
 -- ---- which of the two an edit writes
 

@@ -1,6 +1,6 @@
 -- The section map of an image whose resources are at its end, and the bytes that it leads to.
-use Rattle.std.proofs.Common.{◌≡◌, ℕ, ◌+◌, ◌-◌, ◌*◌, ◌<◌, ◌≤◌, ◌≢◌, ◌==◌, ◌&&◌, ◌||◌, Bool, true, false, List, length, get_or, Option, Some, None, refl, ap, sym, ◌∙◌, ⊎_elim, arith}
-use Rattle.std.specs.Prelude.{nat_le, nat_lt, if◌then◌else◌}
+use Rattle.std.proofs.Common.{◌≡◌, ℕ, ◌+◌, ◌<◌, ◌≤◌, ◌≢◌, ◌==◌, ◌&&◌, ◌||◌, Bool, true, false, List, length, get_or, Option, Some, None, refl, ap, sym, ◌∙◌, arith}
+use Rattle.std.specs.Prelude.{nat_le, if◌then◌else◌}
 use Rattle.std.specs.Int.{is_power_of_two}
 use Rattle.std.proofs.lemmas.Bool.Decides.{nat_tests}
 use Rattle.pe_core.specs.Bytes.{AreBytes}
@@ -11,14 +11,13 @@ use Rattle.pe_core.specs.Sections.{raw_end, sections_offset}
 use Rattle.pe_core.specs.declared.section_table.SectionTable.{SectionTable}
 use Rattle.pe_core.proofs.Map.{positive}
 use Rattle.pe_edit.specs.Written.{Leaf}
-use Rattle.pe_sign.proofs.Digests.{range_below, range_past}
+use Rattle.pe_sign.proofs.Digests.{range_past}
 use Rattle.pe_rewrite.specs.Edited.{RoomLies, roomy_file}
 use Rattle.pe_rewrite.specs.Places.{is_outside, pages_end, section_header, section_headers}
 use Rattle.pe_rewrite.specs.Rooms.{is_before, table_end}
 use Rattle.pe_rewrite.specs.WrittenImages.{headers_roomy}
 use Rattle.pe_rewrite.specs.declared.room.Room.{Room}
 use Rattle.pe_rewrite.proofs.Mapped.{Covered, Found, by_each, covered_end, covered_of, covers_none, first_some, found_each, maps_but_one, offset_none}
-use Rattle.pe_rewrite.proofs.Results.{first_of, second_of}
 use Rattle.pe_rewrite.proofs.RoomBytes.{roomy_byte}
 use Rattle.pe_rewrite.proofs.RoomPlaced.{TableIs, before_last, other_header, own_header, table_is}
 use Rattle.pe_rewrite.proofs.Roomy.{HasRoom, room_lies}

@@ -1,5 +1,5 @@
 -- An image with room for resources has a place for them: an edit writes into it as into any other image.
-use Rattle.std.proofs.Common.{◌≡◌, ℕ, zero, suc, ◌+◌, ◌*◌, ◌%◌, ◌^◌, ◌<◌, ◌≤◌, ◌≢◌, ◌==◌, ◌&&◌, ◌||◌, Bool, true, false, List, [], ◌∷◌, length, get_or, set, max, Option, Some, None, Ok, refl, ap, sym, ◌∙◌, subst, ⊎_elim, arith}
+use Rattle.std.proofs.Common.{◌≡◌, ℕ, zero, suc, ◌+◌, ◌*◌, ◌%◌, ◌<◌, ◌≤◌, ◌≢◌, ◌==◌, ◌&&◌, ◌||◌, Bool, true, false, List, length, get_or, set, max, Some, refl, ap, sym, ◌∙◌, subst, ⊎_elim, arith}
 use Rattle.std.specs.Prelude.{nat_le, nat_lt}
 use Rattle.std.specs.Int.{is_power_of_two}
 use Rattle.std.specs.List.{list_all}
@@ -21,14 +21,14 @@ use Rattle.pe_sign.specs.WrittenHeaders.{directories_end, directories_end_after}
 use Rattle.pe_sign.proofs.Digests.{range_below, range_past}
 use Rattle.pe_sign.proofs.SectionRows.{all_more}
 use Rattle.pe_rewrite.specs.Edited.{RoomLies, roomy_file}
-use Rattle.pe_rewrite.specs.Places.{data_apart, directory_at, headers_end, is_absent, is_apart, pages_end, place_at, section_header, sections_apart, target_by}
+use Rattle.pe_rewrite.specs.Places.{data_apart, directory_at, headers_end, is_absent, is_apart, pages_end, section_header, sections_apart, target_by}
 use Rattle.pe_rewrite.specs.Rooms.{count_with, is_before, is_before_or_same, room_at, table_end}
 use Rattle.pe_rewrite.specs.WrittenImages.{entry_of, headers_roomy, optional_roomy}
 use Rattle.pe_rewrite.specs.declared.place.Place.{Place}
 use Rattle.pe_rewrite.specs.declared.place.Target.{Target}
 use Rattle.pe_rewrite.specs.declared.room.LastSection.{LastSection}
 use Rattle.pe_rewrite.specs.declared.room.Room.{Room}
-use Rattle.pe_rewrite.proofs.Placed.{HeadersLie, IndexIs, Made, Placed, SectionIs, TargetIs}
+use Rattle.pe_rewrite.proofs.Placed.{HeadersLie, Made, Placed, SectionIs, TargetIs}
 use Rattle.pe_rewrite.proofs.RoomBytes.{RoomRead, roomy_byte}
 use Rattle.pe_rewrite.proofs.RoomHeaders.{EntryLies, entry_lies, read_of}
 use Rattle.pe_rewrite.proofs.RoomWrites.{roomy_length}
@@ -138,7 +138,7 @@ before_last b h xs m x k lt other =
     other_index k x.section.index (is_before x.target.file_alignment (table_end h x.section.index) x.section.section (section_header b h k)) other
     (all_by (is_before_or_same b h x.target x.section k) (is_before_or_same b h x.target x.section) h.coff_header.number_of_sections k lt refl x.fits.last)
 
-all_each : (p : ℕ → Bool) (n : ℕ) → ((k : ℕ) → k < n → p k ≡ true) → list_all p (each (λ j. j) n) ≡ true
+pub all_each : (p : ℕ → Bool) (n : ℕ) → ((k : ℕ) → k < n → p k ≡ true) → list_all p (each (λ j. j) n) ≡ true
 unfolding each
 all_each p zero h = refl
 all_each p (suc n) h = all_more p (λ j. j) n (all_each p n (λ k lt. h k (omega (arith, lt)))) (h n (omega arith))

@@ -1,24 +1,25 @@
 -- What is known of an image that has room for resources at its end.
-use Rattle.std.proofs.Common.{◌≡◌, ℕ, ◌+◌, ◌-◌, ◌*◌, ◌/◌, ◌%◌, ◌^◌, ◌<◌, ◌≤◌, ◌==◌, ◌&&◌, ◌||◌, ◌⊎◌, inl, inr, Bool, true, false, List, [], ◌∷◌, length, max, Result, Ok, Err, refl, ap, sym, ◌∙◌, subst, ⊎_elim, arith}
-use Rattle.std.specs.Prelude.{nat_le, nat_lt, slice_range}
-use Rattle.std.specs.Int.{is_power_of_two}
+use Rattle.std.proofs.Common.{◌≡◌, ℕ, ◌+◌, ◌-◌, ◌*◌, ◌/◌, ◌%◌, ◌^◌, ◌<◌, ◌≤◌, ◌==◌, ◌&&◌, ◌⊎◌, inl, inr, Bool, true, false, List, [], ◌∷◌, length, Result, Ok, Err, refl, ap, sym, subst, ⊎_elim, arith}
+use Rattle.std.specs.Prelude.{nat_le, nat_lt}
+use Rattle.std.specs.List.{list_all}
 use Rattle.std.proofs.lemmas.Bool.Decides.{nat_tests}
 use Rattle.std.proofs.lemmas.List.{places}
 use Rattle.std.proofs.Math.Nat.{lt-div-mul-add, mul-mod_left}
-use Rattle.pe_core.specs.Bytes.{AreBytes, le, range}
+use Rattle.pe_core.specs.Bytes.{AreBytes, le}
 use Rattle.pe_core.specs.Header.{HeaderView, OptionalHeaderView, directories_offset}
 use Rattle.pe_core.specs.Records.{section_table}
-use Rattle.pe_core.specs.Refusals.{outcome, ◌>>=◌}
+use Rattle.pe_core.specs.Refusals.{outcome}
+use Rattle.pe_core.specs.Rows.{each}
 use Rattle.pe_core.specs.SectionMap.{rounded_up}
 use Rattle.pe_core.specs.Sections.{raw_end, sections_offset}
 use Rattle.pe_core.specs.declared.section_table.SectionTable.{SectionTable}
 use Rattle.pe_core.proofs.Map.{positive}
-use Rattle.pe_core.proofs.NumberBytes.{le_small, le-zero}
-use Rattle.pe_edit.specs.Written.{Leaf, section}
+use Rattle.pe_core.proofs.NumberBytes.{le_small}
+use Rattle.pe_edit.specs.Written.{Leaf}
 use Rattle.pe_sign.specs.WrittenHeaders.{directories_end, directories_end_after}
 use Rattle.pe_rewrite.specs.Edited.{RoomLies}
 use Rattle.pe_rewrite.specs.Places.{header_tests, headers_end, index_of, is_alone, length_at, section_header, target_of}
-use Rattle.pe_rewrite.specs.Rooms.{are_u32, count_with, data_end, ends_data, enlarged, has_header, image_end, is_last, is_u32, new_header, new_room, new_section, or_else, own_room, own_section, room_at, room_of, room_tests, room_with, sizes_of, symbols_move, table_end}
+use Rattle.pe_rewrite.specs.Rooms.{are_u32, count_with, data_end, debug_entries, debug_moves, ends_data, enlarged, entries_lie, entry_moves, has_header, image_end, is_last, is_u32, new_room, new_section, or_else, own_room, own_section, room_at, room_of, room_tests, room_with, sizes_of, symbols_move, table_end}
 use Rattle.pe_rewrite.specs.RewriteRefusals.{RewriteRefusal, ImageTooLarge}
 use Rattle.pe_rewrite.specs.declared.place.Target.{Target}
 use Rattle.pe_rewrite.specs.declared.room.LastSection.{LastSection}
@@ -131,6 +132,23 @@ pub record RoomFits (b : List ℕ) (h : HeaderView) (t : Target) (n : ℕ) (l : 
   pub sector : (l.section.pointer_to_raw_data % 512 == 0) ≡ true
   pub inside : raw_end l.section ≤ length b
   pub last : is_last b h t l ≡ true
+  pub entries : entries_lie h l ≡ true
+
+-- what an entry that moves gets
+pub record EntriesFit (b : List ℕ) (l : LastSection) : Type 0 where
+  pub end : raw_end l.section + l.more < 256 ^ 4
+  pub all : list_all (entry_moves b l) (each (λ k. k) l.debug.count) ≡ true
+
+pub debug_of : (b : List ℕ) (h : HeaderView) (t : Target) (n : ℕ) (l : LastSection) (r m : Room) → outcome (room_tests b h t n l) r ≡ Ok m → debug_moves b h l ≡ true
+debug_of b h t n l r m e =
+    let one = passed (has_header b h t l.index) _ _ m e in
+    let two = passed (are_u32 (sizes_of h t n l)) _ _ m one.1 in
+    let three = passed (ends_data b h t l) _ _ m two.1 in
+    let four = passed (is_alone (enlarged l) h.optional_header) _ _ m three.1 in
+    let five = passed (symbols_move h l) _ _ m four.1 in
+    let six = passed (is_last b h t l) _ _ m five.1 in
+    let seven = passed (debug_moves b h l) _ _ m six.1 in
+    seven.0
 
 room_fits : (b : List ℕ) (h : HeaderView) (t : Target) (n : ℕ) (l : LastSection) (r m : Room) → outcome (room_tests b h t n l) r ≡ Ok m → RoomFits b h t n l
 room_fits b h t n l r m e =
@@ -162,9 +180,21 @@ room_fits b h t n l r m e =
       sector = first_of (l.section.pointer_to_raw_data % 512 == 0) _ rest_of;
       inside = grind (arith, nat_tests, inside);
       last = six.0;
+      entries = first_of (entries_lie h l) _ (debug_of b h t n l r m e);
     }
 
 -- ---- all of it
+
+-- the debug entries can be written
+pub record HasDebug (b : List ℕ) (h : HeaderView) (m : Room) : Type 0 where
+  pub target : Target
+  pub of : TargetIs h target
+  pub section : LastSection
+  pub debug : m.debug ≡ section.debug
+  pub end : m.end ≡ raw_end section.section
+  pub more : m.more ≡ section.more
+  pub fit : EntriesFit b section
+  pub entries : section.debug ≡ debug_entries b h target
 
 pub record HasRoom (b : List ℕ) (h : HeaderView) (xs : List Leaf) (m : Room) : Type 0 where
   pub target : Target
@@ -181,7 +211,23 @@ or_cases : (r s : Result Room RewriteRefusal) (m : Room) → or_else r s ≡ Ok 
 or_cases (Ok r) s m e = inl e
 or_cases (Err k) s m e = inr e
 
-by_section : (b : List ℕ) (h : HeaderView) (xs : List Leaf) (m : Room) (t : Target) (n : ℕ) (l : LastSection) → TargetIs h t → HeadersLie b h t → Made l.section.virtual_address n xs → IsLast b h t.file_alignment n l → room_with b h t n l ≡ Ok m → HasRoom b h xs m
+debug_by : (b : List ℕ) (h : HeaderView) (m : Room) (t : Target) (n : ℕ) (l : LastSection) → TargetIs h t → l.debug ≡ debug_entries b h t → room_with b h t n l ≡ Ok m → HasDebug b h m
+debug_by b h m t n l of is e =
+    let value : room_at h t n l ≡ m = value_is (room_tests b h t n l) (room_at h t n l) m e in
+    let fits : RoomFits b h t n l = room_fits b h t n l (room_at h t n l) m e in
+    record {
+      target = t;
+      of = of;
+      section = l;
+      entries = is;
+      debug = ap (λ (r : Room). r.debug) (sym value);
+      end = ap (λ (r : Room). r.end) (sym value);
+      more = ap (λ (r : Room). r.more) (sym value);
+      fit = record { end = fits.end; all = second_of (entries_lie h l) _ (debug_of b h t n l (room_at h t n l) m e) };
+    }
+
+by_section : (b : List ℕ) (h : HeaderView) (xs : List Leaf) (m : Room) (t : Target) (n : ℕ) (l : LastSection) → TargetIs h t → HeadersLie b h t → Made l.section.virtual_address n xs → IsLast b h t.file_alignment n l → room_with b h t n l ≡ Ok m →
+    HasRoom b h xs m
 by_section b h xs m t n l of headers leaves is e = record {
   target = t;
   length_of = n;
@@ -222,6 +268,23 @@ has_room b h xs m e =
     (λ (own : own_room b h t.0 n.0 ≡ Ok m). by_own b h xs m t.0 n.0 of headers (made_at t.0.rva n.0 xs n.1.0) own)
     (λ (new : new_room b h t.0 xs ≡ Ok m). by_new b h xs m t.0 of headers new)
     (or_cases (own_room b h t.0 n.0) (new_room b h t.0 xs) m u.1.1)
+
+-- the section by which there is room
+by_which : (b : List ℕ) (h : HeaderView) (xs : List Leaf) (m : Room) (t : Target) (n : ℕ) → TargetIs h t → or_else (own_room b h t n) (new_room b h t xs) ≡ Ok m → HasDebug b h m
+by_which b h xs m t n of e = ⊎_elim
+    (λ (own : own_room b h t n ≡ Ok m). let i = first_ok (index_of b h t.rva) _ m own in debug_by b h m t n (own_section b h t n i.0) of refl i.1.1)
+    (λ (new : new_room b h t xs ≡ Ok m).
+    let u = first_ok (outcome {Y = Unit {0}} ((is_u32 (image_end t) && is_u32 (data_end b h t), ImageTooLarge) ∷ []) tt) _ m new in
+    let k = first_ok (length_at (image_end t) xs) _ m u.1.1 in
+    debug_by b h m t k.0 (new_section b h t k.0) of refl k.1.1)
+    (or_cases (own_room b h t n) (new_room b h t xs) m e)
+
+pub has_debug : (b : List ℕ) (h : HeaderView) (xs : List Leaf) (m : Room) → room_of b h xs ≡ Ok m → HasDebug b h m
+has_debug b h xs m e =
+    let t = first_ok (target_of h) _ m e in
+    let n = first_ok (length_at t.0.rva xs) _ m t.1.1 in
+    let u = first_ok (outcome {Y = Unit {0}} (header_tests b h t.0) tt) _ m n.1.1 in
+    by_which b h xs m t.0 n.0 (target_is h t.0 t.1.0) u.1.1
 
 -- ---- what lies where
 

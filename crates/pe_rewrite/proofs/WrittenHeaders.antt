@@ -1,12 +1,11 @@
 -- The headers and the section headers of an image whose resources changed.
-use Rattle.std.proofs.Common.{◌≡◌, ℕ, ◌+◌, ◌*◌, ◌^◌, ◌<◌, ◌≤◌, ◌==◌, ◌&&◌, Bool, true, false, List, length, get_or, Option, Some, None, Ok, refl, ap, sym, ◌∙◌, subst, arith}
+use Rattle.std.proofs.Common.{◌≡◌, ℕ, ◌+◌, ◌*◌, ◌^◌, ◌<◌, ◌≤◌, ◌==◌, ◌&&◌, Bool, true, false, List, length, get_or, Option, Some, None, Ok, refl, ap, sym, ◌∙◌, arith}
 use Rattle.std.specs.Prelude.{nat_le, nat_lt, slice_range, if◌then◌else◌}
 use Rattle.pe_core.specs.Bytes.{bytes_of, le, range, splice}
 use Rattle.pe_core.specs.Header.{HeaderView, OptionalHeaderView, directories_offset, header_at}
 use Rattle.pe_core.specs.Records.{data_directory, section_table}
 use Rattle.pe_core.specs.Sections.{sections_offset}
 use Rattle.pe_core.specs.declared.options.ParseMode.{ParseMode}
-use Rattle.pe_core.specs.declared.section_table.SectionTable.{SectionTable}
 use Rattle.pe_core.proofs.NumberBytes.{le-same}
 use Rattle.pe_core.proofs.Splices.{length-bytes_of, length-splice}
 use Rattle.pe_edit.specs.Written.{Leaf, section, section_length}

@@ -1,6 +1,6 @@
 -- The file of an image with other resources, in the section that it had them in, or in one at the end of the image.
-use Rattle.std.specs.Prelude.{◌≡◌, ℕ, ◌+◌, ◌-◌, ◌≤◌, ◌==◌, ◌||◌, ◌++◌, max, Bool, true, false, List, [], ◌∷◌, Option, Some, None, Result, Ok, Err, drop, length, nat_le, replicate, take, if◌then◌else◌}
-use Rattle.pe_core.specs.Bytes.{bytes_of, splice}
+use Rattle.std.specs.Prelude.{◌≡◌, ℕ, zero, suc, ◌+◌, ◌-◌, ◌*◌, ◌%◌, ◌^◌, ◌<◌, ◌≤◌, ◌==◌, ◌&&◌, ◌||◌, ◌++◌, max, Bool, true, false, List, [], ◌∷◌, Option, Some, None, Result, Ok, Err, drop, length, nat_le, nat_lt, replicate, take, if◌then◌else◌}
+use Rattle.pe_core.specs.Bytes.{bytes_of, le, splice}
 use Rattle.pe_core.specs.Header.{HeaderView, OptionalHeaderView}
 use Rattle.pe_core.specs.Refusals.{WriteFit, outcome, ◌>>=◌}
 use Rattle.pe_core.specs.Sections.{raw_end, sections_offset}
@@ -11,8 +11,9 @@ use Rattle.pe_sign.specs.Checksum.{checksum_of}
 use Rattle.pe_sign.specs.Digest.{is_in}
 use Rattle.pe_rewrite.specs.Places.{headers_end, place_of}
 use Rattle.pe_rewrite.specs.RewriteRefusals.{RewriteRefusal, Image, NoDirectory, Signed, Leaves, Headers, Alignment, NoSection, Section, SharedSection, Symbols, Overlap, NoRoom, NoHeaderRoom, ImageTooLarge, DebugData}
-use Rattle.pe_rewrite.specs.Rooms.{room_of}
+use Rattle.pe_rewrite.specs.Rooms.{moved, room_of}
 use Rattle.pe_rewrite.specs.declared.place.Place.{Place}
+use Rattle.pe_rewrite.specs.declared.room.DebugEntries.{DebugEntries}
 use Rattle.pe_rewrite.specs.declared.room.Room.{Room}
 
 -- ---- changes: bytes that are written at a file offset
@@ -73,6 +74,27 @@ is_written h p k =
 unfoldable pub with_zeros : ℕ → ℕ → List ℕ → List ℕ
 with_zeros p n b = take p b ++ (replicate n 0 ++ drop p b)
 
+-- the file offset of the field PointerToRawData in the k-th debug entry
+abbrev pub pointer_at : DebugEntries → ℕ → ℕ
+pointer_at d k = d.offset + 28 * k + 24
+
+-- the pointer that the k-th entry gets: that of the image b, moved
+abbrev pub moved_pointer : Room → List ℕ → ℕ → ℕ
+moved_pointer m b k = moved m.end m.more (le b (pointer_at m.debug k) 4)
+
+-- the file f with those of the first n entries
+unfoldable pub pointers_moved : Room → List ℕ → ℕ → List ℕ → List ℕ
+pointers_moved m b zero f = f
+pointers_moved m b (suc n) f = splice (pointers_moved m b n f) (pointer_at m.debug n) (bytes_of 4 (moved_pointer m b n))
+
+-- the file with those of all
+abbrev pub with_pointers : Room → List ℕ → List ℕ
+with_pointers m b = pointers_moved m b m.debug.count b
+
+-- the file offset is in the pointer of an entry
+abbrev pub is_pointer : DebugEntries → ℕ → Bool
+is_pointer d k = nat_le d.offset k && (nat_lt k (d.offset + 28 * d.count) && nat_le 24 ((k - d.offset) % 28))
+
 -- what changes in the headers, by the PE pointer: four fields, the entry of the resource directory, and the header of its section
 abbrev pub room_changes : ℕ → Room → List (ℕ × List ℕ)
 room_changes pointer m =
@@ -88,19 +110,21 @@ room_changes pointer m =
 unfoldable pub roomy_file : HeaderView → Room → List ℕ → List ℕ
 roomy_file h m b = changed (room_changes h.dos_header.pe_pointer m) (with_zeros m.end m.more b)
 
--- the file with the leaves there
+-- the file with the leaves there, and with the pointers of debug entries moved
 abbrev pub moved_file : HeaderView → Room → List Leaf → List ℕ → List ℕ
-moved_file h m xs b = edited_file h m.place xs (roomy_file h m b)
+moved_file h m xs b = edited_file h m.place xs (roomy_file h m (with_pointers m b))
 
--- the file offset is in a field of the headers that changes, in the section header, or written with the resources
+-- the file offset is in the pointer of a debug entry, in a field of the headers that changes, in the section header, or written with
+-- the resources
 abbrev pub is_moved_over : HeaderView → Room → ℕ → Bool
 is_moved_over h m k =
-    is_in (record { offset = h.dos_header.pe_pointer + 6; length = 2 }) k
+    is_pointer m.debug k
+    || (is_in (record { offset = h.dos_header.pe_pointer + 6; length = 2 }) k
     || (is_in (record { offset = h.dos_header.pe_pointer + 12; length = 4 }) k
     || (is_in (record { offset = h.dos_header.pe_pointer + 32; length = 4 }) k
     || (is_in (record { offset = h.dos_header.pe_pointer + 80; length = 4 }) k
     || (is_in (record { offset = m.place.row; length = 40 }) k
-    || is_written h m.place k))))
+    || is_written h m.place k)))))
 
 -- ---- the calls
 
@@ -177,3 +201,21 @@ pub record RoomLies (h : HeaderView) (m : Room) (n : ℕ) : Type 0 where
   pub section : raw_end m.place.section ≡ m.end + m.more
   pub room : m.place.length ≤ m.place.section.size_of_raw_data
   pub name : length m.place.section.name ≡ 8
+
+-- the debug entries, if there are any, lie between the section headers and the section's data
+abbrev pub EntriesLie : HeaderView → Room → Type 0
+EntriesLie h m =
+    0 < m.debug.count →
+    (sections_offset h + 40 * m.number_of_sections ≤ m.debug.offset)
+    × (m.debug.offset + 28 * m.debug.count ≤ m.place.section.pointer_to_raw_data)
+
+-- their pointers, moved, have 32 bits
+abbrev pub PointersFit : Room → List ℕ → Type 0
+PointersFit m b = (k : ℕ) → k < m.debug.count → moved_pointer m b k < 2 ^ 32
+
+-- the room lies in the file of an image, and its debug entries can be changed
+pub record CanMove (h : HeaderView) (m : Room) (b : List ℕ) : Type 0 where
+  pub lies : RoomLies h m (length b)
+  pub entries : EntriesLie h m
+  pub before : m.place.section.pointer_to_raw_data ≤ m.end
+  pub fit : PointersFit m b

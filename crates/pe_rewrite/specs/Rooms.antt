@@ -1,13 +1,13 @@
 -- Where resources go that have no room in place: to the end of the image, into a new section or into their own if it is the
 -- last. (PE format: COFF file header, optional header, section table.)
-use Rattle.std.specs.Prelude.{ℕ, ◌+◌, ◌-◌, ◌*◌, ◌/◌, ◌%◌, ◌==◌, ◌&&◌, ◌||◌, max, min, Bool, true, false, Option, Some, None, List, [], ◌∷◌, Result, Ok, Err, length, nat_le, nat_lt, if◌then◌else◌}
-use Rattle.std.specs.List.{fold, list_all, position_or_len}
+use Rattle.std.specs.Prelude.{ℕ, ◌+◌, ◌-◌, ◌*◌, ◌/◌, ◌%◌, ◌==◌, ◌&&◌, ◌||◌, max, Bool, true, Option, Some, None, List, [], ◌∷◌, Result, Ok, Err, length, nat_le, nat_lt, if◌then◌else◌}
+use Rattle.std.specs.List.{fold, list_all}
 use Rattle.pe_core.specs.Bytes.{le}
 use Rattle.pe_core.specs.Directories.{absent_directory}
 use Rattle.pe_core.specs.Header.{HeaderView, OptionalHeaderView}
 use Rattle.pe_core.specs.Refusals.{outcome, ◌>>=◌}
 use Rattle.pe_core.specs.Rows.{each}
-use Rattle.pe_core.specs.SectionMap.{raw_start, rounded_up}
+use Rattle.pe_core.specs.SectionMap.{offset_of, raw_start, rounded_up}
 use Rattle.pe_core.specs.Sections.{raw_end, sections_offset}
 use Rattle.pe_core.specs.declared.data_directories.DataDirectory.{DataDirectory}
 use Rattle.pe_core.specs.declared.section_table.SectionTable.{SectionTable}
@@ -15,10 +15,29 @@ use Rattle.pe_edit.specs.Written.{Leaf}
 use Rattle.pe_rewrite.specs.Places.{directory_at, header_tests, headers_end, index_of, is_alone, length_at, pages_end, section_header, section_headers, target_of}
 use Rattle.pe_rewrite.specs.RewriteRefusals.{RewriteRefusal, DebugData, NoHeaderRoom, ImageTooLarge, Section, SharedSection, Symbols, Overlap}
 use Rattle.pe_rewrite.specs.declared.place.Target.{Target}
+use Rattle.pe_rewrite.specs.declared.room.DebugEntries.{DebugEntries}
 use Rattle.pe_rewrite.specs.declared.room.LastSection.{LastSection}
 use Rattle.pe_rewrite.specs.declared.room.Room.{Room}
 use Rattle.pe_rewrite.specs.declared.room.Sizes.{Sizes}
 use Rattle.pe_rewrite.specs.declared.room.TheConstants.{CHARACTERISTICS}
+
+-- ---- the debug entries
+
+-- the directory of the debug data, which is the seventh
+abbrev pub debug_directory : Option OptionalHeaderView → DataDirectory
+debug_directory None = absent_directory
+debug_directory (Some o) = directory_at o 6
+
+-- the entries of a directory, of 28 bytes each, which the section map leads to this file offset; if to none, they are in the
+-- headers, of n bytes, or nowhere
+abbrev pub entries_by : Option ℕ → DataDirectory → ℕ → DebugEntries
+entries_by (Some p) d n = record { offset = p; count = d.size / 28 }
+entries_by None d n = record { offset = d.virtual_address; count = if nat_lt d.virtual_address n then d.size / 28 else 0 }
+
+abbrev pub debug_entries : List ℕ → HeaderView → Target → DebugEntries
+debug_entries b h t =
+    let d = debug_directory h.optional_header in
+    entries_by (offset_of true t.file_alignment (section_headers b h) d.virtual_address) d t.size_of_headers
 
 -- ---- the section
 
@@ -30,7 +49,12 @@ enlarged l = record l.section { size_of_raw_data = l.section.size_of_raw_data + 
 abbrev pub own_section : List ℕ → HeaderView → Target → ℕ → ℕ → LastSection
 own_section b h t n i =
     let s = section_header b h i in
-    record { index = i; section = s; more = rounded_up (n - s.size_of_raw_data) t.file_alignment }
+    record {
+      index = i;
+      section = s;
+      more = rounded_up (n - s.size_of_raw_data) t.file_alignment;
+      debug = debug_entries b h t;
+    }
 
 -- where the data of all sections end in the file, and the headers
 abbrev pub later_end : ℕ → SectionTable → ℕ
@@ -64,6 +88,7 @@ new_section b h t n = record {
   index = h.coff_header.number_of_sections;
   section = new_header (image_end t) (data_end b h t);
   more = rounded_up n t.file_alignment;
+  debug = debug_entries b h t;
 }
 
 -- ---- the room that it makes
@@ -99,6 +124,7 @@ room_at h t n l = record {
   };
   end = raw_end l.section;
   more = l.more;
+  debug = l.debug;
   number_of_sections = count_with h l.index;
   pointer_to_symbol_table = (sizes_of h t n l).pointer_to_symbol_table;
   size_of_initialized_data = (sizes_of h t n l).size_of_initialized_data;
@@ -156,34 +182,24 @@ is_before_or_same b h t l k = k == l.index || is_before t.file_alignment (table_
 abbrev pub is_last : List ℕ → HeaderView → Target → LastSection → Bool
 is_last b h t l = list_all (is_before_or_same b h t l) (each (λ k. k) h.coff_header.number_of_sections)
 
--- the directory of the debug data, which is the seventh
-abbrev pub debug_directory : Option OptionalHeaderView → DataDirectory
-debug_directory None = absent_directory
-debug_directory (Some o) = directory_at o 6
+-- the debug entries lie after the section headers and before the section's data, if there are any
+abbrev pub entries_lie : HeaderView → LastSection → Bool
+entries_lie h l =
+    l.debug.count == 0
+    || (nat_le (table_end h l.index) l.debug.offset && nat_le (l.debug.offset + 28 * l.debug.count) l.section.pointer_to_raw_data)
 
--- the section's data have this RVA
-abbrev pub has_rva : ℕ → SectionTable → Bool
-has_rva rva s = nat_le s.virtual_address rva && nat_lt rva (s.virtual_address + s.size_of_raw_data)
+-- the data of the debug entry at file offset e end before the section's data, or start after what was the end of all data, and
+-- then their offset, when they have moved, has 32 bits
+abbrev pub data_moves : List ℕ → LastSection → ℕ → Bool
+data_moves b l e =
+    let p = le b (e + 24) 4 in
+    nat_le (p + le b (e + 16) 4) l.section.pointer_to_raw_data || (nat_le (raw_end l.section) p && is_u32 (p + l.more))
 
--- the index of the first section that has it, or the number of sections
-abbrev pub index_with : List ℕ → HeaderView → ℕ → ℕ
-index_with b h rva = position_or_len (has_rva rva) (section_headers b h)
+abbrev pub entry_moves : List ℕ → LastSection → ℕ → Bool
+entry_moves b l k = data_moves b l (l.debug.offset + 28 * k)
 
--- the data of the k-th debug entry from file offset p on end by `end`; an entry after the end of the file is none
-abbrev pub debug_stays : List ℕ → ℕ → ℕ → ℕ → Bool
-debug_stays b end p k = nat_lt (length b) (p + 28 * k + 28) || nat_le (le b (p + 28 * k + 24) 4 + le b (p + 28 * k + 16) 4) end
-
--- so do those of the entries of 28 bytes each from file offset p on, as many as the directory has
-abbrev pub entries_stay : List ℕ → DataDirectory → ℕ → ℕ → Bool
-entries_stay b d end p = list_all (debug_stays b end p) (each (λ k. k) (min (d.size / 28) (length b / 28)))
-
--- so do those of all debug entries, which are in the data of a section or in the headers, of n bytes
-unfoldable pub debug_all_stay : List ℕ → HeaderView → DataDirectory → ℕ → ℕ → Bool
-debug_all_stay b h d n end =
-    let i = index_with b h d.virtual_address in
-    let s = section_header b h i in
-    if nat_lt i h.coff_header.number_of_sections then entries_stay b d end (s.pointer_to_raw_data + (d.virtual_address - s.virtual_address))
-    else (nat_le n d.virtual_address || entries_stay b d end d.virtual_address)
+abbrev pub debug_moves : List ℕ → HeaderView → LastSection → Bool
+debug_moves b h l = entries_lie h l && list_all (entry_moves b l) (each (λ k. k) l.debug.count)
 
 -- the tests, in their order
 abbrev pub room_tests : List ℕ → HeaderView → Target → ℕ → LastSection → List (Bool × RewriteRefusal)
@@ -194,7 +210,7 @@ room_tests b h t n l =
     ∷ (is_alone (enlarged l) h.optional_header, SharedSection)
     ∷ (symbols_move h l, Symbols)
     ∷ (is_last b h t l, Overlap)
-    ∷ (debug_all_stay b h (debug_directory h.optional_header) t.size_of_headers (raw_end l.section), DebugData) ∷ []
+    ∷ (debug_moves b h l, DebugData) ∷ []
 
 abbrev pub room_with : List ℕ → HeaderView → Target → ℕ → LastSection → Result Room RewriteRefusal
 room_with b h t n l = outcome (room_tests b h t n l) (room_at h t n l)

@@ -1,5 +1,5 @@
 -- What is parsed of an image whose resources changed. (PE format: optional header, section table, the .rsrc section.)
-use Rattle.std.specs.Prelude.{◌≡◌, ℕ, ◌+◌, ◌*◌, ◌==◌, List, [], ◌∷◌, ◌++◌, Option, Result, Ok, Err, drop, if◌then◌else◌, map, slice_set, take}
+use Rattle.std.specs.Prelude.{◌≡◌, ℕ, ◌+◌, ◌*◌, ◌/◌, ◌==◌, List, [], ◌∷◌, ◌++◌, Option, Result, Ok, Err, drop, if◌then◌else◌, map, slice_set, take}
 use Rattle.std.specs.Option.{option_map}
 use Rattle.pe_core.specs.Bytes.{AreBytes}
 use Rattle.pe_core.specs.Header.{HeaderView, OptionalHeaderView}
@@ -10,6 +10,7 @@ use Rattle.pe_core.specs.SectionMap.{section_map}
 use Rattle.pe_core.specs.declared.options.ParseOptions.{ParseOptions}
 use Rattle.pe_core.specs.declared.header.CoffHeader.{CoffHeader}
 use Rattle.pe_core.specs.declared.section_table.SectionTable.{SectionTable}
+use Rattle.pe_records.specs.declared.debug.ImageDebugDirectory.{ImageDebugDirectory}
 use Rattle.pe_resource.specs.Contents.{file_bytes}
 use Rattle.pe_resource.specs.Leaves.{TreeRefusal, resource_tree}
 use Rattle.pe_resource.specs.declared.leaves.ResourceLeaf.{ResourceLeaf}
@@ -19,8 +20,9 @@ use Rattle.pe_sign.specs.WrittenHeaders.{headers_changed}
 use Rattle.pe_core.specs.Refusals.{◌>>=◌}
 use Rattle.pe_rewrite.specs.Edited.{at_end, edited_of}
 use Rattle.pe_rewrite.specs.Places.{place_of, section_headers}
-use Rattle.pe_rewrite.specs.Rooms.{room_of}
+use Rattle.pe_rewrite.specs.Rooms.{moved, room_of}
 use Rattle.pe_rewrite.specs.declared.place.Place.{Place}
+use Rattle.pe_rewrite.specs.declared.room.DebugEntries.{DebugEntries}
 use Rattle.pe_rewrite.specs.declared.room.Room.{Room}
 
 -- the entry of the resource directory
@@ -102,3 +104,17 @@ pub record IsEditedAtEnd (b : List ℕ) (h : HeaderView) (xs : List Leaf) (m : R
   pub bytes : AreBytes b
   pub room : room_of b h xs ≡ Ok m
   pub file : at_end b h xs ≡ Ok f
+
+-- ---- debug entries
+
+-- the file offset of the k-th debug entry
+abbrev pub entry_offset : Room → ℕ → ℕ
+entry_offset m k = m.debug.offset + 28 * k
+
+-- a debug entry with its pointer moved
+abbrev pub moved_entry : Room → ImageDebugDirectory → ImageDebugDirectory
+moved_entry m e = record e { pointer_to_raw_data = moved m.end m.more e.pointer_to_raw_data }
+
+-- the debug entries that a directory's RVA leads to by the section map
+abbrev pub entries_at : ℕ → DataDirectory → DebugEntries
+entries_at q d = record { offset = q; count = d.size / 28 }

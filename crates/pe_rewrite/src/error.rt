@@ -58,8 +58,9 @@ pub enum RewriteError {
     /// The image with the resources, in memory or in the file, ends after 4 GB.
     #[error("image with the resources ends after 4 GB")]
     ImageTooLarge,
-    /// The offset of a debug entry whose data end after the data of the sections, where they would move.
-    #[error("data of the debug entry at file offset {0:#x} end after the data of the sections")]
+    /// The offset of a debug entry whose data lie in those of the section, or only in part after the data of all sections; or that
+    /// of the first debug entry, if they do not lie between the section headers and the section's data.
+    #[error("debug entries or their data, at file offset {0:#x}, lie where the resources go")]
     DebugData(usize),
 }
 

@@ -1,17 +1,19 @@
 //! Laws over the definitions. Each is the contract of a function that does nothing.
 
 ghost use Rattle.std.specs.Prelude.{◌≡◌, ◌⊎◌, ◌+◌, ◌%◌, ◌<◌, ◌≤◌, ℕ, List, Ok, Some, false, true, length, map, slice_index, slice_set};
-ghost use Rattle.pe_core.specs.Bytes.{AreBytes};
+ghost use Rattle.pe_core.specs.Bytes.{AreBytes, range};
 ghost use Rattle.pe_core.specs.Header.{HeaderView, OptionalHeaderView, header_at};
 ghost use Rattle.pe_core.specs.SectionMap.{section_map};
 ghost use Rattle.pe_core.specs.declared.options.ParseMode.{ParseMode};
 ghost use Rattle.pe_core.specs.declared.options.ParseOptions.{ParseOptions};
+ghost use Rattle.pe_records.specs.DebugDirectory.{debug_entry_at};
+ghost use Rattle.pe_records.specs.declared.debug.ImageDebugDirectory.{ImageDebugDirectory};
 ghost use Rattle.pe_resource.specs.Contents.{file_bytes};
 ghost use Rattle.pe_edit.specs.Written.{Each, Leaf, Numbers, section};
-ghost use Rattle.pe_rewrite.specs.Edited.{at_end, edited_of, grown_size, in_place, is_moved_over, is_written, sum_of};
+ghost use Rattle.pe_rewrite.specs.Edited.{at_end, edited_of, grown_size, in_place, is_moved_over, is_pointer, is_written, sum_of};
 ghost use Rattle.pe_rewrite.specs.Rooms.{room_of};
-ghost use Rattle.pe_rewrite.specs.Places.{is_outside, place_of, section_headers};
-ghost use Rattle.pe_rewrite.specs.WrittenImages.{IsEditedAtEnd, IsEditedInPlace, IsRoomRow, IsRow, edited_headers, entry_of, headers_map, headers_roomy, leaves_of_image, resized, sections_with};
+ghost use Rattle.pe_rewrite.specs.Places.{directory_at, is_outside, place_of, section_headers};
+ghost use Rattle.pe_rewrite.specs.WrittenImages.{IsEditedAtEnd, IsEditedInPlace, IsRoomRow, IsRow, edited_headers, entries_at, entry_of, entry_offset, headers_map, headers_roomy, leaves_of_image, moved_entry, resized, sections_with};
 ghost use Rattle.pe_rewrite.specs.declared.place.Place.{Place};
 ghost use Rattle.pe_rewrite.specs.declared.room.Room.{Room};
 
@@ -83,7 +85,7 @@ pub fn edits_are_in_place_or_at_the_end()
 
 /// An edit at the end of the image puts bytes in where the data of the sections end: the bytes from there on, an installer's data
 /// or COFF symbols, move by a multiple of the file alignment and are the same. Of the bytes before, those of some fields of the
-/// headers change, of the section header and of what an edit in place writes.
+/// headers change, of the section header, of the pointers of debug entries and of what an edit in place writes.
 pub fn edits_at_the_end_change_no_more()
     ensures length { (b : List ℕ) (h : HeaderView) (xs : List Leaf) (m : Room) (f : List ℕ) →
         IsEditedAtEnd b h xs m f → length f ≡ length b + m.more }
@@ -115,7 +117,7 @@ pub fn sections_of_edits_at_the_end_are_parsed()
 {}
 
 /// By the section map of such an image every RVA outside of the section leads to the file offset that it led to in the image,
-/// and with the image's file alignment to the same byte.
+/// and with the image's file alignment to the same byte, unless that is in the pointer of a debug entry.
 pub fn other_addresses_stay_at_the_end()
     ensures map { (o : ParseOptions) (b : List ℕ) (h : HeaderView) (xs : List Leaf) (m : Room)
         (f : List ℕ) (alignment a : ℕ) → IsEditedAtEnd b h xs m f →
@@ -125,8 +127,24 @@ pub fn other_addresses_stay_at_the_end()
     ensures byte { (o : ParseOptions) (b : List ℕ) (h : HeaderView) (xs : List Leaf) (m : Room)
         (f : List ℕ) (w : OptionalHeaderView) (a q : ℕ) → IsEditedAtEnd b h xs m f →
         h.optional_header ≡ Some w → o.resolve_rva ≡ true → is_outside m.place.section a ≡ true →
-        headers_map o b h w a ≡ Some q →
+        headers_map o b h w a ≡ Some q → is_pointer m.debug q ≡ false →
         slice_index f q ≡ slice_index b q }
+{}
+
+/// The debug entries of such an image are those of the image, but for their pointers, which move with what moves; the data there
+/// are the same bytes. The entries are those that the debug directory leads to by the section map.
+pub fn debug_data_are_found_again()
+    ensures entries { (b : List ℕ) (h : HeaderView) (xs : List Leaf) (m : Room) (f : List ℕ) (k : ℕ) →
+        IsEditedAtEnd b h xs m f → k < m.debug.count →
+        debug_entry_at 0 f (entry_offset m k) ≡ moved_entry m (debug_entry_at 0 b (entry_offset m k)) }
+    ensures data { (b : List ℕ) (h : HeaderView) (xs : List Leaf) (m : Room) (f : List ℕ)
+        (e : ImageDebugDirectory) → IsEditedAtEnd b h xs m f → m.end ≤ e.pointer_to_raw_data →
+        range f (moved_entry m e).pointer_to_raw_data e.size_of_data
+        ≡ range b e.pointer_to_raw_data e.size_of_data }
+    ensures directory { (o : ParseOptions) (b : List ℕ) (h : HeaderView) (xs : List Leaf) (m : Room)
+        (w : OptionalHeaderView) (q : ℕ) → room_of b h xs ≡ Ok m → h.optional_header ≡ Some w →
+        o.resolve_rva ≡ true → headers_map o b h w (directory_at w 6).virtual_address ≡ Some q →
+        m.debug ≡ entries_at q (directory_at w 6) }
 {}
 
 /// The data of the resource directory of such an image, as mapped, are the section with the leaves that were given, and the

@@ -1,6 +1,6 @@
 //! Writes the file of an image with other resources into the caller's buffer. The caller has checked that everything fits.
 
-ghost use Rattle.std.specs.Prelude.{◌≡◌, ◌+◌, ◌≤◌, Ok, length, take};
+ghost use Rattle.std.specs.Prelude.{◌≡◌, ◌+◌, ◌*◌, ◌^◌, ◌<◌, ◌≤◌, Ok, length, take};
 ghost use Rattle.pe_core.specs.Bytes.{splice};
 ghost use Rattle.pe_core.specs.Header.{header_view};
 ghost use Rattle.pe_core.specs.Sections.{raw_end};
@@ -8,11 +8,11 @@ ghost use Rattle.pe_core.specs.Spelling.{spell_section};
 ghost use Rattle.pe_edit.specs.EditRefusals.{section_of};
 ghost use Rattle.pe_edit.specs.Views.{leaf_views};
 ghost use Rattle.pe_edit.specs.Written.{section};
-ghost use Rattle.pe_rewrite.specs.Edited.{Inside, Lies, RoomLies, edited_file, filled, moved_file, roomy_file, sum_of, with_zeros};
+ghost use Rattle.pe_rewrite.specs.Edited.{CanMove, Inside, Lies, PointersFit, edited_file, filled, moved_file, pointers_moved, roomy_file, sum_of, with_pointers, with_zeros};
 
 use crate::place::Place;
-use crate::room::Room;
-use pe_core::{Header, SectionTable, set_slice, set_u16, set_u32, set_zeros};
+use crate::room::{POINTER_TO_RAW_DATA, Room, SIZE_OF_DEBUG_ENTRY, moved};
+use pe_core::{Header, SectionTable, read_u32, set_slice, set_u16, set_u32, set_zeros};
 use pe_edit::{Leaves, write_section};
 use pe_sign::checksum;
 
@@ -160,13 +160,32 @@ fn set_apart(out: &mut [u8], bytes: &[u8], end: usize, more: usize)
     set_slice(out, end + more, &bytes[end..]);
 }
 
-/// Writes the file with room for resources.
+/// Writes the pointers of the debug entries, as they are when the data have moved.
+fn set_pointers(out: &mut [u8], bytes: &[u8], room: &Room)
+    requires more { room.now.more < 2 ^ 33 }
+    requires inside { 0 < room.now.debug.count →
+        room.now.debug.offset + 28 * room.now.debug.count ≤ length bytes.now }
+    requires fit { PointersFit room.now bytes.now }
+    requires room { length bytes.now ≤ length out.old }
+    ensures { out.new ≡ pointers_moved room.now bytes.now room.now.debug.count out.old }
+{
+    for index in 0..room.debug.count {
+        let field = room.debug.offset + SIZE_OF_DEBUG_ENTRY * index + POINTER_TO_RAW_DATA;
+        let offset = moved(room.end, room.more, read_u32(bytes, field));
+        set_u32(out, field, offset as u32);
+    }
+}
+
+/// Writes the file with room for resources, and with the pointers of debug entries moved.
 fn set_room(out: &mut [u8], bytes: &[u8], header: &Header<'_>, room: &Room)
-    requires lies { RoomLies (header_view header.now) room.now (length bytes.now) }
+    requires moves { CanMove (header_view header.now) room.now bytes.now }
+    requires more { room.now.more < 2 ^ 33 }
     requires room { length bytes.now + room.now.more ≤ length out.old }
-    ensures { out.new ≡ splice out.old 0 (roomy_file (header_view header.now) room.now bytes.now) }
+    ensures { out.new ≡ splice out.old 0 (roomy_file (header_view header.now) room.now
+        (with_pointers room.now bytes.now)) }
 {
     set_apart(out, bytes, room.end, room.more);
+    set_pointers(out, bytes, room);
     let pointer = header.dos_header.pe_pointer as usize;
     let place = room.place;
     set_u16(out, pointer + NUMBER_OF_SECTIONS, room.number_of_sections);
@@ -186,7 +205,8 @@ pub fn set_moved(
     room: &Room,
     leaves: &Leaves<'_>,
 )
-    requires lies { RoomLies (header_view header.now) room.now (length bytes.now) }
+    requires moves { CanMove (header_view header.now) room.now bytes.now }
+    requires more { room.now.more < 2 ^ 33 }
     requires made { section_of room.now.place.section.virtual_address (leaf_views leaves.now)
         ≡ Ok (section room.now.place.section.virtual_address (leaf_views leaves.now)) }
     requires length { length (section room.now.place.section.virtual_address (leaf_views leaves.now))

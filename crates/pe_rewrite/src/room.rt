@@ -7,10 +7,11 @@ ghost use Rattle.std.specs.List.{list_all};
 ghost use Rattle.pe_core.specs.Header.{header_view};
 ghost use Rattle.pe_core.specs.Rows.{each};
 ghost use Rattle.pe_core.specs.Refusals.{outcome};
+ghost use Rattle.pe_core.specs.SectionMap.{offset_of};
 ghost use Rattle.pe_core.specs.Sections.{raw_end, sections_offset};
 ghost use Rattle.pe_edit.specs.Views.{leaf_views};
-ghost use Rattle.pe_rewrite.specs.Places.{headers_end, length_at};
-ghost use Rattle.pe_rewrite.specs.Rooms.{are_u32, are_zeros, count_with, data_end, debug_all_stay, debug_directory, debug_stays, ends_data, enlarged, has_header, has_rva, image_end, index_with, is_before, is_before_or_same, is_last, is_u32, later_end, sizes_of, moved, new_header, new_room, new_section, own_room, own_section, room_at, room_of, room_tests, room_with, symbols_move, table_end};
+ghost use Rattle.pe_rewrite.specs.Places.{headers_end, length_at, section_headers};
+ghost use Rattle.pe_rewrite.specs.Rooms.{are_u32, are_zeros, count_with, data_end, data_moves, debug_directory, debug_entries, debug_moves, ends_data, enlarged, entries_by, entries_lie, entry_moves, has_header, image_end, is_before, is_before_or_same, is_last, is_u32, later_end, sizes_of, moved, new_header, new_room, new_section, own_room, own_section, room_at, room_of, room_tests, room_with, symbols_move, table_end};
 ghost use Rattle.pe_rewrite.specs.RewriteRefusals.{DebugData, NoHeaderRoom, Overlap, RewriteReturns, ImageTooLarge};
 
 use crate::error::RewriteError;
@@ -18,7 +19,9 @@ use crate::place::{
     Place, SECTOR, SIZE_OF_SECTION_HEADER, SIZE_OF_SYMBOL, Target, find_target, headers_end,
     pages_end, raw_end, require_alone, require_headers, section_header, section_index,
 };
-use pe_core::{DataDirectory, Header, SectionTable, read_u32, read_u64, rounded_up};
+use pe_core::{
+    DataDirectory, Header, ParseOptions, SectionTable, find_offset, read_u32, read_u64, rounded_up,
+};
 use pe_edit::{Leaves, section_len};
 
 /// `.rsrc`, and the flags of its section: initialized data that can be read.
@@ -27,12 +30,26 @@ const NAME: [u8; 8] = *b".rsrc\0\0\0";
 /// The index of the debug directory, and the size of its entries in bytes.
 const DEBUG_TABLE: usize = 6;
 
-const SIZE_OF_DEBUG_ENTRY: usize = 28;
+pub const SIZE_OF_DEBUG_ENTRY: usize = 28;
+
+/// The offsets in a debug entry of the size of its data, and of their offset in the file.
+const SIZE_OF_DATA: usize = 16;
+
+pub const POINTER_TO_RAW_DATA: usize = 24;
 
 /// The PE signature starts after the DOS header.
 const SIZE_OF_DOS_HEADER: u32 = 64;
 
 const CHARACTERISTICS: u32 = 0x4000_0040;
+
+/// The debug entries of an image, of 28 bytes each.
+#[derive(Clone, Copy)]
+pub struct DebugEntries {
+    /// The file offset of the first one.
+    pub offset: usize,
+    /// How many there are.
+    pub count: usize,
+}
 
 /// A section that is the last of the image, or shall be, and how much larger its data have to be.
 #[derive(Clone, Copy)]
@@ -43,6 +60,8 @@ pub struct LastSection {
     pub section: SectionTable,
     /// How many bytes of data it needs more, a multiple of the file alignment.
     pub more: usize,
+    /// The debug entries, whose data move if they are after it.
+    pub debug: DebugEntries,
 }
 
 /// Room for the resources at the end of the image.
@@ -54,6 +73,8 @@ pub struct Room {
     pub end: usize,
     /// By how many bytes they move.
     pub more: usize,
+    /// The debug entries, whose pointers into these bytes move with them.
+    pub debug: DebugEntries,
     /// Fields of the headers that change.
     pub number_of_sections: u16,
     pub pointer_to_symbol_table: u32,
@@ -81,6 +102,78 @@ fn resources_len(leaves: &Leaves<'_>, rva: u32) -> Result<usize, RewriteError>
     Ok(length)
 }
 
+/// The directory of the debug data.
+fn debug_directory(header: &Header<'_>) -> DataDirectory
+    ensures { result ≡ debug_directory (header_view header.now).optional_header }
+{
+    let none = DataDirectory {
+        virtual_address: 0,
+        size: 0,
+    };
+    match &header.optional_header {
+        Some(optional_header) => {
+            let rows = optional_header.data_directories.rows();
+            if DEBUG_TABLE < rows.len() {
+                rows[DEBUG_TABLE]
+            } else {
+                none
+            }
+        }
+        None => none,
+    }
+}
+
+/// The file offset of an RVA by the section map.
+#[tactic(auto, using(crate::proofs::Mapped::map_start))]
+fn offset_of(bytes: &[u8], header: &Header<'_>, alignment: u32, rva: u32) -> Option<usize>
+    requires { headers_end (header_view header.now) ≤ length bytes.now }
+    ensures { result ≡ offset_of true alignment
+        (section_headers bytes.now (header_view header.now)) rva }
+{
+    let options = ParseOptions::default();
+    for index in 0..header.coff_header.number_of_sections as usize {
+        let section = section_header(bytes, header, index);
+        match find_offset(rva as usize, &[section], alignment, &options) {
+            Some(offset) => return Some(offset),
+            None => {}
+        }
+    }
+    None
+}
+
+/// The entries of a directory that the section map leads to this offset; if to none, they are in the headers, of so many bytes, or
+/// nowhere.
+fn entries_by(offset: Option<usize>, directory: DataDirectory, headers: usize) -> DebugEntries
+    ensures value { result ≡ entries_by offset directory headers }
+    ensures count { result.count < 2 ^ 32 }
+{
+    let rva = directory.virtual_address as usize;
+    let count = directory.size as usize / SIZE_OF_DEBUG_ENTRY;
+    match offset {
+        Some(offset) => DebugEntries { offset, count },
+        None => DebugEntries {
+            offset: rva,
+            count: if rva < headers { count } else { 0 },
+        },
+    }
+}
+
+/// The debug entries of the image.
+fn debug_entries(bytes: &[u8], header: &Header<'_>, target: &Target) -> DebugEntries
+    requires { headers_end (header_view header.now) ≤ length bytes.now }
+    ensures value { result ≡ debug_entries bytes.now (header_view header.now) target.now }
+    ensures count { result.count < 2 ^ 32 }
+{
+    let directory = debug_directory(header);
+    let offset = offset_of(
+        bytes,
+        header,
+        target.file_alignment,
+        directory.virtual_address,
+    );
+    entries_by(offset, directory, target.size_of_headers as usize)
+}
+
 /// The resource section, which has this index, with room for resources of `size` bytes.
 fn own_section(
     bytes: &[u8],
@@ -95,6 +188,7 @@ fn own_section(
     requires small { size < 2 ^ 32 }
     ensures value { result ≡ own_section bytes.now (header_view header.now) target.now size index }
     ensures most { result.more < 2 ^ 33 }
+    ensures count { result.debug.count < 2 ^ 32 }
 {
     let section = section_header(bytes, header, index);
     let missing = size.saturating_sub(section.size_of_raw_data as usize);
@@ -102,6 +196,7 @@ fn own_section(
         index,
         section,
         more: rounded_up(missing, target.file_alignment as usize),
+        debug: debug_entries(bytes, header, target),
     }
 }
 
@@ -186,7 +281,7 @@ fn table_end(header: &Header<'_>, index: usize) -> usize
 }
 
 /// A file offset after `more` bytes were put in at `end`.
-fn moved(end: usize, more: usize, offset: u32) -> usize
+pub fn moved(end: usize, more: usize, offset: u32) -> usize
     requires { more < 2 ^ 33 }
     ensures { result ≡ moved end more offset }
 {
@@ -347,113 +442,51 @@ fn require_last(
     Ok(())
 }
 
-/// The directory of the debug data.
-fn debug_directory(header: &Header<'_>) -> DataDirectory
-    ensures { result ≡ debug_directory (header_view header.now).optional_header }
+/// Whether the debug entries lie after the section headers and before the section's data, or there are none.
+fn entries_lie(header: &Header<'_>, last: &LastSection) -> bool
+    requires index { last.now.index ≤ header.now.coff_header.number_of_sections }
+    requires count { last.now.debug.count < 2 ^ 32 }
+    ensures { result ≡ entries_lie (header_view header.now) last.now }
 {
-    let none = DataDirectory {
-        virtual_address: 0,
-        size: 0,
-    };
-    match &header.optional_header {
-        Some(optional_header) => {
-            let rows = optional_header.data_directories.rows();
-            if DEBUG_TABLE < rows.len() {
-                rows[DEBUG_TABLE]
-            } else {
-                none
-            }
-        }
-        None => none,
-    }
+    let entries = last.debug;
+    let end = last.section.pointer_to_raw_data as usize;
+    entries.count == 0
+        || table_end(header, last.index) <= entries.offset
+            && SIZE_OF_DEBUG_ENTRY * entries.count <= end.saturating_sub(entries.offset)
 }
 
-/// Whether the section's data have this RVA.
-fn has_rva(section: &SectionTable, rva: u32) -> bool
-    ensures { result ≡ has_rva rva section.now }
+/// Whether the data of the debug entry at this offset end before the section's data, or can move with what is after them.
+fn data_moves(bytes: &[u8], last: &LastSection, entry: usize) -> bool
+    requires inside { entry + 28 ≤ length bytes.now }
+    requires more { last.now.more < 2 ^ 33 }
+    ensures { result ≡ data_moves bytes.now last.now entry }
 {
-    let start = section.virtual_address as usize;
-    start <= rva as usize && (rva as usize) < start + section.size_of_raw_data as usize
+    let start = read_u32(bytes, entry + POINTER_TO_RAW_DATA) as usize;
+    let size = read_u32(bytes, entry + SIZE_OF_DATA) as usize;
+    start + size <= last.section.pointer_to_raw_data as usize
+        || raw_end(&last.section) <= start && is_u32(start + last.more)
 }
 
-/// The index of the first section whose data have this RVA, or the number of sections.
-fn index_with(bytes: &[u8], header: &Header<'_>, rva: u32) -> usize
-    requires { headers_end (header_view header.now) ≤ length bytes.now }
-    ensures value { result ≡ index_with bytes.now (header_view header.now) rva }
-    ensures most { result ≤ header.now.coff_header.number_of_sections }
-{
-    let count = header.coff_header.number_of_sections as usize;
-    for index in 0..count {
-        if has_rva(&section_header(bytes, header, index), rva) {
-            return index;
-        }
-    }
-    count
-}
-
-/// Whether the data of a debug entry end by `end`, or the entry is after the end of the file.
-fn debug_stays(bytes: &[u8], end: usize, start: usize, index: usize) -> bool
-    requires start { start < 2 ^ 34 }
-    requires index { index ≤ length bytes.now / 28 }
-    ensures { result ≡ debug_stays bytes.now end start index }
-{
-    let entry = start + SIZE_OF_DEBUG_ENTRY * index;
-    if entry + SIZE_OF_DEBUG_ENTRY > bytes.len() {
-        return true;
-    }
-    let size = read_u32(bytes, entry + 16) as usize;
-    read_u32(bytes, entry + 24) as usize + size <= end
-}
-
-/// `DebugData` if the data of a debug entry do not end by `end`. `start` is the file offset of the entries.
+/// `DebugData` if the debug entries or their data can't move.
 #[tactic(auto, using(pe_sign::proofs::SectionRows::all_more), unfolding(pe_core::specs::Rows::each))]
-fn require_entries(bytes: &[u8], end: usize, start: usize, count: usize) -> Result<(), RewriteError>
-    requires start { start < 2 ^ 34 }
-    requires count { count ≤ length bytes.now / 28 }
+fn require_debug(bytes: &[u8], header: &Header<'_>, last: &LastSection) -> Result<(), RewriteError>
+    requires inside { raw_end last.now.section ≤ length bytes.now }
+    requires index { last.now.index ≤ header.now.coff_header.number_of_sections }
+    requires more { last.now.more < 2 ^ 33 }
+    requires count { last.now.debug.count < 2 ^ 32 }
     ensures { RewriteReturns result (outcome
-        ((list_all (debug_stays bytes.now end start) (each (λ k. k) count), DebugData) ∷ []) tt) }
+        ((debug_moves bytes.now (header_view header.now) last.now, DebugData) ∷ []) tt) }
 {
-    for index in 0..count {
-        if !debug_stays(bytes, end, start, index) {
-            return Err(RewriteError::DebugData(start + SIZE_OF_DEBUG_ENTRY * index));
+    if !entries_lie(header, last) {
+        return Err(RewriteError::DebugData(last.debug.offset));
+    }
+    for index in 0..last.debug.count {
+        let entry = last.debug.offset + SIZE_OF_DEBUG_ENTRY * index;
+        if !data_moves(bytes, last, entry) {
+            return Err(RewriteError::DebugData(entry));
         }
     }
     Ok(())
-}
-
-/// `DebugData` if the data of a debug entry do not end by `end`. The entries are in the data of a section, or in the headers, of so
-/// many bytes.
-#[tactic(auto, unfolding(crate::specs::Rooms::debug_all_stay))]
-fn require_debug(
-    bytes: &[u8],
-    header: &Header<'_>,
-    headers: usize,
-    end: usize,
-) -> Result<(), RewriteError>
-    requires { headers_end (header_view header.now) ≤ length bytes.now }
-    ensures { RewriteReturns result (outcome
-        ((
-          debug_all_stay bytes.now (header_view header.now)
-              (debug_directory (header_view header.now).optional_header) headers end,
-          DebugData,
-        ) ∷ []) tt) }
-{
-    let directory = debug_directory(header);
-    let rva = directory.virtual_address as usize;
-    let count = (directory.size as usize / SIZE_OF_DEBUG_ENTRY).min(
-        bytes.len() / SIZE_OF_DEBUG_ENTRY,
-    );
-    let index = index_with(bytes, header, directory.virtual_address);
-    if index < header.coff_header.number_of_sections as usize {
-        let section = section_header(bytes, header, index);
-        let start = section.pointer_to_raw_data as usize
-            + rva.saturating_sub(section.virtual_address as usize);
-        return require_entries(bytes, end, start, count);
-    }
-    if rva >= headers {
-        return Ok(());
-    }
-    require_entries(bytes, end, rva, count)
 }
 
 /// The section header with more bytes of data.
@@ -486,6 +519,7 @@ fn room_at(header: &Header<'_>, target: &Target, size: usize, last: &LastSection
         },
         end: raw_end(&last.section),
         more: last.more,
+        debug: last.debug,
         number_of_sections: count_with(header, last.index) as u16,
         pointer_to_symbol_table: sizes.pointer_to_symbol_table as u32,
         size_of_initialized_data: sizes.size_of_initialized_data as u32,
@@ -508,6 +542,7 @@ fn room_with(
     requires small { size < 2 ^ 32 }
     requires more { last.now.more < 2 ^ 33 }
     requires index { last.now.index ≤ header.now.coff_header.number_of_sections }
+    requires count { last.now.debug.count < 2 ^ 32 }
     ensures { RewriteReturns result
         (room_with bytes.now (header_view header.now) target.now size last.now) }
 {
@@ -528,7 +563,7 @@ fn room_with(
         return Err(RewriteError::Symbols(header.coff_header.pointer_to_symbol_table));
     }
     require_last(bytes, header, target, last)?;
-    require_debug(bytes, header, target.size_of_headers as usize, room.end)?;
+    require_debug(bytes, header, last)?;
     Ok(room)
 }
 
@@ -574,6 +609,7 @@ fn new_room(
         index: header.coff_header.number_of_sections as usize,
         section: new_header(rva as u32, offset as u32),
         more: rounded_up(length, target.file_alignment as usize),
+        debug: debug_entries(bytes, header, target),
     };
     room_with(bytes, header, target, length, &last)
 }

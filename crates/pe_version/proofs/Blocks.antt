@@ -27,7 +27,7 @@ key_units (x ∷ y ∷ key) rest e n =
     let t : (x + 256 * y == 0) ≡ false = grind (arith, nat_tests, n.0) in
     rw t (ap (λ (us : List ℕ). (x + 256 * y) ∷ us) (key_units key rest (omega (arith, e)) n.1))
 
-units_length : (b : List ℕ) → length b % 2 ≡ 0 → 2 * length (units b) ≡ length b
+pub units_length : (b : List ℕ) → length b % 2 ≡ 0 → 2 * length (units b) ≡ length b
 units_length [] e = refl
 units_length (x ∷ []) e = absurd (omega (arith, e))
 units_length (x ∷ y ∷ b) e = omega (arith, units_length b (omega (arith, e)))
@@ -44,7 +44,7 @@ rest_from x p tail s e =
 -- ---- the parts of a block
 
 -- the value and the blocks with the zeros between them
-abbrev value_and_children : BlockValue → List ℕ
+abbrev pub value_and_children : BlockValue → List ℕ
 value_and_children k = k.value ++ (replicate (before_others (length k.value) k.children - length k.value) 0 ++ k.children)
 
 pub more_by : (n : ℕ) (c : List ℕ) → n ≤ before_others n c
@@ -65,8 +65,56 @@ type_by : (t : Bool) → type_number t < 2
 type_by true = omega arith
 type_by false = omega arith
 
-length_value : (k : BlockValue) → length k.value ≤ block_length k
+pub length_value : (k : BlockValue) → length k.value ≤ block_length k
 length_value k = let more : length k.value ≤ before_others (length k.value) k.children = more_by (length k.value) k.children in omega (arith, more)
+
+-- a block up to its value, and these bytes from there on
+abbrev pub with_head : BlockValue → List ℕ → List ℕ
+with_head k rest =
+    bytes_of 2 (block_length k) ++ (bytes_of 2 (value_length k) ++ (bytes_of 2 (type_number k.is_text)
+    ++ (k.key ++ (replicate (value_start k - (6 + length k.key)) 0 ++ rest))))
+
+pub record HeadParts (x : List ℕ) (k : BlockValue) (tail : List ℕ) : Type 0 where
+  pub size : length x ≡ value_start k + length tail
+  pub first : le x 0 2 ≡ block_length k
+  pub second : le x 2 2 ≡ value_length k
+  pub third : le x 4 2 ≡ type_number k.is_text
+  pub key : range x 6 (length k.key) ≡ k.key
+  pub key_size : key_length x 6 ≡ length k.key
+  pub rest : drop (value_start k) x ≡ tail
+
+pub head_parts : (k : BlockValue) (tail : List ℕ) → Fits k → HeadParts (with_head k tail) k tail
+head_parts k tail f =
+    let n : ℕ = block_length k in
+    let v : ℕ = value_length k in
+    let t : ℕ = type_number k.is_text in
+    let z : ℕ = value_start k - (6 + length k.key) in
+    let x5 : List ℕ = replicate z 0 ++ tail in
+    let x4 : List ℕ = k.key ++ x5 in
+    let x3 : List ℕ = bytes_of 2 t ++ x4 in
+    let x2 : List ℕ = bytes_of 2 v ++ x3 in
+    let x : List ℕ = bytes_of 2 n ++ x2 in
+    let s1 : Stands x 0 x = whole x in
+    let s2 : Stands x 2 x2 = rest_of_number x 0 2 n x2 s1 in
+    let s3 : Stands x 4 x3 = moved x (2 + 2) 4 x3 (omega arith) (rest_of_number x 2 2 v x3 s2) in
+    let s4 : Stands x 6 x4 = moved x (4 + 2) 6 x4 (omega arith) (rest_of_number x 4 2 t x4 s3) in
+    let s5 : Stands x (6 + length k.key) x5 = right x 6 (length k.key) k.key x5 refl s4 in
+    let s6 : Stands x (value_start k) tail = moved x (6 + length k.key + z) (value_start k) tail (omega arith) (right x (6 + length k.key) z (replicate z 0) tail (length-replicate {A = ℕ} z 0) s5) in
+    let small : v < 65536 = omega (arith, f.short, half_by k.is_text (length k.value), length_value k) in
+    let six : length x ≡ 6 + length x4 = length-append (bytes_of 2 n) x2 ∙ omega (arith, length-append (bytes_of 2 v) x3, length-append (bytes_of 2 t) x4, length-bytes_of 2 n, length-bytes_of 2 v, length-bytes_of 2 t) in
+    let zeros : length x5 ≡ z + length tail = length-append (replicate z 0) tail ∙ omega (arith, length-replicate {A = ℕ} z 0) in
+    let all : length x ≡ value_start k + length tail = omega (arith, six, length-append k.key x5, zeros) in
+    let two : x5 ≡ 0 ∷ 0 ∷ (replicate (z - 2) 0 ++ tail) = ap (λ (l : List ℕ). l ++ tail) (two_zeros z (omega arith)) in
+    record {
+      size = all;
+      first = number x 0 2 n f.short (left x 0 (bytes_of 2 n) x2 s1);
+      second = number x 2 2 v small (left x 2 (bytes_of 2 v) x3 s2);
+      third = number x 4 2 t (omega (arith, type_by k.is_text)) (left x 4 (bytes_of 2 t) x4 s3);
+      key = part x 6 (length k.key) k.key refl (left x 6 k.key x5 s4);
+      key_size = ap (λ (l : List ℕ). 2 * length (before_zero (units l))) (rest_from x 6 x4 s4 six ∙ ap (λ (l : List ℕ). k.key ++ l) two)
+          ∙ ap (λ (us : List ℕ). 2 * length us) (key_units k.key (replicate (z - 2) 0 ++ tail) f.key_even f.key_plain) ∙ units_length k.key f.key_even;
+      rest = rest_from x (value_start k) tail s6 all;
+    }
 
 pub record Parts (x : List ℕ) (k : BlockValue) : Type 0 where
   pub size : length x ≡ block_length k
@@ -80,42 +128,12 @@ pub record Parts (x : List ℕ) (k : BlockValue) : Type 0 where
 pub parts : (k : BlockValue) → Fits k → Parts (block_bytes k) k
 unfolding block_bytes
 parts k f =
-    let n : ℕ = block_length k in
-    let v : ℕ = value_length k in
-    let t : ℕ = type_number k.is_text in
-    let z : ℕ = value_start k - (6 + length k.key) in
-    let tail : List ℕ = value_and_children k in
-    let x5 : List ℕ = replicate z 0 ++ tail in
-    let x4 : List ℕ = k.key ++ x5 in
-    let x3 : List ℕ = bytes_of 2 t ++ x4 in
-    let x2 : List ℕ = bytes_of 2 v ++ x3 in
-    let x : List ℕ = bytes_of 2 n ++ x2 in
-    let s1 : Stands x 0 x = whole x in
-    let s2 : Stands x 2 x2 = rest_of_number x 0 2 n x2 s1 in
-    let s3 : Stands x 4 x3 = moved x (2 + 2) 4 x3 (omega arith) (rest_of_number x 2 2 v x3 s2) in
-    let s4 : Stands x 6 x4 = moved x (4 + 2) 6 x4 (omega arith) (rest_of_number x 4 2 t x4 s3) in
-    let s5 : Stands x (6 + length k.key) x5 = right x 6 (length k.key) k.key x5 refl s4 in
-    let s6 : Stands x (value_start k) tail = moved x (6 + length k.key + z) (value_start k) tail (omega arith) (right x (6 + length k.key) z (replicate z 0) tail (length-replicate {A = ℕ} z 0) s5) in
-    let after : value_start k + length tail ≡ n = length_after k in
-    let small : v < 65536 = omega (arith, f.short, half_by k.is_text (length k.value), length_value k) in
-    let six : length x ≡ 6 + length x4 = length-append (bytes_of 2 n) x2 ∙ omega (arith, length-append (bytes_of 2 v) x3, length-append (bytes_of 2 t) x4, length-bytes_of 2 n, length-bytes_of 2 v, length-bytes_of 2 t) in
-    let zeros : length x5 ≡ z + length tail = length-append (replicate z 0) tail ∙ omega (arith, length-replicate {A = ℕ} z 0) in
-    let all : length x ≡ value_start k + length tail = omega (arith, six, length-append k.key x5, zeros) in
-    let two : x5 ≡ 0 ∷ 0 ∷ (replicate (z - 2) 0 ++ tail) = ap (λ (l : List ℕ). l ++ tail) (two_zeros z (omega arith)) in
-    record {
-      size = all ∙ after;
-      first = number x 0 2 n f.short (left x 0 (bytes_of 2 n) x2 s1);
-      second = number x 2 2 v small (left x 2 (bytes_of 2 v) x3 s2);
-      third = number x 4 2 t (omega (arith, type_by k.is_text)) (left x 4 (bytes_of 2 t) x4 s3);
-      key = part x 6 (length k.key) k.key refl (left x 6 k.key x5 s4);
-      key_size = ap (λ (l : List ℕ). 2 * length (before_zero (units l))) (rest_from x 6 x4 s4 six ∙ ap (λ (l : List ℕ). k.key ++ l) two)
-          ∙ ap (λ (us : List ℕ). 2 * length us) (key_units k.key (replicate (z - 2) 0 ++ tail) f.key_even f.key_plain) ∙ units_length k.key f.key_even;
-      rest = rest_from x (value_start k) tail s6 all;
-    }
+    let h : HeadParts (with_head k (value_and_children k)) k (value_and_children k) = head_parts k (value_and_children k) f in
+    record { size = h.size ∙ length_after k; first = h.first; second = h.second; third = h.third; key = h.key; key_size = h.key_size; rest = h.rest }
 
 -- ---- one block
 
-bytes_by : (t : Bool) (n : ℕ) → (t ≡ true → n % 2 ≡ 0) → (if type_number t == 1 then 2 * (if t then n / 2 else n) else (if t then n / 2 else n)) ≡ n
+pub bytes_by : (t : Bool) (n : ℕ) → (t ≡ true → n % 2 ≡ 0) → (if type_number t == 1 then 2 * (if t then n / 2 else n) else (if t then n / 2 else n)) ≡ n
 bytes_by true n e = omega (arith, e refl)
 bytes_by false n e = refl
 
@@ -165,7 +183,7 @@ first_by : (ends : Bool) (own : Result (List ℕ) BlockRefusal) (b x rest : List
     ◌≡◌ {A = Option (Result Block BlockRefusal × List ℕ)} (if ends then None else Some (block_and_rest b own)) (Some (Ok k, rest))
 first_by ends own b x rest k e f g h = rw (e, f, g, h) refl
 
-ends_by : (n h : ℕ) (c : Bool) → 0 < n → 0 < h → (n == 0 || (c && h == 0)) ≡ false
+pub ends_by : (n h : ℕ) (c : Bool) → 0 < n → 0 < h → (n == 0 || (c && h == 0)) ≡ false
 ends_by n h true i j = let a : (n == 0) ≡ false = grind (arith, nat_tests) in let d : (h == 0) ≡ false = grind (arith, nat_tests) in rw (a, d) refl
 ends_by n h false i j = let a : (n == 0) ≡ false = grind (arith, nat_tests) in rw a refl
 

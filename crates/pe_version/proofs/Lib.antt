@@ -6,3 +6,7 @@ pub mod VersionsRead
 pub mod OneText
 pub mod Making
 pub mod Whole
+pub mod ValuesRead
+pub mod Flat
+pub mod Named
+pub mod Setting

@@ -30,29 +30,29 @@ both_passed [] b x y h = (refl, h)
 both_passed ((true, r) ∷ a) b x y h = both_passed a b x y h
 both_passed ((false, r) ∷ a) b x y h = absurd cc
 
-all_fit : {Y : Type 0} (ks : List BlockValue) (x y : Y) → outcome (flat_map block_tests ks) x ≡ Ok y → AllFit ks
+pub all_fit : {Y : Type 0} (ks : List BlockValue) (x y : Y) → outcome (flat_map block_tests ks) x ≡ Ok y → AllFit ks
 all_fit [] x y h = tt
 all_fit (k ∷ ks) x y h =
     let p = both_passed (block_tests k) (flat_map block_tests ks) x y h in
     (fits_if k x x p.0, all_fit ks x y p.1)
 
-left_fit : (xs ys : List BlockValue) → AllFit (xs ++ ys) → AllFit xs × AllFit ys
+pub left_fit : (xs ys : List BlockValue) → AllFit (xs ++ ys) → AllFit xs × AllFit ys
 left_fit [] ys f = (tt, f)
 left_fit (x ∷ xs) ys f = let p = left_fit xs ys f.1 in ((f.0, p.0), p.1)
 
 -- the strings of each table fit, and the table does
-abbrev TablesFit : List TableValue → Type 0
+abbrev pub TablesFit : List TableValue → Type 0
 TablesFit [] = Unit {0}
 TablesFit (t ∷ ts) = AllFit (map text_block t.strings) × Fits (table_block t) × TablesFit ts
 
-tables_fit : (ts : List TableValue) → AllFit (flat_map blocks_of_table ts) → TablesFit ts
+pub tables_fit : (ts : List TableValue) → AllFit (flat_map blocks_of_table ts) → TablesFit ts
 tables_fit [] f = tt
 tables_fit (t ∷ ts) f =
     let p = left_fit (blocks_of_table t) (flat_map blocks_of_table ts) f in
     let q = left_fit (map text_block t.strings) (table_block t ∷ []) p.0 in
     (q.0, q.1.0, tables_fit ts p.1)
 
-table_blocks_fit : (ts : List TableValue) → TablesFit ts → AllFit (map table_block ts)
+pub table_blocks_fit : (ts : List TableValue) → TablesFit ts → AllFit (map table_block ts)
 table_blocks_fit [] f = tt
 table_blocks_fit (t ∷ ts) f = (f.1, table_blocks_fit ts f.2)
 
@@ -87,7 +87,7 @@ no_more : (front : ℕ) → number_after front [] ≡ Some front
 unfolding number_after
 no_more front = refl
 
-units_of : (cs : List ℕ) → units (utf16 cs) ≡ cs
+pub units_of : (cs : List ℕ) → units (utf16 cs) ≡ cs
 units_of [] = refl
 units_of (c ∷ cs) = let e : c + 256 * 0 ≡ c = omega arith in rw (e, units_of cs) refl
 
@@ -148,7 +148,7 @@ translations_read (t ∷ ts) p =
 
 -- ---- the fixed file information
 
-fixed_read : (f : VsFixedFileInfo) → FixedFits f → fixed_info_at (fixed_bytes f) 0 ≡ f
+pub fixed_read : (f : VsFixedFileInfo) → FixedFits f → fixed_info_at (fixed_bytes f) 0 ≡ f
 unfolding fixed_bytes fixed_info_at
 fixed_read f h =
     let xc : List ℕ = bytes_of 4 f.file_date_ls in
@@ -254,7 +254,7 @@ whole_read v n f =
     let root : Fits (root_block v) = p.1.1.1.1.0 in
     rw (first_found v root, root_read v n (tables_fit v.tables p.0) (p.1.0, (p.1.1.1.0, tt)) (p.1.1.0, tt)) refl
 
-value_is : {Y R : Type 0} (tests : List (Bool × R)) (x y : Y) → outcome tests x ≡ Ok y → y ≡ x
+pub value_is : {Y R : Type 0} (tests : List (Bool × R)) (x y : Y) → outcome tests x ≡ Ok y → y ≡ x
 value_is [] x y h = cc
 value_is ((true, r) ∷ tests) x y h = value_is tests x y h
 value_is ((false, r) ∷ tests) x y h = absurd cc

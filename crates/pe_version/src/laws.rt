@@ -1,11 +1,17 @@
 //! Laws over the definitions. Each is the contract of a function that does nothing.
 
-ghost use Rattle.std.specs.Prelude.{◌≡◌, ◌++◌, List, Ok, Some, false, map, ℕ};
+ghost use Rattle.std.specs.Prelude.{◌≡◌, ◌++◌, List, ◌∷◌, Ok, Some, false, map, true, ℕ};
+ghost use Rattle.std.specs.Option.{option_map};
 ghost use Rattle.std.specs.Str.{bytes_eq};
 ghost use Rattle.pe_resource.specs.VersionBlocks.{blocks, first_block};
 ghost use Rattle.pe_version.specs.VersionRefusals.{block_of};
 ghost use Rattle.pe_version.specs.WrittenBlocks.{AllFit, BlockValue, Fits, blocks_bytes, padded_block, read_block};
-ghost use Rattle.pe_version.specs.VersionValues.{NumbersFit, TextValue, Value, as_read, text_named, version_of, version_read, with_text};
+ghost use Rattle.pe_resource.specs.VersionFields.{VersionView, file_strings, value_named, version_in, version_key};
+ghost use Rattle.pe_resource.specs.VersionStrings.{is_name, strings, text};
+ghost use Rattle.pe_resource.specs.declared.version.VersionName.{VersionName};
+ghost use Rattle.pe_version.specs.VersionReads.{value_read};
+ghost use Rattle.pe_version.specs.VersionStrings.{SameNames, flat, flat_blocks, padded, text_with_name, texts_of, value_with};
+ghost use Rattle.pe_version.specs.VersionValues.{NumbersFit, TableValue, TextValue, Value, as_read, text_named, version_of, version_read, with_text};
 
 /// pe_resource's walk reads a written block as it was given, and goes on with what follows it; blocks one after the other are
 /// read each as it was given.
@@ -40,4 +46,45 @@ pub fn one_text_is_set()
         text_named new.name (with_text new ss) ≡ Some new.text }
     ensures others { (name : List ℕ) (new : TextValue) (ss : List TextValue) → bytes_eq name new.name ≡ false →
         text_named name (with_text new ss) ≡ text_named name ss }
+{}
+
+/// Version information that is written is read as the value that was written: what is read, changed and written again keeps the
+/// rest.
+#[tactic(auto, using(crate::proofs::ValuesRead::value_is_read))]
+pub fn written_values_are_read()
+    ensures { (v : Value) (s : List ℕ) → NumbersFit v → version_of v ≡ Ok s → value_read s ≡ Ok (Some v) }
+{}
+
+/// `VersionInfo` of pe_resource, which reads the blocks one after the other, reads as its strings exactly the blocks of written version
+/// information, each before those in it.
+#[tactic(auto, using(crate::proofs::Flat::strings_are))]
+pub fn written_versions_are_read_as_strings()
+    ensures { (v : Value) (s : List ℕ) → version_of v ≡ Ok s →
+        strings s ≡ map (λ k. Ok (flat k)) (flat_blocks v) }
+{}
+
+/// `VersionInfo` reads the fixed file information that was written, and for each of its twelve names the text of the first string with
+/// that name, with zeros up to a multiple of four.
+#[tactic(auto, using(crate::proofs::Named::version_is, crate::proofs::Named::text_is))]
+pub fn written_texts_are_found()
+    ensures whole { (v : Value) (s : List ℕ) → NumbersFit v → version_of v ≡ Ok s → version_in s
+        ≡ Ok (record { fixed_info = Some v.fixed; strings = file_strings (map flat (flat_blocks v)) }) }
+    ensures text { (v : Value) (s : List ℕ) (n : VersionName) (w : VersionView) → NumbersFit v → version_of v ≡ Ok s →
+        version_in s ≡ Ok w → value_named n w.strings
+        ≡ option_map padded (text_with_name (version_key n) (texts_of v)) }
+{}
+
+/// A string that is set in each table, by the definition `value_with`, and written is what `VersionInfo` finds by its name, with
+/// zeros up to a multiple of four; what it finds by all other names is as before.
+#[tactic(auto, using(crate::proofs::Setting::text_set, crate::proofs::Setting::others_kept))]
+pub fn set_texts_are_found()
+    ensures set { (v : Value) (s : List ℕ) (n : VersionName) (w : VersionView) (new : TextValue)
+        (t : TableValue) (ts : List TableValue) → NumbersFit v → v.tables ≡ t ∷ ts →
+        SameNames (version_key n) new t.strings → is_name (version_key n) (text new.name) ≡ true →
+        version_of (value_with new v) ≡ Ok s → version_in s ≡ Ok w →
+        value_named n w.strings ≡ Some (padded new.text) }
+    ensures others { (v : Value) (s u : List ℕ) (n : VersionName) (w x : VersionView)
+        (new : TextValue) → NumbersFit v → is_name (version_key n) (text new.name) ≡ false →
+        version_of v ≡ Ok s → version_in s ≡ Ok w → version_of (value_with new v) ≡ Ok u →
+        version_in u ≡ Ok x → value_named n x.strings ≡ value_named n w.strings }
 {}

@@ -6,8 +6,10 @@
 mod block;
 mod error;
 pub mod laws;
+mod read;
 mod version;
 
 pub use block::{NewBlock, block_len, write_block};
 pub use error::VersionError;
+pub use read::{ReadError, TableTexts, VersionTexts, read_version};
 pub use version::{StringTable, VersionText, VersionValue, version_bytes};

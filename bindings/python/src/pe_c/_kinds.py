@@ -174,7 +174,7 @@ class Kind(enum.IntEnum):
     EDIT_IMAGE_TOO_LARGE = 472
     """image with the resources ends after 4 GB"""
     EDIT_DEBUG_DATA = 473
-    """data of a debug entry end after the data of the sections"""
+    """debug entries or their data lie where the resources go"""
     SIGNATURE_TRUNCATED = 501
     """element of a signature truncated before its content"""
     SIGNATURE_TAG_NUMBER = 502

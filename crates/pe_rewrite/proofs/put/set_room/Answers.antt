@@ -1,8 +1,13 @@
 use Rattle.pe_core.specs.Header.{header_view}
+use Rattle.pe_rewrite.specs.Edited.{with_pointers}
+use Rattle.pe_rewrite.proofs.Pointers.{lies_with, pointers_set}
 use Rattle.pe_rewrite.proofs.RoomWrites.{room_set}
 use Rattle.pe_rewrite.proofs.put.set_room.Goals as goal
 
 pub returns : goal.returns
 returns c =
-    room_set (header_view c.args.header.now) c.args.room.now c.args.out.now c.args.bytes.now c.set_apart.new.out c.set_u16.new.buffer c.set_u32.new.buffer c.set_u32-2.new.buffer c.set_u32-3.new.buffer c.set_u32-4.new.buffer c.set_u32-5.new.buffer c.set_row.new.out
-    c.requires.lies c.set_apart.ensures c.set_u16.ensures c.set_u32.ensures c.set_u32-2.ensures c.set_u32-3.ensures c.set_u32-4.ensures c.set_u32-5.ensures c.set_row.ensures
+    let h = header_view c.args.header.now in
+    let m = c.args.room.now in
+    let b = c.args.bytes.now in
+    room_set h m c.args.out.now (with_pointers m b) c.set_pointers.new.out c.set_u16.new.buffer c.set_u32.new.buffer c.set_u32-2.new.buffer c.set_u32-3.new.buffer c.set_u32-4.new.buffer c.set_u32-5.new.buffer c.set_row.new.out
+    (lies_with h m b c.requires.moves) (pointers_set h m b c.args.out.now c.set_apart.new.out c.set_pointers.new.out c.requires.moves c.set_apart.ensures c.set_pointers.ensures) c.set_u16.ensures c.set_u32.ensures c.set_u32-2.ensures c.set_u32-3.ensures c.set_u32-4.ensures c.set_u32-5.ensures c.set_row.ensures

@@ -1,0 +1,123 @@
+-- The debug entries of a file that an edit writes with its resources at the end, and their data.
+use Rattle.std.proofs.Common.{◌≡◌, ℕ, ◌+◌, ◌*◌, ◌%◌, ◌^◌, ◌<◌, ◌≤◌, Bool, true, false, List, length, get_or, take, drop, Option, Some, Ok, refl, ap, sym, ◌∙◌, ⊎_elim, arith}
+use Rattle.std.specs.Prelude.{nat_lt, if◌then◌else◌}
+use Rattle.std.proofs.lemmas.Bool.{cases_lt}
+use Rattle.std.proofs.lemmas.Bool.Decides.{nat_tests}
+use Rattle.std.proofs.lemmas.List.{ext_get_or, get_or-drop, length-drop}
+use Rattle.pe_core.specs.Bytes.{AreBytes, le, range}
+use Rattle.pe_core.specs.Header.{HeaderView, OptionalHeaderView}
+use Rattle.pe_core.specs.SectionMap.{offset_of, section_map}
+use Rattle.pe_core.specs.Sections.{sections_offset}
+use Rattle.pe_core.specs.declared.options.ParseOptions.{ParseOptions}
+use Rattle.pe_core.proofs.NumberBytes.{le-same, le_small}
+use Rattle.pe_edit.specs.Written.{Leaf}
+use Rattle.pe_records.specs.DebugDirectory.{debug_entry_at}
+use Rattle.pe_sign.proofs.Digests.{range_below, range_past}
+use Rattle.pe_rewrite.specs.Edited.{RoomLies, at_end, moved_pointer, pointer_at, with_pointers}
+use Rattle.pe_rewrite.specs.Places.{directory_at, section_headers}
+use Rattle.pe_rewrite.specs.Rooms.{debug_directory, debug_entries, entries_by, moved, room_of}
+use Rattle.pe_rewrite.specs.WrittenImages.{entries_at, entry_offset, moved_entry}
+use Rattle.pe_rewrite.specs.declared.place.Target.{Target}
+use Rattle.pe_rewrite.specs.declared.room.Room.{Room}
+use Rattle.pe_rewrite.proofs.Pointers.{byte_with, data_before_end, entries_end, entries_in, pointer_read, pointers_fit}
+use Rattle.pe_rewrite.proofs.RoomBytes.{roomy_byte}
+use Rattle.pe_rewrite.proofs.RoomImages.{IsMoved, bytes_after, four_false, is_moved, length_moved, roomy_stays, some_is}
+use Rattle.pe_rewrite.proofs.RoomPlaced.{TableIs, table_is}
+use Rattle.pe_rewrite.proofs.Roomy.{HasDebug, has_debug, room_lies}
+
+-- a byte of an entry is that of the image with the pointers moved
+entry_byte : (b : List ℕ) (h : HeaderView) (xs : List Leaf) (m : Room) (f : List ℕ) (k j : ℕ) → IsMoved b h xs m f → k < m.debug.count → entry_offset m k ≤ j → j < entry_offset m k + 28 → get_or f j 0 ≡ get_or (with_pointers m b) j 0
+entry_byte b h xs m f k j y lt from to =
+    let c : List ℕ = with_pointers m b in
+    let t : TableIs b h xs m y.old = table_is b h xs m y.old in
+    let l : RoomLies h m (length c) = room_lies c h xs m y.room in
+    let lie = entries_in b h xs m y.old (omega (arith, lt)) in
+    let p : ℕ = h.dos_header.pe_pointer in
+    let start : sections_offset h + 40 * m.number_of_sections ≤ j = omega (arith, lie.0, from) in
+    let row : m.place.row + 40 ≤ j = omega (arith, start, t.row, t.count) in
+    let entry : m.place.entry + 8 ≤ j = omega (arith, start, t.entry) in
+    let end : j < m.place.section.pointer_to_raw_data = omega (arith, to, lt, lie.1) in
+    roomy_stays b h xs m f j y
+    (four_false _ _ _ _ (range_below m.place.section.pointer_to_raw_data m.place.section.size_of_raw_data j end) (range_past (m.place.row + 8) 4 j (omega (arith, row)))
+    (range_past m.place.entry 8 j entry) (range_past (p + 88) 4 j (omega (arith, l.sum, entry))))
+    ∙ roomy_byte h m c j l (omega (arith, end, data_before_end b h xs m y.old)) (range_past (p + 6) 2 j (omega (arith, l.sum, entry))) (range_past (p + 12) 4 j (omega (arith, l.sum, entry)))
+    (range_past (p + 32) 4 j (omega (arith, l.sum, entry))) (range_past (p + 80) 4 j (omega (arith, l.sum, entry))) (range_past m.place.entry 8 j entry) (range_past m.place.row 40 j row)
+
+-- a byte of another field is that of the image
+field_byte : (b : List ℕ) (h : HeaderView) (xs : List Leaf) (m : Room) (f : List ℕ) (k j : ℕ) → IsMoved b h xs m f → k < m.debug.count → entry_offset m k ≤ j → j < entry_offset m k + 24 → get_or f j 0 ≡ get_or b j 0
+field_byte b h xs m f k j y lt from to =
+    entry_byte b h xs m f k j y lt from (omega (arith, to))
+    ∙ byte_with b h xs m j y.old
+    (λ i below. ⊎_elim
+    (λ (less : i < k). range_past (pointer_at m.debug i) 4 j (omega (arith, less, from)))
+    (λ (more : k ≤ i). range_below (pointer_at m.debug i) 4 j (omega (arith, more, to)))
+    (cases_lt i k))
+
+field : (b : List ℕ) (h : HeaderView) (xs : List Leaf) (m : Room) (f : List ℕ) (k q n : ℕ) → IsMoved b h xs m f → k < m.debug.count → q + n ≤ 24 → le f (entry_offset m k + q) n ≡ le b (entry_offset m k + q) n
+field b h xs m f k q n y lt fits =
+    le-same f b (entry_offset m k + q) (entry_offset m k + q) n (λ j small. field_byte b h xs m f k (entry_offset m k + q + j) y lt (omega arith) (omega (arith, fits, small)))
+
+pointer : (b : List ℕ) (h : HeaderView) (xs : List Leaf) (m : Room) (f : List ℕ) (k : ℕ) → IsMoved b h xs m f → HasDebug b h m → k < m.debug.count → le f (entry_offset m k + 24) 4 ≡ moved_pointer m b k
+pointer b h xs m f k y d lt =
+    le-same f (with_pointers m b) (entry_offset m k + 24) (entry_offset m k + 24) 4 (λ j small. entry_byte b h xs m f k (entry_offset m k + 24 + j) y lt (omega arith) (omega (arith, small)))
+    ∙ pointer_read m b m.debug.count b k (entries_end b h xs m y.old) (pointers_fit b h m d k lt) lt
+
+small_reduced : (n : ℕ) → n < 2 ^ 32 → (n + 2 ^ 32) % 2 ^ 32 ≡ n
+small_reduced n h = omega (arith, h)
+
+pub entry_moved : (b : List ℕ) (h : HeaderView) (xs : List Leaf) (m : Room) (f : List ℕ) (k : ℕ) → AreBytes b → room_of b h xs ≡ Ok m → at_end b h xs ≡ Ok f → k < m.debug.count →
+    debug_entry_at 0 f (entry_offset m k) ≡ moved_entry m (debug_entry_at 0 b (entry_offset m k))
+unfolding debug_entry_at
+entry_moved b h xs m f k small e i lt =
+    let y : IsMoved b h xs m f = is_moved b h xs m f small e i in
+    let d : HasDebug b h m = has_debug b h xs m e in
+    let p : ℕ = entry_offset m k in
+    let old : (le b (p + 24) 4 + 2 ^ 32) % 2 ^ 32 ≡ le b (p + 24) 4 = small_reduced (le b (p + 24) 4) (omega (arith, le_small b (p + 24) small)) in
+    let new : (moved_pointer m b k + 2 ^ 32) % 2 ^ 32 ≡ moved_pointer m b k = small_reduced (moved_pointer m b k) (pointers_fit b h m d k lt) in
+    rw (
+      le-same f b p p 4 (λ j s. field_byte b h xs m f k (p + j) y lt (omega arith) (omega (arith, s))),
+      field b h xs m f k 4 4 y lt (omega arith),
+      field b h xs m f k 8 2 y lt (omega arith),
+      field b h xs m f k 10 2 y lt (omega arith),
+      field b h xs m f k 12 4 y lt (omega arith),
+      field b h xs m f k 16 4 y lt (omega arith),
+      field b h xs m f k 20 4 y lt (omega arith),
+      pointer b h xs m f k y d lt,
+      new,
+      old,
+    ) refl
+
+-- what is after the sections' data, from a file offset on
+pub rest_moved : (b : List ℕ) (h : HeaderView) (xs : List Leaf) (m : Room) (f : List ℕ) (p : ℕ) → AreBytes b → room_of b h xs ≡ Ok m → at_end b h xs ≡ Ok f → m.end ≤ p → drop (p + m.more) f ≡ drop p b
+rest_moved b h xs m f p small e i from =
+    ext_get_or 0 (drop (p + m.more) f) (drop p b) (length-drop (p + m.more) f ∙ omega (arith, length_moved b h xs m f small e i) ∙ sym (length-drop p b))
+    (λ k lt. get_or-drop (p + m.more) f k 0 ∙ ap (λ (q : ℕ). get_or f q 0) (omega arith) ∙ bytes_after b h xs m f (p + k) small e i (omega (arith, from)) ∙ sym (get_or-drop p b k 0))
+
+moved_after : (t : Bool) (p more : ℕ) → t ≡ false → (if t then p else p + more) ≡ p + more
+moved_after true p more e = absurd cc
+moved_after false p more e = refl
+
+pub moved_on : (end more p : ℕ) → end ≤ p → moved end more p ≡ p + more
+moved_on end more p from = let not : nat_lt p end ≡ false = grind (arith, nat_tests, from) in moved_after (nat_lt p end) p more not
+
+same_bytes : (f b : List ℕ) (q p n : ℕ) → drop q f ≡ drop p b → range f q n ≡ range b p n
+same_bytes f b q p n e = ap (λ (k : ℕ). take k (drop q f)) (omega arith) ∙ ap (λ (l : List ℕ). take n l) e ∙ ap (λ (k : ℕ). take k (drop p b)) (omega arith)
+
+pub data_moved : (b : List ℕ) (h : HeaderView) (xs : List Leaf) (m : Room) (f : List ℕ) (p n : ℕ) → AreBytes b → room_of b h xs ≡ Ok m → at_end b h xs ≡ Ok f → m.end ≤ p → range f (moved m.end m.more p) n ≡ range b p n
+data_moved b h xs m f p n small e i from = ap (λ (q : ℕ). range f q n) (moved_on m.end m.more p from) ∙ same_bytes f b (p + m.more) p n (rest_moved b h xs m f p small e i from)
+
+-- where they are
+entries_there : (b : List ℕ) (h : HeaderView) (m : Room) (w : OptionalHeaderView) (d : HasDebug b h m) (q : ℕ) → h.optional_header ≡ Some w → offset_of true d.target.file_alignment (section_headers b h) (directory_at w 6).virtual_address ≡ Some q → d.section.debug ≡ debug_entries b h d.target → m.debug ≡ entries_at q (directory_at w 6)
+entries_there b h m w d q some there is =
+    d.debug ∙ is ∙ ap (λ (o : Option OptionalHeaderView). let e = debug_directory o in entries_by (offset_of true d.target.file_alignment (section_headers b h) e.virtual_address) e d.target.size_of_headers) some
+    ∙ ap (λ (o : Option ℕ). entries_by o (directory_at w 6) d.target.size_of_headers) there
+
+pub entries_are : (o : ParseOptions) (b : List ℕ) (h : HeaderView) (xs : List Leaf) (m : Room) (w : OptionalHeaderView) (q : ℕ) → room_of b h xs ≡ Ok m → h.optional_header ≡ Some w → o.resolve_rva ≡ true →
+    section_map o (section_headers b h) w.windows_fields.file_alignment (directory_at w 6).virtual_address ≡ Some q → m.debug ≡ entries_at q (directory_at w 6)
+entries_are o b h xs m w q e some resolves there =
+    let d : HasDebug b h m = has_debug b h xs m e in
+    let rva : ℕ = (directory_at w 6).virtual_address in
+    let same : w ≡ d.of.optional = some_is w d.of.optional (sym some ∙ d.of.some) in
+    let alignment : w.windows_fields.file_alignment ≡ d.target.file_alignment = ap (λ (x : OptionalHeaderView). x.windows_fields.file_alignment) same ∙ ap (λ (t : Target). t.file_alignment) d.of.value in
+    entries_there b h m w d q some
+    (ap (λ (n : ℕ). offset_of true n (section_headers b h) rva) (sym alignment) ∙ ap (λ (r : Bool). offset_of r w.windows_fields.file_alignment (section_headers b h) rva) (sym resolves) ∙ there) d.entries

@@ -1,0 +1,19 @@
+use Rattle.std.proofs.Common.{Some, None, sym}
+use Rattle.pe_core.specs.Header.{header_view}
+use Rattle.pe_rewrite.specs.Places.{section_header}
+use Rattle.pe_rewrite.proofs.Mapped.{map_found, map_next, one_section}
+use Rattle.pe_rewrite.proofs.room.offset_of.Goals as goal
+
+pub returns-in-Some : goal.returns-in-Some
+returns-in-Some c =
+    let f = section_header c.args.bytes.now (header_view c.args.header.now) in
+    let i = c.loop-index.index in
+    sym (map_found c.args.alignment c.args.rva c.in-Some.offset c.args.header.now.coff_header.number_of_sections i f c.loop-index-test.true c.loop-index.invariant
+    (one_section c.default-options.result c.args.alignment c.args.rva c.section_header-section.result (f i) (Some c.in-Some.offset) c.default-options.ensures c.section_header-section.ensures c.in-Some.ensures))
+
+pub loop-index-preserved : goal.loop-index-preserved
+loop-index-preserved c =
+    let f = section_header c.args.bytes.now (header_view c.args.header.now) in
+    let i = c.loop-index.index in
+    map_next c.args.alignment c.args.rva i f c.loop-index.invariant
+    (one_section c.default-options.result c.args.alignment c.args.rva c.section_header-section.result (f i) None c.default-options.ensures c.section_header-section.ensures c.in-None.ensures)

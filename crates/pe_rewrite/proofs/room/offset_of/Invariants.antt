@@ -1,0 +1,10 @@
+use Rattle.std.proofs.Common.{◌≡◌, true, None}
+use Rattle.pe_core.specs.Header.{header_view}
+use Rattle.pe_core.specs.Rows.{each}
+use Rattle.pe_core.specs.SectionMap.{offset_of}
+use Rattle.pe_rewrite.specs.Places.{section_header}
+use Rattle.pe_rewrite.proofs.room.offset_of.Given as goal
+
+-- no section so far covers the RVA
+abbrev pub invariant-loop-index : goal.invariant-loop-index
+invariant-loop-index l = offset_of true l.alignment (each (section_header l.bytes (header_view l.header)) l.index) l.rva ≡ None
