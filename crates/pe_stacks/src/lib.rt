@@ -16,12 +16,17 @@ mod image;
 pub mod laws;
 mod memory;
 mod modules;
+mod range_index;
 mod ranges;
+mod run_memory;
+mod runs;
 mod stacks;
 
 pub use context::{thread_context_arm64, thread_context_x64};
 pub use image::{ModuleImage, is_image_of};
 pub use memory::{IndexedMemory, memory_pieces};
 pub use modules::IndexedModules;
+pub use range_index::{RangeEntry, put_index};
 pub use ranges::IndexedRanges;
+pub use run_memory::MemoryRuns;
 pub use stacks::{Stacks, ThreadFrames, ThreadStack};
