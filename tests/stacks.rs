@@ -4,15 +4,16 @@
 use crate::frames::bytes_of;
 use crate::images::image;
 use crate::minidumps::with_stream;
+use crate::refusing::Refusing;
 use crate::walks::{
     APP, FRAMES, INNER, LIB, NT, OUTER, RBX, RSP, SIZE, app, exceptions, lib, module, nt, registers,
 };
-use pe_core::{Header, ParseOptions};
+use pe_core::{Error, Header, ParseOptions};
 use pe_frame::{Memory, MemoryPiece, StackFrame, WalkEnd, Way};
 use pe_minidump::{Dump, DumpError, FixedFileInfo, Location, MemoryDescriptor, Module, Thread};
 use pe_stacks::{
-    IndexedMemory, IndexedModules, ModuleImage, Stacks, ThreadFrames, is_image_of, memory_pieces,
-    thread_context_arm64, thread_context_x64,
+    IndexedMemory, IndexedModules, MemoryRuns, ModuleImage, Stacks, ThreadFrames, is_image_of,
+    memory_pieces, thread_context_arm64, thread_context_x64,
 };
 use std::alloc::{AllocError, Global};
 use std::test::Fail;
@@ -215,6 +216,98 @@ fn images_are_those_of_modules(rt: HostRuntime) -> Result<(), Fail> {
     assert!(rt; loaded.exceptions.is_some());
     assert!(rt; ModuleImage::parse(alloc, &bytes, &opts, &dump_module(stamp + 1, size))?.is_none());
     assert!(rt; ModuleImage::parse(alloc, &bytes[..60], &opts, &own).is_err());
+    Ok(())
+}
+
+/// Pieces in any order are runs in ascending order, the first piece that has an address first; runs that follow one another in
+/// memory and in the file are one.
+#[test]
+fn pieces_are_runs(rt: HostRuntime) -> Result<(), Fail> {
+    let bytes = [1, 2, 3, 4, 5, 6, 7, 8, 9, 10, 11, 12];
+    let pieces = [
+        piece(0x106, 8, 4),
+        piece(0x114, 4, 2),
+        piece(0x100, 0, 8),
+        piece(0x110, 0, 4),
+        piece(0x100, 11, 1),
+        piece(0x200, 3, 0),
+    ];
+    let memory = MemoryRuns::new(rt.alloc(), &bytes, &pieces)?;
+    let runs = [piece(0x100, 0, 6), piece(0x106, 8, 4), piece(0x110, 0, 6)];
+    assert_eq!(rt; memory.pieces(), &runs[..]);
+    assert_eq!(rt; memory.bytes_at(0x102, 100), &bytes[2..6]);
+    assert_eq!(rt; memory.bytes_at(0x102, 3), &bytes[2..5]);
+    assert_eq!(rt; memory.bytes_at(0x112, 9), &bytes[2..6]);
+    assert_eq!(rt;
+        (
+            memory.bytes_at(0x10A, 1).len(),
+            memory.bytes_at(0x200, 1).len()
+        ),
+        (0, 0)
+    );
+    assert!(rt; MemoryRuns::new(rt.alloc(), &bytes, &[piece(0, 9, 4)]).is_err());
+    assert!(rt;
+        MemoryRuns::new(rt.alloc(), &bytes, &[])?
+            .pieces()
+            .is_empty()
+    );
+    Ok(())
+}
+
+/// A piece that ends past the last address has it.
+#[test]
+fn runs_have_the_last_address(rt: HostRuntime) -> Result<(), Fail> {
+    let bytes = [1, 2, 3, 4];
+    let pieces = [piece(u64::MAX, 3, 1), piece(u64::MAX - 2, 0, 4)];
+    let memory = MemoryRuns::new(rt.alloc(), &bytes, &pieces)?;
+    assert_eq!(rt; memory.bytes_at(u64::MAX - 2, 4), &bytes[..2]);
+    assert_eq!(rt; memory.bytes_at(u64::MAX, 1), &bytes[3..]);
+    Ok(())
+}
+
+/// Each request for memory that runs need is refused in turn.
+#[test]
+fn memory_for_runs_is_refused(rt: HostRuntime) -> Result<(), Fail> {
+    let (bytes, pieces) = ([1, 2, 3, 4], [piece(2, 0, 2), piece(0, 2, 2)]);
+    for k in 0..10 {
+        let refusing = Refusing::new(rt.alloc(), k);
+        let answer = MemoryRuns::new(&refusing, &bytes, &pieces);
+        if !refusing.has_refused() {
+            assert_eq!(rt; (answer?.pieces().len(), k), (2, 3));
+            return Ok(());
+        }
+        assert!(rt; matches!(answer, Err(Error::Memory(_))), "request {k}");
+    }
+    Err(Fail::new("there is no end of requests"))
+}
+
+/// An image in the dump's own memory is read as loaded, and ends at the first gap.
+#[test]
+fn image_of_the_memory_ends_at_its_gap(rt: HostRuntime) -> Result<(), Fail> {
+    let alloc = rt.alloc();
+    let file = pe_images::with_functions(alloc)?;
+    let mut loaded = vec![in alloc; 0; 0x1100]?;
+    loaded[..0x200].copy_from_slice(&file[..0x200]);
+    loaded[0x1000..].copy_from_slice(&file[0x200..0x300]);
+    // The size of the image, which the file leaves 0.
+    loaded[0x91] = 0x20;
+    let opts = ParseOptions::default();
+    let stamp = Header::parse_with_opts(&file, &opts)?
+        .coff_header
+        .time_date_stamp;
+    let own = dump_module(stamp, 0x2000);
+    let pieces = [piece(APP + 0x800, 0x800, 0x900), piece(APP, 0, 0x800)];
+    let memory = MemoryRuns::new(alloc, &loaded, &pieces)?;
+    let image = ModuleImage::from_memory(alloc, &memory, &opts, &own)?.ok_or("an image")?;
+    assert_eq!(rt; (image.bytes.len(), image.sections.len()), (0x1100, 1));
+    assert!(rt; image.exceptions.is_some() && !image.opts.resolve_rva);
+    let other = dump_module(stamp + 1, 0x2000);
+    assert!(rt; ModuleImage::from_memory(alloc, &memory, &opts, &other)?.is_none());
+    // The exception data are past the gap.
+    let torn = [piece(APP + 0x801, 0x801, 0x8FF), piece(APP, 0, 0x800)];
+    let memory = MemoryRuns::new(alloc, &loaded, &torn)?;
+    assert_eq!(rt; memory.bytes_at(APP, 0x2000).len(), 0x800);
+    assert!(rt; ModuleImage::from_memory(alloc, &memory, &opts, &own).is_err());
     Ok(())
 }
 

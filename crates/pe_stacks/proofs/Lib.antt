@@ -1,3 +1,9 @@
+pub mod AppendedRuns
 pub mod Founds
 pub mod Headline
+pub mod IndexCuts
+pub mod IndexHalves
+pub mod RunBytes
+pub mod RunSteps
+pub mod SplitRooms
 pub mod Walked

@@ -36,6 +36,10 @@ exceptions_by b machine sections opts (Some o) =
 abbrev pub exceptions_of : List ℕ → HeaderView → List SectionTable → ParseOptions → Result (Option ExceptionView) Refusal
 exceptions_of b h sections opts = exceptions_by b (h.coff_header).machine sections opts h.optional_header
 
+-- the options by which an image as loaded is read: each RVA is its own offset
+abbrev pub as_loaded : ParseOptions → ParseOptions
+as_loaded opts = record opts { resolve_rva = false }
+
 -- what callers see of the image of a module
 pub record ModuleImageView : Type 0 where
   pub bytes : List ℕ

@@ -1,5 +1,6 @@
 pub mod DumpMemory
 pub mod Images
-pub mod Lookups
+pub mod MemoryRuns
+pub mod RangeIndexes
 pub mod ThreadContexts
 pub mod ThreadWalks

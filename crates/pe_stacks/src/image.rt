@@ -5,8 +5,10 @@ ghost use Rattle.std.specs.Prelude.{◌≡◌};
 ghost use Rattle.std.specs.Option.{option_map};
 ghost use Rattle.pe_core.specs.Header.{header_view};
 ghost use Rattle.pe_core.specs.Refusals.{ReturnsUnlessMemory};
-ghost use Rattle.pe_stacks.specs.Images.{ModuleImageView, exceptions_of, image_of, is_image_of, module_image_view};
+ghost use Rattle.pe_stacks.specs.MemoryRuns.{bytes_at};
+ghost use Rattle.pe_stacks.specs.Images.{ModuleImageView, as_loaded, exceptions_of, image_of, is_image_of, module_image_view};
 
+use crate::run_memory::MemoryRuns;
 use pe_core::{
     COFF_MACHINE_ARM64, COFF_MACHINE_X86_64, Header, OptionalHeader, ParseOptions, Result,
     SectionTable,
@@ -94,6 +96,26 @@ impl<'a, A: Allocator + Drop> ModuleImage<'a, A> {
             exceptions,
             opts: *opts,
         }))
+    }
+
+    /// The image of a module in the dump's own memory, as loaded: as many bytes from its address on as the dump has one after the
+    /// other. It ends at the first gap, which is never read as zeros. `None` and errors as in `parse`.
+    pub fn from_memory<B: Allocator + Copy + Drop>(
+        alloc: A,
+        memory: &MemoryRuns<'a, B>,
+        opts: &ParseOptions,
+        module: &pe_minidump::Module,
+    ) -> Result<Option<ModuleImage<'a, A>>>
+        ensures { ReturnsUnlessMemory (option_map module_image_view) result
+            (image_of (bytes_at memory.now.bytes.now memory.now.runs.items module.now.base_of_image module.now.size_of_image)
+            (as_loaded opts.now) module.now) }
+    {
+        let bytes = memory.bytes_at(module.base_of_image, u64::from(module.size_of_image));
+        let opts = ParseOptions {
+            resolve_rva: false,
+            ..*opts
+        };
+        ModuleImage::parse(alloc, bytes, &opts, module)
     }
 
     /// The image as walks take it, with the addresses of its module.

@@ -1,22 +1,43 @@
 //! What the definitions that contracts cite say together.
 
-ghost use Rattle.std.specs.Prelude.{◌≡◌, ℕ, Err, List, None, Ok, Some};
+ghost use Rattle.std.specs.Prelude.{◌≡◌, ◌+◌, ◌<◌, ◌^◌, ℕ, Err, List, None, Ok, Some, length, slice_index, true};
 ghost use Rattle.pe_core.specs.declared.options.ParseOptions.{ParseOptions};
+ghost use Rattle.pe_frame.specs.MemoryLists.{are_inside, listed_byte};
+ghost use Rattle.pe_frame.specs.declared.memory_list.MemoryPiece.{MemoryPiece};
 ghost use Rattle.pe_minidump.specs.Contexts.{context_arm64, context_x64};
-ghost use Rattle.pe_minidump.specs.Dumps.{DumpView};
+ghost use Rattle.pe_minidump.specs.Dumps.{DumpView, read_stream};
+ghost use Rattle.pe_minidump.specs.Memory64.{Listed64, memory64_of};
 ghost use Rattle.pe_minidump.specs.Refusals.{DumpRefusal};
+ghost use Rattle.pe_minidump.specs.Streams.{memory_list};
 ghost use Rattle.pe_minidump.specs.declared.context_arm64.ContextArm64.{ContextArm64};
 ghost use Rattle.pe_minidump.specs.declared.context_x64.ContextX64.{ContextX64};
 ghost use Rattle.pe_minidump.specs.declared.location.Location.{Location};
 ghost use Rattle.pe_minidump.specs.declared.module.Module.{Module};
 ghost use Rattle.pe_minidump.specs.declared.thread.Thread.{Thread};
+ghost use Rattle.pe_stacks.specs.DumpMemory.{listed_all, pieces_of};
 ghost use Rattle.pe_stacks.specs.Images.{Fits, ModuleImageView, image_of};
+ghost use Rattle.pe_stacks.specs.MemoryRuns.{AreRuns, bytes_at};
 ghost use Rattle.pe_stacks.specs.ThreadContexts.{context_at, raised_at, thread_context};
 
 /// An image is taken only if its time stamp and its size are those of the module.
 pub fn images_match()
     ensures { (b : List ℕ) (opts : ParseOptions) (m : Module) (i : ModuleImageView) →
         image_of b opts m ≡ Ok (Some i) → Fits b opts m }
+{}
+
+/// The bytes of a dump's memory from an address on, of which the image of a module is made, are each that of the first piece of the
+/// dump that has its address: what the dump has no byte of is never read as zeros.
+pub fn loaded_bytes_are_memory()
+    ensures { (file : List ℕ) (pieces runs : List MemoryPiece) (x n k : ℕ) →
+        AreRuns pieces runs → are_inside file pieces ≡ true → x + k < 2 ^ 64 → k < length (bytes_at file runs x n) →
+        listed_byte file pieces (x + k) ≡ Some (slice_index (bytes_at file runs x n) k) }
+{}
+
+/// The memory of a full dump is that of its list, where the dump has no other list: then the walks of its threads are over these
+/// pieces alone.
+pub fn full_memory_is_its_list()
+    ensures { (d : DumpView) (l : Listed64) → memory_list d ≡ Ok None → read_stream memory64_of d 9 ≡ Ok (Some l) →
+        pieces_of d ≡ listed_all d.bytes l }
 {}
 
 /// The registers of a thread are those of the exception, where it names the thread and they can be read (`raised`); and its own where

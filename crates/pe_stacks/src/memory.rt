@@ -1,7 +1,7 @@
 //! The memory of a minidump by addresses. Its lists have pieces in no order, which may overlap; the byte at an address is that of the
 //! first piece that has one there, those of the memory list before those of a full dump's.
 
-ghost use Rattle.std.specs.Prelude.{◌≡◌, ◌+◌, ◌-◌, ◌++◌, ℕ, List, IfOk, IsTrue, OnOk, Some, slice_index};
+ghost use Rattle.std.specs.Prelude.{◌≡◌, ◌+◌, ◌-◌, ◌++◌, ◌<◌, ℕ, List, IfErr, IfOk, OnErr, length, IsTrue, OnOk, Some, slice_index};
 ghost use Rattle.std.specs.List.{find};
 ghost use Rattle.std.specs.Option.{option_map};
 ghost use Rattle.pe_core.specs.Bytes.{holds};
@@ -40,7 +40,9 @@ fn push_list<A: Allocator>(
     list: &Table<'_, MemoryDescriptor>,
     pieces: &mut Vec<MemoryPiece, A>,
 ) -> std::result::Result<(), AllocError>
-    ensures { OnOk result (pieces.new.items ≡ pieces.old.items ++ described_all dump.now.bytes.now (records memory_descriptor list.now.bytes.now list.now.stride list.now.count)) }
+    ensures pushed { OnOk result (pieces.new.items ≡ pieces.old.items
+        ++ described_all dump.now.bytes.now (records memory_descriptor list.now.bytes.now list.now.stride list.now.count)) }
+    ensures refused { OnErr result (0 < length (described_all dump.now.bytes.now (records memory_descriptor list.now.bytes.now list.now.stride list.now.count))) }
 {
     for entry in list.iter() {
         let piece = dump.piece(entry);
@@ -56,7 +58,9 @@ fn push_list_64<A: Allocator>(
     pieces: &mut Vec<MemoryPiece, A>,
 ) -> std::result::Result<(), AllocError>
     requires { list.now.file.now ≡ dump.now.bytes.now }
-    ensures { OnOk result (pieces.new.items ≡ pieces.old.items ++ listed_all dump.now.bytes.now (record { base_rva = list.now.base_rva; ranges = list.now.ranges.now })) }
+    ensures pushed { OnOk result (pieces.new.items ≡ pieces.old.items
+        ++ listed_all dump.now.bytes.now (record { base_rva = list.now.base_rva; ranges = list.now.ranges.now })) }
+    ensures refused { OnErr result (0 < length (listed_all dump.now.bytes.now (record { base_rva = list.now.base_rva; ranges = list.now.ranges.now }))) }
 {
     for piece in list.iter() {
         pieces.push(listed_piece(dump.bytes, &piece))?;
@@ -65,12 +69,13 @@ fn push_list_64<A: Allocator>(
 }
 
 /// The pieces of memory of a dump that its file has, those of the memory list first. A list that is refused has none: the calls of
-/// `Dump` that read it say why.
+/// `Dump` that read it say why. Error: memory runs out, which it does not where there are no pieces.
 pub fn memory_pieces<A: Allocator>(
     alloc: A,
     dump: &Dump<'_>,
 ) -> std::result::Result<Vec<MemoryPiece, A>, AllocError>
-    ensures { IfOk result (λ v. v.items ≡ pieces_of (dump_view dump.now)) }
+    ensures made { IfOk result (λ v. v.items ≡ pieces_of (dump_view dump.now)) }
+    ensures refused { IfErr result (λ e. 0 < length (pieces_of (dump_view dump.now))) }
 {
     let mut pieces = Vec::new(alloc);
     if let Ok(Some(list)) = dump.memory_list() {

@@ -1,7 +1,7 @@
 //! The modules of a minidump as walks take them: in the order of the dump, which is no order of addresses, and in which modules may
 //! overlap. The first that has an address is that of the address.
 
-ghost use Rattle.std.specs.Prelude.{◌≡◌, IfOk};
+ghost use Rattle.std.specs.Prelude.{◌≡◌, ◌<◌, IfErr, IfOk, length};
 ghost use Rattle.std.specs.Option.{option_map};
 ghost use Rattle.pe_frame.specs.Modules.{module_at};
 
@@ -19,9 +19,10 @@ pub struct IndexedModules<'a, A: Allocator + Drop> {
 }
 
 impl<'a, A: Allocator + Copy + Drop> IndexedModules<'a, A> {
-    /// These modules.
+    /// These modules. Error: memory runs out, which it does not where there are none.
     pub fn new(alloc: A, modules: &'a [Module<'a>]) -> Result<IndexedModules<'a, A>, AllocError>
-        ensures { IfOk result (λ m. m.modules.ranges.now ≡ modules.entry.now) }
+        ensures made { IfOk result (λ m. m.modules.ranges.now ≡ modules.entry.now) }
+        ensures refused { IfErr result (λ e. 0 < length modules.entry.now) }
     {
         Ok(IndexedModules {
             modules: IndexedRanges::new(alloc, modules)?,

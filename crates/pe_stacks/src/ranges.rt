@@ -1,50 +1,52 @@
 //! Lookup of an address in ranges that stand in no order and may overlap, as the modules and the memory of a minidump do. The first
 //! range in the order of the list counts.
 
-ghost use Rattle.std.specs.Prelude.{◌≡◌, ℕ, IfOk};
+ghost use Rattle.std.specs.Prelude.{◌≡◌, ◌<◌, length, IfErr, IfOk, IfSome, slice_index_or};
 ghost use Rattle.std.specs.List.{find};
 ghost use Rattle.std.specs.Option.{option_map};
 ghost use Rattle.pe_frame.specs.AddressRanges.{has_address};
-ghost use Rattle.pe_minidump.specs.AddressIndexes.{first_index, owner_at};
-ghost use Rattle.pe_stacks.specs.Lookups.{all_addresses};
+ghost use Rattle.pe_stacks.specs.RangeIndexes.{Indexes};
 
+use crate::range_index::{RangeEntry, number_at, put_entries};
 use pe_frame::AddressRange;
-use pe_minidump::AddressIndex;
 use std::alloc::{AllocError, Allocator};
 
 /// Ranges of addresses with an index of them.
 #[derive(Drop)]
 pub struct IndexedRanges<'r, R: AddressRange, A: Allocator + Drop> {
     ranges: &'r [R],
-    index: AddressIndex<A>,
-    ghost first: { (x : ℕ) → owner_at index.pieces.items x
-        ≡ first_index 0 (all_addresses R.start_of R.size_of ranges.now) x },
+    entries: Vec<RangeEntry, A>,
+    ghost index: { Indexes R.start_of R.size_of 0 ranges.now entries.items },
 }
 
-/// The addresses of ranges, in the order of the list.
-fn all_addresses<R: AddressRange, A: Allocator>(
+/// The index of ranges: two entries for each.
+pub(crate) fn index_of<R: AddressRange, A: Allocator + Copy + Drop>(
     alloc: A,
     ranges: &[R],
-) -> Result<Vec<pe_minidump::AddressRange, A>, AllocError>
-    ensures { IfOk result (λ v. v.items ≡ all_addresses R.start_of R.size_of ranges.now) }
+) -> Result<Vec<RangeEntry, A>, AllocError>
+    ensures made { IfOk result (λ v. Indexes R.start_of R.size_of 0 ranges.now v.items) }
+    ensures refused { IfErr result (λ e. 0 < length ranges.now) }
 {
-    let mut all = Vec::new(alloc);
-    for range in ranges {
-        all.push(pe_minidump::AddressRange {
-            start: range.start(),
-            size: range.size(),
-        })?;
-    }
-    Ok(all)
+    let Some(count) = ranges.len().checked_mul(2) else {
+        return Err(AllocError);
+    };
+    let mut entries = Vec::new(alloc);
+    entries.resize(count, RangeEntry::default())?;
+    let mut spare = Vec::new(alloc);
+    spare.resize(count, RangeEntry::default())?;
+    put_entries(ranges, 0, &mut entries, &mut spare);
+    Ok(entries)
 }
 
 impl<'r, R: AddressRange, A: Allocator + Copy + Drop> IndexedRanges<'r, R, A> {
-    /// These ranges, with an index of them that is made in n log n steps and has two pieces of 32 bytes for each.
+    /// These ranges, with an index of them that is made in n log n steps and has two entries of 16 bytes for each, and while it is
+    /// made as many more. Error: memory runs out, which it does not where there are no ranges.
     pub fn new(alloc: A, ranges: &'r [R]) -> Result<IndexedRanges<'r, R, A>, AllocError>
-        ensures { IfOk result (λ v. v.ranges.now ≡ ranges.entry.now) }
+        ensures made { IfOk result (λ v. v.ranges.now ≡ ranges.entry.now) }
+        ensures refused { IfErr result (λ e. 0 < length ranges.entry.now) }
     {
-        let index = AddressIndex::new(alloc, &all_addresses(alloc, ranges)?)?;
-        Ok(IndexedRanges { ranges, index })
+        let entries = index_of(alloc, ranges)?;
+        Ok(IndexedRanges { ranges, entries })
     }
 
     /// The ranges, in the order of the list.
@@ -54,13 +56,25 @@ impl<'r, R: AddressRange, A: Allocator + Copy + Drop> IndexedRanges<'r, R, A> {
         self.ranges
     }
 
+    /// The index of the first range that has an address, by binary search.
+    fn position(&self, address: u64) -> Option<usize>
+        ensures within { IfSome result (λ k. k < length self.now.ranges.now) }
+        ensures found { (d : R) → option_map (λ k. slice_index_or self.now.ranges.now k d) result
+            ≡ find (has_address R.start_of R.size_of address) self.now.ranges.now }
+    {
+        let number = number_at(&self.entries, address);
+        if number == 0 {
+            return None;
+        }
+        Some(number as usize - 1)
+    }
+
     /// The first range that has an address, by binary search.
-    #[tactic(auto, using(crate::proofs::Founds::index_within, crate::proofs::Founds::index_found, crate::proofs::Founds::index_none))]
     pub fn find(&self, address: u64) -> Option<&'r R>
         ensures { option_map (λ r. r.now) result
             ≡ find (has_address R.start_of R.size_of address) self.now.ranges.now }
     {
-        match self.index.find(address) {
+        match self.position(address) {
             Some(index) => Some(&self.ranges[index]),
             None => None,
         }
