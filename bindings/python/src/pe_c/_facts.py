@@ -499,7 +499,8 @@ def resources(image: Exact) -> Facts:
                 "language": known(languages, language, it.language), "rva": it.rva, "size": it.size, "code_page": it.code_page,
                 "sha256_hex": digest, "version": version, "error": refusal(it.content_result)}
     found, number, is_limited = image.read("resources")
-    shown, bytes_left = [], READINGS * len(image.memory)
+    shown: list[_core.Resource] = []
+    bytes_left = READINGS * len(image.memory)
     for it in found or ():
         bytes_left -= it.size if it.type == RT_VERSION else 0
         if bytes_left < 0 or len(shown) == LEAVES:
