@@ -630,12 +630,13 @@ fn other_tables_of_a_part_are_csv() {
     assert_eq!(table(&guards, "load-config", "guarded-imports"), "RVA,flags\n0x2040,\n");
     assert!(table(&guards, "load-config", "handlers").starts_with("RVA\n0x2050\n"));
     assert_eq!(table(&guards, "load-config", "long-jumps"), "");
-    assert!(table(&assembly, "clr", "references")
-        .starts_with("assembly,version,culture,public key token\nOther,4.0.0.0,,0102030405060708\nOther,5.6.0.0,de,\n"));
+    assert!(table(&assembly, "clr", "references").starts_with(
+        "assembly,version,culture,public key token\nOther,4.0.0.0,,0102030405060708\nOther,5.6.0.0,de,\n"
+    ));
     assert!(table(&assembly, "clr", "streams").contains("\n#Strings,"));
     assert!(table(&assembly, "headers", "directories").starts_with("directory,"));
     assert!(table(&assembly, "headers", "dos-header").contains("e_lfanew,file offset of the PE signature,"));
-    assert!(table(&rich, "rich", "key").starts_with("name,value\nkey,0x"));
+    assert_eq!(table(&rich, "rich", "key"), "name,value\nkey,\"0x25a310c8, the checksum\"\n");
     let several = run(&["show", "--csv", "--table", "guarded", &guards, &guards, "load-config"]).0;
     assert!(several.starts_with("file,RVA,flags\n") && several.matches("FID_XFG").count() == 2, "{several}");
     // A table of another part, and one that is no CSV.
