@@ -253,7 +253,8 @@ async function noteElements(value) {
 async function factsOf(own, value, file) {
   await choose(own, value, '#files', file);
   await noteElements(value);
-  return value(`JSON.stringify(window.facts[0], (_, it) => typeof it === 'bigint' ? String(it) : it)`);
+  const said = `window.facts[0] && { ...window.facts[0], page_says: document.querySelector('#found .limited')?.textContent ?? null }`;
+  return value(`JSON.stringify(${said}, (_, it) => typeof it === 'bigint' ? String(it) : it)`);
 }
 
 async function takePictures(own, value) {

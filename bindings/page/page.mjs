@@ -65,6 +65,21 @@ function refused(to, what, error) {
   if (error) add(to, 'p', `${what}: ${error.text} (${error.name})`, 'bad');
 }
 
+/** The names in JSON of the lists of which an image has more than is shown. */
+function* limited(value, name = '') {
+  if (value === null || typeof value !== 'object') return;
+  for (const [key, it] of Object.entries(value)) {
+    const own = Array.isArray(value) ? name : key;
+    if (it === true && own.endsWith('is_limited')) yield own === 'is_limited' ? name : own.replace(/_is_limited$/, '');
+    else yield* limited(it, own);
+  }
+}
+
+function cut(to, facts) {
+  const names = [...new Set(limited(facts))].map((it) => it.replaceAll('_', ' '));
+  if (names.length) add(to, 'p', `Not shown whole, since the image has more: ${names.join(', ')}`, 'bad limited');
+}
+
 // ---- what a file is
 
 function overview(to, { headers, version, debug, clr }) {
@@ -192,6 +207,7 @@ function show(to, facts) {
     return;
   }
   overview(to, facts);
+  cut(to, facts);
   hardening(to, facts.hardening);
   sections(to, facts.sections);
   libraries(to, 'Imports', facts, 'imports');

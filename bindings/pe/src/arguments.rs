@@ -168,6 +168,11 @@ pub enum Command {
         /// The table of the one PART as CSV (RFC 4180). Of several files it has a column with their names.
         #[arg(long, conflicts_with = "json")]
         csv: bool,
+        /// With --csv another table of the PART: dos-header or directories of headers, directory of exports, records or pogo of
+        /// debug, numbers of version, handlers, guarded, guarded-imports, long-jumps or continuations of load-config, directories,
+        /// streams or references of clr, key of rich.
+        #[arg(long, value_name = "TABLE", requires = "csv")]
+        table: Option<String>,
         #[command(flatten)]
         walk: Walk,
         #[command(flatten)]

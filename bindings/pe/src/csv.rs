@@ -43,6 +43,49 @@ fn table_of(facts: &Facts, topic: Topic) -> Option<Table> {
     }
 }
 
+/// The tables of parts that have another one, by their names.
+pub const OTHERS: [(Topic, &str); 15] = [
+    (Topic::Headers, "dos-header"),
+    (Topic::Headers, "directories"),
+    (Topic::Exports, "directory"),
+    (Topic::Debug, "records"),
+    (Topic::Debug, "pogo"),
+    (Topic::Version, "numbers"),
+    (Topic::LoadConfig, "handlers"),
+    (Topic::LoadConfig, "guarded"),
+    (Topic::LoadConfig, "guarded-imports"),
+    (Topic::LoadConfig, "long-jumps"),
+    (Topic::LoadConfig, "continuations"),
+    (Topic::Clr, "directories"),
+    (Topic::Clr, "streams"),
+    (Topic::Clr, "references"),
+    (Topic::Rich, "key"),
+];
+
+/// A table of `OTHERS`, or none where the image lacks it.
+fn other_of(facts: &Facts, topic: Topic, name: &str) -> Option<Table> {
+    match (topic, name) {
+        (Topic::Headers, "dos-header") => facts.headers.as_ref()?.all.as_ref().map(tables::dos_header),
+        (Topic::Headers, _) => {
+            let of_other = || facts.other_headers.as_ref().and_then(tables::other_directories);
+            facts.headers.as_ref().map(|it| tables::directories(&it.directories)).or_else(of_other)
+        }
+        (Topic::Exports, _) => of_part(&facts.exports, |it| of_rows(tables::export_directory(it))),
+        (Topic::Debug, "pogo") => facts.debug.as_ref()?.pogo.present().map(tables::pogo_parts),
+        (Topic::Debug, _) => facts.debug.as_ref().map(|it| of_rows(tables::debug_records(it))),
+        (Topic::Version, _) => facts.version.as_ref().map(|it| of_rows(tables::versions(it))),
+        (Topic::LoadConfig, _) => {
+            let config = facts.load_config.as_ref()?.present()?;
+            tables::guards(&config.guards).into_iter().find(|it| it.0 == name).map(|it| it.2)
+        }
+        (Topic::Clr, "directories") => of_part(&facts.clr, tables::clr_directories),
+        (Topic::Clr, "streams") => of_part(&facts.clr, tables::clr_streams),
+        (Topic::Clr, _) => of_part(&facts.clr, tables::clr_references),
+        (Topic::Rich, _) => of_part(&facts.rich, |it| of_rows(tables::rich(it))),
+        _ => None,
+    }
+}
+
 /// Writing to memory does not fail, and all texts are UTF-8.
 fn written<'a>(records: impl Iterator<Item = Vec<&'a str>>) -> String {
     let mut writer = csv::Writer::from_writer(Vec::new());
@@ -58,9 +101,11 @@ pub struct Lines {
     pub rows: String,
 }
 
-/// The part as CSV, with a first column of the file where that is wanted. Empty where the image lacks the part.
-pub fn lines(facts: &Facts, topic: Topic, has_file: bool) -> Lines {
-    let Some(table) = table_of(facts, topic) else { return Lines { head: String::new(), rows: String::new() } };
+/// The part as CSV, or the table of it that is named, with a first column of the file where that is wanted. Empty where the image
+/// lacks it.
+pub fn lines(facts: &Facts, (topic, name): (Topic, Option<&str>), has_file: bool) -> Lines {
+    let table = name.map_or_else(|| table_of(facts, topic), |name| other_of(facts, topic, name));
+    let Some(table) = table else { return Lines { head: String::new(), rows: String::new() } };
     let file = escaped(&facts.file);
     let first = |text| has_file.then_some(text).into_iter();
     let heads = first("file").chain(table.columns.iter().map(|it| it.head)).collect();

@@ -112,8 +112,9 @@ fn shown_whole(files: &Files, topics: &[Topic], how: How, out: &mut dyn Write) -
 
 fn run_command(command: &Command, out: &mut dyn Write) -> io::Result<Status> {
     match command {
-        Command::Show { words, csv, walk, reading, hashing, output } => {
-            show_parts((words, *walk), *csv, How::of(reading, hashing, output), out)
+        Command::Show { words, csv, table, walk, reading, hashing, output } => {
+            let table = csv.then_some(table.as_deref());
+            show_parts((words, *walk), table, How::of(reading, hashing, output), out)
         }
         Command::Find { word, files, reading, output } => {
             find_word(word, files, How::without_hashes(reading, output), out)
@@ -154,14 +155,18 @@ fn run_command(command: &Command, out: &mut dyn Write) -> io::Result<Status> {
     }
 }
 
-/// `pe show`, of its words.
-fn show_parts(words: (&[PathBuf], Walk), is_csv: bool, how: How, out: &mut dyn Write) -> io::Result<Status> {
+/// `pe show`, of its words: as CSV where a table is named, or `Some(None)`, the one of the part.
+fn show_parts(
+    words: (&[PathBuf], Walk),
+    csv: Option<Option<&str>>,
+    how: How,
+    out: &mut dyn Write,
+) -> io::Result<Status> {
     let (files, topics) = arguments::files_and_parts(words.0, words.1);
     refuse_unknown_parts(&files);
-    if is_csv {
-        show_csv(&files, &topics, how, out)
-    } else {
-        shown_whole(&files, &topics, how, out)
+    match csv {
+        Some(table) => show_csv(&files, (&topics, table), how, out),
+        None => shown_whole(&files, &topics, how, out),
     }
 }
 
@@ -286,11 +291,19 @@ fn misused(message: &str) -> ! {
     Arguments::command().error(ErrorKind::ArgumentConflict, message).exit()
 }
 
-fn show_csv(files: &Files, topics: &[Topic], how: How, out: &mut dyn Write) -> io::Result<Status> {
+fn show_csv(
+    files: &Files,
+    (topics, table): (&[Topic], Option<&str>),
+    how: How,
+    out: &mut dyn Write,
+) -> io::Result<Status> {
     let [topic] = topics else { misused("--csv needs one PART, since a table has one kind of rows") };
+    if table.is_some_and(|it| !csv::OTHERS.contains(&(*topic, it))) {
+        misused(&format!("{} has no such --table; pe show --help names them", topic.name()));
+    }
     let wanted = Wanted::parts(topics, how.has_hashes).with_others();
     let text = |facts: &Facts, _| {
-        let csv::Lines { head, rows } = csv::lines(facts, *topic, files.is_several());
+        let csv::Lines { head, rows } = csv::lines(facts, (*topic, table), files.is_several());
         Said { head, ..Said::apart(rows, facts) }
     };
     files::each(files, out, |path, bytes| shown(path, bytes, how.reading, &wanted, text))

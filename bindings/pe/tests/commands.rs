@@ -613,6 +613,37 @@ fn a_table_is_csv() {
     assert_eq!(run(&["show", "--csv", "--json", &file, "imports"]).2, 2);
 }
 
+#[test]
+fn other_tables_of_a_part_are_csv() {
+    let folder = Folder::new("other-csv");
+    let files = [("a", made::with_guards()), ("b", made::with_assembly()), ("c", made::with_rich_header())];
+    let [guards, assembly, rich] = files.map(|(name, bytes)| folder.file(name, &bytes));
+    let table = |file: &str, part: &str, name: &str| {
+        let (out, error, status) = run(&["show", "--csv", "--table", name, file, part]);
+        assert!(status < 2, "{part} {name}: {error}");
+        out
+    };
+    assert_eq!(
+        table(&guards, "load-config", "guarded"),
+        "RVA,flags\n0x2010,0x1: FID_SUPPRESSED\n0x2030,0x8: FID_XFG\n"
+    );
+    assert_eq!(table(&guards, "load-config", "guarded-imports"), "RVA,flags\n0x2040,\n");
+    assert!(table(&guards, "load-config", "handlers").starts_with("RVA\n0x2050\n"));
+    assert_eq!(table(&guards, "load-config", "long-jumps"), "");
+    assert!(table(&assembly, "clr", "references").starts_with(
+        "assembly,version,culture,public key token\nOther,4.0.0.0,,0102030405060708\nOther,5.6.0.0,de,\n"
+    ));
+    assert!(table(&assembly, "clr", "streams").contains("\n#Strings,"));
+    assert!(table(&assembly, "headers", "directories").starts_with("directory,"));
+    assert!(table(&assembly, "headers", "dos-header").contains("e_lfanew,file offset of the PE signature,"));
+    assert_eq!(table(&rich, "rich", "key"), "name,value\nkey,\"0x25a310c8, the checksum\"\n");
+    let several = run(&["show", "--csv", "--table", "guarded", &guards, &guards, "load-config"]).0;
+    assert!(several.starts_with("file,RVA,flags\n") && several.matches("FID_XFG").count() == 2, "{several}");
+    // A table of another part, and one that is no CSV.
+    assert_eq!(run(&["show", "--csv", "--table", "guarded", &guards, "clr"]).2, 2);
+    assert_eq!(run(&["show", "--table", "guarded", &guards, "load-config"]).2, 2);
+}
+
 /// A block of version information: its length, that of its value, whether that is a text, the key, the value, and other blocks, each
 /// at a multiple of four bytes.
 fn block(key: &str, value: &[u8], is_text: bool, children: &[Vec<u8>]) -> Vec<u8> {

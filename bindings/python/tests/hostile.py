@@ -5,7 +5,8 @@ import struct
 import sys
 
 RVA, OFFSET = 0x1000, 0x400
-EXPORT, IMPORT, RESOURCE = 0, 1, 2
+EXPORT, IMPORT, RESOURCE, LOAD_CONFIG = 0, 1, 2, 10
+BASE = 0x180000000
 
 
 def image(body, directories):
@@ -16,7 +17,7 @@ def image(body, directories):
     head[:2] = b"MZ"
     struct.pack_into("<I4sHHIIIHH", head, 0x3C, 0x40, b"PE\0\0", 0x8664, 1, 0, 0, 0, 240, 0x2022)
     struct.pack_into("<HBBIIIII", head, 0x58, 0x20B, 0, 0, size, 0, 0, RVA, RVA)
-    struct.pack_into("<QII", head, 0x70, 0x180000000, 0x1000, 0x200)
+    struct.pack_into("<QII", head, 0x70, BASE, 0x1000, 0x200)
     struct.pack_into("<HHHHHHIIIIHH", head, 0x80, 6, 0, 0, 0, 6, 0, 0, RVA + size, OFFSET, 0, 3, 0)
     struct.pack_into("<QQQQII", head, 0xA0, 0, 0, 0, 0, 0, 16)
     for index, place in directories.items():
@@ -36,6 +37,13 @@ def exports(names, length, letter=b"A"):
     struct.pack_into(f"<{names}I", body, table - RVA, *(text + i % 8 for i in range(names)))
     body[text - RVA:text - RVA + length] = letter * length
     return image(body, {EXPORT: (RVA, len(body))})
+
+
+def unmapped(names):
+    """Names of exports at an RVA that no section maps."""
+    data = bytearray(exports(names, 9))
+    struct.pack_into(f"<{names}I", data, OFFSET + 44, *[0x7FFFFFF0] * names)
+    return bytes(data)
 
 
 def imports(libraries, names):
@@ -93,6 +101,45 @@ def long_names(count, length, letter):
         data[0x148 + 40 * i:0x148 + 40 * i + 8] = b"/4\0\0\0\0\0\0"
     struct.pack_into("<I", data, 0x40 + 12, len(data))
     return bytes(data) + struct.pack("<I", length + 5) + letter * length + b"\0"
+
+
+def block(key, children=b""):
+    """A block of version information without a value."""
+    body = key.encode("utf-16-le") + b"\0\0"
+    body += bytes(-(6 + len(body)) % 4) + children
+    return struct.pack("<HHH", 6 + len(body), 0, 0) + body + bytes(-len(body) - 6 & 3)
+
+
+def versions(names, languages, blocks):
+    """So many resources of version information, all the same, with so many blocks of which none is known."""
+    data = resources(1, names, languages)
+    struct.pack_into("<I", data := bytearray(data), OFFSET + 16, 16)
+    content, body = block("VS_VERSION_INFO", block("A", block("B") * blocks)), data[OFFSET:]
+    entry = 48 + 8 * (1 + names + languages)
+    struct.pack_into("<II", body, entry, RVA + len(body), len(content))
+    return image(body + content, {RESOURCE: (RVA, len(body))})
+
+
+def guards(entries):
+    """A load configuration whose guarded functions, guarded IAT entries, jumps and continuations are one table."""
+    body = bytearray(280 + 4 * entries)
+    struct.pack_into("<I", body, 0, 280)
+    for place in (128, 160, 176, 264):
+        struct.pack_into("<QQ", body, place, BASE + RVA + 280, entries)
+    return image(body, {LOAD_CONFIG: (RVA, 280)})
+
+
+def together(*parts):
+    """An image with the directories of several: of each its function, arguments and directory."""
+    global RVA
+    own, body, directories = RVA, b"", {}
+    for make, arguments, index in parts:
+        RVA = own + len(body)
+        one = make(*arguments)
+        directories[index] = struct.unpack_from("<II", one, 0xC8 + 8 * index)
+        body += one[OFFSET:]
+    RVA = own
+    return image(body, directories)
 
 
 def ordinals():

@@ -183,7 +183,7 @@ class Guards(unittest.TestCase):
     def test_tables_of_the_same_bytes(self):
         """All five tables are the rest of the file: all entries together have twice the bytes of the file, as in `pe`."""
         places = {it: struct.pack("<QQ", 0x180001118, (1 << 64) - 1) for it in (96, 128, 160, 176, 264)}
-        data = patched("load_config.bin", {0: struct.pack("<I", 280), **places}) + bytes(100_000)
+        data = patched("load_config.bin", {0: struct.pack("<I", 280), **places}) + bytes(60_000)
         found = pe_c.Image(data).facts()["load_config"]
         rest, names = len(data) - 0x400 - 280, ("guarded_functions", "guarded_iat_entries")
         left = 2 * len(data) - rest // 4 * 4

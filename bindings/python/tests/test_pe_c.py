@@ -177,20 +177,23 @@ class Values(unittest.TestCase):
         self.assertEqual([(it.ordinal, it.name) for it in image.exports], [(5, None), (7, None)])
         self.assertEqual((image.export_table.name, image.export_table.number_of_functions), ("a.dll", 3))
 
-    def test_a_small_file_alignment_is_noted(self):
+    def test_a_small_file_alignment_is_a_warning(self):
         data = bytearray(hostile.imports(1, 1))
-        self.assertEqual(pe_c.Image(data).notes, ())
+        self.assertEqual(pe_c.Image(data).warnings, ())
         data[0x7C:0x80] = (32).to_bytes(4, "little")
         self.assertEqual(pe_c.Image(data).headers.file_alignment, 32)
-        self.assertIn("32", pe_c.Image(data).notes[0])
-        self.assertEqual(pe_c.Image(data, pe_c.Mode.MAPPED).notes, ())
+        warning, = pe_c.Image(data, path="a.efi").warnings
+        self.assertEqual((warning.kind, warning.part, warning.error), (pe_c.WarningKind.ALIGNMENT, "headers", None))
+        self.assertRegex(str(warning), "^a.efi: headers: file alignment 32: .* 512$")
+        self.assertFalse([it for it in pe_c.Image(data, pe_c.Mode.MAPPED).warnings if it.kind is pe_c.WarningKind.ALIGNMENT])
 
     def test_a_directory_of_zeros_is_no_warning(self):
         zeros = pe_c.Image(hostile.image(bytes(64), {5: (hostile.RVA, 8)}))
         self.assertEqual((zeros.relocations, zeros.relocations.error, zeros.warnings), ((), None, ()))
         self.assertEqual(pe_c.Image(hostile.image(bytes(64), {5: (hostile.RVA, 8)})).warnings, ())
         damaged = pe_c.Image(hostile.image(b"\0\0\0\0\3" + bytes(59), {5: (hostile.RVA, 8)}))
-        self.assertEqual([it.kind for it in damaged.warnings], [Kind.DIRECTORY_BLOCK_SIZE])
+        self.assertEqual([(it.kind, it.error.kind) for it in damaged.warnings],
+                         [(pe_c.WarningKind.DAMAGED, Kind.DIRECTORY_BLOCK_SIZE)])
 
     def test_texts_of_errors(self):
         self.assertEqual(str(pe_c.Error(2, "truncated", "headers", "a.dll")), "a.dll: headers: truncated")
@@ -429,12 +432,23 @@ class Hostile(unittest.TestCase):
         "names of sections that are the same bytes, and no text": (hostile.long_names, (20_000, 200_000, b"\xff"), "sections"),
         "exports under 65,535 sections": (lambda *it: hostile.with_sections(hostile.exports(*it), 65_535), (60_000, 9), "exports"),
         "imports under 65,535 sections": (lambda *it: hostile.with_sections(hostile.imports(*it), 65_535), (99, 2_000), "imports"),
+        "version information that is the same": (hostile.versions, (60, 60, 4_000), "versions"),
     }
+    # Several of them in one image, and those that the library's budget does not limit.
+    TOGETHER = {
+        "one file": lambda: hostile.together(*Hostile.PARTS),
+        "under 65,535 sections": lambda: hostile.with_sections(hostile.together(*Hostile.PARTS), 65_535),
+        "a large file": lambda: hostile.together(*Hostile.PARTS) + bytes(5 << 20),
+        "names without a section, under 65,535 of them": lambda: hostile.with_sections(hostile.unmapped(60_000), 65_535),
+    }
+    PARTS = [(hostile.imports, (2_000, 2_000), hostile.IMPORT), (hostile.exports, (60_000, 9), hostile.EXPORT),
+             (hostile.resources, (500, 500, 500), hostile.RESOURCE), (hostile.guards, (60_000,), hostile.LOAD_CONFIG)]
 
     def test_lists_that_are_many_times_the_same(self):
         for name, (make, arguments, part) in self.LIMITED.items():
             image = pe_c.Image(make(*arguments))
             self.assertEqual(image.limited, (part,), name)
+            self.assertEqual([(it.kind, it.part) for it in image.warnings], [(pe_c.WarningKind.LIMITED, part)], name)
             self.assertEqual(len(image.sections), image.headers.number_of_sections)
             self.assertIsNone(image.imphash())
             self.assertIsNone(image.exphash())
@@ -464,15 +478,20 @@ class Hostile(unittest.TestCase):
         self.assertEqual((depth, is_limited), (9, True))
 
     def test_they_take_little_time_and_memory(self):
-        for name in self.LIMITED:
-            code = (f"import sys; sys.path[:] = {sys.path!r}\nimport test_pe_c, pe_c, re, time\n"
-                    f"make, arguments, _ = test_pe_c.Hostile.LIMITED[{name!r}]\nimage = pe_c.Image(make(*arguments))\n"
-                    f"start = time.process_time()\nimage.limited, image.warnings\n"
-                    "print(time.process_time() - start, re.search(r'VmHWM:\\s+(\\d+)', open('/proc/self/status').read())[1])")
+        """All facts and their JSON, and the warnings, each take less than a second of a processor."""
+        made = {**{name: f"LIMITED[{name!r}][0](*test_pe_c.Hostile.LIMITED[{name!r}][1])" for name in self.LIMITED},
+                **{name: f"TOGETHER[{name!r}]()" for name in self.TOGETHER}}
+        for name, image in made.items():
+            code = (f"import sys; sys.path[:] = {sys.path!r}\nimport test_pe_c, pe_c, pe_c.scan, re, time\n"
+                    f"image, times = pe_c.Image(test_pe_c.Hostile.{image}), [time.process_time()]\n"
+                    "for ask in (lambda: pe_c.scan.json_of(image.facts()), lambda: (image.warnings, image.limited)):\n"
+                    "    ask()\n    times.append(time.process_time())\n"
+                    "print(*times, re.search(r'VmHWM:\\s+(\\d+)', open('/proc/self/status').read())[1])")
             done = subprocess.run([sys.executable, "-c", code], capture_output=True, text=True, timeout=60)
             self.assertEqual(done.returncode, 0, done.stderr)
-            seconds, kilobytes = map(float, done.stdout.split())
-            self.assertLess(seconds, 1.5, name)
+            start, facts, warnings, kilobytes = map(float, done.stdout.split())
+            self.assertLess(facts - start, 1, name)
+            self.assertLess(warnings - facts, 1, name)
             self.assertLess(kilobytes, 200 << 10, name)
 
     def test_damaged_images(self):

@@ -14,7 +14,7 @@ from ._edit import ResourceEditor as ResourceEditor, version_info as version_inf
 from ._image import Image as Image, Mode as Mode, Unwind as Unwind, Version as Version, open as open
 from ._kinds import End as End, Kind as Kind, KnownOid as KnownOid, Way as Way
 from ._objects import Coff as Coff, Te as Te
-from ._part import Error as Error, Part as Part
+from ._part import Error as Error, ImageWarning as ImageWarning, Part as Part, WarningKind as WarningKind
 from ._report import Report as Report
 from ._row_names import *  # noqa: F403
 from ._signature import Name as Name, Signature as Signature, Signer as Signer, TimeStamp as TimeStamp, X509 as X509

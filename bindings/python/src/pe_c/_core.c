@@ -19,10 +19,10 @@
 /* What the bytes of an Image are. */
 enum { KIND_IMAGE, KIND_OBJECT, KIND_TE, KIND_BYTES };
 
-/* What a row costs, in bytes of the budget; to how many sections one such byte is equal, where the row's RVAs are mapped; how
- * many rows a list has at most whose entries may be the same bytes; and how many levels version blocks have at most below
- * the first, of which real ones have three; how many frames a stack has at most. */
-enum { ROW_COST = 16, SECTIONS_A_BYTE = 16, MOST_ROWS = 1 << 18, MOST_DEPTH = 8, MOST_FRAMES = 1 << 14 };
+/* What a row costs, in bytes of the budget; to how many sections one such byte is equal, where the row's RVAs are mapped; how many
+ * rows lists have whose entries may be the same bytes: each, or all of an exact image; how many levels version blocks have below
+ * the first, of which real ones have three; how many frames a stack has; from how many sections on there is an index of them. */
+enum { ROW_COST = 16, SECTIONS_A_BYTE = 2, MOST_ROWS = 1 << 17, MOST_DEPTH = 8, MOST_FRAMES = 1 << 14, MANY_SECTIONS = 32 };
 
 typedef struct {
     PyTypeObject *image;
@@ -36,6 +36,8 @@ typedef struct {
     PyObject *memory;               /* a memoryview of what is read, read-only; NULL once closed */
     pe_c_image_info info;
     pe_c_section *sections;
+    pe_c_index_entry *index;        /* of many sections; NULL of few */
+    uint64_t entries, rows;         /* of the index; that are left of all lists of an exact image */
     pe_c_coff_header coff;          /* of an object, or of an image */
     pe_c_te_image te;
     pe_c_range strings;             /* the COFF string table, empty without one */
@@ -46,7 +48,7 @@ typedef struct {
 
 #define BYTES self->view.buf, (size_t)self->view.len
 #define SECTIONS self->sections, self->info.number_of_sections
-#define VIEW &(pe_c_view){BYTES, &self->info, SECTIONS, NULL, 0}
+#define VIEW &(pe_c_view){BYTES, &self->info, SECTIONS, self->index, self->entries}
 
 typedef struct {
     uint64_t bytes, rows;           /* that are left */
@@ -175,7 +177,7 @@ static PyObject *dump_text(Image *self, Rows *rows, uint64_t rva)
 static Budget budget_of(Image *self)
 {
     uint64_t each = ROW_COST + self->info.number_of_sections / SECTIONS_A_BYTE;
-    return (Budget){(uint64_t)self->view.len * 4 + 65536, MOST_ROWS, each, 0, 0};
+    return (Budget){(uint64_t)self->view.len * 4 + 65536, self->is_exact ? self->rows : MOST_ROWS, each, 0, 0};
 }
 
 /* A budget for entries that are bytes of their own, so that there are no more of them than the file has room for, and whose
@@ -265,7 +267,9 @@ static PyObject *inside(Rows *outer, Rows *rows)
 
 static PyObject *answer(PyObject *value, const Rows *rows)
 {
-    rows->image->users--;
+    Image *self = rows->image;
+    self->users--;
+    self->rows = rows->budget->rows < self->rows ? rows->budget->rows : self->rows;
     return triple(value, rows);
 }
 
@@ -407,10 +411,10 @@ static int is_open(Image *self)
     }
 
 /* A list: `start` starts its walk, and `call` goes on. */
-#define LIST(name, Walk, start, Item, call, row) \
+#define LIST_BY(opened, name, Walk, start, Item, call, row) \
     METHOD(name) \
     { \
-        OPEN \
+        opened \
         Walk walk = PE_C_EMPTY; \
         Item item = PE_C_EMPTY; \
         rows = rows_of(self, &budget); \
@@ -418,6 +422,7 @@ static int is_open(Image *self)
         EACH(&rows, call, row); \
         return finished(&rows); \
     }
+#define LIST(...) LIST_BY(OPEN, __VA_ARGS__)
 
 /* What was read with the headers. */
 #define OWN(name, row) METHOD(name) { OPEN_OWN return answer(row, &rows); }
@@ -531,7 +536,7 @@ static void add_named(Image *self, Rows *rows, const pe_c_exports *all, const pe
             rows->result = result;
         const uint8_t *rva = (const uint8_t *)self->view.buf + all->names.offset + 4 * i;
         if (result == PE_C_NOTHING)
-            pays(rows->budget, ROW_COST + unread(self, rva[0] | rva[1] << 8 | rva[2] << 16 | (uint32_t)rva[3] << 24));
+            pays(rows->budget, rows->budget->each + unread(self, rva[0] | rva[1] << 8 | rva[2] << 16 | (uint32_t)rva[3] << 24));
         if (result != PE_C_DONE || !export_at(self, rows, table, named.index, &item))
             continue;
         is_named[named.index] = 1;
@@ -571,16 +576,8 @@ METHOD(exports)
     return finished(&rows);
 }
 
-METHOD(relocations)
-{
-    OPEN_OWN
-    pe_c_range walk = PE_C_EMPTY;
-    pe_c_relocation_block item = PE_C_EMPTY;
-    rows = rows_of(self, &budget);
-    starts(&rows, pe_c_relocation_blocks(VIEW, &walk));
-    EACH(&rows, pe_c_next_relocation_block(BYTES, &walk, &item), ROW_OF(relocation_block));
-    return finished(&rows);
-}
+LIST_BY(OPEN_OWN, relocations, pe_c_range, pe_c_relocation_blocks(VIEW, &walk), pe_c_relocation_block,
+        pe_c_next_relocation_block(BYTES, &walk, &item), ROW_OF(relocation_block))
 
 #define FUNCTIONS(name, Item, start, size, call, row) \
     METHOD(name) \
@@ -981,12 +978,12 @@ static PyObject *write_block(PyObject *Py_UNUSED(module), PyObject *arguments)
 
 static void let_go(Image *self)
 {
-    if (self->memory) {
-        Py_CLEAR(self->memory);
-        PyBuffer_Release(&self->view);
-    }
+    if (!self->memory)
+        return;
+    Py_CLEAR(self->memory);
+    PyBuffer_Release(&self->view);
     PyMem_Free(self->sections);
-    self->sections = NULL;
+    PyMem_Free(self->index);
 }
 
 METHOD(close_image)
@@ -1049,10 +1046,8 @@ static int holds(Image *self, PyObject *data, int is_copied)
     if (!self->view.readonly && is_copied) {
         data = PyBytes_FromStringAndSize(self->view.buf, self->view.len);
         PyBuffer_Release(&self->view);
-        if (!data)
-            return 0;
-        if (PyObject_GetBuffer(data, &self->view, PyBUF_SIMPLE) < 0) {
-            Py_DECREF(data);
+        if (!data || PyObject_GetBuffer(data, &self->view, PyBUF_SIMPLE) < 0) {
+            Py_XDECREF(data);
             return 0;
         }
     } else {
@@ -1085,14 +1080,18 @@ static uint32_t reads(Image *self, unsigned int mode)
     uint32_t result = headers_of(self, mode);
     if (result != PE_C_DONE)
         return result;
-    self->sections = PyMem_Calloc(self->info.number_of_sections + 1u, sizeof *self->sections);
-    if (!self->sections) {
+    size_t count = self->info.number_of_sections, most = self->kind == KIND_IMAGE && count >= MANY_SECTIONS ? 4 * count : 0;
+    self->sections = PyMem_Calloc(count + 1, sizeof *self->sections);
+    self->index = most && self->sections ? PyMem_Calloc(most, sizeof *self->index) : NULL;
+    if (!self->sections || (most && !self->index)) {
         PyErr_NoMemory();
         return PE_C_MEMORY;
     }
     result = self->kind == KIND_OBJECT ? pe_c_coff_sections(BYTES, &self->coff, SECTIONS)
              : self->kind == KIND_TE   ? pe_c_te_sections(BYTES, &self->te, SECTIONS)
                                        : pe_c_sections(BYTES, &self->info, SECTIONS);
+    if (self->index && result == PE_C_DONE)
+        result = pe_c_index(VIEW, self->index, most, &self->entries);
     uint32_t strings = self->kind == KIND_OBJECT ? pe_c_coff_strings(BYTES, &self->coff, &self->strings)
                                                  : pe_c_string_table(VIEW, &self->strings);
     if (self->kind == KIND_TE || self->kind == KIND_BYTES || strings != PE_C_DONE)
@@ -1116,6 +1115,7 @@ static PyObject *image(PyObject *module, PyObject *arguments)
     self->state = state;
     self->kind = kind;
     self->is_exact = is_exact;
+    self->rows = MOST_ROWS;
     uint32_t result = holds(self, data, is_copied) ? reads(self, mode) : PE_C_MEMORY;
     PyObject *made = (PyObject *)self;
     if (result != PE_C_DONE) {

@@ -30,6 +30,8 @@ RT_VERSION = 16
 TE_IMAGE, OBJECT_AS_IT_SEEMS = "a TE image", "a COFF object, as it seems"
 # How many sections are looked up in the string table, how many leaves and string tables are shown.
 LONG_NAMES, LEAVES, TABLES = 96, 65_536, 4096
+# How often the bytes of the file are read at most for version information.
+READINGS = 4
 # What starts a part of what installers append: an offset, the bytes there, and what it is.
 KINDS = [
     (4, b"\xEF\xBE\xAD\xDENullsoftInst", "an NSIS installer"), (0, b"zlb\x1A", "an Inno Setup installer"),
@@ -286,6 +288,9 @@ def hashes(image: Exact) -> Facts:
 # ---- sections
 
 
+PERMISSIONS = ((1 << 30, "r"), (1 << 31, "w"), (1 << 29, "x"))
+
+
 class Contents:
     """What the bytes of sections look like. Those of a hostile image may all be the same bytes: what is hashed and counted has a
     bound, and the same bytes are counted once."""
@@ -316,18 +321,23 @@ class Contents:
 def sections(image: Exact, kind: int) -> list[Facts]:
     is_mapped = kind == IMAGE and image.value("headers").mode & Mode.MAPPED
     contents, found = Contents(image), []
+    # The same flags and names stand in many headers.
+    permissions: dict[int, str] = {}
+    own: dict[bytes, str | Facts] = {}
     for index, it in enumerate(image.read("sections")[0]):
         start, length = (it.virtual_address, it.virtual_size) if is_mapped else (it.pointer_to_raw_data, it.size_of_raw_data)
         # Zeros of an object, as in .bss, have a size and no bytes.
         length = 0 if kind == OBJECT and not start else length
         long_name = it.name if kind == OBJECT or index < LONG_NAMES else None
+        flags = it.characteristics
+        if flags not in permissions:
+            permissions[flags] = "".join(letter if flags & flag else "-" for flag, letter in PERMISSIONS)
+        if it.raw_name not in own:
+            own[it.raw_name] = name_of(decoded(it.raw_name.split(b"\0")[0]))
         found.append({
-            "name": name_of(decoded(it.raw_name.split(b"\0")[0])), "long_name": None if long_name is None else name_of(long_name),
+            "name": own[it.raw_name], "long_name": None if long_name is None else name_of(long_name),
             "rva": it.virtual_address, "virtual_size": it.virtual_size, "file_offset": it.pointer_to_raw_data,
-            "file_size": it.size_of_raw_data,
-            "permissions": "".join(letter if it.characteristics & flag else "-"
-                                   for flag, letter in ((1 << 30, "r"), (1 << 31, "w"), (1 << 29, "x"))),
-            "flags": it.characteristics, **contents.of(start, length)})
+            "file_size": it.size_of_raw_data, "permissions": permissions[flags], "flags": flags, **contents.of(start, length)})
     return found
 
 
@@ -446,6 +456,18 @@ def language(value: int | str) -> Facts:
     return {"id": value, "name": names.VARIANTS.get(value, names.LANGUAGES.get(value & 0x3FF))}
 
 
+def resource_type(value: int | str) -> Facts:
+    it = label(value)
+    return {"id": it["id"], "name": it["name"] or names.RESOURCE_TYPES.get(it["id"])}
+
+
+def known(kept: dict[int | str, Facts], of: typing.Callable[[int | str], Facts], value: int | str) -> Facts:
+    found = kept.get(value)
+    if found is None:
+        found = kept[value] = of(value)
+    return found
+
+
 def dotted(high: int, low: int) -> str:
     return f"{high >> 16}.{high & 0xFFFF}.{low >> 16}.{low & 0xFFFF}"
 
@@ -457,6 +479,10 @@ def fixed(it: _core.FixedVersion) -> Facts:
 
 def resources(image: Exact) -> Facts:
     left = len(image.memory) if image.has_hashes else 0
+    # The same identifiers stand in many leaves.
+    types: dict[int | str, Facts] = {}
+    labels: dict[int | str, Facts] = {}
+    languages: dict[int | str, Facts] = {}
 
     def of(it: Any) -> Facts:
         nonlocal left
@@ -469,13 +495,19 @@ def resources(image: Exact) -> Facts:
             answer = image.core.fixed_version_in(it.offset or 0, it.size) if it.offset is not None \
                 else (None, it.content_result, False)
             version = part("fixed", answer, fixed)
-        kind = label(it.type)
-        return {"type": {"id": kind["id"], "name": kind["name"] or names.RESOURCE_TYPES.get(it.type)}, "name": label(it.name),
-                "language": language(it.language), "rva": it.rva, "size": it.size, "code_page": it.code_page,
+        return {"type": known(types, resource_type, it.type), "name": known(labels, label, it.name),
+                "language": known(languages, language, it.language), "rva": it.rva, "size": it.size, "code_page": it.code_page,
                 "sha256_hex": digest, "version": version, "error": refusal(it.content_result)}
     found, number, is_limited = image.read("resources")
-    is_limited = is_limited or len(found or ()) > LEAVES
-    return rows("resources", (found and found[:LEAVES], number, is_limited), of)
+    shown: list[_core.Resource] = []
+    bytes_left = READINGS * len(image.memory)
+    for it in found or ():
+        bytes_left -= it.size if it.type == RT_VERSION else 0
+        if bytes_left < 0 or len(shown) == LEAVES:
+            is_limited = True
+            break
+        shown.append(it)
+    return rows("resources", (None if found is None else shown, number, is_limited), of)
 
 
 def text_to_zero(value: str | bytes) -> str:
@@ -515,14 +547,19 @@ def tables_in(blocks: Triple, own: Facts, to: list[Facts]) -> int:
 def languages(image: Exact) -> Facts:
     found: list[Facts] = []
     number, is_limited = 0, False
+    left = READINGS * len(image.memory)
     for it in (image.read("resources")[0] or ())[:LEAVES]:
         if it.type != RT_VERSION:
             continue
-        is_limited = len(found) >= TABLES
-        number = it.content_result or tables_in(image.core.version_blocks(it.offset or 0, it.size), language(it.language), found)
+        left -= it.size
+        is_limited = left < 0 or len(found) >= TABLES
+        if is_limited:
+            break
+        blocks = image.core.version_blocks(it.offset or 0, it.size) if not it.content_result else (None, it.content_result, False)
+        number, is_limited = tables_in(blocks, language(it.language), found), blocks[2]
         if number or is_limited:
             break
-    return rows("languages", (found if found or number else None, number, is_limited), lambda it: it)
+    return rows("languages", (found, number, is_limited) if found or number else (None, 0, False), lambda it: it)
 
 
 def level_of(manifest: memoryview) -> str | None:

@@ -17,9 +17,9 @@ LOAD_CONFIG = 10
 FIELDS = {"guarded_iat_entries": ((104, 108), (160, 168)), "long_jump_targets": ((112, 116), (176, 184)),
           "eh_continuations": ((164, 168), (264, 272))}
 FLAG_SIZE_SHIFT, SIZE_OF_RVA = 28, 4
-# How often the bytes of a file may be read for entries, as in `pe`, and how many entries are shown in all, as many as _core has rows of
-# a list. The lists of a hostile image may all be the same bytes; those that share none are not cut by the first.
-MOST_READINGS, MOST_ENTRIES = 2, 1 << 18
+# How often the bytes of a file may be read for entries, as in `pe`, and how many entries are shown in all: so many, and one more for
+# each 128 bytes of the file, where linkers make one for several hundred. The lists of a hostile image may all be the same bytes.
+MOST_READINGS, FEW_ENTRIES, MOST_ENTRIES, BYTES_AN_ENTRY = 2, 1 << 15, 1 << 18, 128
 
 
 def bytes_at(core: _core.Image, rva: int) -> memoryview | None:
@@ -67,7 +67,8 @@ def entries(core: _core.Image, place: Place, base: int, flag_size: int, most: in
 
 def lists(core: _core.Image, headers: _core.Headers, config: _core.LoadConfig) -> typing.Iterator[tuple[str, List]]:
     """Each list with its name in JSON."""
-    left, most_bytes = MOST_ENTRIES, MOST_READINGS * len(core.memory)
+    left = min(FEW_ENTRIES + len(core.memory) // BYTES_AN_ENTRY, MOST_ENTRIES)
+    most_bytes = MOST_READINGS * len(core.memory)
     for name, place in places(core, headers.width, config, headers.directories[LOAD_CONFIG].virtual_address).items():
         flag_size = 0 if name == "se_handlers" else (config.guard_flags or 0) >> FLAG_SIZE_SHIFT
         found = entries(core, place, headers.base, flag_size, min(left, most_bytes // (SIZE_OF_RVA + flag_size)))

@@ -15,7 +15,7 @@ from ._core import (AllHeaders, Arm64Function, Arm64Packed, Arm64Record, BoundLi
                     VersionBlock)
 from ._kinds import Kind
 from ._ordinals import ORDINALS
-from ._part import SHOWN, Error, Part, entropy_of, error_of, plain, shown
+from ._part import SHOWN, Error, ImageWarning, Part, WarningKind, entropy_of, error_of, plain, shown
 from ._reader import IMAGE, Reader, content_of
 from ._report import Report
 
@@ -316,10 +316,22 @@ class Image(Reader):
         return Version(leaf.language, fixed, strings, tuple(translations), blocks)
 
     @property
-    def versions(self) -> tuple[Version, ...]:
-        """Version information in each language. What is damaged in one of them is the error of its `blocks`."""
-        return self._once("versions", lambda: tuple(self._version_of(it) for it in self.resources
-                                                    if it.type == RT_VERSION and it.content is not None))
+    def versions(self) -> Part[Version]:
+        """Version information in each language. What is damaged in one of them is the error of its `blocks`. It is limited where
+        it would have more bytes than the file."""
+        def read() -> Part[Version]:
+            left, found, is_limited = len(self.memory), [], False
+            for it in self.resources:
+                if it.type == RT_VERSION and it.content is not None:
+                    left -= len(it.content)
+                    is_limited = left < 0
+                    if is_limited:
+                        break
+                    found.append(self._version_of(it))
+            part: Part[Version] = Part(found)
+            part.is_limited = is_limited
+            return part
+        return self._once("versions", read)
 
     @property
     def manifest(self) -> memoryview | None:
@@ -450,13 +462,25 @@ class Image(Reader):
     # ---- all of it
 
     @property
-    def warnings(self) -> tuple[Error, ...]:
-        """What of the image is damaged, an error a part. Parts that are limited are in `limited`."""
-        def read() -> tuple[Error, ...]:
-            found = [part.error for part in (self._part(name) for name in LISTS) if part.error]
-            found += [it.blocks.error for it in self.versions if it.blocks.error]
-            return tuple(found + [it for it in map(self._error_of, RECORDS) if it])
+    def warnings(self) -> tuple[ImageWarning, ...]:
+        """What of the image is damaged, an error a part. Then what is no damage: the parts that are limited, and a file alignment
+        below 512. A directory of zeros is no warning."""
+        def read() -> tuple[ImageWarning, ...]:
+            errors = [part.error for part in (self._part(name) for name in LISTS) if part.error]
+            errors += [it.blocks.error for it in self.versions if it.blocks.error]
+            errors += [it for it in map(self._error_of, RECORDS) if it]
+            found = [ImageWarning(WarningKind.DAMAGED, it.part, it.text, it, self.path) for it in errors]
+            found += [ImageWarning(WarningKind.LIMITED, it, "more entries than the file's bytes account for", None, self.path)
+                      for it in self.limited]
+            return tuple(found + self._alignment())
         return self._once("warnings", read)
+
+    def _alignment(self) -> list[ImageWarning]:
+        headers = self.headers
+        if headers.mode & Mode.MAPPED or not headers.width or headers.file_alignment >= SECTOR:
+            return []
+        text = f"file alignment {headers.file_alignment}: sections are mapped from their raw pointers rounded down to {SECTOR}"
+        return [ImageWarning(WarningKind.ALIGNMENT, "headers", text, None, self.path)]
 
     def _error_of(self, name: str) -> Error | None:
         _, number, _ = self._kept_answer(name)
@@ -465,18 +489,11 @@ class Image(Reader):
     @property
     def limited(self) -> tuple[str, ...]:
         """The parts of which there are more rows than the image's bytes account for, as only hostile images have."""
-        return tuple(name for name in LISTS if self._part(name).is_limited)
-
-    @property
-    def notes(self) -> tuple[str, ...]:
-        """What of a sound image other readers may see otherwise: a file alignment below 512."""
-        headers = self.headers
-        if headers.mode & Mode.MAPPED or not headers.width or headers.file_alignment >= SECTOR:
-            return ()
-        return (f"file alignment {headers.file_alignment}: sections are mapped from their raw pointers rounded down to {SECTOR}",)
+        versions = ("versions",) if self.versions.is_limited else ()
+        return (*(name for name in LISTS if self._part(name).is_limited), *versions)
 
     def to_dict(self) -> dict[str, Any]:
-        """What the image is in values that json takes. Never raises Error: `warnings` has what is damaged."""
+        """What the image is in values that json takes. Never raises Error: `warnings` has what is damaged or limited."""
         answers = {name: self._kept_answer(name)[0] for name in ("rich_header", *RECORDS)}
         digest = self.digest() if self.headers.width else None
         left, limit = [self._limit()], self._limit()
@@ -485,9 +502,9 @@ class Image(Reader):
                 **{name: plain(it, left) for name, it in answers.items()},
                 "versions": [{"language": it.language, "fixed": plain(it.fixed, left), "strings": it.strings}
                              for it in self.versions],
-                "imphash": self.imphash(), "rich_hash": self.rich_hash(), "digest": digest, "limited": list(self.limited),
-                "notes": list(self.notes),
-                "warnings": [{"part": it.part, "number": it.number, "text": it.text} for it in self.warnings]}
+                "imphash": self.imphash(), "rich_hash": self.rich_hash(), "digest": digest,
+                "warnings": [{"kind": it.kind.value, "part": it.part, "number": it.error and it.error.number, "text": it.text}
+                             for it in self.warnings]}
 
     def facts(self, *, has_hashes: bool = True) -> dict[str, Any]:
         """What `pe --json` says of the image, as docs/pe.schema.json has it. Never raises Error: an error stands beside its part."""
@@ -503,7 +520,7 @@ class Image(Reader):
                        f"<td><meter max=8 value={value or 0:.2f}></meter> {value or 0:.2f}</td></tr>"
                        for it, value in list(zip(self.sections, self.entropies))[:SHOWN])
         head = "".join(f"<th>{it}</th>" for it in ("section", "RVA", "bytes in the file", "entropy"))
-        warned = "".join(f"<li>{shown(str(it))}</li>" for it in (*self.warnings, *self.notes))
+        warned = "".join(f"<li>{shown(str(it))}</li>" for it in self.warnings)
         return (f"<h4>{shown(self.path or 'image')}</h4><table><tr>{head}</tr>{rows}</table>"
                 f"<p>{len(self.imports)} libraries, {len(self.exports)} exports</p><ul>{warned}</ul>")
 

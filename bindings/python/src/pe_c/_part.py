@@ -1,6 +1,7 @@
 """Lists of rows, and errors. A row is what a record of the format becomes: a tuple whose fields have names."""
 from __future__ import annotations
 
+import enum
 import hashlib
 import html
 import typing
@@ -38,6 +39,30 @@ class Error(ValueError):
 
 def error_of(number: int, part: str, path: str | None = None) -> Error:
     return Error(number, _core.text_of(number), part, path)
+
+
+class WarningKind(enum.Enum):
+    """What a warning is of."""
+
+    DAMAGED = "damaged"
+    """a part that is refused; `error` says why"""
+    LIMITED = "limited"
+    """a part that has more rows than the file's bytes account for, as only hostile ones have"""
+    ALIGNMENT = "alignment"
+    """a file alignment below 512: other readers may find other bytes in the sections"""
+
+
+class ImageWarning(typing.NamedTuple):
+    """What a reader of an image should know. What is not DAMAGED is no damage."""
+
+    kind: WarningKind
+    part: str
+    text: str
+    error: Error | None = None
+    path: str | None = None
+
+    def __str__(self) -> str:
+        return ": ".join(it for it in (self.path, self.part, self.text) if it)
 
 
 class Part(tuple[T, ...]):

@@ -33,6 +33,8 @@ HEAPS, HAS_EXTRA_DATA = {"t": 1, "g": 2, "b": 4}, 0x40
 IS_WHOLE_KEY, TOKEN_SIZE, GUID_SIZE = 1, 8, 16
 # How often the bytes of the metadata may be read for references, and what one costs besides its texts, in bytes.
 READINGS, ENTRY = 16, 8
+# How many references are shown. The metadata of a hostile image may have nothing else.
+MOST_REFERENCES = 1 << 14
 
 
 class Short(Exception):
@@ -144,7 +146,7 @@ class Reader:
                 flags, key, name, culture = row[4:8]
                 it, token = self.identity(row[:4], key, name, culture), self.blob(key)
                 left -= ENTRY + len(it.name) + len(it.culture)
-                if left < 0:
+                if left < 0 or len(found) == MOST_REFERENCES:
                     return tuple(found), 0, True
                 is_token = not flags & IS_WHOLE_KEY and len(token) == TOKEN_SIZE
                 found.append(it._replace(token=token if is_token else None))

@@ -719,9 +719,9 @@ class PE:
         """Does nothing: each directory is read when it is asked for, and whole."""
 
     def get_warnings(self) -> list[str]:
-        """What of the image is damaged. pefile's texts, and its guesses at packers, are others."""
-        limited = [f"{it}: more entries than the file accounts for" for it in self._image.limited]
-        return [*map(str, self._image.warnings), *limited, *self._image.notes]
+        """What of the image is damaged or limited, and a small file alignment. pefile's texts, and its guesses at packers, are
+        others."""
+        return [*map(str, self._image.warnings)]
 
     def show_warnings(self) -> None:
         for it in self.get_warnings():

@@ -102,6 +102,12 @@ def _content(file: File) -> bytes | None:
         return start + opened.readall() if len(start) == START else start
 
 
+def json_of(facts: dict[str, typing.Any]) -> str:
+    """Facts as a line of JSON without its newline. What is no UTF-8 is an escape of JSON."""
+    text = json.dumps(facts, ensure_ascii=False, separators=(",", ":"))
+    return text.encode("utf-8", "backslashreplace").decode()
+
+
 def line_of(file: File, how: How = How()) -> Said:
     """The line of a file. Raises nothing."""
     def skipped(why: str) -> Said:
@@ -121,10 +127,7 @@ def line_of(file: File, how: How = How()) -> Said:
     facts, is_image = facts_of(data, file.path, Mode(how.mode), how.has_hashes) if data is not None else ({}, False)
     if file.is_below and not is_image:
         return skipped("it is no image")
-    text = json.dumps(facts, ensure_ascii=False, separators=(",", ":")) + "\n"
-    # What is no UTF-8 is an escape of JSON.
-    line = text.encode("utf-8", "backslashreplace").decode()
-    return Said(line, "", REFUSED if is_refused(facts) else DONE, False, len(data or b""))
+    return Said(json_of(facts) + "\n", "", REFUSED if is_refused(facts) else DONE, False, len(data or b""))
 
 
 def lines_of(batch: list[File], how: How) -> list[Said]:
