@@ -128,6 +128,15 @@ test('the section map, in a view that the library makes', () => {
   assert.deepEqual([0x400n, 0x5FFn, 0x3FFn].map((offset) => image.call('pe_c_rva', { offset })), [0x1000, 0x11FF, null]);
 });
 
+test('the image as a loader lays it out', () => {
+  const image = opened('imports'), room = new Uint8Array(image.info.size_of_image);
+  assert.equal(image.call('pe_c_map', { room }), BigInt(room.length));
+  assert.deepEqual(room.slice(0x1000, 0x1200), image.bytes.slice(0x400, 0x600));
+  assert.deepEqual(room.slice(0x1200), new Uint8Array(room.length - 0x1200));
+  assert.equal(refused(() => image.call('pe_c_map', { room: room.slice(1) })).constant, 'PE_C_ROOM');
+  assert.equal(image.call('pe_c_relocate', { difference: 1n, room }), null);
+});
+
 /** The record of the first debug entry of a type. */
 function record(image, type, call, mode = constants.PE_C_STRICT) {
   return image.call(call, { mode, entry: image.debugEntry(type) });

@@ -53,6 +53,7 @@ pub mod DumpRanges
 pub mod SignatureRuns
 pub mod IndexCuts
 pub mod IndexSearches
+pub mod ViewRuns
 pub mod IndexHalves
 pub mod IndexFound
 pub mod IndexMaps
