@@ -338,10 +338,7 @@ fn leaves_in_lists(rt: HostRuntime) -> Result<(), Fail> {
         resource_type: none,
         name: none,
     };
-    assert_eq!(rt;
-        pe_c_resource_leaves(&view, &mut walk),
-        DONE
-    );
+    assert_eq!(rt; pe_c_resource_leaves(&view, &mut walk), DONE);
     for (answer, count, languages) in [
         (DONE, 2, [0x409, 0x407, 3]),
         (TREE_NOT_DIRECTORY, UNWRITTEN, [3; 3]),

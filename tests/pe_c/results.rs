@@ -266,5 +266,5 @@ fn a_text_is_cut_at_the_end_of_its_room(rt: HostRuntime) {
 /// The number of the ABI is that of its name.
 #[test]
 fn number_of_the_abi(rt: HostRuntime) {
-    assert_eq!(rt; pe_c_abi_5(), 4);
+    assert_eq!(rt; pe_c_abi_5(), 5);
 }
