@@ -177,7 +177,7 @@ test('parameters that are missing or unknown', () => {
   assert.throws(() => image.call('pe_c_image', {}), TypeError);
   // a call that needs more than there is
   const bytes = library.file(file('functions'));
-  assert.throws(() => bytes.call('pe_c_function_table'), /needs image/);
+  assert.throws(() => bytes.call('pe_c_function_table'), /needs view/);
   assert.throws(() => library.call('pe_c_coff'), /needs bytes/);
   assert.throws(() => image.call('pe_c_next_frame', { walk: {} }), /needs modules/);
   assert.throws(() => image.call('pe_c_next_library', {}), /needs walk/);
@@ -729,8 +729,8 @@ test('what is no module, or one of another ABI', () => {
 });
 
 // A module of the ABI 3 whose calls return 0, but for pe_c_overlay, which traps.
-const TRAPS = `AGFzbQEAAAABIARgAAF/YAR+fn9+AX9gBX5+fn5+AX9gBn5+fn5+fgF/AwUEAAECAwUDAQACBgcBfgBCgAgLB1EGBm1lbW9yeQIAC19faGVhcF9iYXNlAwAK
-cGVfY19hYmlfMwAACnBlX2NfaW1hZ2UAAQ1wZV9jX3NlY3Rpb25zAAIMcGVfY19vdmVybGF5AAMKFAQEAEEDCwQAQQALBABBAAsDAAAL`;
+const TRAPS = `AGFzbQEAAAABHARgAAF/YAR+fn9+AX9gBX5+fn5+AX9gAn5+AX8DBQQAAQIDBQMBAAIGBwF+AEKACAsHUQYGbWVtb3J5AgALX19oZWFwX2Jhc2UDAApwZV9j
+X2FiaV8zAAAKcGVfY19pbWFnZQABDXBlX2Nfc2VjdGlvbnMAAgxwZV9jX292ZXJsYXkAAwoUBAQAQQMLBABBAAsEAEEACwMAAAs=`;
 
 test('an instance that traps ends', () => {
   const named = atob(TRAPS.replace('\n', '')).replace('pe_c_abi_3', `pe_c_abi_${abi}`);

@@ -1,8 +1,8 @@
 //! The one place that calls the library: it has every `unsafe`, and makes the library's arguments of goblin's.
 //!
 //! A call takes a view: the bytes, the record that `pe_c_image` fills, and the section headers. Every value of every field of
-//! these is legal, and the contract of a call says what it returns for each. So a function of goblin that takes a directory alone is the call over
-//! a record with that directory.
+//! these is legal, and the contract of a call says what it returns for each. So a function of goblin that takes a directory
+//! alone is the call over a record with that directory.
 //!
 //! What no call returns is read in `plain`, and nowhere else; `objects` has what an offset comes with. `tools/try_goblin --check` looks for reads elsewhere.
 

@@ -43,7 +43,7 @@ impl<'a> DigestRanges<'a> {
 pub struct Checksum {
     /// File offset of the field that holds it, 4 bytes, little-endian.
     pub offset: u64,
-    /// What the field has to hold. What it holds is [`ImageInfo::checksum`].
+    /// What the field has to hold. What it holds is [`ImageInfo::checksum`](crate::ImageInfo::checksum).
     pub value: u32,
 }
 
