@@ -90,9 +90,15 @@ fn relocates_an_image(rt: HostRuntime) -> Result<(), Fail> {
     let base = Some(relocation(IMAGE_REL_BASED_DIR64, 0));
     let mut image = *b"\0\0\xC7\x68\x02\0\0\0\x30\xA0\xC7\xFF\xFF\xFF\xFF\xFF\x11";
     relocate(&mut image, base, table, 0x1_0000)?;
-    assert_eq!(rt; &image, b"\0\0\xC8\x68\x02\0\0\0\x30\xA0\xC8\xFF\xFF\xFF\xFF\xFF\x11");
+    assert_eq!(rt;
+        &image,
+        b"\0\0\xC8\x68\x02\0\0\0\x30\xA0\xC8\xFF\xFF\xFF\xFF\xFF\x11"
+    );
     relocate(&mut image, base, table, 0u64.wrapping_sub(0x1_0000))?;
-    assert_eq!(rt; &image, b"\0\0\xC7\x68\x02\0\0\0\x30\xA0\xC7\xFF\xFF\xFF\xFF\xFF\x11");
+    assert_eq!(rt;
+        &image,
+        b"\0\0\xC7\x68\x02\0\0\0\x30\xA0\xC7\xFF\xFF\xFF\xFF\xFF\x11"
+    );
     Ok(())
 }
 
@@ -103,7 +109,15 @@ fn says_which_relocation_is_refused(rt: HostRuntime) {
     let outside = relocate(&mut image, None, b"\0\x10\0\0\x0C\0\0\0\x09\xA0\0\0", 1);
     assert!(rt; matches!(outside, Err(DirectoryError::RelocationOutside(0x1009))));
     let kind = relocate(&mut image, None, b"\0\x10\0\0\x0C\0\0\0\x09\x70\0\0", 1);
-    assert!(rt; matches!(kind, Err(DirectoryError::RelocationKind { kind: 7, rva: 0x1009 })));
+    assert!(rt;
+        matches!(
+            kind,
+            Err(DirectoryError::RelocationKind {
+                kind: 7,
+                rva: 0x1009
+            })
+        )
+    );
     assert_eq!(rt; image, [7; 16]);
 }
 

@@ -159,7 +159,10 @@ fn numbers_of_each_type(rt: HostRuntime) -> Result<(), Fail> {
         DONE
     );
     // what a HIGH gets of the low 16 bits is no carry, so that it comes back only by differences that have none
-    assert_eq!(rt; (&room[..0x46], room[0x46], room[0x47]), (&[0xFF; 0x46][..], 0xFE, 0xFF));
+    assert_eq!(rt;
+        (&room[..0x46], room[0x46], room[0x47]),
+        (&[0xFF; 0x46][..], 0xFE, 0xFF)
+    );
     Ok(())
 }
 

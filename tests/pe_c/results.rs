@@ -213,7 +213,7 @@ fn results_have_texts(rt: HostRuntime) {
         200,
         207,
         300,
-        309,
+        311,
         400,
         404,
         450,

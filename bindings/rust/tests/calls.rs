@@ -825,6 +825,32 @@ fn base_relocations_are_read() {
     assert!(strict(&with_debug()).relocation_blocks().unwrap().is_none());
 }
 
+/// The base, a DIR64 over the entries of its block, and a HIGHLOW in zeros, at a base that is 0x10000 higher; then the same back.
+#[test]
+fn images_are_laid_out_and_relocated() {
+    let mut bytes = with_relocations();
+    // the sizes of the image and of its headers, and base relocations of one block
+    bytes[0x90..0x98].copy_from_slice(&[0x10, 0x20, 0, 0, 0, 2, 0, 0]);
+    bytes[0xF4] = 12;
+    let image = strict(&bytes);
+    let mut loaded = image.map().unwrap();
+    assert_eq!(loaded.len(), 0x2010);
+    assert_eq!(loaded[..0x200], bytes[..0x200]);
+    assert_eq!(loaded[0x1000..0x1200], bytes[OFFSET as usize..][..0x200]);
+    assert!(loaded[0x200..0x1000].iter().chain(&loaded[0x1200..]).all(|it| *it == 0));
+    let before = loaded.clone();
+    assert_eq!(image.relocate(&mut loaded, 0x10000), Ok(true));
+    assert_eq!(loaded[0x70..0x78], 0x1_8001_0000u64.to_le_bytes());
+    assert_eq!(loaded[0x1008..0x1010], 0x5000_4000_A008u64.to_le_bytes());
+    assert_eq!(loaded[0x1FFF..0x2003], [0, 0, 1, 0]);
+    assert_eq!(image.relocate(&mut loaded, 0u64.wrapping_sub(0x10000)), Ok(true));
+    assert_eq!(loaded, before);
+    assert_eq!(image.relocate(&mut loaded[..0x2002], 1), Err(Error::DIRECTORY_RELOCATION_OUTSIDE));
+    assert_eq!(strict(&with_relocations()).relocate(&mut loaded, 1), Err(Error::DIRECTORY_RELOCATION_KIND));
+    assert_eq!(strict(&with_debug()).relocate(&mut loaded, 1), Ok(false));
+    assert_eq!(loaded, before);
+}
+
 /// A page and a size of 0 end the list: Wine's placeholder DLLs have nothing else there.
 #[test]
 fn zeros_end_the_base_relocations() {
