@@ -1,10 +1,11 @@
 //! Base relocations: what to change in an image that is not at its preferred base, in blocks of one page each. See
 //! <https://learn.microsoft.com/windows/win32/debug/pe-format#the-reloc-section-image-only>.
 
-use crate::image::{Error, Image};
+use crate::image::{returned, Error, Image};
 use crate::signing::file_of;
 use crate::sys;
 use crate::walk::{items, next_of, Walk};
+use alloc::vec::Vec;
 use core::iter::FusedIterator;
 
 /// A block of base relocations.
@@ -121,10 +122,6 @@ impl Image<'_> {
         let view = self.view();
         // SAFETY: the view is of what `self` lends for the call, and the room is of another borrow.
         let number = unsafe { sys::pe_c_relocate(&view, difference, loaded.as_mut_ptr(), loaded.len()) };
-        match number {
-            sys::DONE => Ok(true),
-            sys::NOTHING => Ok(false),
-            number => Err(Error(number)),
-        }
+        Ok(returned(number, ())?.is_some())
     }
 }
