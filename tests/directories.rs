@@ -83,7 +83,7 @@ fn walks_through_relocations(rt: HostRuntime) -> Result<(), Fail> {
     Ok(())
 }
 
-/// The image base and a DIR64 of libssp-0.dll's first block at another base, 0x10000 higher; then the same back.
+/// The image base and a DIR64 at a base that is 0x10000 higher; then the same back.
 #[test]
 fn relocates_an_image(rt: HostRuntime) -> Result<(), Fail> {
     let table = b"\0\0\0\0\x0C\0\0\0\x08\xA0\0\0";
@@ -126,10 +126,10 @@ fn says_which_relocation_is_refused(rt: HostRuntime) {
 fn lays_an_image_out(rt: HostRuntime) -> Result<(), Fail> {
     let bytes = b"headers and data";
     let mut image = vec![in rt.alloc(); 7; 0x1014]?;
-    lay_out(&image_of(bytes, true), bytes, 7, &mut image);
-    assert_eq!(rt; &image[..9], b"headers\0\0");
+    lay_out(&image_of(bytes, true), bytes, 7, image.as_mut_slice());
+    assert_eq!(rt; &image[..9], &b"headers\0\0"[..]);
     assert!(rt; image[9..0x1000].iter().all(|byte| *byte == 0));
-    assert_eq!(rt; &image[0x1000..], b"headers and data\0\0\0\0");
+    assert_eq!(rt; &image[0x1000..], &b"headers and data\0\0\0\0"[..]);
     Ok(())
 }
 
