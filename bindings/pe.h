@@ -148,6 +148,8 @@ enum {
     PE_C_DIRECTORY_STREAM_NAME = 306, /* name of a metadata stream not NUL-terminated */
     PE_C_DIRECTORY_DELAY_IMPORT_NAME = 307, /* name of a delay import not NUL-terminated or not UTF-8 */
     PE_C_DIRECTORY_BOUND_IMPORT_NAME = 308, /* name of a bound import not NUL-terminated or not UTF-8 */
+    PE_C_DIRECTORY_RELOCATION_KIND = 309, /* base relocation of a type that is not applied */
+    PE_C_DIRECTORY_RELOCATION_OUTSIDE = 310, /* base relocation outside of the image */
     PE_C_TREE_NOT_DIRECTORY = 401,  /* resource data entry above the level of languages */
     PE_C_TREE_NOT_DATA = 402,       /* resource directory below the level of languages */
     PE_C_TREE_NO_ENTRIES = 403,     /* resource directory of names or languages has no entries */
@@ -453,6 +455,26 @@ uint32_t pe_c_range_at(const pe_c_view *view, uint32_t rva, pe_c_range *out) PE_
  * pe_c_offset may map that RVA by another. In an image as loaded an offset is its own RVA. PE_C_NOTHING where no section is
  * mapped to the offset, and where the RVA has more than 32 bits. It never returns an error. */
 uint32_t pe_c_rva(const pe_c_view *view, uint64_t offset, uint32_t *out) PE_C_RESULT(1, 3);
+
+/* ---- the image as a loader lays it out */
+
+/* Writes the image as a loader lays it out to the start of the array, as many bytes as size_of_image says, and that size to
+ * `written`: at each RVA the byte of the file at the offset to which pe_c_offset maps it; where it maps it to none that of the
+ * headers, which are size_of_headers bytes at the start of the file; zeros elsewhere. What follows in the array is unchanged. The
+ * array does not overlap the file; it may be NULL if room_length is 0. What is read of it with PE_C_MAPPED is what is read of the
+ * file. Under many sections make an index first: without one each of them is searched for among all.
+ * Errors: PE_C_ROOM where the array is smaller; then it is unchanged, and `written` is how many bytes it has to have. */
+uint32_t pe_c_map(const pe_c_view *view, uint8_t *room, size_t room_length, uint64_t *written) PE_C_RESULT(1, 4);
+
+/* Relocates an image as loaded, which pe_c_map wrote to the array, by the base relocations of the view: adds `difference`, the new
+ * base less the one that the image has, modulo 2^64, to the field of its header that has the base, and to each number that they
+ * name. No other byte changes. They are read from the bytes of the view, which the array does not overlap. PE_C_NOTHING where
+ * the image has none; then it is unchanged.
+ * Errors, after which it is unchanged: PE_C_UNMAPPED, PE_C_SHORT of the directory; PE_C_DIRECTORY_RELOCATION_OUTSIDE where the array
+ * does not have a number, in turn with PE_C_DIRECTORY_BLOCK_SIZE, PE_C_DIRECTORY_BLOCK_TRUNCATED, PE_C_SHORT and
+ * PE_C_DIRECTORY_NO_ARGUMENT of blocks and entries, and PE_C_DIRECTORY_RELOCATION_KIND of a type other than IMAGE_REL_BASED_ABSOLUTE,
+ * _HIGH, _LOW, _HIGHLOW and _DIR64. */
+uint32_t pe_c_relocate(const pe_c_view *view, uint64_t difference, uint8_t *room, size_t room_length) PE_C_RESULT(1);
 
 /* ---- the overlay */
 

@@ -12,7 +12,8 @@ use pe_directories::{
     ClrMetadata, DelayImport, DelayImports, DelayedFunction, Directories, DirectoryError,
     IMAGE_REL_BASED_ABSOLUTE, IMAGE_REL_BASED_DIR64, IMAGE_REL_BASED_HIGHADJ, ImageBytes,
     IndexedImage, LoadConfig, ReadyToRunHeader, RelocationBlock, RelocationBlocks, RichEntry,
-    RichHeader, TlsDirectory, long_section_name, long_section_names, overlay_range,
+    RichHeader, TlsDirectory, lay_out, long_section_name, long_section_names, overlay_range,
+    relocate,
 };
 use pe_images::with_every_directory;
 use std::test::Fail;
@@ -79,6 +80,56 @@ fn walks_through_relocations(rt: HostRuntime) -> Result<(), Fail> {
     assert!(rt; relocations.next().is_none());
     assert!(rt; blocks.next().is_none());
     assert!(rt; blocks.next().is_none());
+    Ok(())
+}
+
+/// The image base and a DIR64 at a base that is 0x10000 higher; then the same back.
+#[test]
+fn relocates_an_image(rt: HostRuntime) -> Result<(), Fail> {
+    let table = b"\0\0\0\0\x0C\0\0\0\x08\xA0\0\0";
+    let base = Some(relocation(IMAGE_REL_BASED_DIR64, 0));
+    let mut image = *b"\0\0\xC7\x68\x02\0\0\0\x30\xA0\xC7\xFF\xFF\xFF\xFF\xFF\x11";
+    relocate(&mut image, base, table, 0x1_0000)?;
+    assert_eq!(rt;
+        &image,
+        b"\0\0\xC8\x68\x02\0\0\0\x30\xA0\xC8\xFF\xFF\xFF\xFF\xFF\x11"
+    );
+    relocate(&mut image, base, table, 0u64.wrapping_sub(0x1_0000))?;
+    assert_eq!(rt;
+        &image,
+        b"\0\0\xC7\x68\x02\0\0\0\x30\xA0\xC7\xFF\xFF\xFF\xFF\xFF\x11"
+    );
+    Ok(())
+}
+
+/// The numbers in why a relocation is not applied.
+#[test]
+fn says_which_relocation_is_refused(rt: HostRuntime) {
+    let mut image = [7; 16];
+    let outside = relocate(&mut image, None, b"\0\x10\0\0\x0C\0\0\0\x09\xA0\0\0", 1);
+    assert!(rt; matches!(outside, Err(DirectoryError::RelocationOutside(0x1009))));
+    let kind = relocate(&mut image, None, b"\0\x10\0\0\x0C\0\0\0\x09\x70\0\0", 1);
+    assert!(rt;
+        matches!(
+            kind,
+            Err(DirectoryError::RelocationKind {
+                kind: 7,
+                rva: 0x1009
+            })
+        )
+    );
+    assert_eq!(rt; image, [7; 16]);
+}
+
+/// The section of `image_of` is at RVA 0x1000 and offset 0: headers, zeros up to it, its data, and zeros after the file.
+#[test]
+fn lays_an_image_out(rt: HostRuntime) -> Result<(), Fail> {
+    let bytes = b"headers and data";
+    let mut image = vec![in rt.alloc(); 7; 0x1014]?;
+    lay_out(&image_of(bytes, true), bytes, 7, image.as_mut_slice());
+    assert_eq!(rt; &image[..9], &b"headers\0\0"[..]);
+    assert!(rt; image[9..0x1000].iter().all(|byte| *byte == 0));
+    assert_eq!(rt; &image[0x1000..], &b"headers and data\0\0\0\0"[..]);
     Ok(())
 }
 

@@ -128,6 +128,22 @@ test('the section map, in a view that the library makes', () => {
   assert.deepEqual([0x400n, 0x5FFn, 0x3FFn].map((offset) => image.call('pe_c_rva', { offset })), [0x1000, 0x11FF, null]);
 });
 
+test('the image as a loader lays it out, and at another base', () => {
+  const bytes = Uint8Array.from(file('relocations')), view = new DataView(bytes.buffer);
+  // the sizes of the image and of its headers, and base relocations of one block
+  view.setUint32(0x90, 0x2010, true);
+  view.setUint32(0x94, 0x200, true);
+  view.setUint32(0xF4, 12, true);
+  const image = library.open(bytes), room = new Uint8Array(0x2010), loaded = new DataView(room.buffer);
+  assert.equal(image.call('pe_c_map', { room }), 0x2010n);
+  assert.deepEqual(room.slice(0, 0x200), bytes.slice(0, 0x200));
+  assert.deepEqual(room.slice(0x1000, 0x1200), bytes.slice(0x400, 0x600));
+  assert.equal(image.call('pe_c_relocate', { difference: 0x10000n, room }), true);
+  assert.deepEqual([0x70, 0x1008].map((at) => loaded.getBigUint64(at, true)), [0x180010000n, 0x50004000A008n]);
+  assert.equal(loaded.getUint32(0x1FFF, true), 0x10000);
+  assert.equal(refused(() => image.call('pe_c_map', { room: room.slice(1) })).constant, 'PE_C_ROOM');
+});
+
 /** The record of the first debug entry of a type. */
 function record(image, type, call, mode = constants.PE_C_STRICT) {
   return image.call(call, { mode, entry: image.debugEntry(type) });

@@ -661,6 +661,12 @@ static void headers(const struct file *file)
     CALL(pe_c_section_at, offset, &indexed, file->image.entry, &offset);
     CALL(pe_c_range_at, range, VIEW, file->image.entry, &range);
     CALL(pe_c_rva, rva, VIEW, range.offset, &rva);
+    uint64_t loaded = 0;
+    if (IS_DONE(pe_c_map, loaded, VIEW, file->room, file->room_length, &loaded)) {
+        add_bytes(file->room, loaded);
+        add(pe_c_relocate(VIEW, 0x10000, file->room, (size_t)loaded));
+        add_bytes(file->room, loaded);
+    }
     for (size_t i = 0; i < file->view.count; i++)
         CALL(pe_c_section_range, range, VIEW, &sections[i], &range);
     CALL(pe_c_overlay, range, VIEW, &range);

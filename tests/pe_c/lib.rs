@@ -21,6 +21,7 @@ mod image;
 mod imports;
 mod lists;
 mod load_config;
+mod loaded;
 mod made;
 mod maps;
 mod overlay;

@@ -107,6 +107,10 @@ pub(crate) const DIRECTORY_DELAY_IMPORT_NAME: u32 = 307;
 
 pub(crate) const DIRECTORY_BOUND_IMPORT_NAME: u32 = 308;
 
+pub(crate) const DIRECTORY_RELOCATION_KIND: u32 = 309;
+
+pub(crate) const DIRECTORY_RELOCATION_OUTSIDE: u32 = 310;
+
 pub(crate) const TREE_NOT_DIRECTORY: u32 = 401;
 
 pub(crate) const TREE_NOT_DATA: u32 = 402;

@@ -107,6 +107,8 @@ fn refusals_of_directories_have_their_numbers(rt: HostRuntime) {
         (306, DirectoryError::StreamName),
         (307, DirectoryError::DelayImportName(100)),
         (308, DirectoryError::BoundImportName(100)),
+        (309, DirectoryError::RelocationKind { kind: 7, rva: 100 }),
+        (310, DirectoryError::RelocationOutside(100)),
     ] {
         assert_eq!(rt; number_of_directory(&error), number);
     }
@@ -179,6 +181,8 @@ fn results_have_texts(rt: HostRuntime) {
     check_text(&rt, 306, "name of a metadata stream not NUL-terminated");
     check_text(&rt, 307, "name of a delay import not NUL-terminated");
     check_text(&rt, 308, "name of a bound import not NUL-terminated");
+    check_text(&rt, 309, "base relocation of a type that is not applied");
+    check_text(&rt, 310, "base relocation outside of the image");
     check_text(&rt, 401, "resource data entry above the level of languages");
     check_text(&rt, 402, "resource directory below the level of languages");
     check_text(&rt, 403, "resource directory of names or languages has no");
@@ -209,7 +213,7 @@ fn results_have_texts(rt: HostRuntime) {
         200,
         207,
         300,
-        309,
+        311,
         400,
         404,
         450,
@@ -231,7 +235,7 @@ fn texts_differ(rt: HostRuntime) {
     let is_other = |number: u32| {
         39 < number && number < 201
             || 206 < number && number < 301
-            || 308 < number && number < 401
+            || 310 < number && number < 401
             || 403 < number && number < 451
             || 473 < number && number < 501
             || 511 < number && number < 551

@@ -352,6 +352,15 @@ fn read_by_lies(bytes: &[u8], random: &mut Random, seen: &mut Seen) {
     call_of_image!(pe_c_manifest(), Range);
     call_of_image!(pe_c_digest_ranges(), Digest);
     call_of_image!(pe_c_checksum(), ChecksumField);
+    let mut loaded = vec![7; (index as usize).min(2 * length)];
+    let mut size = 0;
+    // SAFETY: as above.
+    unsafe {
+        let (first, most) = (loaded.as_mut_ptr(), loaded.len());
+        let number = sys::pe_c_map(&view, first, most, &mut size);
+        assert!((number == 0) == (size <= most as u64));
+        sys::pe_c_relocate(&view, u64::from(few), first, most);
+    }
     let part = &bytes[..length.min(16)];
     let mut room = vec![7; (index as usize).min(2 * length)];
     let (mut needed, mut written, mut left) = (0, 0, 0);

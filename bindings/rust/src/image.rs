@@ -173,6 +173,10 @@ errors! {
     DIRECTORY_DELAY_IMPORT_NAME = 307;
     /// Name of a bound import not NUL-terminated or not UTF-8.
     DIRECTORY_BOUND_IMPORT_NAME = 308;
+    /// Base relocation of a type that is not applied.
+    DIRECTORY_RELOCATION_KIND = 309;
+    /// Base relocation outside of the image.
+    DIRECTORY_RELOCATION_OUTSIDE = 310;
     /// Resource data entry above the level of languages.
     TREE_NOT_DIRECTORY = 401;
     /// Resource directory below the level of languages.

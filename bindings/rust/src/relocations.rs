@@ -1,9 +1,11 @@
 //! Base relocations: what to change in an image that is not at its preferred base, in blocks of one page each. See
 //! <https://learn.microsoft.com/windows/win32/debug/pe-format#the-reloc-section-image-only>.
 
-use crate::image::{Error, Image};
+use crate::image::{returned, Error, Image};
+use crate::signing::file_of;
 use crate::sys;
 use crate::walk::{items, next_of, Walk};
+use alloc::vec::Vec;
 use core::iter::FusedIterator;
 
 /// A block of base relocations.
@@ -86,5 +88,40 @@ impl<'a> Image<'a> {
     /// [`Error::UNMAPPED`], [`Error::SHORT`].
     pub fn relocation_blocks(&self) -> Result<Option<RelocationBlocks<'a>>, Error> {
         Ok(self.ask(sys::pe_c_relocation_blocks)?.map(|walk| RelocationBlocks(Walk::new(self.bytes(), walk))))
+    }
+}
+
+impl Image<'_> {
+    /// The image as a loader lays it out, as many bytes as `size_of_image` says: the headers at RVA 0, the data of each section at
+    /// its RVA, zeros elsewhere. What is read of it with [`Layout::Mapped`](crate::Layout::Mapped) is what is read of the file.
+    ///
+    /// # Errors
+    ///
+    /// [`Error::MEMORY`] if it cannot be allocated.
+    pub fn map(&self) -> Result<Vec<u8>, Error> {
+        let view = self.view();
+        file_of(u64::from(self.info().size_of_image), |room, written| {
+            // SAFETY: the view is of what `self` lends for the call; the room is fresh.
+            unsafe { sys::pe_c_map(&view, room.as_mut_ptr(), room.len(), written) }
+        })
+    }
+
+    /// Relocates an image as loaded, which [`Image::map`] made, by the base relocations of this image: adds `difference`, the new
+    /// base less the one that it has, modulo 2^64, to the base in its header and to each number that they name. `false`, and
+    /// nothing changes, where this image has none.
+    ///
+    /// # Errors
+    ///
+    /// - [`Error::UNMAPPED`], [`Error::SHORT`] of the directory;
+    /// - [`Error::DIRECTORY_RELOCATION_OUTSIDE`] of a number that `loaded` does not have;
+    /// - [`Error::DIRECTORY_RELOCATION_KIND`] of a type that depends on the machine;
+    /// - those of [`RelocationBlocks`] and [`Relocations`].
+    ///
+    /// After an error nothing has changed.
+    pub fn relocate(&self, loaded: &mut [u8], difference: u64) -> Result<bool, Error> {
+        let view = self.view();
+        // SAFETY: the view is of what `self` lends for the call, and the room is of another borrow.
+        let number = unsafe { sys::pe_c_relocate(&view, difference, loaded.as_mut_ptr(), loaded.len()) };
+        Ok(returned(number, ())?.is_some())
     }
 }

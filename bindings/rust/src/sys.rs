@@ -1952,6 +1952,10 @@ extern "C" {
         room: *mut Section,
         entries: usize,
     ) -> u32;
+    /// Writes the image as a loader lays it out to the start of an array.
+    pub fn pe_c_map(view: *const View, room: *mut u8, room_length: usize, written: *mut u64) -> u32;
+    /// Relocates an image as loaded by the base relocations of a view.
+    pub fn pe_c_relocate(view: *const View, difference: u64, room: *mut u8, room_length: usize) -> u32;
     /// Makes an index of the sections of a view.
     pub fn pe_c_index(view: *const View, room: *mut IndexEntry, entries: usize, written: *mut u64) -> u32;
     /// Lists the next functions of a table, from an index on.

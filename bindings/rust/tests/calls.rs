@@ -166,7 +166,7 @@ fn images_are_refused_by_number() {
 fn answers_have_texts() {
     let mut texts = Vec::new();
     for number in
-        (0..=40).chain([100, 101, 102, u32::MAX]).chain(201..=207).chain(301..=309).chain(401..=404).chain(501..=512)
+        (0..=40).chain([100, 101, 102, u32::MAX]).chain(201..=207).chain(301..=311).chain(401..=404).chain(501..=512)
     {
         let mut room = [0; 128];
         // SAFETY: the pointer and the length are those of one array.
@@ -176,14 +176,14 @@ fn answers_have_texts() {
     }
     assert_eq!(Error::SHORT.to_string(), texts[2]);
     assert!(texts[2].contains("truncated"), "{}", texts[2]);
-    // those of 1 to 38, of 100 and 101, of 201 to 206, of 301 to 308, of 401 to 403 and of 501 to 511 differ from each other and
+    // those of 1 to 38, of 100 and 101, of 201 to 206, of 301 to 310, of 401 to 403 and of 501 to 511 differ from each other and
     // from that of all others
-    let known = texts[1..39].iter().chain(&texts[41..43]).chain(&texts[45..60]).chain(&texts[61..64]);
-    let mut known: Vec<_> = known.chain(&texts[65..76]).collect();
+    let known = texts[1..39].iter().chain(&texts[41..43]).chain(&texts[45..62]).chain(&texts[63..66]);
+    let mut known: Vec<_> = known.chain(&texts[67..78]).collect();
     known.sort();
     known.dedup();
-    assert_eq!(known.len(), 69);
-    assert_eq!([&texts[51], &texts[60], &texts[64], &texts[76]], [&texts[44]; 4]);
+    assert_eq!(known.len(), 71);
+    assert_eq!([&texts[51], &texts[62], &texts[66], &texts[78]], [&texts[44]; 4]);
 }
 
 #[test]
@@ -823,6 +823,32 @@ fn base_relocations_are_read() {
     assert_eq!(of(0), [one(0x1008, 10, None), one(0x1FFF, 3, None)]);
     assert_eq!(of(1), [one(0x5010, 4, Some(0x8765)), one(0x5000, 0, None), one(0x5000, 0, None)]);
     assert!(strict(&with_debug()).relocation_blocks().unwrap().is_none());
+}
+
+/// The base, a DIR64 over the entries of its block, and a HIGHLOW in zeros, at a base that is 0x10000 higher; then the same back.
+#[test]
+fn images_are_laid_out_and_relocated() {
+    let mut bytes = with_relocations();
+    // the sizes of the image and of its headers, and base relocations of one block
+    bytes[0x90..0x98].copy_from_slice(&[0x10, 0x20, 0, 0, 0, 2, 0, 0]);
+    bytes[0xF4] = 12;
+    let image = strict(&bytes);
+    let mut loaded = image.map().unwrap();
+    assert_eq!(loaded.len(), 0x2010);
+    assert_eq!(loaded[..0x200], bytes[..0x200]);
+    assert_eq!(loaded[0x1000..0x1200], bytes[OFFSET as usize..][..0x200]);
+    assert!(loaded[0x200..0x1000].iter().chain(&loaded[0x1200..]).all(|it| *it == 0));
+    let before = loaded.clone();
+    assert_eq!(image.relocate(&mut loaded, 0x10000), Ok(true));
+    assert_eq!(loaded[0x70..0x78], 0x1_8001_0000u64.to_le_bytes());
+    assert_eq!(loaded[0x1008..0x1010], 0x5000_4000_A008u64.to_le_bytes());
+    assert_eq!(loaded[0x1FFF..0x2003], [0, 0, 1, 0]);
+    assert_eq!(image.relocate(&mut loaded, 0u64.wrapping_sub(0x10000)), Ok(true));
+    assert_eq!(loaded, before);
+    assert_eq!(image.relocate(&mut loaded[..0x2002], 1), Err(Error::DIRECTORY_RELOCATION_OUTSIDE));
+    assert_eq!(strict(&with_relocations()).relocate(&mut loaded, 1), Err(Error::DIRECTORY_RELOCATION_KIND));
+    assert_eq!(strict(&with_debug()).relocate(&mut loaded, 1), Ok(false));
+    assert_eq!(loaded, before);
 }
 
 /// A page and a size of 0 end the list: Wine's placeholder DLLs have nothing else there.

@@ -54,6 +54,7 @@ pub mod SignatureRuns
 pub mod SoughtAttributes
 pub mod IndexCuts
 pub mod IndexSearches
+pub mod ViewRuns
 pub mod IndexHalves
 pub mod IndexFound
 pub mod IndexMaps

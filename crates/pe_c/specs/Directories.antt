@@ -4,7 +4,7 @@ use Rattle.pe_core.specs.declared.data_directories.DataDirectory.{DataDirectory}
 use Rattle.pe_core.specs.declared.section_table.SectionTable.{SectionTable}
 use Rattle.pe_core.specs.Refusals.{◌>>=◌}
 use Rattle.pe_directories.specs.BaseRelocations.{Block}
-use Rattle.pe_directories.specs.DirectoryRefusals.{DirectoryRefusal, Image, BlockSize, BlockTruncated, NoArgument, VaBelowBase, ClrHeaderSize, StreamName, DelayImportName, BoundImportName, of_image}
+use Rattle.pe_directories.specs.DirectoryRefusals.{DirectoryRefusal, Image, BlockSize, BlockTruncated, NoArgument, VaBelowBase, ClrHeaderSize, StreamName, DelayImportName, BoundImportName, RelocationKind, RelocationOutside, of_image}
 use Rattle.pe_directories.specs.ImageParts.{ImageView, offset_of_va, range_of}
 use Rattle.pe_directories.specs.Tls.{tls_directory}
 use Rattle.pe_directories.specs.VaTables.{first_va}
@@ -33,6 +33,8 @@ directory_number ClrHeaderSize = 305
 directory_number StreamName = 306
 directory_number DelayImportName = 307
 directory_number BoundImportName = 308
+directory_number RelocationKind = 309
+directory_number RelocationOutside = 310
 
 -- DONE and the value; NOTHING where there is none; else the number of the refusal. `out` is unchanged without a value
 abbrev pub DirectoryHandsOut : {Y : Type 0} → ℕ → Y → Y → Result (Option Y) DirectoryRefusal → Type 0

@@ -57,3 +57,4 @@ pub mod RecordCodes
 pub mod SectionIndexes
 pub mod Views
 pub mod WalkStarts
+pub mod Loaded

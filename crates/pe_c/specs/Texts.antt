@@ -93,6 +93,8 @@ directory_texts =
     codes "name of a metadata stream not NUL-terminated" ∷
     codes "name of a delay import not NUL-terminated or not UTF-8" ∷
     codes "name of a bound import not NUL-terminated or not UTF-8" ∷
+    codes "base relocation of a type that is not applied" ∷
+    codes "base relocation outside of the image" ∷
     []
 
 -- the text of a refusal of a directory, by its number from 301 on

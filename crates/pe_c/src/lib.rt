@@ -33,6 +33,7 @@ mod imports;
 pub mod laws;
 mod lists;
 mod load_config;
+mod loaded;
 mod map_ranges;
 mod maps;
 mod overlay;

@@ -10,12 +10,13 @@ ghost use Rattle.pe_c.specs.Maps.{covers};
 ghost use Rattle.pe_c.specs.SectionIndexes.{sections_by};
 
 use crate::image::Image;
-use crate::maps::{bytes_between, covers, first_covering, raw_start, reach};
+use crate::maps::{bytes_between, covers, first_covering};
 use crate::ranges::Range;
 use crate::results::{hand_out_some, options};
 use crate::section_index::sections_by;
 use crate::view::View;
 use pe_core::SectionTable;
+use pe_directories::{raw_start, reach};
 
 /// The bytes from an RVA to the end of what its section has.
 #[tactic(auto, using(pe_core::proofs::Map::positive))]

@@ -2,8 +2,7 @@
 //! these as the section's data, and look in them for what an RVA leads to.
 //! https://learn.microsoft.com/windows/win32/debug/pe-format#section-table-section-headers
 
-ghost use Rattle.std.specs.Prelude.{◌≡◌, ◌<◌, ◌^◌, Ok, position};
-ghost use Rattle.pe_core.specs.SectionMap.{raw_start, reach};
+ghost use Rattle.std.specs.Prelude.{◌≡◌, Ok, position};
 ghost use Rattle.pe_c.specs.HandsOut.{HandsOutIf};
 ghost use Rattle.pe_c.specs.Maps.{bytes_between, covers, memory_size, section_at, section_range};
 ghost use Rattle.pe_c.specs.SectionIndexes.{section_by};
@@ -13,39 +12,8 @@ use crate::ranges::Range;
 use crate::results::{DONE, NOTHING, hand_out_some, options};
 use crate::section_index::{number_found, numbered};
 use crate::view::View;
-use pe_core::{SectionTable, rounded_up};
-
-/// Raw pointers are rounded down to a multiple of this, as the section map does.
-const SECTOR: u64 = 512;
-
-/// Sizes are rounded up to a multiple of this, as the section map does.
-const PAGE: usize = 4096;
-
-/// The file offset of the section's data, as the section map takes it.
-pub fn raw_start(section: &SectionTable) -> u64
-    ensures offset { result ≡ raw_start section.now }
-    ensures small { result < 2 ^ 32 }
-{
-    u64::from(section.pointer_to_raw_data) / SECTOR * SECTOR
-}
-
-/// The number of RVAs that the section covers.
-#[tactic(auto, unfolding(pe_core::specs::SectionMap::reach))]
-pub fn reach(section: &SectionTable, alignment: u32) -> u64
-    requires { 0 < alignment }
-    ensures count { result ≡ reach alignment section.now }
-    ensures small { result < 2 ^ 33 }
-{
-    let end = section.pointer_to_raw_data as usize + section.size_of_raw_data as usize;
-    let raw_size = rounded_up(section.size_of_raw_data as usize, PAGE) as u64;
-    let raw_end = rounded_up(end, alignment as usize) as u64;
-    let raw = (raw_end - raw_start(section)).min(raw_size);
-    if section.virtual_size == 0 {
-        raw
-    } else {
-        raw.min(rounded_up(section.virtual_size as usize, PAGE) as u64)
-    }
-}
+use pe_core::SectionTable;
+use pe_directories::{raw_start, reach};
 
 /// Whether the section covers an RVA; none does where the file alignment is not a power of two.
 #[tactic(auto, using(pe_core::proofs::Map::positive))]

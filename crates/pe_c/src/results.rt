@@ -138,6 +138,8 @@ pub fn number_of_directory(error: &DirectoryError) -> u32
         DirectoryError::StreamName => 306,
         DirectoryError::DelayImportName(_) => 307,
         DirectoryError::BoundImportName(_) => 308,
+        DirectoryError::RelocationKind { .. } => 309,
+        DirectoryError::RelocationOutside(_) => 310,
     }
 }
 

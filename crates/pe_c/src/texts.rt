@@ -121,6 +121,8 @@ fn directory_text(number: u32) -> &'static str
         5 => "name of a metadata stream not NUL-terminated",
         6 => "name of a delay import not NUL-terminated or not UTF-8",
         7 => "name of a bound import not NUL-terminated or not UTF-8",
+        8 => "base relocation of a type that is not applied",
+        9 => "base relocation outside of the image",
         _ => "unknown result",
     }
 }

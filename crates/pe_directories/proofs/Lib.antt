@@ -1,5 +1,10 @@
 pub mod WholeWalks
+pub mod SectionRuns
+pub mod LoadedImages
+pub mod LoadedReads
 pub mod WalkLists
+pub mod WordsLeft
+pub mod MovedWords
 pub mod DelayLists
 pub mod BoundTexts
 pub mod RelocationWalks

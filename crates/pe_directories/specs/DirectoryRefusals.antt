@@ -15,6 +15,8 @@ pub data DirectoryRefusal : Type 0 where
   StreamName : DirectoryRefusal
   DelayImportName : DirectoryRefusal
   BoundImportName : DirectoryRefusal
+  RelocationKind : DirectoryRefusal
+  RelocationOutside : DirectoryRefusal
 
 -- the kind of an error
 abbrev pub directory_kind_of : DirectoryError → DirectoryRefusal
@@ -27,6 +29,8 @@ directory_kind_of (errors.ClrHeaderSize size) = ClrHeaderSize
 directory_kind_of errors.StreamName = StreamName
 directory_kind_of (errors.DelayImportName address) = DelayImportName
 directory_kind_of (errors.BoundImportName offset) = BoundImportName
+directory_kind_of (errors.RelocationKind kind rva) = RelocationKind
+directory_kind_of (errors.RelocationOutside rva) = RelocationOutside
 
 -- the call returned the defined value, seen by view, or an error of the defined kind
 abbrev pub DirectoryReturns : {X Y : Type 0} → (X → Y) → Result X DirectoryError → Result Y DirectoryRefusal → Type 0

@@ -15,3 +15,5 @@ pub mod Chosen
 pub mod RichHeader
 pub mod SectionNames
 pub mod Overlays
+pub mod LoadedImages
+pub mod Relocated

@@ -39,6 +39,13 @@ pub enum DirectoryError {
     /// directory or not UTF-8.
     #[error("name of a bound import at offset {0:#x} is not NUL-terminated or not UTF-8")]
     BoundImportName(u16),
+    /// A base relocation of a type that depends on the machine, or of one that nothing applies: its type, and the RVA that it
+    /// changes.
+    #[error("base relocation of type {kind} at RVA {rva:#x} is not applied")]
+    RelocationKind { kind: u8, rva: usize },
+    /// The RVA of a base relocation whose number is not in the image.
+    #[error("base relocation at RVA {0:#x} is outside of the image")]
+    RelocationOutside(usize),
 }
 
 // So that `?` returns an error of pe_core as `Image`.

@@ -2,7 +2,8 @@
 
 pub mod constants;
 
-ghost use Rattle.std.specs.Prelude.{◌≡◌, ℕ, List, Bool, map, Result};
+ghost use Rattle.std.specs.Prelude.{◌≡◌, ◌+◌, ◌<◌, ◌≤◌, ℕ, List, Bool, Option, Some, get_or, length, map, Result};
+ghost use Rattle.pe_core.specs.Bytes.{AreBytes, range};
 ghost use Rattle.std.specs.Iterator.{Drains};
 ghost use Rattle.pe_directories.specs.DirectoryRefusals.{directory_answer};
 ghost use Rattle.pe_directories.specs.Walks.{HasOneList, ItemsLeft, all_items};
@@ -11,6 +12,9 @@ ghost use Rattle.pe_directories.specs.BoundImports.{bound_view, first_bound_impo
 ghost use Rattle.pe_directories.specs.Clr.{stream_view, first_stream, streams_left};
 ghost use Rattle.pe_directories.specs.DelayImports.{first_delay_import, delay_imports_left};
 ghost use Rattle.pe_directories.specs.GuardTables.{guarded_view, first_guarded, flag_size_of, guarded_left};
+ghost use Rattle.pe_directories.specs.LoadedImages.{loaded};
+ghost use Rattle.pe_directories.specs.Relocated.{AllPassBy, AllStand, all_moved};
+ghost use Rattle.pe_directories.specs.declared.relocating.Word.{Word};
 ghost use Rattle.pe_directories.specs.VaTables.{first_va, vas_left, vas_are_64};
 ghost use Rattle.pe_directories.specs.declared.base_relocation.RelocationBlock.{RelocationBlock};
 ghost use Rattle.pe_directories.specs.declared.base_relocation.RelocationBlocks.{RelocationBlocks};
@@ -105,4 +109,25 @@ pub fn guard_walks_return_the_list()
         ItemsLeft (first_guarded (flag_size_of s)) (guarded_left s)
         (map (directory_answer guarded_view) xs) }
     ensures list { (n : ℕ) → HasOneList (first_guarded n) }
+{}
+
+/// What is read of an image as a loader lays it out, where an RVA is its own offset, is what is read of the file: the byte at each
+/// RVA that is mapped, and the bytes of each part whose RVAs are mapped one after the other, as those of a directory in one section.
+pub fn loaded_images_are_read_as_files()
+    ensures bytes { (to_offset : ℕ → Option ℕ) (b : List ℕ) (headers size rva p : ℕ) →
+        rva < size → to_offset rva ≡ Some p →
+        get_or (loaded to_offset b headers size) rva 0 ≡ get_or b p 0 }
+    ensures ranges { (to_offset : ℕ → Option ℕ) (b : List ℕ) (headers size rva p n : ℕ) →
+        ((k : ℕ) → k < n → to_offset (rva + k) ≡ Some (p + k)) →
+        p + n ≤ length b → rva + n ≤ size →
+        range (loaded to_offset b headers size) rva n ≡ range b p n }
+{}
+
+/// Base relocations change the numbers that they name and no other byte, and a difference of 0 changes none.
+pub fn relocations_change_their_words_alone()
+    ensures others { (difference p : ℕ) (words : List Word) (b : List ℕ) →
+        AllPassBy (length b) p words →
+        get_or (all_moved difference words b) p 0 ≡ get_or b p 0 }
+    ensures none { (words : List Word) (b : List ℕ) →
+        AreBytes b → AllStand (length b) words → all_moved 0 words b ≡ b }
 {}

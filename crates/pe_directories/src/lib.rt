@@ -23,9 +23,12 @@ mod image_bytes;
 mod indexed_image;
 pub mod laws;
 mod load_config;
+mod loaded_image;
 mod overlay;
+mod relocating;
 mod rich_header;
 mod section_name;
+mod section_runs;
 mod tls;
 mod va_table;
 
@@ -52,8 +55,11 @@ pub use load_config::{
     CodeIntegrity, GuardFunctions, GuardTables, LoadConfig, LoadMetadata, ProcessSettings,
     ReturnFlowGuard,
 };
+pub use loaded_image::lay_out;
 pub use overlay::overlay_range;
+pub use relocating::relocate;
 pub use rich_header::{RichEntry, RichHeader};
 pub use section_name::{long_section_name, long_section_names, string_offset};
+pub use section_runs::{Run, Runs, raw_start, reach, run_in};
 pub use tls::TlsDirectory;
 pub use va_table::VaTable;

@@ -123,6 +123,10 @@ class Kind(enum.IntEnum):
     """name of a delay import not NUL-terminated or not UTF-8"""
     DIRECTORY_BOUND_IMPORT_NAME = 308
     """name of a bound import not NUL-terminated or not UTF-8"""
+    DIRECTORY_RELOCATION_KIND = 309
+    """base relocation of a type that is not applied"""
+    DIRECTORY_RELOCATION_OUTSIDE = 310
+    """base relocation outside of the image"""
     TREE_NOT_DIRECTORY = 401
     """resource data entry above the level of languages"""
     TREE_NOT_DATA = 402

@@ -1,0 +1,126 @@
+-- Images as a loader lays them out, run by run.
+use Rattle.std.proofs.Common.{◌≡◌, ℕ, zero, suc, ◌+◌, ◌-◌, ◌<◌, ◌≤◌, ◌^◌, ◌&&◌, min, Bool, true, false, List, [], ◌∷◌, ◌++◌, length, take, drop, get_or, replicate, Option, Some, None, refl, ap, sym, subst, ◌∙◌, cond, length-append, length-take, length-drop, arith}
+use Rattle.std.specs.Prelude.{nat_le, nat_lt}
+use Rattle.std.specs.Int.{is_power_of_two}
+use Rattle.std.specs.Option.{option_map}
+use Rattle.std.proofs.lemmas.Bool.Decides.{nat_tests}
+use Rattle.std.proofs.lemmas.List.{append-nil, append_assoc, length-replicate, places, same_lists, take_all}
+use Rattle.pe_core.specs.Bytes.{range, splice}
+use Rattle.pe_core.specs.Rows.{each}
+use Rattle.pe_core.specs.SectionMap.{offset_of}
+use Rattle.pe_core.specs.declared.section_table.SectionTable.{SectionTable}
+use Rattle.pe_core.proofs.EntryItems.{each_same, get_or-each, length-each}
+use Rattle.pe_core.proofs.Ranges.{length_range}
+use Rattle.pe_core.proofs.Splices.{get_or-splice, length-splice, splice-splice}
+use Rattle.pe_directories.specs.LoadedImages.{IsRun, byte_or_zero, in_turn, loaded_byte}
+use Rattle.pe_directories.specs.declared.section_runs.Run.{Run}
+
+-- ---- runs of a section map
+
+pub by_sections : (resolve : Bool) (alignment : ℕ) (sections : List SectionTable) (rva : ℕ) (r : Run) → resolve ≡ true → is_power_of_two alignment ≡ true
+    → IsRun (in_turn alignment sections) rva r → IsRun (offset_of resolve alignment sections) rva r
+unfolding offset_of
+by_sections true alignment sections rva r on aligned g = record {
+  ahead = g.ahead;
+  maps = λ x from to. ap (λ (t : Bool). cond t (in_turn alignment sections x) None) aligned ∙ g.maps x from to;
+}
+by_sections false alignment sections rva r on aligned g = absurd cc
+
+pub by_none : (resolve : Bool) (alignment : ℕ) (sections : List SectionTable) (rva : ℕ) (r : Run) → resolve ≡ true → is_power_of_two alignment ≡ false
+    → rva < r.end → r.offset ≡ None → IsRun (offset_of resolve alignment sections) rva r
+unfolding offset_of
+by_none true alignment sections rva r on not_aligned ahead none = record {
+  ahead = ahead;
+  maps = λ x from to. ap (λ (t : Bool). cond t (in_turn alignment sections x) None) not_aligned ∙ ap (option_map (λ p. p + (x - rva))) (sym none);
+}
+by_none false alignment sections rva r on not_aligned ahead none = absurd cc
+
+pub as_loaded : (resolve : Bool) (alignment : ℕ) (sections : List SectionTable) (rva : ℕ) (r : Run) → resolve ≡ false
+    → rva < r.end → r.offset ≡ Some rva → IsRun (offset_of resolve alignment sections) rva r
+unfolding offset_of
+as_loaded false alignment sections rva r off ahead is = record {
+  ahead = ahead;
+  maps = λ x from to. ap (λ (p : ℕ). Some p) (omega (arith, from)) ∙ ap (option_map (λ p. p + (x - rva))) (sym is);
+}
+as_loaded true alignment sections rva r off ahead is = absurd cc
+
+-- ---- bytes from an offset on, and zeros after the end
+
+pub each_more : {X : Type 0} (f : ℕ → X) (n m : ℕ) → each f (n + m) ≡ each f n ++ each (λ i. f (n + i)) m
+unfolding each
+each_more {X} f n zero = let none : n + 0 ≡ n = omega arith in ap (each f) none ∙ sym (append-nil (each f n))
+each_more {X} f n (suc m) =
+    let more : n + suc m ≡ suc (n + m) = omega arith in
+    ap (each f) more ∙ ap (λ (xs : List X). xs ++ f (n + m) ∷ []) (each_more f n m) ∙ append_assoc (each f n) (each (λ i. f (n + i)) m) (f (n + m) ∷ [])
+
+-- the bytes that are there, written at an RVA, and then the zeros after them, are the bytes from the offset on
+copied_and_zeros : (b piece : List ℕ) (offset from there count : ℕ) → from ≡ min offset (length b) → there ≡ min (length b - from) count
+    → piece ≡ range b from there → length piece ≡ there → piece ++ replicate (count - there) 0 ≡ each (λ i. byte_or_zero b (offset + i)) count
+copied_and_zeros b piece offset from there count start most is long =
+    same_lists _ _ (simp (length-append, length-each, length-replicate) (grind (arith, long, most))) (λ k d h. grind (arith, places, get_or-each))
+
+pub copied : (b old : List ℕ) (rva offset from there count : ℕ) → from ≡ min offset (length b) → there ≡ min (length b - from) count → rva + count ≤ length old
+    → splice (splice old rva (range b from there)) (rva + there) (replicate (count - there) 0) ≡ splice old rva (each (λ i. byte_or_zero b (offset + i)) count)
+copied b old rva offset from there count start most fits =
+    let long : length (range b from there) ≡ there = length_range b from there (grind (arith, start, most)) in
+    ap (λ (n : ℕ). splice (splice old rva (range b from there)) (rva + n) (replicate (count - there) 0)) (sym long)
+    ∙ splice-splice old rva (range b from there) (replicate (count - there) 0) (omega (arith, fits))
+    ∙ ap (λ (s : List ℕ). splice old rva s) (copied_and_zeros b (range b from there) offset from there count start most refl long)
+
+-- ---- an image, run by run
+
+-- the headers are so many bytes at the start of the file, or all of it
+pub headers_are : (b : List ℕ) (headers : ℕ) → take (min (length b) headers) b ≡ take headers b
+headers_are b headers = same_lists _ _ (simp length-take (grind arith)) (λ k d h. grind (arith, places))
+
+-- the bytes of a run
+pub by_run : (to_offset : ℕ → Option ℕ) (b : List ℕ) (headers rva count : ℕ) (r : Run) → IsRun to_offset rva r → rva + count ≤ r.end
+    → each (λ i. loaded_byte b headers (rva + i) (option_map (λ p. p + i) r.offset)) count ≡ each (λ i. loaded_byte b headers (rva + i) (to_offset (rva + i))) count
+by_run to_offset b headers rva count r g ends =
+    each_same _ _ count (λ i h. ap (loaded_byte b headers (rva + i)) (
+    ap (λ (k : ℕ). option_map (λ p. p + k) r.offset) (omega arith) ∙ sym (g.maps (rva + i) (omega arith) (omega (arith, h, ends)))))
+
+-- what is written at an offset follows what stands before it
+front : (b : List ℕ) (p : ℕ) (s : List ℕ) (n : ℕ) → length s ≡ n → p + n ≤ length b → take (p + n) (splice b p s) ≡ take p b ++ s
+unfolding splice
+front b p s n long fits = same_lists _ _ (simp (length-append, length-take, length-drop) (grind (arith, fits, long))) (λ k d h. grind (arith, places, long, fits))
+
+-- the image is laid out up to an RVA
+pub record LaidOut (f : ℕ → ℕ) (old image : List ℕ) (rva : ℕ) : Type 0 where
+  pub inside : rva ≤ length image
+  pub long : length image ≡ length old
+  pub done : take rva image ≡ each f rva
+
+pub none_laid : (f : ℕ → ℕ) (old : List ℕ) → LaidOut f old old 0
+unfolding each
+none_laid f old = record { inside = omega arith; long = refl; done = refl }
+
+pub one_laid : (f g : ℕ → ℕ) (old image : List ℕ) (rva count : ℕ) → LaidOut f old image rva → rva + count ≤ length image
+    → each g count ≡ each (λ i. f (rva + i)) count → LaidOut f old (splice image rva (each g count)) (rva + count)
+one_laid f g old image rva count l fits same =
+    let size : length (each g count) ≡ count = length-each g count in
+    let long : length (splice image rva (each g count)) ≡ length image = length-splice image rva (each g count) (omega (arith, fits, size)) in
+    record {
+      inside = omega (arith, fits, long);
+      long = long ∙ l.long;
+      done = front image rva (each g count) count size fits ∙ ap (λ (xs : List ℕ). xs ++ each g count) l.done ∙ ap (λ (xs : List ℕ). each f rva ++ xs) same ∙ sym (each_more f rva count);
+    }
+
+pub run_laid : (to_offset : ℕ → Option ℕ) (b : List ℕ) (headers : ℕ) (old image after : List ℕ) (rva end : ℕ) (r : Run)
+    → LaidOut (λ x. loaded_byte b headers x (to_offset x)) old image rva → IsRun to_offset rva r → rva < length image → end ≡ min r.end (length image)
+    → after ≡ splice image rva (each (λ i. loaded_byte b headers (rva + i) (option_map (λ p. p + i) r.offset)) (end - rva))
+    → LaidOut (λ x. loaded_byte b headers x (to_offset x)) old after end
+run_laid to_offset b headers old image after rva end r l g inside is_end is_after =
+    let forward : rva ≤ end = grind (arith, inside, is_end, g.ahead) in
+    let to : rva + (end - rva) ≡ end = omega (arith, forward) in
+    let image_fits : rva + (end - rva) ≤ length image = grind (arith, to, is_end) in
+    let run_fits : rva + (end - rva) ≤ r.end = grind (arith, to, is_end) in
+    subst (λ (xs : List ℕ). LaidOut (λ x. loaded_byte b headers x (to_offset x)) old xs end) (sym is_after)
+    (subst (λ (n : ℕ). LaidOut (λ x. loaded_byte b headers x (to_offset x)) old (splice image rva (each (λ i. loaded_byte b headers (rva + i) (option_map (λ p. p + i) r.offset)) (end - rva))) n) to
+    (one_laid (λ x. loaded_byte b headers x (to_offset x)) (λ i. loaded_byte b headers (rva + i) (option_map (λ p. p + i) r.offset)) old image rva (end - rva) l image_fits
+    (by_run to_offset b headers rva (end - rva) r g run_fits)))
+
+pub all_laid : (f : ℕ → ℕ) (old image : List ℕ) (rva : ℕ) → LaidOut f old image rva → length image ≤ rva → image ≡ each f (length old)
+all_laid f old image rva l end =
+    let all : rva ≡ length image = omega (arith, end, l.inside) in
+    sym (take_all rva image end) ∙ l.done ∙ ap (each f) (all ∙ l.long)

@@ -1,0 +1,12 @@
+use Rattle.std.proofs.Common.{◌≡◌}
+use Rattle.pe_directories.specs.BaseRelocations.{block_view, page_of}
+use Rattle.pe_directories.specs.Relocated.{word_of}
+use Rattle.pe_directories.proofs.WordsLeft.{SomeRead, items_of_block, relocations_of}
+use Rattle.pe_directories.proofs.relocating.check_block.Given as goal
+
+-- the relocations so far are no refusal
+abbrev pub invariant-loop-item : goal.invariant-loop-item
+invariant-loop-item l = record {
+  page : page_of l.relocations ≡ l.block.page_rva;
+  read : SomeRead (word_of l.size) (items_of_block (block_view l.block)) (relocations_of l.block.page_rva l.relocations);
+}
