@@ -192,7 +192,7 @@ fn results_have_texts(rt: HostRuntime) {
     check_text(&rt, 467, "names of the resources have more than 16 MiB");
     check_text(&rt, 470, "version block has more than 65,535 bytes");
     check_text(&rt, 471, "headers have no room for another section");
-    check_text(&rt, 473, "data of a debug entry end after the data");
+    check_text(&rt, 473, "debug entries or their data lie where the");
     check_text(&rt, 501, "element of a signature truncated before its");
     check_text(&rt, 508, "element of a signature has another tag");
     check_text(&rt, 511, "time of a signature is not in the form of RFC");
