@@ -426,14 +426,14 @@ uint32_t pe_c_headers(const uint8_t *bytes, size_t length, uint32_t mode, pe_c_h
 
 /* ---- the section map, section by section */
 
-/* Makes an index of the sections at the start of the array, and writes how many entries it has: two for each section. The array
- * has to have four for each, of which the second half is left open; what follows is unchanged. Calls that take a view with these
- * entries return what they return without them. pe_c_offset, pe_c_section_at, pe_c_range_at and the steps and lists of exports,
- * imports and resource leaves map an RVA by it in steps that grow with the logarithm of the number of sections, not with that
- * number itself: 65,535 in a hostile file. Other calls make no use of it. Few calls, and images with few sections, as most, gain
- * nothing by it. No entries, and PE_C_DONE, where no section is searched: in an image as loaded, and where the file alignment is
- * not a power of two. An index in the view that is passed makes no difference. An index of other sections gives wrong offsets, and
- * no other harm.
+/* Makes an index of the sections at the start of the array, and writes how many entries it has: two for each section. The
+ * array has to have four for each, of which the second half is left open; what follows is unchanged. Calls that take a view
+ * with these entries return what they return without them. pe_c_offset, pe_c_section_at, pe_c_range_at, pe_c_map and the
+ * steps and lists of exports, imports and resource leaves map an RVA by it in steps that grow with the logarithm of the
+ * number of sections, not with that number itself: 65,535 in a hostile file. Other calls make no use of it. Few calls, and
+ * images with few sections, as most, gain nothing by it. No entries, and PE_C_DONE, where no section is searched: in an image
+ * as loaded, and where the file alignment is not a power of two. An index in the view that is passed makes no difference. An
+ * index of other sections gives wrong offsets, and no other harm.
  * Errors: PE_C_ROOM where the array has too few entries; then `written` is how many it has to have. */
 uint32_t pe_c_index(const pe_c_view *view, pe_c_index_entry *room, size_t entries, uint64_t *written) PE_C_RESULT(1, 4);
 
@@ -459,10 +459,12 @@ uint32_t pe_c_rva(const pe_c_view *view, uint64_t offset, uint32_t *out) PE_C_RE
 /* ---- the image as a loader lays it out */
 
 /* Writes the image as a loader lays it out to the start of the array, as many bytes as size_of_image says, and that size to
- * `written`: at each RVA the byte of the file at the offset to which pe_c_offset maps it; where it maps it to none that of the
- * headers, which are size_of_headers bytes at the start of the file; zeros elsewhere. What follows in the array is unchanged. The
- * array does not overlap the file; it may be NULL if room_length is 0. What is read of it with PE_C_MAPPED is what is read of the
- * file. Under many sections make an index first: without one each of them is searched for among all.
+ * `written`: at each RVA the byte of the file at the offset to which pe_c_offset maps it; where it maps it to none that of
+ * the headers, which are size_of_headers bytes at the start of the file; zeros elsewhere. What follows in the array is
+ * unchanged. The array does not overlap the file; it may be NULL if room_length is 0. The bytes at RVAs that the file maps
+ * are read of it with PE_C_MAPPED as they are of the file; where no section covers an RVA, which of the file is
+ * PE_C_UNMAPPED, so are those of the headers or zeros. size_of_image is what the headers say: up to 4 GB of a short file.
+ * Under many sections make an index first: without one each of them is searched for among all.
  * Errors: PE_C_ROOM where the array is smaller; then it is unchanged, and `written` is how many bytes it has to have. */
 uint32_t pe_c_map(const pe_c_view *view, uint8_t *room, size_t room_length, uint64_t *written) PE_C_RESULT(1, 4);
 
@@ -470,10 +472,10 @@ uint32_t pe_c_map(const pe_c_view *view, uint8_t *room, size_t room_length, uint
  * base less the one that the image has, modulo 2^64, to the field of its header that has the base, and to each number that they
  * name. No other byte changes. They are read from the bytes of the view, which the array does not overlap. PE_C_NOTHING where
  * the image has none; then it is unchanged.
- * Errors, after which it is unchanged: PE_C_UNMAPPED, PE_C_SHORT of the directory; PE_C_DIRECTORY_RELOCATION_OUTSIDE where the array
- * does not have a number, in turn with PE_C_DIRECTORY_BLOCK_SIZE, PE_C_DIRECTORY_BLOCK_TRUNCATED, PE_C_SHORT and
- * PE_C_DIRECTORY_NO_ARGUMENT of blocks and entries, and PE_C_DIRECTORY_RELOCATION_KIND of a type other than IMAGE_REL_BASED_ABSOLUTE,
- * _HIGH, _LOW, _HIGHLOW and _DIR64. */
+ * Errors, after which it is unchanged: PE_C_UNMAPPED, PE_C_SHORT of the directory; PE_C_DIRECTORY_RELOCATION_OUTSIDE where
+ * the array does not have that field, or a number, in turn with PE_C_DIRECTORY_BLOCK_SIZE,
+ * PE_C_DIRECTORY_BLOCK_TRUNCATED, PE_C_SHORT and PE_C_DIRECTORY_NO_ARGUMENT of blocks and entries, and
+ * PE_C_DIRECTORY_RELOCATION_KIND of a type other than IMAGE_REL_BASED_ABSOLUTE, _HIGH, _LOW, _HIGHLOW and _DIR64. */
 uint32_t pe_c_relocate(const pe_c_view *view, uint64_t difference, uint8_t *room, size_t room_length) PE_C_RESULT(1);
 
 /* ---- the overlay */
