@@ -13,15 +13,16 @@
  * No call allocates, keeps state, prints, calls back, or needs initialisation. Any thread may call at any time.
  *
  * Results. A call returns PE_C_DONE and fills `out`, or returns another number and leaves `out` unchanged, but for the
- * address in a frame, `failure` of the calls for signatures, and `written` of pe_c_index. The comment of a call lists its
- * errors in the order in which they are tested. PE_C_NOTHING means that there is nothing of the kind; it is no error.
+ * address in a frame, `failure` of the calls for signatures, and `written` of pe_c_index and pe_c_map. The comment of a call
+ * lists its errors in the order in which they are tested. PE_C_NOTHING means that there is nothing of the kind; it is no error.
  *
  * Units. An `offset` is a number of bytes from the start of `bytes`: in a file a file offset, in an image as loaded an
  * RVA. A range that a call returns lies inside `bytes`.
  * RVAs, sizes and lengths are in bytes; an RVA counts from the start of the image in memory.
  *
  * Walks. A walk is a record that steps over a list: each call returns the next item and moves the walk. PE_C_NOTHING is
- * the end of the list. After an error the walk is over too. A walk that is over returns PE_C_NOTHING each time.
+ * the end of the list. After an error the walk is over too, unless the comment of the call says that it goes on. A walk that
+ * is over returns PE_C_NOTHING each time.
  *
  * Modes. `mode` is PE_C_STRICT or PE_C_PERMISSIVE; for an image as loaded add PE_C_MAPPED. Bits of no name make no
  * difference. Permissive mode accepts
