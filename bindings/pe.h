@@ -1193,8 +1193,9 @@ uint32_t pe_c_attribute(const uint8_t *bytes, size_t length, const pe_c_range *r
                         pe_c_signer_attribute *out) PE_C_RESULT(3, 4, 5);
 
 /* Finds an attribute of a signer by the id of its type, such as PE_C_OID_MESSAGE_DIGEST: the first in a walk over signed_attributes
- * or unsigned_attributes. Moves `walk` past it, so that the next call finds the next one. PE_C_NOTHING where there is none. An
- * attribute before it that is refused is an error, after which `walk` is past that one; after another error it is over. */
+ * or unsigned_attributes. Moves `walk` past it, so that the next call finds the next one. PE_C_NOTHING where there is none; then
+ * `walk` is at its end. The id 0 is that of every type that has none here. An attribute before it that is refused is an error,
+ * after which `walk` is past that one; after another error it is over. */
 uint32_t pe_c_find_attribute(const uint8_t *bytes, size_t length, pe_c_range *walk, uint32_t id,
                              pe_c_signature_failure *failure, pe_c_signer_attribute *out) PE_C_RESULT(3, 5, 6);
 
@@ -2220,22 +2221,24 @@ uint32_t pe_c_edited_length(const pe_c_view *view, const pe_c_resource *resource
  * The resources are sorted by type, name and language: names before ids, names by their code units, ids and languages by their
  * numbers. No two have the same type, name and language.
  * They go over the data of their section if they fit there, and no byte of the file moves. Otherwise they go to the end of the
- * image, into their own section if it is the last or into a new one, and what follows the data of the sections in the file moves
- * by the bytes that are added, a multiple of the file alignment; so does the pointer to COFF symbols there.
- * Errors: those of pe_c_image; PE_C_EDIT_RECORD where a range is not inside the data, or an id or a language is not below 2^16;
- * PE_C_EDIT_NAMES where the names have more than 16 MiB, each counted as often as a resource has it; PE_C_NO_OPTIONAL_HEADER;
- * PE_C_EDIT_NO_DIRECTORY where the image has fewer than three directories; PE_C_EDIT_SIGNED where it has certificates;
- * PE_C_EDIT_TOO_MANY, PE_C_EDIT_NAME, PE_C_EDIT_ORDER, PE_C_EDIT_TABLES_TOO_LARGE, PE_C_EDIT_TOO_LARGE of the resources;
- * PE_C_EDIT_HEADERS where the directories end after the start of the section table; PE_C_SHORT where that is truncated;
- * PE_C_EDIT_ALIGNMENT where that of sections is below 4096, or that of their data below 512 or no power of two; of a new section,
- * PE_C_EDIT_IMAGE_TOO_LARGE where its RVA or the offset of its data is not below 2^32, and PE_C_EDIT_TOO_LARGE of the resources
- * at its RVA; PE_C_EDIT_NO_HEADER_ROOM where no 40 zeros follow the section table in the headers, there are 65,535 sections, or the
- * PE signature lies in the DOS header; PE_C_EDIT_IMAGE_TOO_LARGE where the image ends after 4 GB; PE_C_EDIT_SECTION where the data of the
- * sections do not end in the file, at a multiple of the file alignment; PE_C_EDIT_SHARED_SECTION where the entry point or a
- * directory leads after the image in memory; PE_C_EDIT_SYMBOLS where COFF symbols start before the end of the data and end after
- * it; PE_C_EDIT_OVERLAP where a section ends after the image in memory, or shares bytes with the headers;
- * PE_C_EDIT_DEBUG_DATA where debug entries or their data lie where the resources go; PE_C_WRITE_FIT where the file does
- * not fit into the array. */
+ * image, into their own section if it is the last or into a new one, and what follows the data of the sections in the file
+ * moves by the bytes that are added, a multiple of the file alignment; so do the pointers to COFF symbols and to the data of
+ * debug entries there.
+ * Errors: those of pe_c_image; PE_C_EDIT_RECORD where a range is not inside the data, or an id or a language is not below
+ * 2^16; PE_C_EDIT_NAMES where the names have more than 16 MiB, each counted as often as a resource has it;
+ * PE_C_NO_OPTIONAL_HEADER; PE_C_EDIT_NO_DIRECTORY where the image has fewer than three directories; PE_C_EDIT_SIGNED where
+ * it has certificates; PE_C_EDIT_TOO_MANY, PE_C_EDIT_NAME, PE_C_EDIT_ORDER, PE_C_EDIT_TABLES_TOO_LARGE, PE_C_EDIT_TOO_LARGE
+ * of the resources; PE_C_EDIT_HEADERS where the directories end after the start of the section table; PE_C_SHORT where that
+ * is truncated; PE_C_EDIT_ALIGNMENT where that of sections is below 4096, or that of their data below 512 or no power of
+ * two; of a new section, PE_C_EDIT_IMAGE_TOO_LARGE where its RVA or the offset of its data is not below 2^32, and
+ * PE_C_EDIT_TOO_LARGE of the resources at its RVA; PE_C_EDIT_NO_HEADER_ROOM where no 40 zeros follow the section table in
+ * the headers, there are 65,535 sections, or the PE signature lies in the DOS header; PE_C_EDIT_IMAGE_TOO_LARGE where the
+ * image ends after 4 GB; PE_C_EDIT_SECTION where the data of the sections do not end in the file, at a multiple of the file
+ * alignment; PE_C_EDIT_SHARED_SECTION where the entry point or a directory leads after the image in memory;
+ * PE_C_EDIT_SYMBOLS where COFF symbols start before the end of the data and end after it; PE_C_EDIT_OVERLAP where a section
+ * ends after the image in memory, or shares bytes with the headers; PE_C_EDIT_DEBUG_DATA where the debug entries do not lie
+ * between the section headers and the data of that section, or the data of one neither end before these nor start after
+ * those of all sections; PE_C_WRITE_FIT where the file does not fit into the array. */
 uint32_t pe_c_edit(const pe_c_view *view, const pe_c_resource *resources, size_t resource_count, const uint8_t *data,
                    size_t data_length, uint8_t *room, size_t room_length, uint64_t *out) PE_C_RESULT(1, 8);
 

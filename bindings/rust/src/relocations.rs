@@ -114,7 +114,7 @@ impl Image<'_> {
     /// # Errors
     ///
     /// - [`Error::UNMAPPED`], [`Error::SHORT`] of the directory;
-    /// - [`Error::DIRECTORY_RELOCATION_OUTSIDE`] of a number that `loaded` does not have;
+    /// - [`Error::DIRECTORY_RELOCATION_OUTSIDE`] where `loaded` does not have the field of its base, or a number;
     /// - [`Error::DIRECTORY_RELOCATION_KIND`] of a type that depends on the machine;
     /// - those of [`RelocationBlocks`] and [`Relocations`].
     ///
