@@ -13,15 +13,16 @@
  * No call allocates, keeps state, prints, calls back, or needs initialisation. Any thread may call at any time.
  *
  * Results. A call returns PE_C_DONE and fills `out`, or returns another number and leaves `out` unchanged, but for the
- * address in a frame, `failure` of the calls for signatures, and `written` of pe_c_index. The comment of a call lists its
- * errors in the order in which they are tested. PE_C_NOTHING means that there is nothing of the kind; it is no error.
+ * address in a frame, `failure` of the calls for signatures, and `written` of pe_c_index and pe_c_map. The comment of a call
+ * lists its errors in the order in which they are tested. PE_C_NOTHING means that there is nothing of the kind; it is no error.
  *
  * Units. An `offset` is a number of bytes from the start of `bytes`: in a file a file offset, in an image as loaded an
  * RVA. A range that a call returns lies inside `bytes`.
  * RVAs, sizes and lengths are in bytes; an RVA counts from the start of the image in memory.
  *
  * Walks. A walk is a record that steps over a list: each call returns the next item and moves the walk. PE_C_NOTHING is
- * the end of the list. After an error the walk is over too. A walk that is over returns PE_C_NOTHING each time.
+ * the end of the list. After an error the walk is over too, unless the comment of the call says that it goes on. A walk that
+ * is over returns PE_C_NOTHING each time.
  *
  * Modes. `mode` is PE_C_STRICT or PE_C_PERMISSIVE; for an image as loaded add PE_C_MAPPED. Bits of no name make no
  * difference. Permissive mode accepts
@@ -426,14 +427,14 @@ uint32_t pe_c_headers(const uint8_t *bytes, size_t length, uint32_t mode, pe_c_h
 
 /* ---- the section map, section by section */
 
-/* Makes an index of the sections at the start of the array, and writes how many entries it has: two for each section. The array
- * has to have four for each, of which the second half is left open; what follows is unchanged. Calls that take a view with these
- * entries return what they return without them. pe_c_offset, pe_c_section_at, pe_c_range_at and the steps and lists of exports,
- * imports and resource leaves map an RVA by it in steps that grow with the logarithm of the number of sections, not with that
- * number itself: 65,535 in a hostile file. Other calls make no use of it. Few calls, and images with few sections, as most, gain
- * nothing by it. No entries, and PE_C_DONE, where no section is searched: in an image as loaded, and where the file alignment is
- * not a power of two. An index in the view that is passed makes no difference. An index of other sections gives wrong offsets, and
- * no other harm.
+/* Makes an index of the sections at the start of the array, and writes how many entries it has: two for each section. The
+ * array has to have four for each, of which the second half is left open; what follows is unchanged. Calls that take a view
+ * with these entries return what they return without them. pe_c_offset, pe_c_section_at, pe_c_range_at, pe_c_map and the
+ * steps and lists of exports, imports and resource leaves map an RVA by it in steps that grow with the logarithm of the
+ * number of sections, not with that number itself: 65,535 in a hostile file. Other calls make no use of it. Few calls, and
+ * images with few sections, as most, gain nothing by it. No entries, and PE_C_DONE, where no section is searched: in an image
+ * as loaded, and where the file alignment is not a power of two. An index in the view that is passed makes no difference. An
+ * index of other sections gives wrong offsets, and no other harm.
  * Errors: PE_C_ROOM where the array has too few entries; then `written` is how many it has to have. */
 uint32_t pe_c_index(const pe_c_view *view, pe_c_index_entry *room, size_t entries, uint64_t *written) PE_C_RESULT(1, 4);
 
@@ -459,10 +460,12 @@ uint32_t pe_c_rva(const pe_c_view *view, uint64_t offset, uint32_t *out) PE_C_RE
 /* ---- the image as a loader lays it out */
 
 /* Writes the image as a loader lays it out to the start of the array, as many bytes as size_of_image says, and that size to
- * `written`: at each RVA the byte of the file at the offset to which pe_c_offset maps it; where it maps it to none that of the
- * headers, which are size_of_headers bytes at the start of the file; zeros elsewhere. What follows in the array is unchanged. The
- * array does not overlap the file; it may be NULL if room_length is 0. What is read of it with PE_C_MAPPED is what is read of the
- * file. Under many sections make an index first: without one each of them is searched for among all.
+ * `written`: at each RVA the byte of the file at the offset to which pe_c_offset maps it; where it maps it to none that of
+ * the headers, which are size_of_headers bytes at the start of the file; zeros elsewhere. What follows in the array is
+ * unchanged. The array does not overlap the file; it may be NULL if room_length is 0. The bytes at RVAs that the file maps
+ * are read of it with PE_C_MAPPED as they are of the file; where no section covers an RVA, which of the file is
+ * PE_C_UNMAPPED, so are those of the headers or zeros. size_of_image is what the headers say: up to 4 GB of a short file.
+ * Under many sections make an index first: without one each of them is searched for among all.
  * Errors: PE_C_ROOM where the array is smaller; then it is unchanged, and `written` is how many bytes it has to have. */
 uint32_t pe_c_map(const pe_c_view *view, uint8_t *room, size_t room_length, uint64_t *written) PE_C_RESULT(1, 4);
 
@@ -470,10 +473,10 @@ uint32_t pe_c_map(const pe_c_view *view, uint8_t *room, size_t room_length, uint
  * base less the one that the image has, modulo 2^64, to the field of its header that has the base, and to each number that they
  * name. No other byte changes. They are read from the bytes of the view, which the array does not overlap. PE_C_NOTHING where
  * the image has none; then it is unchanged.
- * Errors, after which it is unchanged: PE_C_UNMAPPED, PE_C_SHORT of the directory; PE_C_DIRECTORY_RELOCATION_OUTSIDE where the array
- * does not have a number, in turn with PE_C_DIRECTORY_BLOCK_SIZE, PE_C_DIRECTORY_BLOCK_TRUNCATED, PE_C_SHORT and
- * PE_C_DIRECTORY_NO_ARGUMENT of blocks and entries, and PE_C_DIRECTORY_RELOCATION_KIND of a type other than IMAGE_REL_BASED_ABSOLUTE,
- * _HIGH, _LOW, _HIGHLOW and _DIR64. */
+ * Errors, after which it is unchanged: PE_C_UNMAPPED, PE_C_SHORT of the directory; PE_C_DIRECTORY_RELOCATION_OUTSIDE where
+ * the array does not have that field, or a number, in turn with PE_C_DIRECTORY_BLOCK_SIZE,
+ * PE_C_DIRECTORY_BLOCK_TRUNCATED, PE_C_SHORT and PE_C_DIRECTORY_NO_ARGUMENT of blocks and entries, and
+ * PE_C_DIRECTORY_RELOCATION_KIND of a type other than IMAGE_REL_BASED_ABSOLUTE, _HIGH, _LOW, _HIGHLOW and _DIR64. */
 uint32_t pe_c_relocate(const pe_c_view *view, uint64_t difference, uint8_t *room, size_t room_length) PE_C_RESULT(1);
 
 /* ---- the overlay */
@@ -1190,8 +1193,9 @@ uint32_t pe_c_attribute(const uint8_t *bytes, size_t length, const pe_c_range *r
                         pe_c_signer_attribute *out) PE_C_RESULT(3, 4, 5);
 
 /* Finds an attribute of a signer by the id of its type, such as PE_C_OID_MESSAGE_DIGEST: the first in a walk over signed_attributes
- * or unsigned_attributes. Moves `walk` past it, so that the next call finds the next one. PE_C_NOTHING where there is none. An
- * attribute before it that is refused is an error, after which `walk` is past that one; after another error it is over. */
+ * or unsigned_attributes. Moves `walk` past it, so that the next call finds the next one. PE_C_NOTHING where there is none; then
+ * `walk` is at its end. The id 0 is that of every type that has none here. An attribute before it that is refused is an error,
+ * after which `walk` is past that one; after another error it is over. */
 uint32_t pe_c_find_attribute(const uint8_t *bytes, size_t length, pe_c_range *walk, uint32_t id,
                              pe_c_signature_failure *failure, pe_c_signer_attribute *out) PE_C_RESULT(3, 5, 6);
 
@@ -2217,22 +2221,24 @@ uint32_t pe_c_edited_length(const pe_c_view *view, const pe_c_resource *resource
  * The resources are sorted by type, name and language: names before ids, names by their code units, ids and languages by their
  * numbers. No two have the same type, name and language.
  * They go over the data of their section if they fit there, and no byte of the file moves. Otherwise they go to the end of the
- * image, into their own section if it is the last or into a new one, and what follows the data of the sections in the file moves
- * by the bytes that are added, a multiple of the file alignment; so does the pointer to COFF symbols there.
- * Errors: those of pe_c_image; PE_C_EDIT_RECORD where a range is not inside the data, or an id or a language is not below 2^16;
- * PE_C_EDIT_NAMES where the names have more than 16 MiB, each counted as often as a resource has it; PE_C_NO_OPTIONAL_HEADER;
- * PE_C_EDIT_NO_DIRECTORY where the image has fewer than three directories; PE_C_EDIT_SIGNED where it has certificates;
- * PE_C_EDIT_TOO_MANY, PE_C_EDIT_NAME, PE_C_EDIT_ORDER, PE_C_EDIT_TABLES_TOO_LARGE, PE_C_EDIT_TOO_LARGE of the resources;
- * PE_C_EDIT_HEADERS where the directories end after the start of the section table; PE_C_SHORT where that is truncated;
- * PE_C_EDIT_ALIGNMENT where that of sections is below 4096, or that of their data below 512 or no power of two; of a new section,
- * PE_C_EDIT_IMAGE_TOO_LARGE where its RVA or the offset of its data is not below 2^32, and PE_C_EDIT_TOO_LARGE of the resources
- * at its RVA; PE_C_EDIT_NO_HEADER_ROOM where no 40 zeros follow the section table in the headers, there are 65,535 sections, or the
- * PE signature lies in the DOS header; PE_C_EDIT_IMAGE_TOO_LARGE where the image ends after 4 GB; PE_C_EDIT_SECTION where the data of the
- * sections do not end in the file, at a multiple of the file alignment; PE_C_EDIT_SHARED_SECTION where the entry point or a
- * directory leads after the image in memory; PE_C_EDIT_SYMBOLS where COFF symbols start before the end of the data and end after
- * it; PE_C_EDIT_OVERLAP where a section ends after the image in memory, or shares bytes with the headers;
- * PE_C_EDIT_DEBUG_DATA where debug entries or their data lie where the resources go; PE_C_WRITE_FIT where the file does
- * not fit into the array. */
+ * image, into their own section if it is the last or into a new one, and what follows the data of the sections in the file
+ * moves by the bytes that are added, a multiple of the file alignment; so do the pointers to COFF symbols and to the data of
+ * debug entries there.
+ * Errors: those of pe_c_image; PE_C_EDIT_RECORD where a range is not inside the data, or an id or a language is not below
+ * 2^16; PE_C_EDIT_NAMES where the names have more than 16 MiB, each counted as often as a resource has it;
+ * PE_C_NO_OPTIONAL_HEADER; PE_C_EDIT_NO_DIRECTORY where the image has fewer than three directories; PE_C_EDIT_SIGNED where
+ * it has certificates; PE_C_EDIT_TOO_MANY, PE_C_EDIT_NAME, PE_C_EDIT_ORDER, PE_C_EDIT_TABLES_TOO_LARGE, PE_C_EDIT_TOO_LARGE
+ * of the resources; PE_C_EDIT_HEADERS where the directories end after the start of the section table; PE_C_SHORT where that
+ * is truncated; PE_C_EDIT_ALIGNMENT where that of sections is below 4096, or that of their data below 512 or no power of
+ * two; of a new section, PE_C_EDIT_IMAGE_TOO_LARGE where its RVA or the offset of its data is not below 2^32, and
+ * PE_C_EDIT_TOO_LARGE of the resources at its RVA; PE_C_EDIT_NO_HEADER_ROOM where no 40 zeros follow the section table in
+ * the headers, there are 65,535 sections, or the PE signature lies in the DOS header; PE_C_EDIT_IMAGE_TOO_LARGE where the
+ * image ends after 4 GB; PE_C_EDIT_SECTION where the data of the sections do not end in the file, at a multiple of the file
+ * alignment; PE_C_EDIT_SHARED_SECTION where the entry point or a directory leads after the image in memory;
+ * PE_C_EDIT_SYMBOLS where COFF symbols start before the end of the data and end after it; PE_C_EDIT_OVERLAP where a section
+ * ends after the image in memory, or shares bytes with the headers; PE_C_EDIT_DEBUG_DATA where the debug entries do not lie
+ * between the section headers and the data of that section, or the data of one neither end before these nor start after
+ * those of all sections; PE_C_WRITE_FIT where the file does not fit into the array. */
 uint32_t pe_c_edit(const pe_c_view *view, const pe_c_resource *resources, size_t resource_count, const uint8_t *data,
                    size_t data_length, uint8_t *room, size_t room_length, uint64_t *out) PE_C_RESULT(1, 8);
 

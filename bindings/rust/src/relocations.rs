@@ -92,8 +92,9 @@ impl<'a> Image<'a> {
 }
 
 impl Image<'_> {
-    /// The image as a loader lays it out, as many bytes as `size_of_image` says: the headers at RVA 0, the data of each section at
-    /// its RVA, zeros elsewhere. What is read of it with [`Layout::Mapped`](crate::Layout::Mapped) is what is read of the file.
+    /// The image as a loader lays it out, as many bytes as `size_of_image` says, up to 4 GB of a short file: the headers at RVA 0,
+    /// the data of each section at its RVA, zeros elsewhere. The bytes at RVAs that the file maps are read of it with
+    /// [`Layout::Mapped`](crate::Layout::Mapped) as they are of the file.
     ///
     /// # Errors
     ///
@@ -113,7 +114,7 @@ impl Image<'_> {
     /// # Errors
     ///
     /// - [`Error::UNMAPPED`], [`Error::SHORT`] of the directory;
-    /// - [`Error::DIRECTORY_RELOCATION_OUTSIDE`] of a number that `loaded` does not have;
+    /// - [`Error::DIRECTORY_RELOCATION_OUTSIDE`] where `loaded` does not have the field of its base, or a number;
     /// - [`Error::DIRECTORY_RELOCATION_KIND`] of a type that depends on the machine;
     /// - those of [`RelocationBlocks`] and [`Relocations`].
     ///

@@ -2,7 +2,7 @@
 //! <https://learn.microsoft.com/windows/win32/debug/pe-format#the-rsrc-section>. A caller reads what is there, changes the list, and
 //! writes the image anew: the new resources go over the data of the old ones' section if they fit there, or else to the end of the
 //! image, into a new section. All other bytes of the file stay, but for the headers' sizes and the checksum; what follows the data
-//! of the sections, such as an installer's data, moves.
+//! of the sections, such as an installer's data, moves, and with it the pointers to COFF symbols and of debug entries to data there.
 
 use crate::image::{Error, Image};
 use crate::resources::{ResourceLeaf, ResourceName};
@@ -232,7 +232,8 @@ impl<'a> ResourceEditor<'a> {
     /// [`Error::SHORT`], [`Error::EDIT_ALIGNMENT`] of the headers; where the resources do not fit into their section,
     /// [`Error::EDIT_IMAGE_TOO_LARGE`] where the image ends after 4 GB, [`Error::EDIT_NO_HEADER_ROOM`] where the headers have no
     /// room for a section header, [`Error::EDIT_SECTION`], [`Error::EDIT_SHARED_SECTION`], [`Error::EDIT_SYMBOLS`],
-    /// [`Error::EDIT_OVERLAP`], [`Error::EDIT_DEBUG_DATA`] where the data of the sections have no end; [`Error::MEMORY`].
+    /// [`Error::EDIT_OVERLAP`] where the data of the sections have no end, [`Error::EDIT_DEBUG_DATA`] where debug entries or their
+    /// data lie where the resources go; [`Error::MEMORY`].
     pub fn write(&self) -> Result<Vec<u8>, Error> {
         let (records, data) = self.records()?;
         let view = sys::View::of(self.bytes, &self.info, &[], &[]);

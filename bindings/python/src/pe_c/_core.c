@@ -671,14 +671,16 @@ static PyObject *arm64_unwind(Image *self, PyObject *arguments)
     return answer(rows.result == PE_C_DONE ? ROW_OF(arm64_record) : NULL, &rows);
 }
 
-static int range_of(PyObject *arguments, pe_c_range *out)
+/* A range, and an id after it where that is not NULL. */
+static int range_and(PyObject *arguments, pe_c_range *out, unsigned int *id)
 {
     unsigned long long offset, length;
-    if (!PyArg_ParseTuple(arguments, "KK", &offset, &length))
+    if (!PyArg_ParseTuple(arguments, id ? "KKI" : "KK", &offset, &length, id))
         return 0;
     *out = (pe_c_range){offset, length};
     return 1;
 }
+#define range_of(arguments, out) range_and(arguments, out, NULL)
 
 static PyObject *version_blocks(Image *self, PyObject *arguments)
 {
@@ -706,39 +708,30 @@ static PyObject *version_blocks(Image *self, PyObject *arguments)
         rows.result = call; \
         return answer(rows.result == PE_C_DONE ? row : NULL, &rows); \
     }
-#define SIGNED_LIST(name, Walk, start, Item, call, row) \
+/* A list; `wanted` is `&id` where its arguments have an id, or NULL. */
+#define SIGNED_LIST(name, wanted, Walk, start, Item, call, row) \
     static PyObject *name(Image *self, PyObject *arguments) \
     { \
         pe_c_range range; \
+        unsigned int id = 0; \
         pe_c_signature_failure failure = PE_C_EMPTY; \
         Walk walk = PE_C_EMPTY; \
         Item item = PE_C_EMPTY; \
-        if (!range_of(arguments, &range)) \
+        if (!range_and(arguments, &range, wanted)) \
             return NULL; \
         OPEN_OWN \
+        (void)id; \
         rows = rows_of(self, &budget); \
         rows.result = start; \
-        EACH(&rows, call(BYTES, &walk, &failure, &item), row); \
+        EACH(&rows, call, row); \
         return finished(&rows); \
     }
-SIGNED_LIST(elements, pe_c_range, (walk = range, PE_C_DONE), pe_c_der_element, pe_c_next_element, ROW_OF(der_element))
-SIGNED_LIST(name_attributes, pe_c_name_walk, pe_c_name(BYTES, &range, &failure, &walk), pe_c_name_attribute,
-            pe_c_next_name_attribute, ROW_OF(name_attribute))
-
-static PyObject *attributes(Image *self, PyObject *arguments)
-{
-    unsigned long long offset, length;
-    unsigned int id;
-    pe_c_signature_failure failure = PE_C_EMPTY;
-    pe_c_signer_attribute item = PE_C_EMPTY;
-    if (!PyArg_ParseTuple(arguments, "KKI", &offset, &length, &id))
-        return NULL;
-    OPEN_OWN
-    pe_c_range walk = {offset, length};
-    rows = rows_of(self, &budget);
-    EACH(&rows, pe_c_find_attribute(BYTES, &walk, id, &failure, &item), ROW_OF(signer_attribute));
-    return finished(&rows);
-}
+SIGNED_LIST(elements, NULL, pe_c_range, (walk = range, PE_C_DONE), pe_c_der_element,
+            pe_c_next_element(BYTES, &walk, &failure, &item), ROW_OF(der_element))
+SIGNED_LIST(attributes, &id, pe_c_range, (walk = range, PE_C_DONE), pe_c_signer_attribute,
+            pe_c_find_attribute(BYTES, &walk, id, &failure, &item), ROW_OF(signer_attribute))
+SIGNED_LIST(name_attributes, NULL, pe_c_name_walk, pe_c_name(BYTES, &range, &failure, &walk), pe_c_name_attribute,
+            pe_c_next_name_attribute(BYTES, &walk, &failure, &item), ROW_OF(name_attribute))
 
 /* ---- minidumps: each call reads the stream of a kind */
 
@@ -902,13 +895,14 @@ METHOD(digest_ranges)
                                 (unsigned long long)item.zeros), &rows);
 }
 
-/* A file that was written, or none after an error. */
-static PyObject *written(PyObject *file, const Rows *rows)
-{
-    if (rows->result != PE_C_DONE)
-        Py_CLEAR(file);
-    return answer(file, rows);
-}
+/* A file of so many bytes that a call writes, or none after an error. */
+#define WRITTEN(call, ...) \
+    PyObject *file = rows.result == PE_C_DONE ? PyBytes_FromStringAndSize(NULL, (Py_ssize_t)size) : NULL; \
+    if (file) \
+        rows.result = call(__VA_ARGS__, (uint8_t *)PyBytes_AsString(file), (size_t)size, &size); \
+    if (rows.result != PE_C_DONE) \
+        Py_CLEAR(file); \
+    return answer(file, &rows);
 
 static PyObject *attach(Image *self, PyObject *arguments)
 {
@@ -921,11 +915,7 @@ static PyObject *attach(Image *self, PyObject *arguments)
     OPEN
     const uint8_t *bytes = (const uint8_t *)certificate;
     rows.result = pe_c_attached_length(VIEW, bytes, (size_t)length, placement, &size);
-    PyObject *file = rows.result == PE_C_DONE ? PyBytes_FromStringAndSize(NULL, (Py_ssize_t)size) : NULL;
-    if (file)
-        rows.result = pe_c_attach(VIEW, bytes, (size_t)length, placement,
-                                  (uint8_t *)PyBytes_AsString(file), (size_t)size, &size);
-    return written(file, &rows);
+    WRITTEN(pe_c_attach, VIEW, bytes, (size_t)length, placement)
 }
 
 METHOD(detach)
@@ -933,10 +923,7 @@ METHOD(detach)
     uint64_t size = 0;
     OPEN
     rows.result = pe_c_detached_length(VIEW, &size);
-    PyObject *file = rows.result == PE_C_DONE ? PyBytes_FromStringAndSize(NULL, (Py_ssize_t)size) : NULL;
-    if (file)
-        rows.result = pe_c_detach(VIEW, (uint8_t *)PyBytes_AsString(file), (size_t)size, &size);
-    return written(file, &rows);
+    WRITTEN(pe_c_detach, VIEW)
 }
 
 /* edited(records, data): the image with these resources. The records are pe.h's, in bytes. */
@@ -950,10 +937,7 @@ static PyObject *edited(Image *self, PyObject *arguments)
 #define EDIT VIEW, (const pe_c_resource *)PyBytes_AsString(records), \
              (size_t)PyBytes_Size(records) / sizeof(pe_c_resource), (const uint8_t *)PyBytes_AsString(data), (size_t)PyBytes_Size(data)
     rows.result = pe_c_edited_length(EDIT, &size);
-    PyObject *file = rows.result == PE_C_DONE ? PyBytes_FromStringAndSize(NULL, (Py_ssize_t)size) : NULL;
-    if (file)
-        rows.result = pe_c_edit(EDIT, (uint8_t *)PyBytes_AsString(file), (size_t)size, &size);
-    return written(file, &rows);
+    WRITTEN(pe_c_edit, EDIT)
 }
 
 /* write_block(key, is_text, value, children) returns a block of version information, or None, and the number of the error. */
