@@ -1,6 +1,6 @@
 //! The image of a file as a loader lays it out in memory, and base relocations applied to it. Emulators, unpackers and tools that
-//! compare a module in memory with its file begin with these two. What is read of the image in the mode of an image as loaded is
-//! what is read of the file.
+//! compare a module in memory with its file begin with these two. Where an RVA is mapped, what is read of the image in the mode of
+//! an image as loaded is what is read of the file.
 //! https://learn.microsoft.com/windows/win32/debug/pe-format#section-data
 
 ghost use Rattle.std.specs.Prelude.{◌≡◌, ◌<◌, ◌≤◌, length};

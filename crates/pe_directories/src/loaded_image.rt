@@ -1,6 +1,6 @@
 //! The image of a file as a loader lays it out in memory: the headers at RVA 0, the raw data of each section at its RVA, zeros
-//! elsewhere ([section data](https://learn.microsoft.com/windows/win32/debug/pe-format#section-data)). What is read of it with
-//! `resolve_rva` off is what is read of the file. Emulators and unpackers start with it.
+//! elsewhere ([section data](https://learn.microsoft.com/windows/win32/debug/pe-format#section-data)). Where an RVA
+//! is mapped, what is read of it with `resolve_rva` off is what is read of the file. Emulators and unpackers start with it.
 
 ghost use Rattle.std.specs.Option.{option_map};
 ghost use Rattle.std.specs.Prelude.{◌≡◌, ◌+◌, ◌<◌, ◌≤◌, ◌^◌, ◌-◌, length, min};
