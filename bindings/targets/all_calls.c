@@ -664,7 +664,7 @@ static void headers(const struct file *file)
     uint64_t loaded = 0;
     if (IS_DONE(pe_c_map, loaded, VIEW, file->room, file->room_length, &loaded)) {
         add_bytes(file->room, loaded);
-        add(pe_c_relocate(VIEW, 0x10000, file->room, (size_t)loaded));
+        CALL(pe_c_relocate, loaded, VIEW, 0x10000, file->room, (size_t)loaded);
         add_bytes(file->room, loaded);
     }
     for (size_t i = 0; i < file->view.count; i++)
