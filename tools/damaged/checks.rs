@@ -30,7 +30,7 @@ pub struct Counts {
     /// Of all other calls and of iterators.
     pub other: [u64; 37],
     /// What was read of further directories and resource leaves, in each layout.
-    pub found: [u64; 28],
+    pub found: [u64; 30],
 }
 
 impl Counts {
@@ -43,7 +43,7 @@ impl Counts {
             strict: [0; 37],
             permissive: [0; 37],
             other: [0; 37],
-            found: [0; 28],
+            found: [0; 30],
         }
     }
 }
@@ -54,7 +54,7 @@ fn add(to: &mut [u64; 37], from: &[u64; 37]) {
     }
 }
 
-fn add_found(to: &mut [u64; 28], from: &[u64; 28]) {
+fn add_found(to: &mut [u64; 30], from: &[u64; 30]) {
     for (sum, count) in to.iter_mut().zip(from.iter()) {
         *sum = sum.wrapping_add(*count);
     }

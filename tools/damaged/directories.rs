@@ -33,6 +33,9 @@ fn refuse(walk: &mut Walk, error: &DirectoryError) {
         DirectoryError::StreamName => (Found::StreamName, 0),
         DirectoryError::DelayImportName(offset) => (Found::DelayImportName, *offset as u64),
         DirectoryError::BoundImportName(offset) => (Found::BoundImportName, u64::from(*offset)),
+        // These two come of images that are relocated, and no walk relocates one.
+        DirectoryError::RelocationKind { rva, .. } => (Found::RelocationKind, *rva as u64),
+        DirectoryError::RelocationOutside(rva) => (Found::RelocationOutside, *rva as u64),
     };
     walk.found(found);
     walk.number(number);

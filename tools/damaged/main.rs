@@ -81,7 +81,7 @@ fn show_kinds(rt: &HostRuntime, what: &str, refusals: &[u64; 37]) -> io::Result<
     Ok(())
 }
 
-fn show_found(rt: &HostRuntime, counts: &[u64; 28]) -> io::Result<()> {
+fn show_found(rt: &HostRuntime, counts: &[u64; 30]) -> io::Result<()> {
     for (name, count) in FOUND.iter().zip(counts.iter()) {
         if *count > 0 {
             println!(rt; "found {name} {count}")?;

@@ -72,13 +72,15 @@ pub enum Found {
     StreamName,
     DelayImportName,
     BoundImportName,
+    RelocationKind,
+    RelocationOutside,
     NotDirectory,
     NotData,
     NoEntries,
 }
 
 /// The names of what is counted, in this order.
-pub const FOUND: [&str; 28] = [
+pub const FOUND: [&str; 30] = [
     "Block",
     "Relocation",
     "Tls",
@@ -104,6 +106,8 @@ pub const FOUND: [&str; 28] = [
     "StreamName",
     "DelayImportName",
     "BoundImportName",
+    "RelocationKind",
+    "RelocationOutside",
     "NotDirectory",
     "NotData",
     "NoEntries",
@@ -129,7 +133,7 @@ pub struct Walk<'a> {
     /// How often each kind of refusal came.
     pub refusals: [u64; 37],
     /// How often each kind of what `Found` names came.
-    pub counts: [u64; 28],
+    pub counts: [u64; 30],
     /// The first thing that was found wrong.
     pub refusal: Option<&'static str>,
     /// Whether each slice is looked for in the bytes.
@@ -155,7 +159,7 @@ impl<'a> Walk<'a> {
             most,
             left: most,
             refusals: [0; 37],
-            counts: [0; 28],
+            counts: [0; 30],
             refusal: None,
             is_thorough,
         }
