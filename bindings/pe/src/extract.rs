@@ -8,7 +8,7 @@ use crate::Status;
 use clap::{Args, ValueEnum};
 use pe_c::{Error, Image, ResourceLeaf, ResourceName};
 use std::borrow::Cow;
-use std::collections::HashMap;
+use std::collections::BTreeMap;
 use std::path::Path;
 
 #[derive(Clone, Copy, Debug, PartialEq, Eq, ValueEnum)]
@@ -92,8 +92,8 @@ fn word_at(bytes: &[u8], at: usize) -> Option<u16> {
 }
 
 /// The resource with each identifier: the first in a language, or the first of all where there is none in it.
-fn by_id<'a>(leaves: Vec<ResourceLeaf<'a>>, language: ResourceName<'_>) -> HashMap<u16, ResourceLeaf<'a>> {
-    let mut found: HashMap<u16, ResourceLeaf<'a>> = HashMap::new();
+fn by_id<'a>(leaves: Vec<ResourceLeaf<'a>>, language: ResourceName<'_>) -> BTreeMap<u16, ResourceLeaf<'a>> {
+    let mut found: BTreeMap<u16, ResourceLeaf<'a>> = BTreeMap::new();
     for leaf in leaves {
         let ResourceName::Id(id) = leaf.name else { continue };
         let is_better = found.get(&id).map_or(true, |it| it.language != language && leaf.language == language);

@@ -16,7 +16,7 @@ use crate::Status;
 pub use files::Known;
 use pe_c::sys::{DumpException, DumpModule, DumpThread};
 use pe_c::{Dump, DumpImages, DumpMemory, Stacks};
-use std::collections::HashMap;
+use std::collections::BTreeMap;
 use std::path::Path;
 pub use told::Told;
 use told::{Exception, Memory, Process, System, Thread, Unloaded};
@@ -214,7 +214,7 @@ fn threads_of(dump: &Dump<'_>, loaded: Option<&Loaded<'_>>, asked: Asked, texts:
         list.filter(|it| asked.thread.map_or(true, |wanted| wanted == it.thread_id)).collect();
     threads.sort_by_key(|it| Some(it.thread_id) != crashed);
     let names = dump.thread_names().into_iter().flatten().flatten();
-    let names: HashMap<u32, u64> = names.map(|it| (it.thread_id, it.rva_of_thread_name)).collect();
+    let names: BTreeMap<u32, u64> = names.map(|it| (it.thread_id, it.rva_of_thread_name)).collect();
     let mut stacks = loaded.map(|it| Stacks::with_bound(it.images, FRAMES));
     let told = threads.iter().map(|thread| Thread {
         name: names.get(&thread.thread_id).and_then(|rva| texts.at(*rva)),

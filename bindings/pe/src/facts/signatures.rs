@@ -5,7 +5,7 @@ use super::{hex_of, Refusal};
 use crate::verify::hashing::Hash;
 use pe_c::{Name, Oid, SignatureError, Signer, X509};
 use serde::Serialize;
-use std::collections::HashMap;
+use std::collections::BTreeMap;
 
 /// Why a part of a signature is refused, and where.
 #[derive(Clone, Debug, PartialEq, Eq, Serialize)]
@@ -70,9 +70,9 @@ impl Certificate {
 /// The certificates of a signature, by what names them.
 #[derive(Default)]
 pub struct Certificates<'a> {
-    by_serial: HashMap<(&'a [u8], &'a [u8]), X509<'a>>,
-    by_key: HashMap<&'a [u8], X509<'a>>,
-    by_subject: HashMap<&'a [u8], Vec<X509<'a>>>,
+    by_serial: BTreeMap<(&'a [u8], &'a [u8]), X509<'a>>,
+    by_key: BTreeMap<&'a [u8], X509<'a>>,
+    by_subject: BTreeMap<&'a [u8], Vec<X509<'a>>>,
 }
 
 /// How many certificates of a chain are told: a chain of signers has three or four.

@@ -5,19 +5,19 @@
 use crate::files::{below, start_of, whole};
 use pe_c::sys::DumpModule;
 use pe_c::{Image, Mode};
-use std::collections::HashMap;
+use std::collections::BTreeMap;
 use std::path::{Path, PathBuf};
 
 /// `TimeDateStamp` and `SizeOfImage`, by which a module knows its image.
 type Key = (u32, u32);
 
 /// The images below folders by their headers, in the order of the folders and of names.
-pub struct Known(HashMap<Key, Vec<PathBuf>>);
+pub struct Known(BTreeMap<Key, Vec<PathBuf>>);
 
 impl Known {
     /// Reads the start of each file. One that cannot be read, or is no image, is none of these.
     pub fn below(folders: &[PathBuf]) -> Known {
-        let mut known: HashMap<Key, Vec<PathBuf>> = HashMap::new();
+        let mut known: BTreeMap<Key, Vec<PathBuf>> = BTreeMap::new();
         for path in folders.iter().flat_map(|folder| below(folder)) {
             let Ok(start) = start_of(&path) else { continue };
             if let Ok(image) = Image::parse(&start, Mode::Permissive) {
@@ -39,7 +39,7 @@ impl Known {
 
     /// Reads the files of modules, each a module and its name, and each file once. One that cannot be read is left out.
     pub fn read<'m>(&self, modules: impl Iterator<Item = (DumpModule, &'m str)>) -> Images<'_> {
-        let mut images = Images { paths: HashMap::new(), contents: HashMap::new() };
+        let mut images = Images { paths: BTreeMap::new(), contents: BTreeMap::new() };
         for (module, name) in modules {
             let key = (module.time_date_stamp, module.size_of_image);
             if let Some(path) = self.path_of(key, name) {
@@ -60,8 +60,8 @@ fn place_of(module: &DumpModule) -> Place {
 
 /// The files of the modules of one dump.
 pub struct Images<'k> {
-    paths: HashMap<Place, &'k Path>,
-    contents: HashMap<&'k Path, Vec<u8>>,
+    paths: BTreeMap<Place, &'k Path>,
+    contents: BTreeMap<&'k Path, Vec<u8>>,
 }
 
 impl Images<'_> {
