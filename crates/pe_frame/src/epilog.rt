@@ -450,7 +450,9 @@ fn with_rest<'a>(
     }
 }
 
-/// What is left of an epilog where the code starts, if it is in one. The function starts and ends at these RVAs.
+/// What is left of an epilog where the code starts, if it is in one. The function starts and ends at these RVAs. Out of line, as
+/// few frames are in an epilog.
+#[inline(never)]
 #[tactic(auto, using(std::proofs::lemmas::List::take_rest))]
 pub(crate) fn tail_at<'a>(
     plan: &[UnwindInfo<'_>],

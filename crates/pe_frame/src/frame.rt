@@ -158,7 +158,8 @@ fn caller<M: Memory>(
 }
 
 /// What is left of an epilog at an RVA, from which on the function has this code. In the prolog there is none. Callers have no
-/// code, which is tested first.
+/// code, which is tested first: that test is inlined, and the search is not.
+#[inline(always)]
 pub(crate) fn epilog_at<'a>(
     plan: &[UnwindInfo<'_>],
     start: u32,

@@ -204,6 +204,8 @@ fn leave_in_place<M: Memory>(
 }
 
 /// Makes the registers those of a function's caller, as [`step_in_image`] returns them. Returns whether an interrupt left them.
+/// Inlined, as what it returns would be moved.
+#[inline(always)]
 pub(crate) fn step_in_place<M: Memory>(
     functions: &ImageFunctions<'_>,
     plan: &[UnwindInfo<'_>],

@@ -71,19 +71,19 @@ impl<F: WalkFrame> WalkPosition<F> {
         }
     }
 
-    /// Goes on to the next frame of the walk over these modules and this memory, which is `frame` then. False once the walk is
-    /// over.
+    /// Goes on as [`WalkPosition::advance`] does, for a caller that does not go on from the last frame once the walk is over: then
+    /// `frame` means nothing, so that no frame is copied before the step.
     #[tactic(auto, using(crate::proofs::FrameWalks::advanced))]
-    pub fn advance<L: LoadedModules, M: Memory>(&mut self, modules: &L, memory: &M) -> bool
+    pub fn advance_once<L: LoadedModules, M: Memory>(&mut self, modules: &L, memory: &M) -> bool
         ensures { Advances F.Calls
             (state_of (record { memory = M.word memory.now; modules = L.modules modules.now }) self.old)
             (if result then Some self.new.frame else None)
-            (state_of (record { memory = M.word memory.now; modules = L.modules modules.now }) self.new) }
+            (state_of (record { memory = M.word memory.now; modules = L.modules modules.now })
+            (record self.new { frame = if result then self.new.frame else self.old.frame })) }
     {
         if self.remaining == 0 {
             return false;
         }
-        let frame = self.frame;
         match self.follow(modules, memory) {
             Ok(()) => {
                 self.has_returned = true;
@@ -91,12 +91,27 @@ impl<F: WalkFrame> WalkPosition<F> {
                 true
             }
             Err(end) => {
-                self.frame = frame;
                 self.remaining = 0;
                 self.end = end;
                 false
             }
         }
+    }
+
+    /// Goes on to the next frame of the walk over these modules and this memory, which is `frame` then. False once the walk is
+    /// over: then `frame` stays.
+    pub fn advance<L: LoadedModules, M: Memory>(&mut self, modules: &L, memory: &M) -> bool
+        ensures { Advances F.Calls
+            (state_of (record { memory = M.word memory.now; modules = L.modules modules.now }) self.old)
+            (if result then Some self.new.frame else None)
+            (state_of (record { memory = M.word memory.now; modules = L.modules modules.now }) self.new) }
+    {
+        let frame = self.frame;
+        if self.advance_once(modules, memory) {
+            return true;
+        }
+        self.frame = frame;
+        false
     }
 
     /// The next frame of the walk over these modules and this memory. `None` once the walk is over.

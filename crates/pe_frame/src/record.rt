@@ -113,6 +113,7 @@ fn frame_base_of(
 }
 
 /// Makes the registers those before a code, if it has run.
+#[inline(always)]
 fn undo_code<M: Memory>(
     code: UnwindCode,
     limit: Option<u32>,
@@ -186,6 +187,7 @@ fn expected_base(info: &UnwindInfo<'_>, limit: Option<u32>, registers: &Register
 }
 
 /// Undoes a code if none before it was refused.
+#[inline(always)]
 fn undo_next<M: Memory>(
     left: Result<(), FrameError>,
     code: UnwindCode,

@@ -105,7 +105,9 @@ fn load_machine_frame<M: Memory>(
     Ok(())
 }
 
-/// Makes the registers those before an operation. Saved registers lie above the base.
+/// Makes the registers those before an operation. Saved registers lie above the base. Inlined, so that what decodes an operation
+/// leads to what undoes it.
+#[inline(always)]
 pub(crate) fn undo<M: Memory>(
     operation: UnwindOperation,
     base: u64,

@@ -10,7 +10,7 @@
 //! its return address is at the stack pointer, if a call ends at that. Where neither leads on, the stack is scanned.
 
 ghost use Rattle.std.specs.Prelude.{◌≡◌, ◌≤◌, ◌<◌, ◌+◌, ◌-◌, Ok, Err, IsTrue, true};
-ghost use Rattle.std.specs.Option.{option_map};
+ghost use Rattle.std.specs.Option.{is_none, option_map};
 ghost use Rattle.std.specs.Iterator.{at_most};
 ghost use Rattle.pe_frame.specs.AddressRanges.{has_address};
 ghost use Rattle.pe_frame.specs.InPlace.{changed_with};
@@ -191,14 +191,20 @@ fn without_records<L: CallSites, M: Memory>(
     }
 }
 
+/// Whether no frame is found from registers without records. Out of line, as few registers are at the bottom of a stack: the
+/// others do not pay for the room of a frame.
+#[inline(never)]
+fn is_last<L: CallSites, M: Memory>(modules: &L, memory: &M, registers: &Registers) -> bool
+    ensures { result ≡ is_none (without_records (M.word memory.now) (L.list modules.now) registers.now) }
+{
+    without_records(modules, memory, registers).is_none()
+}
+
 /// Whether the registers of a caller are those of the bottom of the stack.
 fn is_bottom<L: CallSites, M: Memory>(modules: &L, memory: &M, registers: &Registers) -> bool
     ensures { result ≡ is_bottom (M.word memory.now) (L.list modules.now) registers.now }
 {
-    if registers.rip != 0 {
-        return false;
-    }
-    without_records(modules, memory, registers).is_none()
+    registers.rip == 0 && is_last(modules, memory, registers)
 }
 
 /// The frame of the caller of a leaf function, whatever it returns to.
@@ -245,7 +251,23 @@ fn put(caller: Result<StackFrame, WalkEnd>, frame: &mut StackFrame) -> Result<()
     }
 }
 
-/// Makes a frame in no module that of its caller, or says why there is none: then the frame means nothing.
+/// Makes a frame in no function that of its caller, or says why there is none. Out of line, as nearly all frames are in a
+/// function: those do not pay for the room of another frame.
+#[inline(never)]
+fn become_caller_of_leaf<L: CallSites, M: Memory>(
+    modules: &L,
+    frame: &mut StackFrame,
+    memory: &M,
+) -> Result<(), WalkEnd>
+    ensures { frame_left result frame.new
+        ≡ caller_of_leaf (M.word memory.now) (L.list modules.now) frame.old }
+{
+    let caller = caller_of_leaf(modules, frame, memory);
+    put(caller, frame)
+}
+
+/// Makes a frame in no module that of its caller, or says why there is none. Out of line, as `become_caller_of_leaf`.
+#[inline(never)]
 pub fn caller_outside<L: CallSites, M: Memory>(
     modules: &L,
     frame: &mut StackFrame,
@@ -360,7 +382,7 @@ pub fn caller_in_module<L: CallSites, M: Memory>(
         frame.old (Some module.now) (frame_left result frame.new) }
 {
     let Some(exceptions) = module.exceptions else {
-        return put(caller_of_leaf(modules, frame, memory), frame);
+        return become_caller_of_leaf(modules, frame, memory);
     };
     let mut table = exceptions.table();
     match search(&mut table, module.rva_of(frame.lookup_address())) {
@@ -373,7 +395,7 @@ pub fn caller_in_module<L: CallSites, M: Memory>(
             let rva = module.rva_of(frame.registers.rip);
             caller_by_records(modules, &found, frame, rva, memory)
         }
-        None => put(caller_of_leaf(modules, frame, memory), frame),
+        None => become_caller_of_leaf(modules, frame, memory),
     }
 }
 
