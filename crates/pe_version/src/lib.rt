@@ -6,10 +6,16 @@
 mod block;
 mod error;
 pub mod laws;
+mod measure;
+mod put;
 mod read;
+mod record;
 mod version;
+mod by_records;
 
 pub use block::{NewBlock, block_len, write_block};
 pub use error::VersionError;
 pub use read::{ReadError, TableTexts, VersionTexts, read_version};
+pub use record::{LanguageRecord, StringRecord, TableRecord, VersionRecords};
 pub use version::{StringTable, VersionText, VersionValue, version_bytes};
+pub use by_records::{version_len, write_version};
