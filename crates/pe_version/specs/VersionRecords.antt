@@ -5,6 +5,7 @@ use Rattle.pe_core.specs.Bytes.{bytes_of, holds}
 use Rattle.pe_core.specs.Refusals.{Short, outcome, ◌>>=◌}
 use Rattle.pe_edit.specs.Views.{part_of}
 use Rattle.pe_resource.specs.VersionStrings.{up_to_four}
+use Rattle.pe_resource.specs.declared.version.VsFixedFileInfo.{VsFixedFileInfo}
 use Rattle.pe_resource.specs.declared.version_block.Translation.{Translation}
 use Rattle.pe_version.specs.VersionRefusals.{VersionRefusal, Image, block_tests}
 use Rattle.pe_version.specs.VersionValues.{TableValue, TextValue, Value, blocks_of_table, table_block, table_blocks, text_block, text_blocks, translation_block, variables_block, version_of}
@@ -29,12 +30,11 @@ strings_of rs t = if nat_le (t.first + t.count) (length rs) then take t.count (d
 abbrev pub table_of : List ℕ → List StringRecord → TableRecord → TableValue
 table_of d rs t = record { translation = pair_of t.language; strings = map (text_of d) (strings_of rs t) }
 
+abbrev pub value_at : VsFixedFileInfo → List TableRecord → List StringRecord → List LanguageRecord → List ℕ → Value
+value_at fixed ts rs ps d = record { fixed = fixed; tables = map (table_of d rs) ts; translations = map pair_of ps }
+
 abbrev pub value_of : VersionRecords → Value
-value_of v = record {
-  fixed = v.fixed.now;
-  tables = map (table_of v.texts.now v.strings.now) v.tables.now;
-  translations = map pair_of v.translations.now;
-}
+value_of v = value_at v.fixed.now v.tables.now v.strings.now v.translations.now v.texts.now
 
 -- ---- the ranges lie in their arrays
 
@@ -44,14 +44,18 @@ string_fits d r = holds d r.name.offset r.name.length && holds d r.text.offset r
 abbrev pub table_fits : ℕ → TableRecord → Bool
 table_fits n t = nat_le (t.first + t.count) n
 
+abbrev pub tests_at : List TableRecord → List StringRecord → List ℕ → List (Bool × VersionRefusal)
+tests_at ts rs d = (list_all (string_fits d) rs, Image Short) ∷ (list_all (table_fits (length rs)) ts, Image Short) ∷ []
+
 abbrev pub record_tests : VersionRecords → List (Bool × VersionRefusal)
-record_tests v =
-    (list_all (string_fits v.texts.now) v.strings.now, Image Short)
-    ∷ (list_all (table_fits (length v.strings.now)) v.tables.now, Image Short) ∷ []
+record_tests v = tests_at v.tables.now v.strings.now v.texts.now
 
 -- what is written of them
+abbrev pub version_at : VsFixedFileInfo → List TableRecord → List StringRecord → List LanguageRecord → List ℕ → Result (List ℕ) VersionRefusal
+version_at fixed ts rs ps d = outcome {Y = Unit {0}} (tests_at ts rs d) tt >>= λ u. version_of (value_at fixed ts rs ps d)
+
 abbrev pub records_version : VersionRecords → Result (List ℕ) VersionRefusal
-records_version v = outcome {Y = Unit {0}} (record_tests v) tt >>= λ u. version_of (value_of v)
+records_version v = version_at v.fixed.now v.tables.now v.strings.now v.translations.now v.texts.now
 
 -- ---- what is written of the parts of a value, or the first refusal
 

@@ -11,20 +11,22 @@ ghost use Rattle.pe_version.specs.WrittenBlocks.{AllFit, Fits, padded_block, pad
 
 use crate::block::{UNIT, type_number};
 use crate::record::{LanguageRecord, StringRecord, TableRecord, VersionRecords, part_of};
-use crate::version::{
-    key_of, numbers_of, root_key, strings_key, translation_key, variables_key,
-};
+use crate::version::{key_of, numbers_of, root_key, strings_key, translation_key, variables_key};
 use pe_core::{rounded_up, set_slice, set_u16, set_u32, set_zeros};
 
 /// Where the strings of a table start in its block, the tables in theirs, `Translation` in its parent, and the languages and code
 /// pages in that.
 const TABLE_START: usize = 24;
+
 const STRINGS_START: usize = 36;
+
 const VARIABLES_START: usize = 32;
+
 const PAIRS_START: usize = 32;
 
 /// Where the numbers are in the first block, and where the blocks in it start.
 const FIXED_START: usize = 40;
+
 const ROOT_START: usize = 92;
 
 /// What stands before the value of a block.
@@ -108,7 +110,12 @@ fn put_table(out: &mut [u8], at: usize, value: &VersionRecords<'_>, table: &Tabl
     ensures end { result ≡ at + padded_length (table_block
         (table_of value.now.texts.now value.now.strings.now table.now)) }
 {
-    let end = put_texts(out, at + TABLE_START, value.texts, table.strings(value.strings));
+    let end = put_texts(
+        out,
+        at + TABLE_START,
+        value.texts,
+        table.strings(value.strings),
+    );
     let key = key_of(table.language.pair());
     let head = Head {
         size: end - at,
