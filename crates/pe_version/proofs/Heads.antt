@@ -1,8 +1,8 @@
 -- Blocks that are written one inside the other: what a block has first, then its head.
-use Rattle.std.proofs.Common.{◌≡◌, ℕ, zero, suc, ◌+◌, ◌-◌, ◌*◌, ◌/◌, ◌%◌, ◌<◌, ◌≤◌, Bool, true, false, List, [], ◌∷◌, ◌++◌, length, map, take, drop, get_or, replicate, if◌then◌else◌, refl, ap, sym, ◌∙◌, subst, arith, length-append, length-take}
+use Rattle.std.proofs.Common.{◌≡◌, ℕ, zero, suc, ◌+◌, ◌-◌, ◌*◌, ◌/◌, ◌%◌, ◌<◌, ◌≤◌, Bool, true, false, List, [], ◌∷◌, ◌++◌, length, map, take, drop, get_or, replicate, refl, ap, sym, ◌∙◌, subst, arith, length-append, length-take}
 use Rattle.std.specs.Prelude.{codes}
 use Rattle.std.specs.List.{flat_map}
-use Rattle.std.proofs.lemmas.List.{append-nil, append_assoc, drop_all, drop_at, drop_more, length-replicate, take-append-le, take-take, take_at}
+use Rattle.std.proofs.lemmas.List.{append-nil, append_assoc, drop_all, drop_at, drop_more, length-replicate, take-append-le, take-take}
 use Rattle.pe_core.specs.Bytes.{bytes_of, splice}
 use Rattle.pe_core.proofs.Splices.{length-bytes_of, splice-splice}
 use Rattle.pe_resource.specs.VersionStrings.{up_to_four}
@@ -10,7 +10,7 @@ use Rattle.pe_edit.proofs.Writing.{Written, all_written, last_written, more_writ
 use Rattle.pe_version.specs.VersionRecords.{head_bytes}
 use Rattle.pe_version.specs.WrittenBlocks.{AllFit, BlockValue, Fits, before_others, block_bytes, block_length, blocks_bytes, padded_block, padded_length, type_number, value_length, value_start}
 use Rattle.pe_version.proofs.Calls.{padded_size}
-use Rattle.pe_version.specs.VersionValues.{TableValue, TextValue, Value, all_blocks, blocks_of_table, fixed_bytes, key_of, parent, root_block, strings_block, table_block, table_blocks, text_block, text_blocks, translation_block, translation_bytes, utf16, variables_block}
+use Rattle.pe_version.specs.VersionValues.{TableValue, TextValue, Value, all_blocks, blocks_of_table, fixed_bytes, parent, root_block, strings_block, table_block, table_blocks, text_block, text_blocks, translation_block, translation_bytes, utf16, variables_block}
 use Rattle.pe_resource.specs.declared.version_block.Translation.{Translation}
 use Rattle.pe_version.proofs.Flat.{length_blocks}
 use Rattle.pe_version.proofs.Measures.{before_four, length_fixed, length_pairs}

@@ -1,5 +1,5 @@
 -- The lengths of blocks that are not written yet.
-use Rattle.std.proofs.Common.{◌≡◌, ℕ, ◌+◌, ◌*◌, ◌%◌, ◌<◌, ◌≤◌, ◌==◌, ◌||◌, Bool, true, false, List, [], ◌∷◌, ◌++◌, length, map, drop, get_or, Result, Ok, Err, refl, ap, sym, ◌∙◌, subst, arith, length-append}
+use Rattle.std.proofs.Common.{◌≡◌, ℕ, ◌+◌, ◌*◌, ◌%◌, ◌<◌, ◌≤◌, ◌==◌, ◌||◌, Bool, true, false, List, [], ◌∷◌, ◌++◌, length, map, get_or, Result, Ok, Err, refl, ap, sym, ◌∙◌, subst, arith, length-append}
 use Rattle.std.specs.Prelude.{codes, if◌then◌else◌, nat_lt, not}
 use Rattle.std.specs.List.{flat_map}
 use Rattle.std.proofs.lemmas.Bool.Decides.{nat_tests}
@@ -14,7 +14,7 @@ use Rattle.pe_version.specs.VersionRecords.{Measured, capped, capped_length_of, 
 use Rattle.pe_version.specs.VersionRefusals.{VersionRefusal, Key, TooLong, VersionReturns, block_of, block_tests, key_fits, length_of}
 use Rattle.pe_version.specs.VersionValues.{TableValue, TextValue, Value, all_blocks, blocks_of_table, fixed_bytes, key_of, root_block, strings_block, table_block, table_blocks, text_block, text_blocks, translation_block, translation_bytes, utf16, variables_block, version_of}
 use Rattle.pe_version.specs.VersionViews.{each_made}
-use Rattle.pe_version.specs.WrittenBlocks.{BlockValue, Fits, before_others, block_length, blocks_bytes, padded_block}
+use Rattle.pe_version.specs.WrittenBlocks.{BlockValue, before_others, block_length, blocks_bytes, padded_block}
 use Rattle.pe_version.specs.declared.error.VersionError.{VersionError}
 use Rattle.pe_version.proofs.Calls.{padded_size}
 use Rattle.pe_version.proofs.Making.{Made, all_made, nothing_made, one_made, one_refused, passes, refused_by_length, stops, value_same}

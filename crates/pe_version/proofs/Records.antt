@@ -1,13 +1,13 @@
 -- Records that are written whole.
-use Rattle.std.proofs.Common.{◌≡◌, ℕ, ◌+◌, ◌≤◌, Bool, true, false, List, [], ◌∷◌, length, Result, Ok, Err, refl, ap, sym, ◌∙◌, arith}
+use Rattle.std.proofs.Common.{◌≡◌, ℕ, ◌+◌, ◌≤◌, true, List, length, Result, Ok, Err, ap, sym, ◌∙◌, arith}
 use Rattle.std.specs.Prelude.{nat_le}
 use Rattle.std.specs.List.{flat_map}
 use Rattle.std.proofs.lemmas.Bool.Decides.{nat_tests}
 use Rattle.pe_core.specs.Bytes.{fit_at, splice}
-use Rattle.pe_core.specs.Refusals.{Refusal, WriteFit, outcome, ◌>>=◌}
+use Rattle.pe_core.specs.Refusals.{Refusal, outcome, ◌>>=◌}
 use Rattle.pe_version.specs.VersionRecords.{record_tests, records_version, value_of}
 use Rattle.pe_version.specs.VersionRefusals.{VersionRefusal, Image, block_tests, length_of, written}
-use Rattle.pe_version.specs.VersionValues.{Value, all_blocks, root_block, version_of}
+use Rattle.pe_version.specs.VersionValues.{all_blocks, root_block, version_of}
 use Rattle.pe_version.specs.WrittenBlocks.{AllFit, padded_block, padded_length}
 use Rattle.pe_version.specs.declared.record.VersionRecords.{VersionRecords}
 use Rattle.pe_version.proofs.Calls.{fit_of, fits_by, padded_size, room_enough, too_small}

@@ -1,4 +1,3 @@
-use Rattle.std.proofs.Common.{refl}
 use Rattle.std.proofs.lemmas.Result.{err_from_is_err_and}
 use Rattle.pe_version.specs.VersionRecords.{value_of}
 use Rattle.pe_version.specs.VersionValues.{Value, strings_block}

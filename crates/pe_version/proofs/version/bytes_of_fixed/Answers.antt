@@ -1,5 +1,4 @@
-use Rattle.std.proofs.Common.{List, ℕ, Result, Ok, ap, sym}
-use Rattle.pe_version.specs.VersionRefusals.{VersionRefusal}
+use Rattle.std.proofs.Common.{List, ℕ, Ok, ap, sym}
 use Rattle.pe_version.proofs.Whole.{makes_by}
 use Rattle.pe_version.proofs.version.bytes_of_fixed.Goals as goal
 
