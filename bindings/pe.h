@@ -2261,6 +2261,51 @@ uint32_t pe_c_write_block(const uint8_t *key, size_t key_length, uint32_t is_tex
                           size_t value_length, const uint8_t *children, size_t children_length, uint8_t *room,
                           size_t room_length, uint64_t *out) PE_C_RESULT(10);
 
+/* A string of version information. Its ranges are those of an array of bytes that is passed beside it. */
+typedef struct {
+    pe_c_range name;                /* UTF-16 code units, little-endian, without a final zero */
+    pe_c_range text;                /* likewise, with a final zero */
+} pe_c_version_string;
+
+PE_C_SIZE(pe_c_version_string, 32);
+
+/* A language and a code page. */
+typedef struct {
+    uint16_t language;              /* as 0x409 for English (United States) */
+    uint16_t code_page;             /* as 1200 for UTF-16 */
+} pe_c_version_language;
+
+PE_C_SIZE(pe_c_version_language, 4);
+
+/* The strings of a language and a code page: so many of an array, one after the other. */
+typedef struct {
+    uint32_t first;                 /* the index of the first */
+    uint32_t count;
+    pe_c_version_language language; /* in which the key of the table is written */
+} pe_c_version_table;
+
+PE_C_SIZE(pe_c_version_table, 12);
+
+/* Returns the length of what pe_c_write_version writes with these arguments.
+ * Errors: those of pe_c_write_version, but for PE_C_WRITE_FIT. */
+uint32_t pe_c_version_length(const pe_c_version *fixed, const pe_c_version_table *tables, size_t table_count,
+                             const pe_c_version_string *strings, size_t string_count,
+                             const pe_c_version_language *translations, size_t translation_count, const uint8_t *texts,
+                             size_t texts_length, uint64_t *out) PE_C_RESULT(1, 10);
+
+/* Writes version information, the content of a resource of type 16 (RT_VERSION), to the start of the array, and its length to
+ * `out`. The rest of the array is unchanged, and all of it after an error. `tables` are the tables of strings, `translations` the
+ * languages and code pages that the file supports, each in its order; `texts` has the names and the texts. The array overlaps none
+ * of the others; each may be NULL if its length is 0.
+ * Errors: PE_C_SHORT where a range of a string is not inside the texts, or the strings of a table are not all there;
+ * PE_C_BLOCK_KEY where a name has an odd number of bytes, or a code unit of zero; PE_C_BLOCK_TEXT where a text has an odd number of
+ * bytes; PE_C_BLOCK_TOO_LONG where a string, a table, or a block of these has more than 65,535 bytes: of the blocks the first
+ * refusal, each after those that are in it; PE_C_WRITE_FIT where it does not fit into the array. */
+uint32_t pe_c_write_version(const pe_c_version *fixed, const pe_c_version_table *tables, size_t table_count,
+                            const pe_c_version_string *strings, size_t string_count,
+                            const pe_c_version_language *translations, size_t translation_count, const uint8_t *texts,
+                            size_t texts_length, uint8_t *room, size_t room_length, uint64_t *out) PE_C_RESULT(1, 12);
+
 /* ---- thread-local storage
  *
  * The TLS directory has the data that each thread gets a copy of, and leads to the callbacks: functions that run when a

@@ -2,9 +2,11 @@
 //! refusals.
 
 use pe_resource::{Translation, VsFixedFileInfo};
+use pe_edit::RecordRange;
 use pe_version::{
-    NewBlock, StringTable, VersionError, VersionText, VersionValue, block_len, read_version,
-    version_bytes, write_block,
+    LanguageRecord, NewBlock, StringRecord, StringTable, TableRecord, VersionError, VersionRecords,
+    VersionText, VersionValue, block_len, read_version, version_bytes, version_len, write_block,
+    write_version,
 };
 use std::alloc::Global;
 use std::test::Fail;
@@ -129,21 +131,25 @@ const WHOLE: &[&[u8]] = &[
     b"\0\0\0\0\x09\x04\xb0\x04\x07\x04\xcd\xab",
 ];
 
+/// Its numbers.
+const FIXED: VsFixedFileInfo = VsFixedFileInfo {
+    signature: 0xFEEF_04BD,
+    struct_version: 0x10000,
+    file_version_ms: 0x10002,
+    file_version_ls: 0x30004,
+    product_version_ms: 0x50006,
+    product_version_ls: 0x70008,
+    file_flags_mask: 0x3F,
+    file_flags: 2,
+    file_os: 0x40004,
+    file_type: 1,
+    file_subtype: 0,
+    file_date_ms: 0,
+    file_date_ls: 0,
+};
+
 #[test]
 fn bytes_of_version_information(rt: HostRuntime) -> Result<(), Fail> {
-    let fixed = VsFixedFileInfo {
-        signature: 0xFEEF_04BD,
-        struct_version: 0x10000,
-        file_version_ms: 0x10002,
-        file_version_ls: 0x30004,
-        product_version_ms: 0x50006,
-        product_version_ls: 0x70008,
-        file_flags_mask: 0x3F,
-        file_flags: 2,
-        file_os: 0x40004,
-        file_type: 1,
-        ..VsFixedFileInfo::default()
-    };
     let translations = [
         Translation {
             language: 0x409,
@@ -179,14 +185,11 @@ fn bytes_of_version_information(rt: HostRuntime) -> Result<(), Fail> {
         },
     ];
     let value = VersionValue {
-        fixed,
+        fixed: FIXED,
         tables: &tables,
         translations: &translations,
     };
-    let mut wanted = Vec::new(rt.alloc());
-    for part in WHOLE {
-        wanted.extend_from_slice(part)?;
-    }
+    let wanted = whole(rt.alloc())?;
     let made = version_bytes(rt.alloc(), &value)?;
     assert_eq!(rt; made.as_slice(), wanted.as_slice());
     let odd = [VersionText {
@@ -267,6 +270,150 @@ fn what_is_not_read(rt: HostRuntime) -> Result<(), Fail> {
     }
     let Ok(None) = read_version(rt.alloc(), b"") else {
         return Err("version information of no bytes".into());
+    };
+    Ok(())
+}
+
+/// Names and texts of what windres makes, one after the other: 22, 8, 6, 4, 22 and 8 bytes.
+const TEXTS: &[u8] =
+    b"C\0o\0m\0p\0a\0n\0y\0N\0a\0m\0e\0A\0b\0c\0\0\0O\0w\0n\0x\0\0\0F\0i\0l\0e\0V\0e\0r\0s\0i\0o\0n\01\0.\02\0\0\0";
+
+const fn string(offset: u64, name: u64, text: u64) -> StringRecord {
+    StringRecord {
+        name: RecordRange {
+            offset,
+            length: name,
+        },
+        text: RecordRange {
+            offset: offset + name,
+            length: text,
+        },
+    }
+}
+
+const LANGUAGES: [LanguageRecord; 2] = [
+    LanguageRecord {
+        language: 0x409,
+        code_page: 1200,
+    },
+    LanguageRecord {
+        language: 0x407,
+        code_page: 0xABCD,
+    },
+];
+
+/// The bytes of windres, of records in the caller's order of strings; each refusal leaves the buffer as it was.
+#[test]
+fn records_are_written(rt: HostRuntime) -> Result<(), Fail> {
+    let strings = [string(40, 22, 8), string(0, 22, 8), string(30, 6, 4)];
+    let table = |first, count, language| TableRecord {
+        first,
+        count,
+        language,
+    };
+    let tables = [table(1, 2, LANGUAGES[0]), table(0, 1, LANGUAGES[1])];
+    let value = VersionRecords {
+        fixed: &FIXED,
+        tables: &tables,
+        strings: &strings,
+        translations: &LANGUAGES,
+        texts: TEXTS,
+    };
+    let mut wanted = whole(rt.alloc())?;
+    let size = wanted.len();
+    assert_eq!(rt; version_len(&value)?, size);
+    let mut out = vec![in rt.alloc(); OLD; size + 3]?;
+    assert_eq!(rt; write_version(&value, &mut out)?, size);
+    wanted.extend_from_slice(&[OLD; 3])?;
+    assert_eq!(rt; out.as_slice(), wanted.as_slice());
+
+    let mut small = vec![in rt.alloc(); OLD; size - 1]?;
+    let Err(VersionError::Image(_)) = write_version(&value, &mut small) else {
+        return Err("a buffer is too small by one byte".into());
+    };
+    assert_eq!(rt; small.iter().all(|byte| *byte == OLD), true);
+    // A string that ends after the texts, and a table after the strings.
+    for (strings, tables) in [
+        ([string(41, 22, 8), strings[1], strings[2]], tables),
+        (strings, [tables[0], table(3, 1, LANGUAGES[1])]),
+    ] {
+        let value = VersionRecords {
+            tables: &tables,
+            strings: &strings,
+            ..value
+        };
+        let Err(VersionError::Image(_)) = version_len(&value) else {
+            return Err("a range is outside".into());
+        };
+    }
+    // Half a code unit as a text of the last table comes before the name with a zero, which no table has.
+    let strings = [string(40, 22, 7), strings[1], string(62, 8, 0)];
+    let value = VersionRecords {
+        tables: &[table(1, 1, LANGUAGES[0]), table(0, 1, LANGUAGES[1])],
+        strings: &strings,
+        ..value
+    };
+    let Err(VersionError::Text) = write_version(&value, &mut small) else {
+        return Err("half a code unit is accepted".into());
+    };
+    assert_eq!(rt; small.iter().all(|byte| *byte == OLD), true);
+    Ok(())
+}
+
+/// Strings of 65,535 bytes in all are the most: what refuses is the sum, and a later name with a zero is refused before it.
+#[test]
+fn records_that_are_too_long(rt: HostRuntime) -> Result<(), Fail> {
+    let texts = vec![in rt.alloc(); 1u8; 40_000]?;
+    let long = StringRecord {
+        name: RecordRange {
+            offset: 0,
+            length: 2,
+        },
+        text: RecordRange {
+            offset: 0,
+            length: 32_700,
+        },
+    };
+    let table = TableRecord {
+        first: 0,
+        count: 2,
+        language: LANGUAGES[0],
+    };
+    let value = VersionRecords {
+        fixed: &FIXED,
+        tables: &[table],
+        strings: &[long, long],
+        translations: &[],
+        texts: &texts,
+    };
+    // The table has 24 + 2 * (12 + 32,700) bytes; its parents 36, 64 and 92 more.
+    assert_eq!(rt; version_len(&value)?, 65_448 + 36 + 64 + 92);
+    let longer = StringRecord {
+        text: RecordRange {
+            offset: 0,
+            length: 32_800,
+        },
+        ..long
+    };
+    let odd = StringRecord {
+        name: RecordRange {
+            offset: 0,
+            length: 3,
+        },
+        ..long
+    };
+    let Err(VersionError::TooLong(_)) = version_len(&VersionRecords {
+        strings: &[long, longer],
+        ..value
+    }) else {
+        return Err("a table of more than 65,535 bytes".into());
+    };
+    let Err(VersionError::Key) = version_len(&VersionRecords {
+        tables: &[TableRecord { count: 3, ..table }],
+        strings: &[long, longer, odd],
+        ..value
+    }) else {
+        return Err("a name of three bytes".into());
     };
     Ok(())
 }

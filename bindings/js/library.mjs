@@ -10,7 +10,7 @@ import { abi, calls, constants, records, results, version } from './layouts.mjs'
 import { Memory, PeError } from './memory.mjs';
 import { Coff, TeImage } from './objects.mjs';
 import { Process } from './process.mjs';
-import { blockOf, versionInfo } from './resources.mjs';
+import { blockOf, versionOf } from './resources.mjs';
 
 export { Coff, Dump, File, Image, PeError, Process, TeImage };
 export { abi, calls, constants, records, results, version };
@@ -74,7 +74,7 @@ export class Library {
 
   /** The content of a version resource: numbers, and strings by their names. */
   versionInfo(parts) {
-    return this.versionBlock(versionInfo(parts));
+    return versionOf(this.#caller(), parts);
   }
 
   #caller() {

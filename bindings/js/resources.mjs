@@ -5,8 +5,8 @@ import { whole } from './memory.mjs';
 
 // The most leaves that a tree can be written of, and the most bytes that their names can have.
 const MOST = 65535, MOST_NAMES = 1 << 24;
-// VS_FIXEDFILEINFO: its length, its signature and the version of its form, and UTF-16 as a code page.
-const FIXED = 52, SIGNATURE = [0xFEEF04BD, 0x10000], UNICODE = 1200;
+// The signature of VS_FIXEDFILEINFO, and UTF-16 as a code page.
+const SIGNATURE = 0xFEEF04BD, UNICODE = 1200;
 
 /** The code units of a text, little-endian. A text of JavaScript has them, an unpaired surrogate too. */
 function units(text) {
@@ -29,6 +29,21 @@ function joined(parts) {
     at += it.length;
   }
   return bytes;
+}
+
+/** Parts of an array, and what adds one and returns its range. */
+function ranges() {
+  const parts = [];
+  let end = 0n;
+  return {
+    parts,
+    range(bytes) {
+      const offset = end;
+      parts.push(bytes);
+      end += BigInt(bytes.length);
+      return { offset, length: end - offset };
+    },
+  };
 }
 
 // ---- resources
@@ -67,14 +82,7 @@ function order(one, other) {
 export function recordsOf(resources) {
   const sorted = [...resources].sort((one, other) => order(one.type, other.type) || order(one.name, other.name)
     || order(one.language, other.language));
-  const parts = [];
-  let end = 0n;
-  const range = (bytes) => {
-    const offset = end;
-    parts.push(bytes);
-    end += BigInt(bytes.length);
-    return { offset, length: end - offset };
-  };
+  const { parts, range } = ranges();
   const number = (value) => whole('uint32_t', value);
   const key = (it) => (isText(it) ? { name: range(units(it)), has_name: 1 } : { id: number(it) });
   const records = sorted.map((it) => ({
@@ -99,20 +107,23 @@ export function blockOf(caller, { key, text = '', value, children = [] }) {
   return room;
 }
 
-/** The block VS_VERSION_INFO of one language. */
-export function versionInfo({ fileVersion = [0, 0, 0, 0], productVersion = fileVersion, language = 0, strings = {} }) {
-  const fixed = new Uint8Array(FIXED), view = new DataView(fixed.buffer);
+/** Version information of one language, as bytes. */
+export function versionOf(caller, { fileVersion = [0, 0, 0, 0], productVersion = fileVersion, language = 0, strings = {} }) {
   const word = (value) => whole('uint16_t', value), double = (high, low) => word(high) * 0x10000 + word(low);
-  [...SIGNATURE, ...[fileVersion, productVersion].flatMap(([a, b, c, d]) => [double(a, b), double(c, d)])]
-    .forEach((it, i) => view.setUint32(4 * i, it, true));
-  const id = (value) => word(value).toString(16).toUpperCase().padStart(4, '0');
-  const rows = Object.entries(strings).map(([key, text]) => ({ key, text }));
-  const pair = new Uint8Array(Uint16Array.of(language, UNICODE).buffer);
-  return {
-    key: 'VS_VERSION_INFO', value: fixed,
-    children: [
-      { key: 'StringFileInfo', children: [{ key: id(language) + id(UNICODE), children: rows }] },
-      { key: 'VarFileInfo', children: [{ key: 'Translation', value: pair }] },
-    ],
+  const [file, product] = [fileVersion, productVersion].map(([a, b, c, d]) => [double(a, b), double(c, d)]);
+  const rows = Object.entries(strings).map(([key, text]) => ({ name: units(key), text: units(text ? `${text}\0` : '') }));
+  // A reader takes a text up to its first zero.
+  if (Object.values(strings).some((it) => it.includes('\0'))) throw memoryOf(caller).error('pe_c_version_length', constants.PE_C_BLOCK_TEXT);
+  const { parts, range } = ranges(), pair = { language: word(language), code_page: UNICODE };
+  const given = {
+    fixed: {
+      signature: SIGNATURE, struct_version: 0x10000, file_version_ms: file[0], file_version_ls: file[1],
+      product_version_ms: product[0], product_version_ls: product[1],
+    },
+    tables: [{ first: 0, count: rows.length, language: pair }], translations: [pair],
+    strings: rows.map((it) => ({ name: range(it.name), text: range(it.text) })), texts: joined(parts),
   };
+  const room = new Uint8Array(Number(caller.call('pe_c_version_length', given)));
+  caller.call('pe_c_write_version', { ...given, room });
+  return room;
 }

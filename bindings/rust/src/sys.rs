@@ -1191,6 +1191,32 @@ Resource, 72 {
     code_page: u32,
 });
 record!(
+/// A string of version information that is written. Its ranges are those of an array of bytes that is passed beside it.
+VersionString, 32 {
+    /// UTF-16 code units, little-endian, without a final zero.
+    name: Range,
+    /// Likewise, with a final zero.
+    text: Range,
+});
+record!(
+/// A language and a code page.
+VersionLanguage, 4 {
+    /// As 0x409 for English (United States).
+    language: u16,
+    /// As 1200 for UTF-16.
+    code_page: u16,
+});
+record!(
+/// The strings of a language and a code page: so many of an array, one after the other.
+VersionTable, 12 {
+    /// The index of the first.
+    first: u32,
+    /// How many there are.
+    count: u32,
+    /// In which the key of the table is written.
+    language: VersionLanguage,
+});
+record!(
 /// A leaf of a resource tree. See [`ResourceLeaf`](crate::ResourceLeaf).
 ResourceLeaf, 104 {
     /// An id is `RT_` of winuser.h.
@@ -2211,6 +2237,34 @@ extern "C" {
         value_length: usize,
         children: *const u8,
         children_length: usize,
+        room: *mut u8,
+        room_length: usize,
+        out: *mut u64,
+    ) -> u32;
+    /// Returns the length of the version information that [`pe_c_write_version`] writes.
+    pub fn pe_c_version_length(
+        fixed: *const Version,
+        tables: *const VersionTable,
+        table_count: usize,
+        strings: *const VersionString,
+        string_count: usize,
+        translations: *const VersionLanguage,
+        translation_count: usize,
+        texts: *const u8,
+        texts_length: usize,
+        out: *mut u64,
+    ) -> u32;
+    /// Writes version information to the start of an array, and returns its length.
+    pub fn pe_c_write_version(
+        fixed: *const Version,
+        tables: *const VersionTable,
+        table_count: usize,
+        strings: *const VersionString,
+        string_count: usize,
+        translations: *const VersionLanguage,
+        translation_count: usize,
+        texts: *const u8,
+        texts_length: usize,
         room: *mut u8,
         room_length: usize,
         out: *mut u64,

@@ -58,6 +58,11 @@ impl Block {
         self.key == units_of(key)
     }
 
+    /// Whether it has this key and no value, as a block of others.
+    fn is_parent(&self, key: &str) -> bool {
+        self.is(key) && self.is_text && self.value.is_empty()
+    }
+
     /// Its bytes, at the end of the given ones.
     fn write(&self, out: &mut Vec<u8>) -> Result<(), Error> {
         let mut children = Vec::new();
@@ -97,6 +102,128 @@ impl Block {
         })?;
         out.extend_from_slice(&block);
         Ok(())
+    }
+}
+
+/// Version information as the records that [`pe_c_write_version`](sys::pe_c_write_version) takes.
+#[derive(Default)]
+struct Records {
+    fixed: sys::Version,
+    tables: Vec<sys::VersionTable>,
+    strings: Vec<sys::VersionString>,
+    translations: Vec<sys::VersionLanguage>,
+    texts: Vec<u8>,
+}
+
+/// Numbers of four bytes.
+fn numbers_of(bytes: &[u8]) -> impl Iterator<Item = u32> + '_ {
+    bytes.chunks_exact(4).map(|it| u32::from_le_bytes([it[0], it[1], it[2], it[3]]))
+}
+
+/// A language and a code page in one number: the language in the low half.
+fn language_of(number: u32) -> sys::VersionLanguage {
+    sys::VersionLanguage { language: number as u16, code_page: (number >> 16) as u16 }
+}
+
+/// The numbers of a value of 52 bytes.
+fn fixed_of(value: &[u8]) -> Option<sys::Version> {
+    let numbers: Vec<u32> = numbers_of(value).collect();
+    let Ok([signature, struct_version, file_version_ms, file_version_ls, product_version_ms, product_version_ls, file_flags_mask, file_flags, file_os, file_type, file_subtype, file_date_ms, file_date_ls]) =
+        <[u32; SIZE_OF_FIXED / 4]>::try_from(numbers)
+    else {
+        return None;
+    };
+    Some(sys::Version {
+        signature,
+        struct_version,
+        file_version_ms,
+        file_version_ls,
+        product_version_ms,
+        product_version_ls,
+        file_flags_mask,
+        file_flags,
+        file_os,
+        file_type,
+        file_subtype,
+        file_date_ms,
+        file_date_ls,
+    })
+}
+
+impl Records {
+    /// The records that are written as these blocks; `None` where there are others than those of a value, which are written
+    /// block by block.
+    fn of(root: &Block) -> Option<Self> {
+        let [strings, variables] = &root.children[..] else { return None };
+        let [translation] = &variables.children[..] else { return None };
+        let is_whole = root.is("VS_VERSION_INFO")
+            && !root.is_text
+            && root.value.len() == SIZE_OF_FIXED
+            && strings.is_parent("StringFileInfo")
+            && variables.is_parent("VarFileInfo")
+            && translation.is("Translation")
+            && !translation.is_text
+            && translation.value.len() % 4 == 0
+            && translation.children.is_empty();
+        if !is_whole {
+            return None;
+        }
+        let translations = numbers_of(&translation.value).map(language_of).collect();
+        let mut records = Records { fixed: fixed_of(&root.value)?, translations, ..Records::default() };
+        for table in &strings.children {
+            records.add_table(table)?;
+        }
+        Some(records)
+    }
+
+    fn add_table(&mut self, table: &Block) -> Option<()> {
+        let number = u32::from_str_radix(&text_of(&table.key), 16).ok()?;
+        if !table.is_parent(&alloc::format!("{number:08X}")) {
+            return None;
+        }
+        let first = u32::try_from(self.strings.len()).ok()?;
+        for string in &table.children {
+            if !string.is_text || !string.children.is_empty() {
+                return None;
+            }
+            let record = sys::VersionString { name: self.range(&string.key), text: self.range(&string.value) };
+            self.strings.push(record);
+        }
+        let count = u32::try_from(table.children.len()).ok()?;
+        self.tables.push(sys::VersionTable { first, count, language: language_of(number.rotate_left(16)) });
+        Some(())
+    }
+
+    fn range(&mut self, part: &[u8]) -> sys::Range {
+        let offset = self.texts.len() as u64;
+        self.texts.extend_from_slice(part);
+        sys::Range { offset, length: part.len() as u64 }
+    }
+
+    fn write(&self) -> Result<Vec<u8>, Error> {
+        /// A call of these records. Its other arguments are lent for the call; a room is apart from the others.
+        macro_rules! call {
+            ($call:ident, $($argument:expr),+) => {
+                // SAFETY: each pointer and length are those of one slice.
+                unsafe {
+                    sys::$call(
+                        &self.fixed,
+                        self.tables.as_ptr(),
+                        self.tables.len(),
+                        self.strings.as_ptr(),
+                        self.strings.len(),
+                        self.translations.as_ptr(),
+                        self.translations.len(),
+                        self.texts.as_ptr(),
+                        self.texts.len(),
+                        $($argument),+
+                    )
+                }
+            };
+        }
+        let mut length = 0;
+        Error::of(call!(pe_c_version_length, &mut length))?;
+        file_of(length, |room, written| call!(pe_c_write_version, room.as_mut_ptr(), room.len(), written))
     }
 }
 
@@ -242,6 +369,9 @@ impl VersionInfo {
     /// [`Error::BLOCK_TOO_LONG`] where a block has more than 65,535 bytes; [`Error::BLOCK_TEXT`] where a text that was read has an
     /// odd number of bytes; [`Error::MEMORY`].
     pub fn to_bytes(&self) -> Result<Vec<u8>, Error> {
+        if let Some(records) = Records::of(&self.root) {
+            return records.write();
+        }
         let mut out = Vec::new();
         self.root.write(&mut out)?;
         Ok(out)

@@ -13,7 +13,7 @@ use Rattle.pe_version.specs.VersionRefusals.{VersionRefusal, block_of}
 use Rattle.pe_version.specs.VersionRefusals as versions
 use Rattle.pe_version.specs.WrittenBlocks.{BlockValue}
 use Rattle.pe_c.specs.ResourceEdits.{edited_at, headers_numbered, length_numbered, numbered, records_numbered, rewrite_number, written_numbered}
-use Rattle.pe_c.specs.VersionWrites.{block_at, version_number}
+use Rattle.pe_c.specs.VersionWrites.{block_at, version_number, version_numbered}
 use Rattle.pe_c.specs.declared.image.Image as images
 
 same_refusal : {X R : Type 0} (q r : R) → ◌≡◌ {A = Result X R} (Err q) (Err r) → q ≡ r
@@ -54,3 +54,10 @@ block_length_refused k r n e is = length_refused version_number (block_of k) r e
 pub block_refused : (k : BlockValue) (old : List ℕ) (r : VersionRefusal) (n : ℕ) → versions.written (block_of k) old ≡ Err r → n ≡ version_number r → written_numbered (block_at k) old ≡ Err n
 block_refused k old r n e is =
     written_refused version_number (versions.Image WriteFit) 37 (block_of k) old r refl e ∙ err_by (version_number r) n (sym is)
+
+pub version_length_refused : (made : Result (List ℕ) VersionRefusal) (r : VersionRefusal) (n : ℕ) → versions.length_of made ≡ Err r → n ≡ version_number r → length_numbered (version_numbered made) ≡ Err n
+version_length_refused made r n e is = length_refused version_number made r e ∙ err_by (version_number r) n (sym is)
+
+pub version_refused : (made : Result (List ℕ) VersionRefusal) (old : List ℕ) (r : VersionRefusal) (n : ℕ) → versions.written made old ≡ Err r → n ≡ version_number r → written_numbered (version_numbered made) old ≡ Err n
+version_refused made old r n e is =
+    written_refused version_number (versions.Image WriteFit) 37 made old r refl e ∙ err_by (version_number r) n (sym is)

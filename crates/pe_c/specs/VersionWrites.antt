@@ -20,3 +20,7 @@ block_with key is_text value children = record { key = key; is_text = not (is_te
 -- its bytes, as pe_version writes them
 abbrev pub block_at : BlockValue → Result (List ℕ) ℕ
 block_at k = numbered version_number (block_of k)
+
+-- what pe_version writes, or the number of its refusal
+abbrev pub version_numbered : Result (List ℕ) VersionRefusal → Result (List ℕ) ℕ
+version_numbered made = numbered version_number made

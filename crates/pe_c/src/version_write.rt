@@ -1,14 +1,19 @@
-//! Blocks of version information written. A caller writes the innermost blocks first, one after the other, and passes their bytes
-//! to the block that has them.
+//! Version information written: whole, of records with their names and texts as ranges of one array of bytes; or a block at a
+//! time, where a caller writes the innermost blocks first, one after the other, and passes their bytes to the block that has them.
 //! https://learn.microsoft.com/windows/win32/menurc/vs-versioninfo
 
 ghost use Rattle.std.specs.Prelude.{◌≡◌};
 ghost use Rattle.pe_version.specs.VersionRefusals.{block_view, version_kind_of};
 ghost use Rattle.pe_c.specs.ResourceEdits.{HandsOutByNumber, HandsOutFile, NumberReturns, NumberReturnsWritten, length_numbered, written_numbered};
-ghost use Rattle.pe_c.specs.VersionWrites.{block_at, block_with, version_number};
+ghost use Rattle.pe_c.specs.VersionWrites.{block_at, block_with, version_numbered, version_number};
+ghost use Rattle.pe_version.specs.VersionRecords.{records_version, version_at};
 
 use crate::results::{DONE, number_of};
-use pe_version::{NewBlock, VersionError, block_len, write_block};
+use pe_resource::VsFixedFileInfo;
+use pe_version::{
+    LanguageRecord, NewBlock, StringRecord, TableRecord, VersionError, VersionRecords, block_len,
+    version_len, write_block, write_version,
+};
 
 /// The number of an error of a version block. It stays the same from version to version. `tools/make_errors` writes the arms.
 fn number_of_version(error: &VersionError) -> u32
@@ -95,6 +100,95 @@ pub extern "C" fn pe_c_write_block(
         children,
     };
     match write_to(&block, room) {
+        Ok(length) => {
+            *out = length as u64;
+            DONE
+        }
+        Err(number) => number,
+    }
+}
+
+fn version_length(value: &VersionRecords) -> Result<u64, u32>
+    ensures { NumberReturns
+        (λ n. n) result (length_numbered (version_numbered (records_version value.now))) }
+{
+    match version_len(value) {
+        Ok(length) => Ok(length as u64),
+        Err(error) => Err(number_of_version(&error)),
+    }
+}
+
+/// Returns the length of what `pe_c_write_version` writes with these arguments.
+///
+/// Errors: those of `pe_c_write_version`, but for that of the room.
+#[unsafe(no_mangle)]
+pub extern "C" fn pe_c_version_length(
+    fixed: &VsFixedFileInfo,
+    tables: &[TableRecord],
+    strings: &[StringRecord],
+    translations: &[LanguageRecord],
+    texts: &[u8],
+    out: &mut u64,
+) -> u32
+    ensures { HandsOutByNumber result out.old out.new (length_numbered (version_numbered
+        (version_at fixed.now tables.now strings.now translations.now texts.now))) }
+{
+    let value = VersionRecords {
+        fixed,
+        tables,
+        strings,
+        translations,
+        texts,
+    };
+    match version_length(&value) {
+        Ok(length) => {
+            *out = length;
+            DONE
+        }
+        Err(number) => number,
+    }
+}
+
+fn version_to(value: &VersionRecords, room: &mut [u8]) -> Result<usize, u32>
+    ensures { NumberReturnsWritten result
+        (written_numbered (version_numbered (records_version value.now)) room.old)
+        room.old room.new }
+{
+    match write_version(value, room) {
+        Ok(length) => Ok(length),
+        Err(error) => Err(number_of_version(&error)),
+    }
+}
+
+/// Writes version information, the content of a resource of type 16 (`RT_VERSION`), to the start of `room`, and its length to
+/// `out`. The rest of the room is unchanged. Names and texts are ranges of `texts`, the strings of a table a range of `strings`.
+///
+/// Errors: `SHORT` if a range is not inside its array; of the blocks, each after those that it has, `BLOCK_KEY` if the name of a
+/// string has an odd number of bytes or a code unit of zero, `BLOCK_TEXT` if its text has an odd number of bytes,
+/// `BLOCK_TOO_LONG`; `WRITE_FIT` if it does not fit into the room. After an error `room` is unchanged.
+#[unsafe(no_mangle)]
+pub extern "C" fn pe_c_write_version(
+    fixed: &VsFixedFileInfo,
+    tables: &[TableRecord],
+    strings: &[StringRecord],
+    translations: &[LanguageRecord],
+    texts: &[u8],
+    room: &mut [u8],
+    out: &mut u64,
+) -> u32
+    ensures { HandsOutFile result out.old out.new room.old room.new (written_numbered
+        (version_numbered
+        (version_at fixed.now tables.now strings.now translations.now texts.now))
+        room.old) }
+{
+    let value = VersionRecords {
+        fixed,
+        tables,
+        strings,
+        translations,
+        texts,
+    };
+    match version_to(&value, room) {
         Ok(length) => {
             *out = length as u64;
             DONE

@@ -61,15 +61,15 @@ written_refused k old r e = ap (λ (x : Result (List ℕ) VersionRefusal). writt
 
 -- ---- the buffer
 
-too_small : (t : Bool) (r : Refusal) (x : ℕ × List ℕ) → outcome {Y = Unit {0}} ((t, WriteFit) ∷ []) tt ≡ Err r → outcome ((t, Image WriteFit) ∷ []) x ≡ Err (Image r)
+pub too_small : (t : Bool) (r : Refusal) (x : ℕ × List ℕ) → outcome {Y = Unit {0}} ((t, WriteFit) ∷ []) tt ≡ Err r → outcome ((t, Image WriteFit) ∷ []) x ≡ Err (Image r)
 too_small true r x h = absurd cc
 too_small false r x h = let same : WriteFit ≡ r = cc in ap (λ k. Err (Image k)) same
 
-room_enough : (t : Bool) (x : ℕ × List ℕ) (u : Unit {0}) → outcome {Y = Unit {0}} ((t, WriteFit) ∷ []) tt ≡ Ok u → outcome ((t, Image WriteFit) ∷ []) x ≡ Ok x
+pub room_enough : (t : Bool) (x : ℕ × List ℕ) (u : Unit {0}) → outcome {Y = Unit {0}} ((t, WriteFit) ∷ []) tt ≡ Ok u → outcome ((t, Image WriteFit) ∷ []) x ≡ Ok x
 room_enough true x u h = refl
 room_enough false x u h = absurd cc
 
-fit_of : (f old : List ℕ) (n : ℕ) (r : Result (Unit {0}) Refusal) → length f ≡ n → fit_at old 0 n ≡ r → outcome {Y = Unit {0}} ((nat_le (length f) (length old), WriteFit) ∷ []) tt ≡ r
+pub fit_of : (f old : List ℕ) (n : ℕ) (r : Result (Unit {0}) Refusal) → length f ≡ n → fit_at old 0 n ≡ r → outcome {Y = Unit {0}} ((nat_le (length f) (length old), WriteFit) ∷ []) tt ≡ r
 fit_of f old n r same h = let start : 0 + n ≡ length f = omega (arith, same) in rw start at h
 
 size_is : (k : BlockValue) (p : Parts) (n : ℕ) → outcome (block_tests k) (parts_of k) ≡ Ok p → n ≡ up_to_four p.end → length (padded_block k) ≡ n
@@ -80,7 +80,7 @@ room_short k p old n r e is h =
     let f : List ℕ = padded_block k in
     ap (λ (x : Result (List ℕ) VersionRefusal). written x old) (made k p e) ∙ too_small (nat_le (length f) (length old)) r (length f, splice old 0 f) (fit_of f old n (Err r) (size_is k p n e is) h)
 
-fits_by : (t : Bool) (u : Unit {0}) → outcome {Y = Unit {0}} ((t, WriteFit) ∷ []) tt ≡ Ok u → t ≡ true
+pub fits_by : (t : Bool) (u : Unit {0}) → outcome {Y = Unit {0}} ((t, WriteFit) ∷ []) tt ≡ Ok u → t ≡ true
 fits_by true u h = refl
 fits_by false u h = absurd cc
 

@@ -10,3 +10,6 @@ pub mod ValuesRead
 pub mod Flat
 pub mod Named
 pub mod Setting
+pub mod Measures
+pub mod Heads
+pub mod Records

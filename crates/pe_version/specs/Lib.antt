@@ -4,3 +4,4 @@ pub mod VersionValues
 pub mod VersionViews
 pub mod VersionReads
 pub mod VersionStrings
+pub mod VersionRecords

@@ -11,10 +11,10 @@ use crate::error::VersionError;
 use pe_core::{read_u16, require_room, rounded_up, set_slice, set_u16, set_zeros};
 
 /// The most bytes that a block has.
-const MOST: usize = 65_535;
+pub const MOST: usize = 65_535;
 
 /// Values and blocks start at a multiple of this many bytes.
-const UNIT: usize = 4;
+pub const UNIT: usize = 4;
 
 /// A block that is written.
 #[derive(Clone, Copy, Debug)]
@@ -39,7 +39,7 @@ pub struct Parts {
 
 /// Whether a key has whole code units, of which none is zero.
 #[tactic(auto, using(crate::proofs::Keys::unit_is_zero, crate::proofs::Keys::more_units, crate::proofs::Keys::all_units))]
-fn key_fits(key: &[u8]) -> bool
+pub fn key_fits(key: &[u8]) -> bool
     ensures { result ≡ key_fits key.now }
 {
     let mut at = 0;
@@ -116,7 +116,7 @@ fn value_length(block: &NewBlock<'_>) -> usize
 }
 
 /// The number of the type of its value: 1 for a text.
-fn type_number(is_text: bool) -> u16
+pub fn type_number(is_text: bool) -> u16
     ensures { result ≡ type_number is_text }
 {
     if is_text { 1 } else { 0 }

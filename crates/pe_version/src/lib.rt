@@ -4,12 +4,18 @@
 #![tactic(auto)]
 
 mod block;
+mod by_records;
 mod error;
 pub mod laws;
+mod measure;
+mod put;
 mod read;
+mod record;
 mod version;
 
 pub use block::{NewBlock, block_len, write_block};
+pub use by_records::{version_len, write_version};
 pub use error::VersionError;
 pub use read::{ReadError, TableTexts, VersionTexts, read_version};
+pub use record::{LanguageRecord, StringRecord, TableRecord, VersionRecords};
 pub use version::{StringTable, VersionText, VersionValue, version_bytes};

@@ -103,7 +103,7 @@ fn hex_digit(digit: u16) -> u8
 }
 
 /// The key of the table of a language and a code page: eight hexadecimal digits in UTF-16.
-fn key_of(pair: Translation) -> [u8; 16]
+pub fn key_of(pair: Translation) -> [u8; 16]
     ensures { result ≡ key_of pair }
 {
     let (language, code_page) = (pair.language, pair.code_page);
@@ -202,14 +202,11 @@ fn bytes_of_numbers<A: Allocator + Copy + Drop>(
     Ok(bytes)
 }
 
-/// The fixed file information.
-fn bytes_of_fixed<A: Allocator + Copy + Drop>(
-    alloc: A,
-    fixed: &VsFixedFileInfo,
-) -> Result<Vec<u8, A>, VersionError>
-    ensures { Makes (λ v. v.items) result (Ok (fixed_bytes fixed.now)) }
+/// The numbers of the fixed file information, in their order.
+pub fn numbers_of(fixed: &VsFixedFileInfo) -> [u32; 13]
+    ensures { flat_map (bytes_of 4) result ≡ fixed_bytes fixed.now }
 {
-    let numbers = [
+    [
         fixed.signature,
         fixed.struct_version,
         fixed.file_version_ms,
@@ -223,30 +220,39 @@ fn bytes_of_fixed<A: Allocator + Copy + Drop>(
         fixed.file_subtype,
         fixed.file_date_ms,
         fixed.file_date_ls,
-    ];
-    bytes_of_numbers(alloc, &numbers)
+    ]
+}
+
+/// The fixed file information.
+fn bytes_of_fixed<A: Allocator + Copy + Drop>(
+    alloc: A,
+    fixed: &VsFixedFileInfo,
+) -> Result<Vec<u8, A>, VersionError>
+    ensures { Makes (λ v. v.items) result (Ok (fixed_bytes fixed.now)) }
+{
+    bytes_of_numbers(alloc, &numbers_of(fixed))
 }
 
 /// The keys of the blocks that have one for all, in UTF-16.
-fn root_key() -> &'static [u8]
+pub fn root_key() -> &'static [u8]
     ensures { result.now ≡ utf16 (codes "VS_VERSION_INFO") }
 {
     b"V\0S\0_\0V\0E\0R\0S\0I\0O\0N\0_\0I\0N\0F\0O\0"
 }
 
-fn strings_key() -> &'static [u8]
+pub fn strings_key() -> &'static [u8]
     ensures { result.now ≡ utf16 (codes "StringFileInfo") }
 {
     b"S\0t\0r\0i\0n\0g\0F\0i\0l\0e\0I\0n\0f\0o\0"
 }
 
-fn variables_key() -> &'static [u8]
+pub fn variables_key() -> &'static [u8]
     ensures { result.now ≡ utf16 (codes "VarFileInfo") }
 {
     b"V\0a\0r\0F\0i\0l\0e\0I\0n\0f\0o\0"
 }
 
-fn translation_key() -> &'static [u8]
+pub fn translation_key() -> &'static [u8]
     ensures { result.now ≡ utf16 (codes "Translation") }
 {
     b"T\0r\0a\0n\0s\0l\0a\0t\0i\0o\0n\0"

@@ -958,6 +958,29 @@ static PyObject *write_block(PyObject *Py_UNUSED(module), PyObject *arguments)
     return block ? Py_BuildValue("(Nk)", block, (unsigned long)result) : NULL;
 }
 
+/* write_version(fixed, tables, strings, translations, texts) returns version information, or None, and the number of the error.
+ * All but the texts are records of pe.h. */
+static PyObject *write_version(PyObject *Py_UNUSED(module), PyObject *arguments)
+{
+    const char *fixed, *tables, *strings, *translations, *texts;
+    Py_ssize_t lengths[5];
+    uint64_t size = 0;
+    if (!PyArg_ParseTuple(arguments, "y#y#y#y#y#", &fixed, &lengths[0], &tables, &lengths[1], &strings, &lengths[2], &translations,
+                          &lengths[3], &texts, &lengths[4]))
+        return NULL;
+    pe_c_version numbers = PE_C_EMPTY;
+    memcpy(&numbers, fixed, (size_t)lengths[0] < sizeof numbers ? (size_t)lengths[0] : sizeof numbers);
+#define VERSION &numbers, (const pe_c_version_table *)tables, (size_t)lengths[1] / sizeof(pe_c_version_table), \
+                (const pe_c_version_string *)strings, (size_t)lengths[2] / sizeof(pe_c_version_string), \
+                (const pe_c_version_language *)translations, (size_t)lengths[3] / sizeof(pe_c_version_language), \
+                (const uint8_t *)texts, (size_t)lengths[4]
+    uint32_t result = pe_c_version_length(VERSION, &size);
+    PyObject *version = result == PE_C_DONE ? PyBytes_FromStringAndSize(NULL, (Py_ssize_t)size) : Py_NewRef(Py_None);
+    if (version && result == PE_C_DONE)
+        result = pe_c_write_version(VERSION, (uint8_t *)PyBytes_AsString(version), (size_t)size, &size);
+    return version ? Py_BuildValue("(Nk)", version, (unsigned long)result) : NULL;
+}
+
 /* ---- the image as an object */
 
 static void let_go(Image *self)
@@ -1180,7 +1203,7 @@ static int clear_module(PyObject *module)
     return 0;
 }
 
-static PyMethodDef functions_of_module[] = {WITH_SOME(image), WITH_SOME(write_block), WITH_ONE(text_of), {NULL, NULL, 0, NULL}};
+static PyMethodDef functions_of_module[] = {WITH_SOME(image), WITH_SOME(write_block), WITH_SOME(write_version), WITH_ONE(text_of), {NULL, NULL, 0, NULL}};
 /* From 3.12 on a slot says that interpreters with locks of their own may have the module, as all that changes is in
  * its state. 3.11, whose headers do not name it, refuses a slot that it does not know. */
 enum { MULTIPLE_INTERPRETERS = 3 };

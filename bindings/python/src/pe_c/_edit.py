@@ -85,13 +85,6 @@ class ResourceEditor:
         return written
 
 
-def _block(key: str, is_text: bool, value: bytes, children: typing.Iterable[bytes] = ()) -> bytes:
-    found, number = _core.write_block(_units(key), int(is_text), value, b"".join(children))
-    if number or found is None:
-        raise error_of(number, "version")
-    return found
-
-
 def _number(value: int) -> int:
     if not 0 <= value <= 0xFFFF:
         raise ValueError(f"{value} has more than 16 bits")
@@ -109,12 +102,18 @@ def version_info(*, file_version: tuple[int, int, int, int] = (0, 0, 0, 0), prod
     numbers = (*halves(file_version), *halves(product_version or file_version))
     fixed = FIXED.pack(SIGNATURE, 0x10000, *numbers, 0x3F, 0, VOS_NT_WINDOWS32, file_type, 0, 0, 0)
     language = _number(language)
-    texts = []
+    texts, records = bytearray(), bytearray()
+
+    def ranged(part: bytes) -> tuple[int, int]:
+        texts.extend(part)
+        return len(texts) - len(part), len(part)
     for name, text in (strings or {}).items():
         if "\0" in text:
             raise error_of(Kind.BLOCK_TEXT, "version")
-        texts.append(_block(name, True, _units(text + "\0")))
-    table = _block(f"{language:04X}{UNICODE:04X}", True, b"", texts)
-    translation = _block("Translation", False, struct.pack("<HH", language, UNICODE))
-    return _block("VS_VERSION_INFO", False, fixed, [_block("StringFileInfo", True, b"", [table]),
-                                                    _block("VarFileInfo", True, b"", [translation])])
+        records += struct.pack("<4Q", *ranged(_units(name)), *ranged(_units(text + "\0")))
+    pair = struct.pack("<HH", language, UNICODE)
+    table = struct.pack("<II", 0, len(strings or {})) + pair
+    found, number = _core.write_version(fixed, table, bytes(records), pair, bytes(texts))
+    if number or found is None:
+        raise error_of(number, "version")
+    return found

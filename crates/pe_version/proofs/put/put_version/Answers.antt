@@ -1,0 +1,46 @@
+use Rattle.std.proofs.Common.{List, ℕ, ap, length, ◌∙◌, arith}
+use Rattle.pe_core.specs.Bytes.{splice}
+use Rattle.pe_version.specs.VersionRecords.{value_of}
+use Rattle.pe_version.specs.VersionValues.{Value}
+use Rattle.pe_version.proofs.Heads.{PartsFit, length_numbers, parts_fit, root_length, root_size, version_put}
+use Rattle.pe_version.proofs.Measures.{length_fixed}
+use Rattle.pe_version.proofs.put.put_version.Goals as goal
+
+pub put_strings-middle-requires : goal.put_strings-middle-requires
+put_strings-middle-requires c =
+    let v : Value = value_of c.args.value.now in
+    let p : PartsFit v = parts_fit v c.requires.fits in
+    record { fits = p.tables; whole = p.strings; room = omega (arith, c.requires.room, root_size v p) }
+
+pub put_variables-end-requires : goal.put_variables-end-requires
+put_variables-end-requires c =
+    let v : Value = value_of c.args.value.now in
+    let p : PartsFit v = parts_fit v c.requires.fits in
+    record { inner = p.pairs; outer = p.variables; room = omega (arith, c.requires.room, root_size v p, c.put_strings-middle.ensures.end, c.put_strings-middle.auto.out) }
+
+pub put_numbers-requires : goal.put_numbers-requires
+put_numbers-requires c =
+    let v : Value = value_of c.args.value.now in
+    let p : PartsFit v = parts_fit v c.requires.fits in
+    omega (arith, c.requires.room, root_size v p, c.put_strings-middle.auto.out, c.put_variables-end.auto.out, ap length c.numbers_of.ensures, length_numbers c.numbers_of.result, length_fixed v)
+
+pub put_head-requires-clause-size : goal.put_head-requires-clause-size
+put_head-requires-clause-size c =
+    let v : Value = value_of c.args.value.now in
+    let p : PartsFit v = parts_fit v c.requires.fits in
+    let root = p.root in
+    omega (arith, root.short, root_length v p, c.put_strings-middle.ensures.end, c.put_variables-end.ensures.end)
+
+pub put_head-requires-clause-room : goal.put_head-requires-clause-room
+put_head-requires-clause-room c =
+    let v : Value = value_of c.args.value.now in
+    let p : PartsFit v = parts_fit v c.requires.fits in
+    omega (arith, c.requires.room, root_size v p, c.put_strings-middle.auto.out, c.put_variables-end.auto.out, c.put_numbers.auto.out, ap length c.root_key.ensures)
+
+pub returns : goal.returns
+returns c =
+    let v : Value = value_of c.args.value.now in
+    let p : PartsFit v = parts_fit v c.requires.fits in
+    version_put v c.args.out.now c.put_strings-middle.new.out c.put_variables-end.new.out c.put_numbers.new.out c.put_head.new.out c.root_key.result.now c.put_strings-middle.result c.put_variables-end.result p c.requires.room
+    c.put_strings-middle.ensures.after c.put_strings-middle.ensures.end c.put_variables-end.ensures.after c.put_variables-end.ensures.end
+    (c.put_numbers.ensures ∙ ap (λ (l : List ℕ). splice c.put_variables-end.new.out 40 l) c.numbers_of.ensures) c.root_key.ensures c.put_head.ensures

@@ -1,0 +1,8 @@
+use Rattle.std.proofs.Common.{◌≡◌, true, take}
+use Rattle.std.specs.List.{list_all}
+use Rattle.pe_version.specs.VersionRecords.{table_fits}
+use Rattle.pe_version.proofs.record.tables_fit.Given as goal
+
+-- the tables so far fit
+abbrev pub invariant-loop-index : goal.invariant-loop-index
+invariant-loop-index l = list_all (table_fits l.strings) (take l.index l.tables) ≡ true

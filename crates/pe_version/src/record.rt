@@ -1,0 +1,157 @@
+//! Version information as records of numbers, for callers whose values have no references in them. Names and texts are ranges of
+//! one array of bytes, the strings of a table a range of one array of strings.
+
+ghost use Rattle.std.specs.Prelude.{◌≡◌, [], ◌∷◌, length};
+ghost use Rattle.std.specs.List.{list_all};
+ghost use Rattle.pe_core.specs.Bytes.{holds};
+ghost use Rattle.pe_core.specs.Refusals.{Short, outcome};
+ghost use Rattle.pe_edit.specs.Views.{part_of};
+ghost use Rattle.pe_version.specs.VersionRecords.{pair_of, record_tests, string_fits, strings_of, table_fits};
+ghost use Rattle.pe_version.specs.VersionRefusals.{Image, VersionReturns};
+
+use crate::error::VersionError;
+use pe_core::{Error, require_bytes, slice_at};
+use pe_edit::RecordRange;
+use pe_resource::{Translation, VsFixedFileInfo};
+
+/// A string of version information.
+#[repr(C)]
+#[derive(Clone, Copy, Debug)]
+pub struct StringRecord {
+    /// Its name in UTF-16 code units, little-endian, without a final zero.
+    pub name: RecordRange,
+    /// Its text in the same way, with a final zero.
+    pub text: RecordRange,
+}
+
+/// A language and a code page.
+#[repr(C)]
+#[derive(Clone, Copy, Debug)]
+pub struct LanguageRecord {
+    /// As 0x409 for English (United States).
+    pub language: u16,
+    /// As 1200 for UTF-16.
+    pub code_page: u16,
+}
+
+/// The strings of a language and a code page.
+#[repr(C)]
+#[derive(Clone, Copy, Debug)]
+pub struct TableRecord {
+    /// The index of its first string.
+    pub first: u32,
+    /// How many strings it has, one after the other.
+    pub count: u32,
+    /// What its key is made of.
+    pub language: LanguageRecord,
+}
+
+/// Version information.
+#[derive(Clone, Copy, Debug)]
+pub struct VersionRecords<'a> {
+    /// The numbers of the file and of the product, and what the file is.
+    pub fixed: &'a VsFixedFileInfo,
+    /// The tables of strings, in their order.
+    pub tables: &'a [TableRecord],
+    /// The strings of all tables.
+    pub strings: &'a [StringRecord],
+    /// The languages and code pages that the file supports.
+    pub translations: &'a [LanguageRecord],
+    /// The bytes of the names and texts.
+    pub texts: &'a [u8],
+}
+
+/// The bytes of a range; none where it does not lie in the array.
+pub fn part_of<'a>(texts: &'a [u8], range: &RecordRange) -> &'a [u8]
+    ensures { result.now ≡ part_of texts.entry.now range.now }
+{
+    match slice_at(texts, range.offset as usize, range.length as usize) {
+        Ok(part) => part,
+        Err(_) => &[],
+    }
+}
+
+/// Whether a range lies in the array.
+fn is_inside(texts: &[u8], range: &RecordRange) -> bool
+    ensures { result ≡ holds texts.now range.now.offset range.now.length }
+{
+    match require_bytes(texts, range.offset as usize, range.length as usize) {
+        Ok(()) => true,
+        Err(_) => false,
+    }
+}
+
+impl LanguageRecord {
+    /// The same as pe_resource reads it.
+    pub(crate) fn pair(self) -> Translation
+        ensures { result ≡ pair_of self }
+    {
+        Translation {
+            language: self.language,
+            code_page: self.code_page,
+        }
+    }
+}
+
+impl StringRecord {
+    fn fits(&self, texts: &[u8]) -> bool
+        ensures { result ≡ string_fits texts.now self.now }
+    {
+        is_inside(texts, &self.name) && is_inside(texts, &self.text)
+    }
+}
+
+impl TableRecord {
+    /// Whether its strings are among so many.
+    fn fits(&self, strings: usize) -> bool
+        ensures { result ≡ table_fits strings self.now }
+    {
+        self.first as usize + self.count as usize <= strings
+    }
+
+    /// Its strings; none where they are not all there.
+    pub(crate) fn strings<'a>(&self, strings: &'a [StringRecord]) -> &'a [StringRecord]
+        ensures { result.now ≡ strings_of strings.entry.now self.now }
+    {
+        let start = self.first as usize;
+        let end = start + self.count as usize;
+        if end <= strings.len() {
+            &strings[start..end]
+        } else {
+            &[]
+        }
+    }
+}
+
+fn strings_fit(strings: &[StringRecord], texts: &[u8]) -> bool
+    ensures { result ≡ list_all (string_fits texts.now) strings.now }
+{
+    for index in 0..strings.len() {
+        if !strings[index].fits(texts) {
+            return false;
+        }
+    }
+    true
+}
+
+fn tables_fit(tables: &[TableRecord], strings: usize) -> bool
+    ensures { result ≡ list_all (table_fits strings) tables.now }
+{
+    for index in 0..tables.len() {
+        if !tables[index].fits(strings) {
+            return false;
+        }
+    }
+    true
+}
+
+/// `Image` with `Short` if a range of a record does not lie in its array.
+pub fn require_records(value: &VersionRecords<'_>) -> Result<(), VersionError>
+    ensures { VersionReturns result (outcome (record_tests value.now) tt) }
+{
+    if strings_fit(value.strings, value.texts) && tables_fit(value.tables, value.strings.len()) {
+        Ok(())
+    } else {
+        Err(VersionError::Image(Error::Short { at: 0, needed: 0 }))
+    }
+}
