@@ -21,6 +21,7 @@ pub mod load_config;
 pub mod ordinals;
 pub mod others;
 pub mod overlay;
+pub mod products;
 pub mod regions;
 pub mod relocations;
 pub mod resources;

@@ -667,7 +667,7 @@ def clr(image: Exact) -> Facts:
 def rich(image: Exact) -> Facts:
     return part("rich", image.read("rich_header"), lambda it: {
         "key": it.key, "checksum": it.checksum, **rows("tools", it.entries, lambda one: {
-            "product": one.product, "build": one.build, "count": one.objects})})
+            "product": one.product, "product_name": names.PRODUCTS.get(one.product), "build": one.build, "count": one.objects})})
 
 
 # ---- TE images and objects
