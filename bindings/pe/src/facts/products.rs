@@ -293,8 +293,8 @@ mod tests {
     fn versions_follow_each_other() {
         assert!(PRODUCTS.iter().map(|it| it.0).eq(1..=0x10E));
         let compilers = ["1600", "1610", "1700", "1800", "1810", "1900"];
-        for (number, version) in (0xAA..).step_by(18).zip(compilers) {
-            let name = |of| name_of(number + of, PRODUCTS).unwrap();
+        for (number, version) in (0xAAu32..).step_by(18).zip(compilers) {
+            let name = |of: u32| name_of(number + of, PRODUCTS).unwrap();
             assert_eq!([name(0), name(1), name(10)], ["C", "CPP", "POGO_O_CPP"].map(|it| format!("Utc{version}_{it}")));
         }
         assert_eq!([0, 0x10F].map(|it| name_of(it, PRODUCTS)), [None, None]);
