@@ -797,6 +797,9 @@ fn lines_fit_the_columns() {
         let is_whole =
             said.lines().filter(|it| it.contains(" r-x ")).all(|it| it.contains(" at 0x1000") && it.contains('.'));
         assert!(is_whole, "{columns}: a section stands on one line\n{said}");
+        // What is said of the sections stands in columns, also where one of them has less to say.
+        let starts: Vec<_> = said.lines().filter(|it| it.contains(" at 0x")).map(|it| it.find(" at 0x")).collect();
+        assert!(starts.len() > 1 && starts.iter().all(|it| *it == starts[0]), "{columns}: {starts:?}\n{said}");
         let widest = said.lines().filter(|it| !it.contains("SHA-256")).map(|it| it.chars().count()).max().unwrap();
         assert!(widest <= columns.parse().unwrap(), "{columns}: {widest}\n{said}");
     }
