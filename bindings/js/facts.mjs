@@ -474,7 +474,8 @@ function rich(image) {
   return part('rich', () => {
     const header = image.call('pe_c_rich_header');
     return header && { key: header.key, checksum: header.checksum,
-      ...list('tools', image.richEntries(), ({ product, build, count }) => ({ product, build, count })) };
+      ...list('tools', image.richEntries(), ({ product, build, count }) => (
+        { product, product_name: names.PRODUCTS[product] ?? null, build, count })) };
   });
 }
 

@@ -21,6 +21,7 @@ pub mod load_config;
 pub mod ordinals;
 pub mod others;
 pub mod overlay;
+pub mod products;
 pub mod regions;
 pub mod relocations;
 pub mod resources;
@@ -140,9 +141,10 @@ fn kind_of(bytes: &[u8]) -> Option<&'static str> {
         _ if bytes.starts_with(b"!<thin>\n") => Some("a thin archive of objects"),
         [0, 0, 0xFF, 0xFF, ..] => Some("an object of a short import or of large format"),
         [low, high, ..] if is_machine(*low, *high) => Some(OBJECT_AS_IT_SEEMS),
+        _ if bytes.starts_with(b"MDMP") => Some("a minidump, which pe stack shows"),
         _ if bytes.starts_with(b"MZ") => None,
         _ if bytes.iter().take(512).all(|it| matches!(it, b'\t' | b'\n' | b'\r' | 0x20..=0x7E)) => Some("a text"),
-        _ => None,
+        _ => overlay::kind_by_start(bytes),
     }
 }
 

@@ -213,7 +213,8 @@ pub fn each(named: &Files, out: &mut dyn Write, report: impl Fn(&Path, &[u8]) ->
     }
     bar.end();
     if skipped.count.get() > 0 {
-        eprintln!("pe: {} skipped, no images", crate::facts::counted(skipped.count.get(), "file"));
+        let what = if skipped.count.get() == 1 { "is no image" } else { "are no images" };
+        eprintln!("pe: {} {what}, and skipped", crate::facts::counted(skipped.count.get(), "file"));
     }
     Ok(worst)
 }

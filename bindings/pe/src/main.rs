@@ -205,8 +205,13 @@ fn verify_signatures(
     })
 }
 
-/// Ends where the last of the files is none, and its name is nearly that of a part.
+/// Ends where the last of the files is none, and its name is nearly that of a part, or the first, and its name is one.
 fn refuse_unknown_parts(files: &Files) {
+    let first = files.files.first().filter(|it| files.files.len() > 1 && it.symlink_metadata().is_err());
+    let name = first.and_then(|it| it.to_str()).unwrap_or_default();
+    if let Some(topic) = Topic::value_variants().iter().find(|it| it.name().eq_ignore_ascii_case(name)) {
+        misused(&format!("the part `{}` has to come after the files", topic.name()));
+    }
     let last = files.files.iter().skip(1).last().filter(|it| it.symlink_metadata().is_err());
     let name = last.and_then(|it| it.to_str()).unwrap_or_default().to_lowercase();
     if let Some(topic) = Topic::value_variants().iter().find(|it| files::is_like(&name, &it.name())) {

@@ -2,7 +2,7 @@
 //! <https://learn.microsoft.com/windows/win32/debug/pe-format>.
 
 /// A number and its name.
-type Names = [(u32, &'static str)];
+pub type Names = [(u32, &'static str)];
 
 /// `IMAGE_FILE_MACHINE_`
 pub const MACHINES: &Names = &[

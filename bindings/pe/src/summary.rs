@@ -152,24 +152,35 @@ fn bar_of(entropy: f64) -> String {
     "█".repeat(full) + &"░".repeat(STEPS as usize - full.min(STEPS as usize))
 }
 
-/// A line for each section, with as much as there is room for. Those of an object are in the file alone.
+/// A line for each section, with as much as there is room for in all that have no long name. Those of an object are in the file
+/// alone.
 fn sections_of(sections: &[Section], is_object: bool, page: &mut Page) {
-    let width = sections.iter().map(|it| it.shown_name().to_string().chars().count()).max().unwrap_or(0).clamp(8, NAME);
-    for (index, section) in sections.iter().enumerate() {
+    let length = |section: &Section| section.shown_name().to_string().chars().count();
+    let width = sections.iter().map(length).max().unwrap_or(0).clamp(8, NAME);
+    let forms: Vec<_> = sections.iter().map(|it| forms_of(it, width, is_object)).collect();
+    let room = page.room();
+    let fitting = |forms: &[String; 4]| forms.iter().position(|it| it.chars().count() <= room).unwrap_or(3);
+    let usual = sections.iter().zip(&forms).filter(|it| length(it.0) <= width).map(|it| fitting(it.1)).max();
+    for (index, forms) in forms.iter().enumerate() {
         let label = if index == 0 { "sections" } else { "" };
-        let (Section { permissions, rva, virtual_size, file_offset, file_size, .. }, name) =
-            (section, section.shown_name());
-        let (size, at) = if is_object { (file_size, file_offset) } else { (virtual_size, rva) };
-        let entropy = |of: &dyn Fn(f64) -> String| section.entropy.map_or(String::new(), of);
-        let start = format!("{name:width$} {permissions} {size:>9} bytes at {at:<#10x}");
-        let lines = [
-            start.clone() + &entropy(&|it| format!(" {} {it:.2} bits a byte", bar_of(it))),
-            start.trim_end().to_string() + &entropy(&|it| format!(" {it:.2} bits a byte")),
-            format!("{name} {permissions} {size} at {at:#x}") + &entropy(&|it| format!(" {it:.2}")),
-        ];
-        let [.., shortest] = &lines;
-        page.row(label, lines.iter().find(|it| it.chars().count() <= page.room()).unwrap_or(shortest));
+        page.row(label, &forms[fitting(forms).max(usual.unwrap_or(0))]);
     }
+}
+
+/// What a line may say of a section, from the longest form to the shortest.
+fn forms_of(section: &Section, width: usize, is_object: bool) -> [String; 4] {
+    let (Section { permissions, rva, virtual_size, file_offset, file_size, .. }, name) =
+        (section, section.shown_name());
+    let (size, at) = if is_object { (file_size, file_offset) } else { (virtual_size, rva) };
+    let entropy = |of: &dyn Fn(f64) -> String| section.entropy.map_or(String::new(), of);
+    let start = format!("{name:width$} {permissions} {size:>9} bytes at {at:<#10x}");
+    let shorter = format!("{name:width$} {permissions} {size:>9} at {at:<#10x}");
+    [
+        start.clone() + &entropy(&|it| format!(" {} {it:.2} bits a byte", bar_of(it))),
+        start.trim_end().to_string() + &entropy(&|it| format!(" {it:.2} bits a byte")),
+        (shorter + &entropy(&|it| format!(" {it:.2}"))).trim_end().to_string(),
+        format!("{name} {permissions} {size} at {at:#x}") + &entropy(&|it| format!(" {it:.2}")),
+    ]
 }
 
 /// Names of DLLs, each with a count, and how many more there are.

@@ -492,8 +492,11 @@ pub fn rich(rich: &Rich) -> Vec<Row> {
 
 pub fn rich_tools(rich: &Rich) -> Table {
     let rows = rich.tools.entries().iter();
-    let rows = rows.map(|it| vec![it.product.to_string(), it.build.to_string(), it.count.to_string()]);
-    Table::new(&[number("tool"), number("build"), number("objects")], rows)
+    let rows = rows.map(|it| {
+        let name = it.product_name.unwrap_or_default().to_string();
+        vec![it.product.to_string(), name, it.build.to_string(), it.count.to_string()]
+    });
+    Table::new(&[number("tool"), text("name"), number("build"), number("objects")], rows)
 }
 
 /// A name of a type, a resource or a language, or its identifier.

@@ -366,6 +366,9 @@ fn commands_take_several_files() {
         "{error}"
     );
     assert_eq!(run(&["show", &one, "none.exe"]).2, 3);
+    let (out, error, status) = run(&["show", "Imports", &one]);
+    assert!(error.contains("the part `imports` has to come after the files") && out.is_empty(), "{error}");
+    assert_eq!(status, 2);
     // CSV: the heads stand once, and each row says whose it is.
     let (out, _, status) = run(&["show", "--csv", &one, &two, "exports"]);
     let rows = format!("file,ordinal,RVA,name,forwarder\n{two},5,0x1004,second,\n{two},6,0x90000,first,\n{two},8,0x1060,,to NTDLL.RtlFree\n");
@@ -392,7 +395,7 @@ fn commands_take_several_files() {
         (2, 0),
         "{out}"
     );
-    assert_eq!(error, "pe: 1 file skipped, no images\n");
+    assert_eq!(error, "pe: 1 file is no image, and skipped\n");
     assert_eq!(run(&["checksum", "--fix", "-", &one, &two]).2, 2);
     assert_eq!(run(&["checksum", "--fix", "-", "--json", &one]).2, 2);
 }

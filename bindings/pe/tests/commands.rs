@@ -537,7 +537,7 @@ fn names_are_found_by_who_imports_or_exports_them() {
     assert_eq!(run(&["find", "second", &imports, &exports]).0, format!("{exports}: exports second\n"));
     let (out, error, _) = run(&["find", "kernel32", "-r", folder.0.to_str().unwrap()]);
     assert_eq!(out, format!("{imports}: imports KERNEL32.dll Sleep\n{imports}: imports KERNEL32.dll #17\n"));
-    assert_eq!(error, "pe: 1 file skipped, no images\n");
+    assert_eq!(error, "pe: 1 file is no image, and skipped\n");
     let (out, _, _) = run(&["find", "--json", "first", &exports]);
     let found: Value = serde_json::from_str(&out).unwrap();
     assert_eq!(found["matches"], json!([{"part": "exports", "dll": null, "name": "first", "ordinal": 6}]));
@@ -712,6 +712,8 @@ fn files_that_are_no_images_are_named() {
     for (kind, bytes) in [
         ("an ELF file", b"\x7fELF\x02\x01".as_slice()),
         ("an empty file", b""),
+        ("a minidump, which pe stack shows", b"MDMP\x93\xA7\0\0"),
+        ("a ZIP archive", b"PK\x03\x04\x14\0"),
         ("a text", b"some words\n"),
         ("an archive of objects", archive),
         ("a TE image", b"VZ\x64\x86"),
@@ -756,7 +758,7 @@ fn what_may_never_end_is_not_read() {
     folder.file("a.exe", made::SMALL);
     let (out, error, status) = run(&["-r", "-v", folder.0.to_str().unwrap()]);
     assert_eq!((out.matches("PE32+ program").count(), status), (1, 0), "{error}");
-    assert!(error.ends_with("pe: 3 files skipped, no images\n"), "{error}");
+    assert!(error.ends_with("pe: 3 files are no images, and skipped\n"), "{error}");
     for name in ["pipe: skipped, it is no regular file", "ring: skipped, the link", "lost: skipped, the link"] {
         assert!(error.contains(name), "{error}");
     }
@@ -795,6 +797,9 @@ fn lines_fit_the_columns() {
         let is_whole =
             said.lines().filter(|it| it.contains(" r-x ")).all(|it| it.contains(" at 0x1000") && it.contains('.'));
         assert!(is_whole, "{columns}: a section stands on one line\n{said}");
+        // What is said of the sections stands in columns, also where one of them has less to say.
+        let starts: Vec<_> = said.lines().filter(|it| it.contains(" at 0x")).map(|it| it.find(" at 0x")).collect();
+        assert!(starts.len() > 1 && starts.iter().all(|it| *it == starts[0]), "{columns}: {starts:?}\n{said}");
         let widest = said.lines().filter(|it| !it.contains("SHA-256")).map(|it| it.chars().count()).max().unwrap();
         assert!(widest <= columns.parse().unwrap(), "{columns}: {widest}\n{said}");
     }
@@ -993,7 +998,7 @@ fn what_only_looks_like_an_object_is_refused() {
         assert_eq!(run(words).2, 1, "{words:?}");
     }
     let (out, error, status) = run(&["-r", folder.0.to_str().unwrap()]);
-    assert_eq!((out.as_str(), error.as_str(), status), ("", "pe: 2 files skipped, no images\n", 0));
+    assert_eq!((out.as_str(), error.as_str(), status), ("", "pe: 2 files are no images, and skipped\n", 0));
 }
 
 #[test]

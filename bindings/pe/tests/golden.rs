@@ -220,9 +220,10 @@ const MADE: &[(&str, &[&str])] = &[
         &[
             "  Rich header   9 tools\n",
             "\nRich header\n  key           0x25a310c8, the checksum\n",
-            "  152   20115  1\n  171   40219  33\n",
+            "  152   AliasObj1000    20115  1\n  171   Utc1600_CPP     40219  33\n",
             "\"rich\":{\"key\":631443656,\"checksum\":631443656,",
-            "{\"product\":152,\"build\":20115,\"count\":1},{\"product\":171,\"build\":40219,\"count\":33}",
+            "{\"product\":152,\"product_name\":\"AliasObj1000\",\"build\":20115,\"count\":1},",
+            "{\"product\":171,\"product_name\":\"Utc1600_CPP\",\"build\":40219,\"count\":33}",
         ],
     ),
     (

@@ -85,7 +85,7 @@ class Lines(Room):
         one = run("scan", "-j", "1", self.room)
         self.assertEqual(run("scan", "-j", "3", self.room), one)
         self.assertEqual(run("-r", self.room), one)
-        self.assertIn("skipped, no images", one[1])
+        self.assertIn("no images, and skipped", one[1])
         self.assertIn("the link leads to no file", run("scan", "-v", "-j", "1", self.room)[1])
 
     def test_statuses(self):

@@ -49,10 +49,15 @@ const ZIP_END: &[u8] = b"PK\x05\x06";
 /// Of that record, without a comment.
 const ZIP_END_SIZE: usize = 22;
 
-fn kind_of(content: &[u8]) -> Option<&'static str> {
+/// What a file or an overlay is by its first bytes.
+pub fn kind_by_start(content: &[u8]) -> Option<&'static str> {
     let starts =
         |(offset, magic, _): &&(usize, &[u8], &str)| content.get(*offset..).is_some_and(|it| it.starts_with(magic));
-    let by_start = KINDS.iter().find(starts).map(|it| it.2);
+    KINDS.iter().find(starts).map(|it| it.2)
+}
+
+fn kind_of(content: &[u8]) -> Option<&'static str> {
+    let by_start = kind_by_start(content);
     let end = content.len().checked_sub(ZIP_END_SIZE).and_then(|it| content.get(it..));
     by_start.or(end.filter(|it| it.starts_with(ZIP_END)).map(|_| "data with a ZIP archive at its end"))
 }

@@ -1,6 +1,8 @@
 //! The Rich header, which Microsoft's linker writes: which tools made the objects of an image.
 
+use super::products::PRODUCTS;
 use super::{entry, field, List, Part};
+use crate::names::name_of;
 use pe_c::Image;
 use serde::Serialize;
 
@@ -16,10 +18,11 @@ pub struct Rich {
 field!(Rich, "rich");
 entry!(Tool, "tools");
 
-/// A tool, by its number and its build, and how many objects it made.
+/// A tool, by its number, its name if that is known, and its build, and how many objects it made.
 #[derive(Clone, Debug, Serialize)]
 pub struct Tool {
     pub product: u16,
+    pub product_name: Option<&'static str>,
     pub build: u16,
     pub count: u32,
 }
@@ -31,6 +34,7 @@ pub fn of(image: &Image<'_>) -> Part<Rich> {
             checksum: header.checksum,
             tools: Part::Present(List::of(header.entries(), |it| Tool {
                 product: it.product,
+                product_name: name_of(it.product.into(), PRODUCTS),
                 build: it.build,
                 count: it.count,
             })),

@@ -80,7 +80,7 @@ def run(words: list[str]) -> int:
     finally:
         bar.end()
     if skipped:
-        print(f"pe_c: {skipped} file{'' if skipped == 1 else 's'} skipped, no images", file=sys.stderr)
+        print(f"pe_c: {skipped} file{' is no image' if skipped == 1 else 's are no images'}, and skipped", file=sys.stderr)
     return worst
 
 

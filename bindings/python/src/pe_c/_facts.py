@@ -195,8 +195,12 @@ def optional(it: _core.OptionalHeader) -> Facts:
                                                 "number_of_rva_and_sizes")}}
 
 
+def kind_by_start(content: bytes | memoryview) -> str | None:
+    return next((what for offset, magic, what in KINDS if content[offset:offset + len(magic)] == magic), None)
+
+
 def content_kind(content: memoryview) -> str | None:
-    known = next((what for offset, magic, what in KINDS if content[offset:offset + len(magic)] == magic), None)
+    known = kind_by_start(content)
     return known or ("data with a ZIP archive at its end" if len(content) >= 22 and content[-22:-18] == b"PK\x05\x06" else None)
 
 
@@ -667,7 +671,7 @@ def clr(image: Exact) -> Facts:
 def rich(image: Exact) -> Facts:
     return part("rich", image.read("rich_header"), lambda it: {
         "key": it.key, "checksum": it.checksum, **rows("tools", it.entries, lambda one: {
-            "product": one.product, "build": one.build, "count": one.objects})})
+            "product": one.product, "product_name": names.PRODUCTS.get(one.product), "build": one.build, "count": one.objects})})
 
 
 # ---- TE images and objects
@@ -720,8 +724,9 @@ def kind_of(data: bytes) -> str | None:
         (data[:4] == b"\x7fELF", "an ELF file"), (data[:8] == b"!<arch>\n", "an archive of objects"),
         (data[:8] == b"!<thin>\n", "a thin archive of objects"),
         (data[:4] == b"\0\0\xff\xff", "an object of a short import or of large format"),
-        (is_machine(data[:2]), OBJECT_AS_IT_SEEMS), (data[:2] == b"MZ", None),
-        (all(it in b"\t\n\r" or 0x20 <= it <= 0x7E for it in data[:512]), "a text"))
+        (is_machine(data[:2]), OBJECT_AS_IT_SEEMS), (data[:4] == b"MDMP", "a minidump, which pe stack shows"),
+        (data[:2] == b"MZ", None), (all(it in b"\t\n\r" or 0x20 <= it <= 0x7E for it in data[:512]), "a text"),
+        (True, kind_by_start(data)))
     return next((what for holds, what in starts if holds), None)
 
 
