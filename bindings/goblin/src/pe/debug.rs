@@ -167,7 +167,7 @@ impl<'a> DebugData<'a> {
         rva_offset: u32,
     ) -> error::Result<Self> {
         let (info, sections) = (raw::image_with(Index::Debug, dd, file_alignment, opts), raw::Sections::of(sections)?);
-        let view = View { bytes, info: &info, sections: sections.list() };
+        let view = View::of(bytes, &info, sections.list());
         Ok(Self::at(view, rva_offset)?.unwrap_or(DebugData { rva_offset, ..Default::default() }))
     }
 

@@ -16,6 +16,10 @@ pub const IMPORT_BY_ORDINAL_64: u64 = 0x8000_0000_0000_0000;
 pub const IMPORT_RVA_MASK_32: u32 = 0x7fff_ffff;
 pub const IMPORT_RVA_MASK_64: u64 = 0x0000_0000_7fff_ffff;
 pub const SIZEOF_IMPORT_DIRECTORY_ENTRY: usize = 20;
+/// How many libraries are taken a call, and how many imports of one.
+const LIBRARIES_TAKEN: usize = 16;
+const TAKEN: usize = 32;
+
 /// An entry of a list of imports, of 32 or 64 bits: an ordinal where its highest bit is set, else the RVA of a hint and a name.
 pub trait Bitfield<'a>:
     Into<u64> + PartialEq + Eq + LowerHex + Debug + TryFromCtx<'a, scroll::Endian, Error = scroll::Error>
@@ -151,8 +155,9 @@ impl<'a> ImportData<'a> {
         let mut info = raw::image_with(Index::Import, dd, file_alignment, opts);
         info.width = 8 * T::size_of() as u16;
         let sections = raw::Sections::of(sections)?;
-        let view = View { bytes, info: &info, sections: sections.list() };
-        Self::of::<T>(view, &Limits::default())?.ok_or_else(|| unmapped(dd))
+        let view = View::of(bytes, &info, sections.list());
+        let index = view.make_index()?;
+        Self::of::<T>(view.with_index(&index), &Limits::default())?.ok_or_else(|| unmapped(dd))
     }
 
     pub(crate) fn of<T: Bitfield<'a>>(view: View<'a, '_>, limits: &Limits) -> error::Result<Option<Self>> {
@@ -160,9 +165,10 @@ impl<'a> ImportData<'a> {
             Refusal::UNMAPPED => unmapped(view.directory(Index::Import)),
             other => other.into(),
         })?;
-        let Some(mut walk) = found else { return Ok(None) };
+        let Some(walk) = found else { return Ok(None) };
         let (mut import_data, mut left) = (Vec::new(), limits.imports);
-        while let Some(library) = view.next_library(&mut walk)? {
+        let mut batch = raw::Batch::<_, _, LIBRARIES_TAKEN>::new(walk);
+        while let Some(library) = batch.next(|walk, room| view.list_libraries(walk, room)).transpose()? {
             let entry = SyntheticImportDirectoryEntry::of::<T>(view, &library, &mut left)?;
             raw::push(&mut import_data, entry)?;
         }
@@ -210,12 +216,13 @@ fn lookups_of<'a, T: Bitfield<'a>>(
     library: &sys::Library,
     left: &mut usize,
 ) -> error::Result<ImportLookupTable<'a>> {
-    let mut walk = library.imports;
-    let (start, size): (usize, usize) = (raw::narrow(walk.left.offset)?, raw::narrow(walk.left.length)?);
+    let list = library.imports.left;
+    let (start, size): (usize, usize) = (raw::narrow(list.offset)?, raw::narrow(list.length)?);
     let count = size / T::size_of();
     *left = left.checked_sub(count).ok_or_else(too_many)?;
     let mut lookups = raw::list(count)?;
-    while let Some(import) = view.next_import(&mut walk)? {
+    let mut batch = raw::Batch::<_, _, TAKEN>::new(library.imports);
+    while let Some(import) = batch.next(|walk, room| view.list_imports(walk, room)).transpose()? {
         let hint = import.ordinal as u16;
         let entry = match import.has_name {
             0 => SyntheticImportLookupTableEntry::OrdinalNumber(hint),

@@ -72,7 +72,7 @@ impl LoadConfigData {
         let mut info = raw::image_with(Index::LoadConfig, dd, file_alignment, opts);
         info.width = if is_64 { 64 } else { 32 };
         let sections = raw::Sections::of(sections)?;
-        let found = Self::of(View { bytes, info: &info, sections: sections.list() })?;
+        let found = Self::of(View::of(bytes, &info, sections.list()))?;
         found.ok_or_else(|| error::Error::Malformed("no load configuration".to_owned()))
     }
 

@@ -96,7 +96,8 @@ impl<'a> PE<'a> {
     pub fn parse_with_limits(bytes: &'a [u8], opts: &ParseOptions, limits: &Limits) -> error::Result<Self> {
         let (header, info) = header::Header::with_info(bytes, opts)?;
         let raw_sections = raw::sections(bytes, &info)?;
-        let view = View { bytes, info: &info, sections: &raw_sections };
+        let index = View::of(bytes, &info, &raw_sections).make_index()?;
+        let view = View::of(bytes, &info, &raw_sections).with_index(&index);
         let is_permissive = opts.parse_mode.is_permissive();
 
         let (export_data, exports) = exports_of(view)?;
@@ -136,7 +137,7 @@ impl<'a> PE<'a> {
 
     /// The parts of the file that an Authenticode digest covers, one after the other.
     pub fn authenticode_ranges(&self) -> authenticode::ExcludedSectionsIter<'_> {
-        let view = View { bytes: self.bytes, info: &self.info, sections: &[] };
+        let view = View::of(self.bytes, &self.info, &[]);
         let digest = view.digest_ranges().ok().flatten();
         authenticode::ExcludedSectionsIter::new(self.bytes, digest)
     }

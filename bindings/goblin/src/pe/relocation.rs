@@ -141,7 +141,7 @@ impl<'a> RelocationData<'a> {
     ) -> error::Result<Self> {
         let (info, sections) =
             (raw::image_with(Index::BaseRelocation, dd, file_alignment, opts), raw::Sections::of(sections)?);
-        Ok(Self::of(View { bytes, info: &info, sections: sections.list() })?.unwrap_or_default())
+        Ok(Self::of(View::of(bytes, &info, sections.list()))?.unwrap_or_default())
     }
 
     pub(crate) fn of(view: View<'a, '_>) -> error::Result<Option<Self>> {

@@ -363,7 +363,7 @@ impl<'a> ResourceData<'a> {
     ) -> error::Result<Self> {
         let (info, sections) =
             (raw::image_with(Index::Resource, dd, file_alignment, opts), raw::Sections::of(sections)?);
-        Ok(Self::of(View { bytes, info: &info, sections: sections.list() })?.unwrap_or_default())
+        Ok(Self::of(View::of(bytes, &info, sections.list()))?.unwrap_or_default())
     }
 
     pub(crate) fn of(view: View<'a, '_>) -> error::Result<Option<Self>> {
@@ -748,7 +748,7 @@ impl<'a> VersionInfo<'a> {
     ) -> error::Result<Option<Self>> {
         let info = raw::image_with(Index::Resource, DataDirectory::default(), file_alignment, opts);
         let sections = raw::Sections::of(sections)?;
-        let view = View { bytes: pe, info: &info, sections: sections.list() };
+        let view = View::of(pe, &info, sections.list());
         let Some(entry) = it.find_by_id(RT_VERSION)? else { return Ok(None) };
         let content = entry.content(view, bytes, "RT_VERSION")?;
         content.map(|content| Self::of(pe, content)).transpose()
@@ -790,7 +790,7 @@ impl<'a> ManifestData<'a> {
     ) -> error::Result<Option<Self>> {
         let info = raw::image_with(Index::Resource, DataDirectory::default(), file_alignment, opts);
         let sections = raw::Sections::of(sections)?;
-        let view = View { bytes: pe, info: &info, sections: sections.list() };
+        let view = View::of(pe, &info, sections.list());
         let Some(entry) = it.find_by_id(RT_MANIFEST)? else { return Ok(None) };
         let content = entry.content(view, bytes, "RT_MANIFEST")?;
         content.map(|content| Ok(ManifestData { data: raw::slice(pe, content)? })).transpose()

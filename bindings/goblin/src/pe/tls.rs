@@ -67,7 +67,7 @@ impl<'a> TlsData<'a> {
         info.base = image_base;
         info.width = if is_64 { 64 } else { 32 };
         let sections = raw::Sections::of(sections)?;
-        Self::of(View { bytes, info: &info, sections: sections.list() })
+        Self::of(View::of(bytes, &info, sections.list()))
     }
 
     pub(crate) fn of(view: View<'a, '_>) -> error::Result<Option<Self>> {

@@ -21,7 +21,7 @@ pub fn find_offset(rva: usize, sections: &[SectionTable], file_alignment: u32, o
     let rva = u32::try_from(rva).ok()?;
     let info = raw::image_with(Index::Export, DataDirectory::default(), file_alignment, opts);
     let sections = raw::Sections::of(sections).ok()?;
-    View { bytes: &[], info: &info, sections: sections.list() }.offset(rva)
+    View::of(&[], &info, sections.list()).offset(rva)
 }
 
 /// The same, and an error with a text in place of `None`.
