@@ -61,6 +61,7 @@ fn returned<T>(number: u32, value: T) -> Result<Option<T>, Refusal> {
 }
 
 /// The bytes of a range that a call returned. They are all there, by the contract of that call.
+#[inline]
 pub(crate) fn slice(bytes: &[u8], range: Range) -> error::Result<&[u8]> {
     Ok(range.of(bytes).ok_or(Refusal::SHORT)?)
 }
@@ -213,40 +214,20 @@ pub(crate) fn text_with_room(count: usize) -> error::Result<String> {
 
 // ---- arguments
 
-/// As many section headers as Windows loads.
-const ROOM: usize = 96;
-
-/// Section headers as the library takes them. So many as Windows loads stand in the record itself, whose other entries are
-/// never written: to fill them costs more than most calls.
-pub(crate) struct Sections {
-    few: [MaybeUninit<Section>; ROOM],
-    count: usize,
-    many: Vec<Section>,
+/// Section headers as the library takes them.
+pub(crate) fn sections_of(sections: &[SectionTable]) -> error::Result<Vec<Section>> {
+    let mut found = list(sections.len())?;
+    found.extend(sections.iter().map(section_of));
+    Ok(found)
 }
 
-impl Sections {
-    pub fn of(sections: &[SectionTable]) -> error::Result<Self> {
-        let mut found = Sections { few: [MaybeUninit::uninit(); ROOM], count: 0, many: Vec::new() };
-        if sections.len() > ROOM {
-            found.many = list(sections.len())?;
-            found.many.extend(sections.iter().map(section_of));
-        } else {
-            for (to, from) in found.few.iter_mut().zip(sections) {
-                to.write(section_of(from));
-            }
-            found.count = sections.len();
-        }
-        Ok(found)
-    }
-
-    pub fn list(&self) -> &[Section] {
-        if self.many.is_empty() {
-            // SAFETY: `of` wrote the first `count` entries, and a MaybeUninit has the layout of what it holds.
-            unsafe { core::slice::from_raw_parts(self.few.as_ptr().cast(), self.count) }
-        } else {
-            &self.many
-        }
-    }
+/// The first section that may cover an RVA, by a test that each passes that does, and that the library's own map makes first: from
+/// the section's start to the page of the RVA it is less than the raw size. Where it maps the RVA, the others make no difference,
+/// and need no copy.
+#[inline]
+pub(crate) fn first_around(sections: &[SectionTable], rva: u32) -> Option<Section> {
+    let may_cover = |it: &&SectionTable| rva.wrapping_sub(it.virtual_address) & !0xfff < it.size_of_raw_data;
+    sections.iter().find(may_cover).map(section_of)
 }
 
 pub(crate) fn section_of(it: &SectionTable) -> Section {

@@ -276,16 +276,16 @@ impl<'a> UnwindInfo<'a> {
         // Of the bytes from there on, as an image as loaded, the record with the RVA 0: an odd RVA would be a link.
         let bytes = raw::from(bytes, offset)?;
         let info = raw::image_as_loaded(COFF_MACHINE_X86_64);
-        Self::of(View::of(bytes, &info, &[]), &sys::Range::default(), 0)
+        Self::of(bytes, View::of(bytes, &info, &[]).unwind_record(&sys::Range::default(), 0), 0)
     }
 
-    fn of(view: View<'a, '_>, table: &sys::Range, unwind: u32) -> error::Result<Self> {
-        let found = view.unwind_record(table, unwind).map_err(|it| match it {
+    fn of(bytes: &'a [u8], found: Result<Option<sys::Record>, Refusal>, unwind: u32) -> error::Result<Self> {
+        let found = found.map_err(|it| match it {
             Refusal::UNMAPPED => unmapped("unwind", unwind),
             other => other.into(),
         })?;
         let it = found.ok_or(Refusal::SHORT)?;
-        let data = || view.slice(it.handler_data);
+        let data = || raw::slice(bytes, it.handler_data);
         Ok(UnwindInfo {
             version: it.codes.version,
             size_of_prolog: it.size_of_prolog,
@@ -297,7 +297,7 @@ impl<'a> UnwindInfo<'a> {
                 2 => Some(UnwindHandler::TerminationHandler(it.handler, data()?)),
                 _ => None,
             },
-            code_bytes: view.slice(it.codes.left)?,
+            code_bytes: raw::slice(bytes, it.codes.left)?,
         })
     }
 
@@ -378,7 +378,7 @@ impl<'a> ExceptionData<'a> {
     ) -> error::Result<Self> {
         let mut info = raw::image_with(Index::Exception, directory, file_alignment, opts);
         info.machine = COFF_MACHINE_X86_64;
-        Self::one_of(View::of(bytes, &info, raw::Sections::of(sections)?.list()))
+        Self::one_of(View::of(bytes, &info, &raw::sections_of(sections)?))
     }
 
     /// The same of ARM64.
@@ -391,7 +391,7 @@ impl<'a> ExceptionData<'a> {
     ) -> error::Result<Self> {
         let mut info = raw::image_with(Index::Exception, directory, file_alignment, opts);
         info.machine = COFF_MACHINE_ARM64;
-        Self::one_of(View::of(bytes, &info, raw::Sections::of(sections)?.list()))
+        Self::one_of(View::of(bytes, &info, &raw::sections_of(sections)?))
     }
 
     fn one_of(view: View<'a, '_>) -> error::Result<Self> {
@@ -491,9 +491,18 @@ impl<'a> ExceptionData<'a> {
         opts: &ParseOptions,
     ) -> error::Result<UnwindInfo<'a>> {
         let info = raw::image_with(Index::Exception, DataDirectory::default(), self.file_alignment, opts);
-        let sections = raw::Sections::of(sections)?;
-        let view = View::of(self.bytes, &info, sections.list());
-        UnwindInfo::of(view, &self.table(), function.unwind_info_address)
+        let (table, unwind) = (self.table(), function.unwind_info_address);
+        let by = |sections: &[_]| View::of(self.bytes, &info, sections).unwind_record(&table, unwind);
+        let first = match unwind % 2 {
+            0 => by(raw::first_around(sections, unwind).as_slice()),
+            // A link leads to other RVAs.
+            _ => Err(Refusal::UNMAPPED),
+        };
+        let found = match first {
+            Err(Refusal::UNMAPPED) => by(&raw::sections_of(sections)?),
+            found => found,
+        };
+        UnwindInfo::of(self.bytes, found, unwind)
     }
 
     /// The unwind record of an ARM64 function, or `None` where it is packed. Errors: `Malformed` where the record is unmapped,

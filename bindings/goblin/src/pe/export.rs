@@ -2,7 +2,7 @@
 //! <https://learn.microsoft.com/windows/win32/debug/pe-format#the-edata-section-image-only>
 
 use super::data_directories;
-use super::options::ParseOptions;
+use super::options::{Limits, NamesLeft, ParseOptions};
 use super::section_table::SectionTable;
 use crate::error;
 use crate::raw::{self, Index, Refusal, View};
@@ -41,8 +41,8 @@ pub struct ExportDirectoryTable {
 pub const SIZEOF_EXPORT_DIRECTORY_TABLE: usize = 40;
 /// Bytes of an RVA in the table of RVAs.
 pub const SIZEOF_EXPORT_ADDRESS_TABLE_ENTRY: usize = 4;
-/// How many exports are taken a call.
-const TAKEN: usize = 64;
+/// How many exports are taken a call, each of which reads its name to the end.
+const TAKEN: usize = 16;
 
 impl ExportDirectoryTable {
     /// Reads the directory at an offset. Error: `Scroll` where it is truncated.
@@ -99,8 +99,8 @@ impl<'a> ExportData<'a> {
         Self::parse_with_opts(bytes, dd, sections, file_alignment, &ParseOptions::default())
     }
 
-    /// The exports of a directory. Errors: `Malformed` where the directory is absent, unmapped or truncated, or a table is; and
-    /// out of memory.
+    /// The exports of a directory. Errors: `Malformed` where the directory is absent, unmapped or truncated, or a table is, and
+    /// above the default of [`Limits::names`]; out of memory.
     pub fn parse_with_opts(
         bytes: &'a [u8],
         dd: data_directories::DataDirectory,
@@ -108,20 +108,20 @@ impl<'a> ExportData<'a> {
         file_alignment: u32,
         opts: &ParseOptions,
     ) -> error::Result<ExportData<'a>> {
-        let (info, sections) = (raw::image_with(Index::Export, dd, file_alignment, opts), raw::Sections::of(sections)?);
-        let view = View::of(bytes, &info, sections.list());
-        match Self::of(view.with_index(&view.make_index()?))? {
+        let (info, sections) = (raw::image_with(Index::Export, dd, file_alignment, opts), raw::sections_of(sections)?);
+        let view = View::of(bytes, &info, &sections);
+        match Self::of(view.with_index(&view.make_index()?), &mut NamesLeft::of(&Limits::default()))? {
             Some((data, _)) => Ok(data),
             None => Err(unmapped(dd)),
         }
     }
 
-    pub(crate) fn of(view: View<'a, '_>) -> error::Result<Option<(Self, Tables)>> {
+    pub(crate) fn of(view: View<'a, '_>, names: &mut NamesLeft) -> error::Result<Option<(Self, Tables)>> {
         let directory = view.directory(Index::Export);
         let Some(walk) = view.export_tables().map_err(|it| refused(view, it))? else { return Ok(None) };
         let Some(addresses) = view.export_addresses()? else { return Ok(None) };
         let at = view.offset(directory.virtual_address).ok_or_else(|| unmapped(directory))?;
-        let entries = entries_of(view, &addresses)?;
+        let entries = entries_of(view, &addresses, names)?;
         let mut export_address_table = raw::list(entries.len())?;
         export_address_table.extend(entries.iter().map(entry_of));
         let name = if addresses.has_name != 0 { Some(view.text(addresses.name)?) } else { None };
@@ -136,12 +136,17 @@ impl<'a> ExportData<'a> {
     }
 }
 
-/// All entries of the table of RVAs.
-fn entries_of(view: View<'_, '_>, table: &sys::AddressTable) -> error::Result<Vec<sys::Exported>> {
+/// All entries of the table of RVAs, whose forwarders' texts are taken from how many bytes are left.
+fn entries_of(
+    view: View<'_, '_>,
+    table: &sys::AddressTable,
+    names: &mut NamesLeft,
+) -> error::Result<Vec<sys::Exported>> {
     let count = raw::narrow(table.addresses.length / SIZEOF_EXPORT_ADDRESS_TABLE_ENTRY as u64)?;
     let mut entries = raw::list(count)?;
     let mut batch = raw::Batch::<_, _, TAKEN>::new(0);
     while let Some(entry) = batch.next(|next, room| view.list_export_addresses(table, next, room)).transpose()? {
+        names.take(raw::narrow(entry.forwarder.length)?)?;
         raw::push(&mut entries, entry)?;
     }
     Ok(entries)
@@ -236,11 +241,14 @@ pub struct Export<'a> {
 }
 
 impl<'a> Export<'a> {
-    /// Of the tables of an image. Those whose name or forwarder cannot be read are skipped, as in goblin.
-    pub(crate) fn of(view: View<'a, '_>, tables: Tables, count: usize) -> error::Result<Vec<Self>> {
+    /// Of the tables of an image. Those whose name or forwarder cannot be read are skipped, as in goblin. The names are taken from
+    /// how many bytes are left.
+    pub(crate) fn of(view: View<'a, '_>, tables: Tables, names: &mut NamesLeft) -> error::Result<Vec<Self>> {
+        let count = raw::narrow(tables.walk.names.length / SIZEOF_EXPORT_ADDRESS_TABLE_ENTRY as u64)?;
         let mut exports = raw::list(count)?;
         let mut batch = raw::Batch::<_, _, TAKEN>::new(tables.walk);
         while let Some(found) = batch.next(|walk, room| view.list_exports(walk, room)).transpose()? {
+            names.take(raw::narrow(found.name.length)?)?;
             let Some(entry) = tables.entries.get(found.index as usize) else { continue };
             let reexport = match entry.is_forwarder {
                 0 => None,
@@ -276,8 +284,8 @@ impl<'a> Export<'a> {
         opts: &ParseOptions,
     ) -> error::Result<Vec<Export<'a>>> {
         let info = raw::image_with(Index::Export, data_directories::DataDirectory::default(), file_alignment, opts);
-        let sections = raw::Sections::of(sections)?;
-        let view = View::of(bytes, &info, sections.list());
+        let sections = raw::sections_of(sections)?;
+        let view = View::of(bytes, &info, &sections);
         let index = view.make_index()?;
         let view = view.with_index(&index);
         let mut exports = raw::list(export_data.export_name_pointer_table.len())?;

@@ -362,8 +362,8 @@ impl<'a> ResourceData<'a> {
         opts: &ParseOptions,
     ) -> error::Result<Self> {
         let (info, sections) =
-            (raw::image_with(Index::Resource, dd, file_alignment, opts), raw::Sections::of(sections)?);
-        Ok(Self::of(View::of(bytes, &info, sections.list()))?.unwrap_or_default())
+            (raw::image_with(Index::Resource, dd, file_alignment, opts), raw::sections_of(sections)?);
+        Ok(Self::of(View::of(bytes, &info, &sections))?.unwrap_or_default())
     }
 
     pub(crate) fn of(view: View<'a, '_>) -> error::Result<Option<Self>> {
@@ -747,8 +747,8 @@ impl<'a> VersionInfo<'a> {
         opts: &ParseOptions,
     ) -> error::Result<Option<Self>> {
         let info = raw::image_with(Index::Resource, DataDirectory::default(), file_alignment, opts);
-        let sections = raw::Sections::of(sections)?;
-        let view = View::of(pe, &info, sections.list());
+        let sections = raw::sections_of(sections)?;
+        let view = View::of(pe, &info, &sections);
         let Some(entry) = it.find_by_id(RT_VERSION)? else { return Ok(None) };
         let content = entry.content(view, bytes, "RT_VERSION")?;
         content.map(|content| Self::of(pe, content)).transpose()
@@ -789,8 +789,8 @@ impl<'a> ManifestData<'a> {
         opts: &ParseOptions,
     ) -> error::Result<Option<Self>> {
         let info = raw::image_with(Index::Resource, DataDirectory::default(), file_alignment, opts);
-        let sections = raw::Sections::of(sections)?;
-        let view = View::of(pe, &info, sections.list());
+        let sections = raw::sections_of(sections)?;
+        let view = View::of(pe, &info, &sections);
         let Some(entry) = it.find_by_id(RT_MANIFEST)? else { return Ok(None) };
         let content = entry.content(view, bytes, "RT_MANIFEST")?;
         content.map(|content| Ok(ManifestData { data: raw::slice(pe, content)? })).transpose()
