@@ -21,7 +21,7 @@
 //! - No input makes a call panic or loop for ever, but where goblin's own interface says so: `Strtab`'s index, and an iterator
 //!   over a scope table that a caller made of other bytes.
 //! - A list is reserved before it is filled: out of memory is `Error::IO` with the kind `OutOfMemory`. An image with more
-//!   imports than [`pe::options::Limits`] allows is an error.
+//!   imports or longer names than [`pe::options::Limits`] allows is an error.
 //!
 //! ```
 //! # let bytes: &[u8] = include_bytes!(concat!(env!("CARGO_MANIFEST_DIR"), "/../../crates/peinfo/data/i.bin"));

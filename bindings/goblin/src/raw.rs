@@ -61,6 +61,7 @@ fn returned<T>(number: u32, value: T) -> Result<Option<T>, Refusal> {
 }
 
 /// The bytes of a range that a call returned. They are all there, by the contract of that call.
+#[inline]
 pub(crate) fn slice(bytes: &[u8], range: Range) -> error::Result<&[u8]> {
     Ok(range.of(bytes).ok_or(Refusal::SHORT)?)
 }
@@ -101,6 +102,70 @@ pub(crate) fn step<W, T>(
     let item = call(&mut moved).transpose()?;
     *walk = item.is_ok().then_some(moved);
     Some(item.map_err(error::Error::from))
+}
+
+/// A walk that takes several items a call: they are those of its steps, one after the other. It is over after its end and after
+/// an error.
+#[derive(Clone, Copy)]
+pub(crate) struct Batch<W, T, const ROOM: usize> {
+    walk: Option<W>,
+    items: [T; ROOM],
+    /// Of the items those that are not returned yet: the index of the first, and the index after the last.
+    next: usize,
+    end: usize,
+}
+
+impl<W: Copy, T: Copy + Default, const ROOM: usize> Batch<W, T, ROOM> {
+    pub fn new(walk: W) -> Self {
+        Batch { walk: Some(walk), items: [T::default(); ROOM], next: 0, end: 0 }
+    }
+
+    /// The walk after the items that were taken, or `None` where it is over.
+    pub fn walk(&self) -> Option<W> {
+        self.walk
+    }
+
+    /// How many items were taken and are not returned yet.
+    pub fn taken(&self) -> usize {
+        self.end - self.next
+    }
+
+    /// The next item. `call` fills an array and says how many items it wrote, 0 at the end.
+    #[inline]
+    pub fn next(
+        &mut self,
+        call: impl FnOnce(&mut W, &mut [T]) -> Result<usize, Refusal>,
+    ) -> Option<error::Result<T>> {
+        if self.next == self.end {
+            if let Err(refusal) = self.fill(call)? {
+                return Some(Err(refusal.into()));
+            }
+        }
+        let item = self.items.get(self.next)?;
+        self.next += 1;
+        Some(Ok(*item))
+    }
+
+    fn fill(
+        &mut self,
+        call: impl FnOnce(&mut W, &mut [T]) -> Result<usize, Refusal>,
+    ) -> Option<Result<(), Refusal>> {
+        let mut moved = self.walk.take()?;
+        match call(&mut moved, &mut self.items) {
+            Ok(0) => None,
+            Ok(written) => {
+                (self.walk, self.next, self.end) = (Some(moved), 0, written);
+                Some(Ok(()))
+            }
+            Err(refusal) => Some(Err(refusal)),
+        }
+    }
+}
+
+impl<W: core::fmt::Debug, T, const ROOM: usize> core::fmt::Debug for Batch<W, T, ROOM> {
+    fn fmt(&self, f: &mut core::fmt::Formatter<'_>) -> core::fmt::Result {
+        f.debug_struct("Batch").field("walk", &self.walk).field("taken", &(self.end - self.next)).finish()
+    }
 }
 
 /// A number in fewer bits, which a call returns in more.
@@ -149,40 +214,20 @@ pub(crate) fn text_with_room(count: usize) -> error::Result<String> {
 
 // ---- arguments
 
-/// As many section headers as Windows loads.
-const ROOM: usize = 96;
-
-/// Section headers as the library takes them. So many as Windows loads stand in the record itself, whose other entries are
-/// never written: to fill them costs more than most calls.
-pub(crate) struct Sections {
-    few: [MaybeUninit<Section>; ROOM],
-    count: usize,
-    many: Vec<Section>,
+/// Section headers as the library takes them.
+pub(crate) fn sections_of(sections: &[SectionTable]) -> error::Result<Vec<Section>> {
+    let mut found = list(sections.len())?;
+    found.extend(sections.iter().map(section_of));
+    Ok(found)
 }
 
-impl Sections {
-    pub fn of(sections: &[SectionTable]) -> error::Result<Self> {
-        let mut found = Sections { few: [MaybeUninit::uninit(); ROOM], count: 0, many: Vec::new() };
-        if sections.len() > ROOM {
-            found.many = list(sections.len())?;
-            found.many.extend(sections.iter().map(section_of));
-        } else {
-            for (to, from) in found.few.iter_mut().zip(sections) {
-                to.write(section_of(from));
-            }
-            found.count = sections.len();
-        }
-        Ok(found)
-    }
-
-    pub fn list(&self) -> &[Section] {
-        if self.many.is_empty() {
-            // SAFETY: `of` wrote the first `count` entries, and a MaybeUninit has the layout of what it holds.
-            unsafe { core::slice::from_raw_parts(self.few.as_ptr().cast(), self.count) }
-        } else {
-            &self.many
-        }
-    }
+/// The first section that may cover an RVA, by a test that each passes that does, and that the library's own map makes first: from
+/// the section's start to the page of the RVA it is less than the raw size. Where it maps the RVA, the others make no difference,
+/// and need no copy.
+#[inline]
+pub(crate) fn first_around(sections: &[SectionTable], rva: u32) -> Option<Section> {
+    let may_cover = |it: &&SectionTable| rva.wrapping_sub(it.virtual_address) & !0xfff < it.size_of_raw_data;
+    sections.iter().find(may_cover).map(section_of)
 }
 
 pub(crate) fn section_of(it: &SectionTable) -> Section {
@@ -253,6 +298,11 @@ pub(crate) fn image_with(
     info
 }
 
+/// Of bytes that a list reads without an image.
+static NO_IMAGE: ImageInfo =
+    // SAFETY: all fields are numbers, of which 0 is one.
+    unsafe { MaybeUninit::zeroed().assume_init() };
+
 /// An image as loaded, of whatever bytes: its RVAs are their offsets.
 pub(crate) fn image_as_loaded(machine: u16) -> ImageInfo {
     let mut info = ImageInfo { mode: sys::MAPPED, machine, width: 64, number_of_directories: 16, ..Default::default() };
@@ -263,12 +313,48 @@ pub(crate) fn image_as_loaded(machine: u16) -> ImageInfo {
 
 // ---- calls
 
-/// The bytes of an image, its record and its section headers: what most calls take.
+/// The bytes of an image, its record, its section headers and an index of these or none: what most calls take.
 #[derive(Clone, Copy)]
 pub(crate) struct View<'a, 's> {
     pub bytes: &'a [u8],
     pub info: &'s ImageInfo,
     pub sections: &'s [Section],
+    index: &'s [sys::IndexEntry],
+}
+
+/// From so many sections on an index of them costs less than what it spares.
+const MANY: usize = 32;
+
+impl<'a, 's> View<'a, 's> {
+    /// Without an index.
+    pub fn of(bytes: &'a [u8], info: &'s ImageInfo, sections: &'s [Section]) -> Self {
+        View { bytes, info, sections, index: &[] }
+    }
+
+    /// Of bytes alone, for a list that takes no more.
+    pub fn of_bytes(bytes: &'a [u8]) -> Self {
+        Self::of(bytes, &NO_IMAGE, &[])
+    }
+
+    /// An index of the sections, empty where these are few: those are tested in turn as fast.
+    pub fn make_index(&self) -> error::Result<Vec<sys::IndexEntry>> {
+        if self.sections.len() < MANY {
+            return Ok(Vec::new());
+        }
+        let count = 4 * self.sections.len();
+        let (mut room, mut written) = (list(count)?, 0);
+        room.resize(count, sys::IndexEntry::default());
+        // SAFETY: the view is of what is borrowed for the call, and the pointer and the length are those of one array.
+        let number = unsafe { sys::pe_c_index(&self.lent(), room.as_mut_ptr(), count, &mut written) };
+        returned(number, ())?;
+        room.truncate(written as usize);
+        Ok(room)
+    }
+
+    /// The same with an index of the sections.
+    pub fn with_index(self, index: &'s [sys::IndexEntry]) -> Self {
+        View { index, ..self }
+    }
 }
 
 impl<'a> View<'a, '_> {
@@ -287,7 +373,7 @@ impl<'a> View<'a, '_> {
 
     /// The image as the library takes it, for a call that ends before what it borrows.
     fn lent(&self) -> sys::View {
-        sys::View::of(self.bytes, self.info, self.sections, &[])
+        sys::View::of(self.bytes, self.info, self.sections, self.index)
     }
 
     /// The file offset of an RVA; in an image as loaded the RVA itself.
@@ -348,13 +434,11 @@ calls_of_bytes! {
     next_certificate: pe_c_next_certificate(walk: &mut Range) -> sys::Certificate;
     find_function: pe_c_find_function(table: &Range, rva: u32) -> sys::Function;
     function_at: pe_c_function_at(table: &Range, index: u64) -> sys::Function;
-    next_code: pe_c_next_code(walk: &mut sys::Walk) -> sys::Code;
     scope_table: pe_c_scope_table(handler_data: &Range) -> Range;
     next_scope: pe_c_next_scope(walk: &mut Range) -> sys::Scope;
     arm64_function_at: pe_c_arm64_function_at(table: &Range, index: u64) -> sys::Arm64Function;
     next_arm64_scope: pe_c_next_arm64_scope(walk: &mut Range) -> sys::Arm64Scope;
     arm64_codes: pe_c_arm64_codes(codes: &Range, start: u64) -> sys::Arm64Walk;
-    next_arm64_code: pe_c_next_arm64_code(walk: &mut sys::Arm64Walk) -> sys::Arm64Code;
     next_metadata_stream: pe_c_next_metadata_stream(walk: &mut sys::MetadataStreams) -> sys::MetadataStream;
     fixed_version_in: pe_c_fixed_version_in(content: &Range) -> sys::Version;
     version_text_in: pe_c_version_text_in(content: &Range, name: u32) -> Range;
@@ -365,6 +449,29 @@ calls_of_bytes! {
 calls_of_bytes! {
     te: pe_c_te() -> sys::TeHeader;
     te_failure: pe_c_te_failure() -> sys::Failure;
+}
+
+/// Makes methods of calls that write the next items of a walk to an array. They return how many they wrote, 0 at the end.
+macro_rules! lists_of_an_image {
+    ($($name:ident: $call:ident($($more:ident: $kind:ty),*) over $walk:ty => $item:ty;)*) => { impl View<'_, '_> { $(
+        pub fn $name(&self, $($more: $kind,)* walk: &mut $walk, room: &mut [$item]) -> Result<usize, Refusal> {
+            let (view, mut written) = (self.lent(), 0);
+            // SAFETY: as below; the pointer and the length are those of one array, and the walk is lent for the call.
+            let number =
+                unsafe { sys::$call(&view, $($more,)* walk, room.as_mut_ptr(), room.len(), &mut written) };
+            Ok(returned(number, written)?.unwrap_or(0) as usize)
+        }
+    )* } };
+}
+
+lists_of_an_image! {
+    list_functions: pe_c_list_functions(table: &Range) over u64 => sys::Function;
+    list_codes: pe_c_list_codes() over sys::Walk => sys::Code;
+    list_arm64_codes: pe_c_list_arm64_codes() over sys::Arm64Walk => sys::Arm64Code;
+    list_exports: pe_c_list_exports() over sys::Exports => sys::Export;
+    list_export_addresses: pe_c_list_export_addresses(table: &sys::AddressTable) over u64 => sys::Exported;
+    list_libraries: pe_c_list_libraries() over sys::Libraries => sys::Library;
+    list_imports: pe_c_list_imports() over sys::Imports => sys::Import;
 }
 
 /// Makes methods of calls that take an image first.
@@ -390,12 +497,8 @@ calls_of_an_image! {
     arm64_table: pe_c_arm64_table() -> Range;
     arm64_unwind_record: pe_c_arm64_unwind_record(function: &sys::Arm64Function) -> sys::Arm64Record;
     export_tables: pe_c_export_tables() -> sys::Exports;
-    next_export: pe_c_next_export(walk: &mut sys::Exports) -> sys::Export;
     export_addresses: pe_c_export_addresses() -> sys::AddressTable;
-    export_at: pe_c_export_at(table: &sys::AddressTable, index: u64) -> sys::Exported;
     import_libraries: pe_c_import_libraries() -> sys::Libraries;
-    next_library: pe_c_next_library(walk: &mut sys::Libraries) -> sys::Library;
-    next_import: pe_c_next_import(walk: &mut sys::Imports) -> sys::Import;
     version_content: pe_c_version_blocks() -> Range;
     manifest: pe_c_manifest() -> Range;
     resource_leaves: pe_c_resource_leaves() -> sys::ResourceWalk;

@@ -98,8 +98,49 @@ fn more_imports_than_the_limit_are_an_error() {
     let found = ImportData::parse_with_opts::<u64>(&bytes, directory, &[], 0, &opts);
     let text = r#"Malformed("image has more imports than the limit")"#;
     assert_eq!(format!("{:?}", found.expect_err("some 800 lists of 2,000 imports")), text);
-    let limits = Limits { imports: 0 };
+    let limits = Limits { imports: 0, ..Limits::default() };
     assert!(PE::parse_with_limits(IMAGE, &ParseOptions::default(), &limits).is_ok());
+}
+
+/// An image whose exports are so many names, each at a place of its own inside one text of so many bytes, and forwarders inside it.
+fn with_one_text(count: usize, length: usize) -> Vec<u8> {
+    let (mut image, at) = (IMAGE.to_vec(), IMAGE.len());
+    let (addresses, names, ordinals, text) = (at + 40, at + 40 + 4 * count, at + 40 + 8 * count, at + 40 + 10 * count);
+    image.resize(text + length, b'a');
+    image[at..text].fill(0);
+    image.push(0);
+    // The image is read as loaded: RVAs are offsets.
+    for (field, number) in [(20, count), (24, count), (28, addresses), (32, names), (36, ordinals)] {
+        image.pwrite_with(number as u32, at + field, scroll::LE).unwrap();
+    }
+    for index in 0..count {
+        image.pwrite_with((text + index) as u32, addresses + 4 * index, scroll::LE).unwrap();
+        image.pwrite_with((text + index) as u32, names + 4 * index, scroll::LE).unwrap();
+        image.pwrite_with(index as u16, ordinals + 2 * index, scroll::LE).unwrap();
+    }
+    let size = (image.len() - at) as u32;
+    image[directory_offset(1)..directory_offset(16)].fill(0);
+    image.pwrite_with(at as u32, directory_offset(0), scroll::LE).unwrap();
+    image.pwrite_with(size, directory_offset(0) + 4, scroll::LE).unwrap();
+    image
+}
+
+#[test]
+fn longer_names_than_the_limit_are_an_error() {
+    let (count, length) = (100, 1000);
+    let image = with_one_text(count, length);
+    let bytes: usize = (0..count).map(|index| length - index).sum();
+    for parse_mode in [ParseMode::Strict, ParseMode::Permissive] {
+        let opts = ParseOptions { resolve_rva: false, parse_mode, ..Default::default() };
+        let of = |names| PE::parse_with_limits(&image, &opts, &Limits { names, ..Limits::default() });
+        // Each forwarder is a text without a dot, so that the export is skipped.
+        let pe = of(2 * bytes).unwrap();
+        assert!(pe.exports.is_empty() && pe.export_data.unwrap().export_address_table.len() == count);
+        for names in [0, bytes - 1, bytes, 2 * bytes - 1] {
+            let text = r#"Malformed("image has longer names than the limit")"#;
+            assert_eq!(format!("{:?}", of(names).expect_err("names above the limit")), text);
+        }
+    }
 }
 
 /// A file whose directory of imports names one list of ordinals and slots.

@@ -85,8 +85,8 @@ impl<'a> ClrData<'a> {
         opts: &ParseOptions,
     ) -> error::Result<Self> {
         let info = raw::image_with(Index::Clr, *dd, file_alignment, opts);
-        let sections = raw::Sections::of(sections)?;
-        let found = Self::of(View { bytes, info: &info, sections: sections.list() })?;
+        let sections = raw::sections_of(sections)?;
+        let found = Self::of(View::of(bytes, &info, &sections))?;
         found.ok_or_else(|| error::Error::Malformed("no CLR header".to_owned()))
     }
 

@@ -166,8 +166,8 @@ impl<'a> DebugData<'a> {
         opts: &ParseOptions,
         rva_offset: u32,
     ) -> error::Result<Self> {
-        let (info, sections) = (raw::image_with(Index::Debug, dd, file_alignment, opts), raw::Sections::of(sections)?);
-        let view = View { bytes, info: &info, sections: sections.list() };
+        let (info, sections) = (raw::image_with(Index::Debug, dd, file_alignment, opts), raw::sections_of(sections)?);
+        let view = View::of(bytes, &info, &sections);
         Ok(Self::at(view, rva_offset)?.unwrap_or(DebugData { rva_offset, ..Default::default() }))
     }
 

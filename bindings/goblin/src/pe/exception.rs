@@ -89,26 +89,31 @@ impl From<sys::Function> for RuntimeFunction {
     }
 }
 
+/// How many functions or codes an iterator takes a call.
+const TAKEN: usize = 16;
+
 /// The x64 functions of an image, one after the other.
 #[derive(Debug)]
 pub struct RuntimeFunctionIterator<'a> {
     data: &'a [u8],
+    batch: raw::Batch<u64, sys::Function, TAKEN>,
 }
 
 impl Iterator for RuntimeFunctionIterator<'_> {
     type Item = error::Result<RuntimeFunction>;
 
+    #[inline]
     fn next(&mut self) -> Option<Self::Item> {
-        if self.data.is_empty() {
-            return None;
-        }
-        let found = raw::function_at(self.data, &raw::whole(self.data), 0);
-        self.data = raw::left(self.data, Some(raw::rest(self.data, RUNTIME_FUNCTION_SIZE)));
-        Some(found.map_err(error::Error::from).transpose()?.map(RuntimeFunction::from))
+        let data = self.data;
+        let list = |next: &mut _, room: &mut [_]| View::of_bytes(data).list_functions(&raw::whole(data), next, room);
+        Some(self.batch.next(list)?.map(RuntimeFunction::from))
     }
 
     fn size_hint(&self) -> (usize, Option<usize>) {
-        raw::items_left(self.data, RUNTIME_FUNCTION_SIZE)
+        let count = self.data.len() / RUNTIME_FUNCTION_SIZE;
+        let next = self.batch.walk().map_or(count, |it| it as usize);
+        let left = self.batch.taken() + count.saturating_sub(next);
+        (left, Some(left))
     }
 }
 
@@ -212,20 +217,27 @@ impl UnwindCode {
 #[derive(Clone, Debug)]
 pub struct UnwindCodeIterator<'a> {
     bytes: &'a [u8],
-    walk: Option<sys::Walk>,
+    batch: raw::Batch<sys::Walk, sys::Code, TAKEN>,
 }
 
 impl Iterator for UnwindCodeIterator<'_> {
     type Item = error::Result<UnwindCode>;
 
+    #[inline]
     fn next(&mut self) -> Option<Self::Item> {
-        let found = raw::step(&mut self.walk, |walk| raw::next_code(self.bytes, walk))?;
+        let bytes = self.bytes;
+        let found = self.batch.next(|walk, room| match walk.left.length {
+            // Most records have fewer codes than an iterator takes: the call that says so is spared.
+            0 => Ok(0),
+            _ => View::of_bytes(bytes).list_codes(walk, room),
+        })?;
         Some(found.and_then(|it| UnwindCode::of(&it)))
     }
 
     fn size_hint(&self) -> (usize, Option<usize>) {
-        let slots = raw::items_left(raw::left(self.bytes, self.walk.map(|it| it.left)), UNWIND_CODE_SIZE).0;
-        (slots.min(1), Some(slots))
+        let left = raw::left(self.bytes, self.batch.walk().map(|it| it.left));
+        let (slots, taken) = (raw::items_left(left, UNWIND_CODE_SIZE).0, self.batch.taken());
+        (taken + slots.min(1), Some(taken + slots))
     }
 }
 
@@ -264,16 +276,16 @@ impl<'a> UnwindInfo<'a> {
         // Of the bytes from there on, as an image as loaded, the record with the RVA 0: an odd RVA would be a link.
         let bytes = raw::from(bytes, offset)?;
         let info = raw::image_as_loaded(COFF_MACHINE_X86_64);
-        Self::of(View { bytes, info: &info, sections: &[] }, &sys::Range::default(), 0)
+        Self::of(bytes, View::of(bytes, &info, &[]).unwind_record(&sys::Range::default(), 0), 0)
     }
 
-    fn of(view: View<'a, '_>, table: &sys::Range, unwind: u32) -> error::Result<Self> {
-        let found = view.unwind_record(table, unwind).map_err(|it| match it {
+    fn of(bytes: &'a [u8], found: Result<Option<sys::Record>, Refusal>, unwind: u32) -> error::Result<Self> {
+        let found = found.map_err(|it| match it {
             Refusal::UNMAPPED => unmapped("unwind", unwind),
             other => other.into(),
         })?;
         let it = found.ok_or(Refusal::SHORT)?;
-        let data = || view.slice(it.handler_data);
+        let data = || raw::slice(bytes, it.handler_data);
         Ok(UnwindInfo {
             version: it.codes.version,
             size_of_prolog: it.size_of_prolog,
@@ -285,7 +297,7 @@ impl<'a> UnwindInfo<'a> {
                 2 => Some(UnwindHandler::TerminationHandler(it.handler, data()?)),
                 _ => None,
             },
-            code_bytes: view.slice(it.codes.left)?,
+            code_bytes: raw::slice(bytes, it.codes.left)?,
         })
     }
 
@@ -297,7 +309,7 @@ impl<'a> UnwindInfo<'a> {
             frame_register: self.frame_register.0,
             ..Default::default()
         };
-        UnwindCodeIterator { bytes: self.code_bytes, walk: Some(walk) }
+        UnwindCodeIterator { bytes: self.code_bytes, batch: raw::Batch::new(walk) }
     }
 
     /// The scope table of an exception handler of C, or `None` where the data are no such table. Of another handler, for
@@ -366,7 +378,7 @@ impl<'a> ExceptionData<'a> {
     ) -> error::Result<Self> {
         let mut info = raw::image_with(Index::Exception, directory, file_alignment, opts);
         info.machine = COFF_MACHINE_X86_64;
-        Self::one_of(View { bytes, info: &info, sections: raw::Sections::of(sections)?.list() })
+        Self::one_of(View::of(bytes, &info, &raw::sections_of(sections)?))
     }
 
     /// The same of ARM64.
@@ -379,7 +391,7 @@ impl<'a> ExceptionData<'a> {
     ) -> error::Result<Self> {
         let mut info = raw::image_with(Index::Exception, directory, file_alignment, opts);
         info.machine = COFF_MACHINE_ARM64;
-        Self::one_of(View { bytes, info: &info, sections: raw::Sections::of(sections)?.list() })
+        Self::one_of(View::of(bytes, &info, &raw::sections_of(sections)?))
     }
 
     fn one_of(view: View<'a, '_>) -> error::Result<Self> {
@@ -427,7 +439,7 @@ impl<'a> ExceptionData<'a> {
 
     /// The x64 functions, sorted by their start RVAs.
     pub fn functions(&self) -> RuntimeFunctionIterator<'a> {
-        RuntimeFunctionIterator { data: self.data() }
+        RuntimeFunctionIterator { data: self.data(), batch: raw::Batch::new(0) }
     }
 
     /// The x64 function with an index. Error: `Malformed` where there is none.
@@ -479,9 +491,18 @@ impl<'a> ExceptionData<'a> {
         opts: &ParseOptions,
     ) -> error::Result<UnwindInfo<'a>> {
         let info = raw::image_with(Index::Exception, DataDirectory::default(), self.file_alignment, opts);
-        let sections = raw::Sections::of(sections)?;
-        let view = View { bytes: self.bytes, info: &info, sections: sections.list() };
-        UnwindInfo::of(view, &self.table(), function.unwind_info_address)
+        let (table, unwind) = (self.table(), function.unwind_info_address);
+        let by = |sections: &[_]| View::of(self.bytes, &info, sections).unwind_record(&table, unwind);
+        let first = match unwind % 2 {
+            0 => by(raw::first_around(sections, unwind).as_slice()),
+            // A link leads to other RVAs.
+            _ => Err(Refusal::UNMAPPED),
+        };
+        let found = match first {
+            Err(Refusal::UNMAPPED) => by(&raw::sections_of(sections)?),
+            found => found,
+        };
+        UnwindInfo::of(self.bytes, found, unwind)
     }
 
     /// The unwind record of an ARM64 function, or `None` where it is packed. Errors: `Malformed` where the record is unmapped,
@@ -799,7 +820,7 @@ impl<'a> Arm64UnwindInfo<'a> {
     pub fn parse(bytes: &'a [u8], offset: usize) -> error::Result<Self> {
         let bytes = raw::from(bytes, offset)?;
         let info = raw::image_as_loaded(COFF_MACHINE_ARM64);
-        let view = View { bytes, info: &info, sections: &[] };
+        let view = View::of(bytes, &info, &[]);
         let found = view.arm64_unwind_record(&sys::Arm64Function { begin: 0, unwind: 0 })?;
         let it = found.ok_or(Refusal::SHORT)?;
         let (header, extension) = words_of(bytes)?;
@@ -970,7 +991,7 @@ fn custom_stack_of(case: u8) -> Arm64CustomStackCase {
 /// The codes of an ARM64 unwind record, one after the other.
 pub struct Arm64UnwindCodeIterator<'a> {
     bytes: &'a [u8],
-    walk: Option<sys::Arm64Walk>,
+    batch: raw::Batch<sys::Arm64Walk, sys::Arm64Code, TAKEN>,
 }
 
 impl<'a> Arm64UnwindCodeIterator<'a> {
@@ -978,7 +999,8 @@ impl<'a> Arm64UnwindCodeIterator<'a> {
     /// them.
     pub fn new(raw_unwind_bytes: &'a [u8], start: usize) -> error::Result<Self> {
         let walk = raw::arm64_codes(raw_unwind_bytes, &raw::whole(raw_unwind_bytes), start as u64)?;
-        Ok(Arm64UnwindCodeIterator { bytes: raw_unwind_bytes, walk })
+        let batch = raw::Batch::new(walk.ok_or(Refusal::SHORT)?);
+        Ok(Arm64UnwindCodeIterator { bytes: raw_unwind_bytes, batch })
     }
 }
 
@@ -986,7 +1008,11 @@ impl Iterator for Arm64UnwindCodeIterator<'_> {
     type Item = error::Result<Arm64UnwindCodeData>;
 
     fn next(&mut self) -> Option<Self::Item> {
-        let found = raw::step(&mut self.walk, |walk| raw::next_arm64_code(self.bytes, walk))?;
+        let bytes = self.bytes;
+        let found = self.batch.next(|walk, room| match walk.left.length {
+            0 => Ok(0),
+            _ => View::of_bytes(bytes).list_arm64_codes(walk, room),
+        })?;
         Some(found.and_then(|it| Arm64UnwindCodeData::of(&it)))
     }
 }

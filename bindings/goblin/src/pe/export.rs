@@ -2,9 +2,8 @@
 //! <https://learn.microsoft.com/windows/win32/debug/pe-format#the-edata-section-image-only>
 
 use super::data_directories;
-use super::options::ParseOptions;
+use super::options::{Limits, NamesLeft, ParseOptions};
 use super::section_table::SectionTable;
-use super::utils;
 use crate::error;
 use crate::raw::{self, Index, Refusal, View};
 use pe_c::sys;
@@ -42,6 +41,8 @@ pub struct ExportDirectoryTable {
 pub const SIZEOF_EXPORT_DIRECTORY_TABLE: usize = 40;
 /// Bytes of an RVA in the table of RVAs.
 pub const SIZEOF_EXPORT_ADDRESS_TABLE_ENTRY: usize = 4;
+/// How many exports are taken a call, each of which reads its name to the end.
+const TAKEN: usize = 16;
 
 impl ExportDirectoryTable {
     /// Reads the directory at an offset. Error: `Scroll` where it is truncated.
@@ -81,10 +82,10 @@ pub struct ExportData<'a> {
     pub export_address_table: ExportAddressTable,
 }
 
-/// The tables of an image, as the library walks them.
+/// The tables of an image, as the library walks them, and the entries of the table of RVAs.
 pub(crate) struct Tables {
     walk: sys::Exports,
-    addresses: sys::AddressTable,
+    entries: Vec<sys::Exported>,
 }
 
 impl<'a> ExportData<'a> {
@@ -98,8 +99,8 @@ impl<'a> ExportData<'a> {
         Self::parse_with_opts(bytes, dd, sections, file_alignment, &ParseOptions::default())
     }
 
-    /// The exports of a directory. Errors: `Malformed` where the directory is absent, unmapped or truncated, or a table is; and
-    /// out of memory.
+    /// The exports of a directory. Errors: `Malformed` where the directory is absent, unmapped or truncated, or a table is, and
+    /// above the default of [`Limits::names`]; out of memory.
     pub fn parse_with_opts(
         bytes: &'a [u8],
         dd: data_directories::DataDirectory,
@@ -107,21 +108,22 @@ impl<'a> ExportData<'a> {
         file_alignment: u32,
         opts: &ParseOptions,
     ) -> error::Result<ExportData<'a>> {
-        let (info, sections) = (raw::image_with(Index::Export, dd, file_alignment, opts), raw::Sections::of(sections)?);
-        match Self::of(View { bytes, info: &info, sections: sections.list() })? {
+        let (info, sections) = (raw::image_with(Index::Export, dd, file_alignment, opts), raw::sections_of(sections)?);
+        let view = View::of(bytes, &info, &sections);
+        match Self::of(view.with_index(&view.make_index()?), &mut NamesLeft::of(&Limits::default()))? {
             Some((data, _)) => Ok(data),
             None => Err(unmapped(dd)),
         }
     }
 
-    pub(crate) fn of(view: View<'a, '_>) -> error::Result<Option<(Self, Tables)>> {
+    pub(crate) fn of(view: View<'a, '_>, names: &mut NamesLeft) -> error::Result<Option<(Self, Tables)>> {
         let directory = view.directory(Index::Export);
         let Some(walk) = view.export_tables().map_err(|it| refused(view, it))? else { return Ok(None) };
         let Some(addresses) = view.export_addresses()? else { return Ok(None) };
         let at = view.offset(directory.virtual_address).ok_or_else(|| unmapped(directory))?;
-        let words = raw::words(view.bytes, walk.addresses)?;
-        let mut export_address_table = raw::list(words.len())?;
-        export_address_table.extend(words.into_iter().map(|rva| entry_of(directory, rva)));
+        let entries = entries_of(view, &addresses, names)?;
+        let mut export_address_table = raw::list(entries.len())?;
+        export_address_table.extend(entries.iter().map(entry_of));
         let name = if addresses.has_name != 0 { Some(view.text(addresses.name)?) } else { None };
         let data = ExportData {
             name,
@@ -130,16 +132,31 @@ impl<'a> ExportData<'a> {
             export_ordinal_table: raw::halves(view.bytes, walk.ordinals)?,
             export_address_table,
         };
-        Ok(Some((data, Tables { walk, addresses })))
+        Ok(Some((data, Tables { walk, entries })))
     }
 }
 
+/// All entries of the table of RVAs, whose forwarders' texts are taken from how many bytes are left.
+fn entries_of(
+    view: View<'_, '_>,
+    table: &sys::AddressTable,
+    names: &mut NamesLeft,
+) -> error::Result<Vec<sys::Exported>> {
+    let count = raw::narrow(table.addresses.length / SIZEOF_EXPORT_ADDRESS_TABLE_ENTRY as u64)?;
+    let mut entries = raw::list(count)?;
+    let mut batch = raw::Batch::<_, _, TAKEN>::new(0);
+    while let Some(entry) = batch.next(|next, room| view.list_export_addresses(table, next, room)).transpose()? {
+        names.take(raw::narrow(entry.forwarder.length)?)?;
+        raw::push(&mut entries, entry)?;
+    }
+    Ok(entries)
+}
+
 /// An entry of the table of RVAs: one inside the directory leads to a forwarder's text.
-fn entry_of(directory: data_directories::DataDirectory, rva: u32) -> ExportAddressTableEntry {
-    let start = directory.virtual_address as usize;
-    match utils::is_in_range(rva as usize, start, start + directory.size as usize) {
-        true => ExportAddressTableEntry::ForwarderRVA(rva),
-        false => ExportAddressTableEntry::ExportRVA(rva),
+fn entry_of(it: &sys::Exported) -> ExportAddressTableEntry {
+    match it.is_forwarder {
+        0 => ExportAddressTableEntry::ExportRVA(it.rva),
+        _ => ExportAddressTableEntry::ForwarderRVA(it.rva),
     }
 }
 
@@ -224,14 +241,18 @@ pub struct Export<'a> {
 }
 
 impl<'a> Export<'a> {
-    /// Of the tables of an image. Those whose name or forwarder cannot be read are skipped, as in goblin.
-    pub(crate) fn of(view: View<'a, '_>, mut tables: Tables, count: usize) -> error::Result<Vec<Self>> {
+    /// Of the tables of an image. Those whose name or forwarder cannot be read are skipped, as in goblin. The names are taken from
+    /// how many bytes are left.
+    pub(crate) fn of(view: View<'a, '_>, tables: Tables, names: &mut NamesLeft) -> error::Result<Vec<Self>> {
+        let count = raw::narrow(tables.walk.names.length / SIZEOF_EXPORT_ADDRESS_TABLE_ENTRY as u64)?;
         let mut exports = raw::list(count)?;
-        while let Some(found) = view.next_export(&mut tables.walk)? {
-            let Some(by_index) = view.export_at(&tables.addresses, found.index.into())? else { continue };
-            let reexport = match by_index.is_forwarder {
+        let mut batch = raw::Batch::<_, _, TAKEN>::new(tables.walk);
+        while let Some(found) = batch.next(|walk, room| view.list_exports(walk, room)).transpose()? {
+            names.take(raw::narrow(found.name.length)?)?;
+            let Some(entry) = tables.entries.get(found.index as usize) else { continue };
+            let reexport = match entry.is_forwarder {
                 0 => None,
-                _ => match Reexport::of(view.text(by_index.forwarder)?) {
+                _ => match Reexport::of(view.text(entry.forwarder)?) {
                     Ok(reexport) => Some(reexport),
                     Err(_) => continue,
                 },
@@ -263,8 +284,10 @@ impl<'a> Export<'a> {
         opts: &ParseOptions,
     ) -> error::Result<Vec<Export<'a>>> {
         let info = raw::image_with(Index::Export, data_directories::DataDirectory::default(), file_alignment, opts);
-        let sections = raw::Sections::of(sections)?;
-        let view = View { bytes, info: &info, sections: sections.list() };
+        let sections = raw::sections_of(sections)?;
+        let view = View::of(bytes, &info, &sections);
+        let index = view.make_index()?;
+        let view = view.with_index(&index);
         let mut exports = raw::list(export_data.export_name_pointer_table.len())?;
         let names = export_data.export_name_pointer_table.iter().zip(&export_data.export_ordinal_table);
         for (name, index) in names {

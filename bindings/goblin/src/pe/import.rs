@@ -2,7 +2,7 @@
 //! the loader fills with addresses. <https://learn.microsoft.com/windows/win32/debug/pe-format#the-idata-section>
 
 use super::data_directories::DataDirectory;
-use super::options::{Limits, ParseOptions};
+use super::options::{Limits, NamesLeft, ParseOptions};
 use super::section_table::SectionTable;
 use crate::error;
 use crate::raw::{self, Index, Refusal, View};
@@ -16,6 +16,10 @@ pub const IMPORT_BY_ORDINAL_64: u64 = 0x8000_0000_0000_0000;
 pub const IMPORT_RVA_MASK_32: u32 = 0x7fff_ffff;
 pub const IMPORT_RVA_MASK_64: u64 = 0x0000_0000_7fff_ffff;
 pub const SIZEOF_IMPORT_DIRECTORY_ENTRY: usize = 20;
+/// How many libraries are taken a call, and how many imports of one. Each call reads their names and lists to the end.
+const LIBRARIES_TAKEN: usize = 8;
+const TAKEN: usize = 16;
+
 /// An entry of a list of imports, of 32 or 64 bits: an ordinal where its highest bit is set, else the RVA of a hint and a name.
 pub trait Bitfield<'a>:
     Into<u64> + PartialEq + Eq + LowerHex + Debug + TryFromCtx<'a, scroll::Endian, Error = scroll::Error>
@@ -140,7 +144,7 @@ impl<'a> ImportData<'a> {
     }
 
     /// The imports of a directory. Errors: `Malformed` where the directory is absent, unmapped or truncated, where an import's
-    /// RVA is unmapped or its name no text, and above the default of [`Limits::imports`]; out of memory.
+    /// RVA is unmapped or its name no text, and above the default of [`Limits`]; out of memory.
     pub fn parse_with_opts<T: Bitfield<'a>>(
         bytes: &'a [u8],
         dd: DataDirectory,
@@ -150,9 +154,10 @@ impl<'a> ImportData<'a> {
     ) -> error::Result<ImportData<'a>> {
         let mut info = raw::image_with(Index::Import, dd, file_alignment, opts);
         info.width = 8 * T::size_of() as u16;
-        let sections = raw::Sections::of(sections)?;
-        let view = View { bytes, info: &info, sections: sections.list() };
-        Self::of::<T>(view, &Limits::default())?.ok_or_else(|| unmapped(dd))
+        let sections = raw::sections_of(sections)?;
+        let view = View::of(bytes, &info, &sections);
+        let index = view.make_index()?;
+        Self::of::<T>(view.with_index(&index), &Limits::default())?.ok_or_else(|| unmapped(dd))
     }
 
     pub(crate) fn of<T: Bitfield<'a>>(view: View<'a, '_>, limits: &Limits) -> error::Result<Option<Self>> {
@@ -160,9 +165,10 @@ impl<'a> ImportData<'a> {
             Refusal::UNMAPPED => unmapped(view.directory(Index::Import)),
             other => other.into(),
         })?;
-        let Some(mut walk) = found else { return Ok(None) };
-        let (mut import_data, mut left) = (Vec::new(), limits.imports);
-        while let Some(library) = view.next_library(&mut walk)? {
+        let Some(walk) = found else { return Ok(None) };
+        let (mut import_data, mut left) = (Vec::new(), Left { imports: limits.imports, names: NamesLeft::of(limits) });
+        let mut batch = raw::Batch::<_, _, LIBRARIES_TAKEN>::new(walk);
+        while let Some(library) = batch.next(|walk, room| view.list_libraries(walk, room)).transpose()? {
             let entry = SyntheticImportDirectoryEntry::of::<T>(view, &library, &mut left)?;
             raw::push(&mut import_data, entry)?;
         }
@@ -177,19 +183,33 @@ fn unmapped(directory: DataDirectory) -> error::Error {
     ))
 }
 
+/// How many imports and slots, and how many bytes of names, may still be taken.
+struct Left {
+    imports: usize,
+    names: NamesLeft,
+}
+
+impl Left {
+    fn take(&mut self, count: usize) -> error::Result<()> {
+        self.imports = self.imports.checked_sub(count).ok_or_else(too_many)?;
+        Ok(())
+    }
+}
+
 fn too_many() -> error::Error {
     error::Error::Malformed("image has more imports than the limit".to_owned())
 }
 
 impl<'a> SyntheticImportDirectoryEntry<'a> {
-    /// Of a library, whose imports and slots are taken from how many are left.
-    fn of<T: Bitfield<'a>>(view: View<'a, '_>, library: &sys::Library, left: &mut usize) -> error::Result<Self> {
+    /// Of a library, whose imports, slots and names are taken from how many are left.
+    fn of<T: Bitfield<'a>>(view: View<'a, '_>, library: &sys::Library, left: &mut Left) -> error::Result<Self> {
+        left.names.take(raw::narrow(library.name.length)?)?;
         let lookups = lookups_of::<T>(view, library, left)?;
         let import_address_table = match view.offset(library.address_table_rva) {
-            Some(at) => raw::address_table::<T>(view.bytes, at, *left)?.ok_or_else(too_many)?,
+            Some(at) => raw::address_table::<T>(view.bytes, at, left.imports)?.ok_or_else(too_many)?,
             None => Vec::new(),
         };
-        *left -= import_address_table.len();
+        left.take(import_address_table.len())?;
         Ok(SyntheticImportDirectoryEntry {
             import_directory_entry: ImportDirectoryEntry {
                 import_lookup_table_rva: library.lookup_table_rva,
@@ -208,14 +228,16 @@ impl<'a> SyntheticImportDirectoryEntry<'a> {
 fn lookups_of<'a, T: Bitfield<'a>>(
     view: View<'a, '_>,
     library: &sys::Library,
-    left: &mut usize,
+    left: &mut Left,
 ) -> error::Result<ImportLookupTable<'a>> {
-    let mut walk = library.imports;
-    let (start, size): (usize, usize) = (raw::narrow(walk.left.offset)?, raw::narrow(walk.left.length)?);
+    let list = library.imports.left;
+    let (start, size): (usize, usize) = (raw::narrow(list.offset)?, raw::narrow(list.length)?);
     let count = size / T::size_of();
-    *left = left.checked_sub(count).ok_or_else(too_many)?;
+    left.take(count)?;
     let mut lookups = raw::list(count)?;
-    while let Some(import) = view.next_import(&mut walk)? {
+    let mut batch = raw::Batch::<_, _, TAKEN>::new(library.imports);
+    while let Some(import) = batch.next(|walk, room| view.list_imports(walk, room)).transpose()? {
+        left.names.take(raw::narrow(import.name.length)?)?;
         let hint = import.ordinal as u16;
         let entry = match import.has_name {
             0 => SyntheticImportLookupTableEntry::OrdinalNumber(hint),

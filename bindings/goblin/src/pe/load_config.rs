@@ -71,8 +71,8 @@ impl LoadConfigData {
     ) -> error::Result<Self> {
         let mut info = raw::image_with(Index::LoadConfig, dd, file_alignment, opts);
         info.width = if is_64 { 64 } else { 32 };
-        let sections = raw::Sections::of(sections)?;
-        let found = Self::of(View { bytes, info: &info, sections: sections.list() })?;
+        let sections = raw::sections_of(sections)?;
+        let found = Self::of(View::of(bytes, &info, &sections))?;
         found.ok_or_else(|| error::Error::Malformed("no load configuration".to_owned()))
     }
 

@@ -27,7 +27,7 @@ mod write;
 use crate::error;
 use crate::raw::{self, Index, View};
 use crate::strtab;
-use options::{Limits, ParseOptions};
+use options::{Limits, NamesLeft, ParseOptions};
 use pe_c::sys;
 
 /// A PE image.
@@ -92,14 +92,15 @@ impl<'a> PE<'a> {
         Self::parse_with_limits(bytes, opts, &Limits::default())
     }
 
-    /// The same with another limit than the default. Error: also `Malformed` above the limit.
+    /// The same with other limits than the default. Error: also `Malformed` above a limit.
     pub fn parse_with_limits(bytes: &'a [u8], opts: &ParseOptions, limits: &Limits) -> error::Result<Self> {
         let (header, info) = header::Header::with_info(bytes, opts)?;
         let raw_sections = raw::sections(bytes, &info)?;
-        let view = View { bytes, info: &info, sections: &raw_sections };
+        let index = View::of(bytes, &info, &raw_sections).make_index()?;
+        let view = View::of(bytes, &info, &raw_sections).with_index(&index);
         let is_permissive = opts.parse_mode.is_permissive();
 
-        let (export_data, exports) = exports_of(view)?;
+        let (export_data, exports) = exports_of(view, limits)?;
         let (import_data, imports) = match opts.parse_imports {
             true => imports_of(view, limits)?,
             false => (None, Vec::new()),
@@ -136,7 +137,7 @@ impl<'a> PE<'a> {
 
     /// The parts of the file that an Authenticode digest covers, one after the other.
     pub fn authenticode_ranges(&self) -> authenticode::ExcludedSectionsIter<'_> {
-        let view = View { bytes: self.bytes, info: &self.info, sections: &[] };
+        let view = View::of(self.bytes, &self.info, &[]);
         let digest = view.digest_ranges().ok().flatten();
         authenticode::ExcludedSectionsIter::new(self.bytes, digest)
     }
@@ -166,10 +167,11 @@ fn sections_of(view: View<'_, '_>) -> error::Result<Vec<section_table::SectionTa
 type Exports<'a> = (Option<export::ExportData<'a>>, Vec<export::Export<'a>>);
 
 /// A damaged export directory counts as absent in both modes, as in goblin.
-fn exports_of<'a>(view: View<'a, '_>) -> error::Result<Exports<'a>> {
-    let found = unless_damaged(export::ExportData::of(view), true)?;
-    let Some((data, tables)) = found else { return Ok((None, Vec::new())) };
-    let exports = export::Export::of(view, tables, data.export_name_pointer_table.len())?;
+fn exports_of<'a>(view: View<'a, '_>, limits: &Limits) -> error::Result<Exports<'a>> {
+    let mut names = NamesLeft::of(limits);
+    let found = export::ExportData::of(view, &mut names);
+    let Some((data, tables)) = unless_damaged(found, !names.is_over())? else { return Ok((None, Vec::new())) };
+    let exports = export::Export::of(view, tables, &mut names)?;
     Ok((Some(data), exports))
 }
 

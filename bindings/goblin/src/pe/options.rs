@@ -1,5 +1,7 @@
 //! How an image is parsed.
 
+use crate::error;
+
 /// Whether damage to a directory is an error of the image.
 #[derive(Debug, Copy, Clone, PartialEq, Eq)]
 pub enum ParseMode {
@@ -61,17 +63,50 @@ impl ParseOptions {
     }
 }
 
-/// How many items of an image are taken into lists. goblin has no limit, and a small file can name more imports than fit in
-/// any memory. [`PE::parse_with_limits`](super::PE::parse_with_limits) takes it beside the options, whose fields are goblin's.
+/// How much of an image is taken into lists. goblin has no limit, and a small file can name more imports than fit in any memory,
+/// or names inside one long text that take hours to read. [`PE::parse_with_limits`](super::PE::parse_with_limits) takes it beside
+/// the options, whose fields are goblin's.
 #[derive(Debug, Copy, Clone, PartialEq, Eq)]
 pub struct Limits {
     /// The most imports that an image may have, and the most addresses in its import address tables.
     pub imports: usize,
+    /// The most bytes that all names of its exports and their forwarders may have together, and all names of its imports.
+    pub names: usize,
 }
 
 impl Default for Limits {
-    /// A million imports, some hundred megabytes: real images have some ten thousand at most.
+    /// A million imports, some hundred megabytes, and 64 MiB of names: real images have some ten thousand imports at most, and
+    /// some megabytes of names.
     fn default() -> Self {
-        Limits { imports: 1 << 20 }
+        Limits { imports: 1 << 20, names: 64 << 20 }
+    }
+}
+
+/// How many bytes of names may still be taken.
+pub(crate) struct NamesLeft {
+    bytes: usize,
+    is_over: bool,
+}
+
+impl NamesLeft {
+    pub fn of(limits: &Limits) -> Self {
+        NamesLeft { bytes: limits.names, is_over: false }
+    }
+
+    /// Takes a name. Error: `Malformed` above the limit.
+    pub fn take(&mut self, length: usize) -> error::Result<()> {
+        match self.bytes.checked_sub(length) {
+            Some(left) => self.bytes = left,
+            None => {
+                self.is_over = true;
+                return Err(error::Error::Malformed("image has longer names than the limit".to_owned()));
+            }
+        }
+        Ok(())
+    }
+
+    /// Whether a name was above the limit.
+    pub fn is_over(&self) -> bool {
+        self.is_over
     }
 }

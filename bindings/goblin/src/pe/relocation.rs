@@ -140,8 +140,8 @@ impl<'a> RelocationData<'a> {
         opts: &ParseOptions,
     ) -> error::Result<Self> {
         let (info, sections) =
-            (raw::image_with(Index::BaseRelocation, dd, file_alignment, opts), raw::Sections::of(sections)?);
-        Ok(Self::of(View { bytes, info: &info, sections: sections.list() })?.unwrap_or_default())
+            (raw::image_with(Index::BaseRelocation, dd, file_alignment, opts), raw::sections_of(sections)?);
+        Ok(Self::of(View::of(bytes, &info, &sections))?.unwrap_or_default())
     }
 
     pub(crate) fn of(view: View<'a, '_>) -> error::Result<Option<Self>> {

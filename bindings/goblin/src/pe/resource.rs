@@ -362,8 +362,8 @@ impl<'a> ResourceData<'a> {
         opts: &ParseOptions,
     ) -> error::Result<Self> {
         let (info, sections) =
-            (raw::image_with(Index::Resource, dd, file_alignment, opts), raw::Sections::of(sections)?);
-        Ok(Self::of(View { bytes, info: &info, sections: sections.list() })?.unwrap_or_default())
+            (raw::image_with(Index::Resource, dd, file_alignment, opts), raw::sections_of(sections)?);
+        Ok(Self::of(View::of(bytes, &info, &sections))?.unwrap_or_default())
     }
 
     pub(crate) fn of(view: View<'a, '_>) -> error::Result<Option<Self>> {
@@ -665,26 +665,24 @@ impl From<sys::Version> for VsFixedFileInfo {
 /// Declares the texts that version information may have, each by its number in the library.
 macro_rules! version_texts {
     ($($name:ident = $number:literal: $key:literal),* $(,)?) => {
-        /// Texts of the version information: of each key the first value, whatever its language.
+        /// Texts of the version information: of each key the first value, whatever its language. They are looked for when they are
+        /// asked for: the errors of all strings came with the fixed file information.
         #[derive(Copy, Clone)]
         pub struct StringFileInfo<'a> {
-            $($name: Option<&'a [u8]>),*
+            bytes: &'a [u8],
+            content: sys::Range,
         }
 
-        impl<'a> StringFileInfo<'a> {
-            /// Of the content of a resource, which is a range of the bytes.
-            fn of(bytes: &'a [u8], content: &sys::Range) -> error::Result<Self> {
-                let text = |number| {
-                    let found = raw::version_text_in(bytes, content, number)?;
-                    found.map(|range| raw::slice(bytes, range)).transpose()
-                };
-                Ok(StringFileInfo { $($name: text($number)?),* })
+        impl StringFileInfo<'_> {
+            fn text(&self, number: u32) -> Option<String> {
+                let found = raw::version_text_in(self.bytes, &self.content, number).ok()??;
+                to_utf16_string(raw::slice(self.bytes, found).ok()?)
             }
 
             $(
                 #[doc = concat!("The text with the key `", $key, "`, or `None` without one and where it is no text.")]
                 pub fn $name(&self) -> Option<String> {
-                    self.$name.and_then(to_utf16_string)
+                    self.text($number)
                 }
             )*
         }
@@ -747,8 +745,8 @@ impl<'a> VersionInfo<'a> {
         opts: &ParseOptions,
     ) -> error::Result<Option<Self>> {
         let info = raw::image_with(Index::Resource, DataDirectory::default(), file_alignment, opts);
-        let sections = raw::Sections::of(sections)?;
-        let view = View { bytes: pe, info: &info, sections: sections.list() };
+        let sections = raw::sections_of(sections)?;
+        let view = View::of(pe, &info, &sections);
         let Some(entry) = it.find_by_id(RT_VERSION)? else { return Ok(None) };
         let content = entry.content(view, bytes, "RT_VERSION")?;
         content.map(|content| Self::of(pe, content)).transpose()
@@ -759,7 +757,7 @@ impl<'a> VersionInfo<'a> {
         Ok(VersionInfo {
             data: raw::slice(bytes, content)?,
             fixed_info: raw::fixed_version_in(bytes, &content)?.map(VsFixedFileInfo::from),
-            string_info: StringFileInfo::of(bytes, &content)?,
+            string_info: StringFileInfo { bytes, content },
         })
     }
 }
@@ -789,8 +787,8 @@ impl<'a> ManifestData<'a> {
         opts: &ParseOptions,
     ) -> error::Result<Option<Self>> {
         let info = raw::image_with(Index::Resource, DataDirectory::default(), file_alignment, opts);
-        let sections = raw::Sections::of(sections)?;
-        let view = View { bytes: pe, info: &info, sections: sections.list() };
+        let sections = raw::sections_of(sections)?;
+        let view = View::of(pe, &info, &sections);
         let Some(entry) = it.find_by_id(RT_MANIFEST)? else { return Ok(None) };
         let content = entry.content(view, bytes, "RT_MANIFEST")?;
         content.map(|content| Ok(ManifestData { data: raw::slice(pe, content)? })).transpose()

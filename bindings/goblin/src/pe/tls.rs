@@ -66,8 +66,8 @@ impl<'a> TlsData<'a> {
         let mut info = raw::image_with(Index::Tls, *dd, file_alignment, opts);
         info.base = image_base;
         info.width = if is_64 { 64 } else { 32 };
-        let sections = raw::Sections::of(sections)?;
-        Self::of(View { bytes, info: &info, sections: sections.list() })
+        let sections = raw::sections_of(sections)?;
+        Self::of(View::of(bytes, &info, &sections))
     }
 
     pub(crate) fn of(view: View<'a, '_>) -> error::Result<Option<Self>> {

@@ -20,8 +20,8 @@ pub fn find_offset(rva: usize, sections: &[SectionTable], file_alignment: u32, o
     // No section maps an RVA above 32 bits: one ends there.
     let rva = u32::try_from(rva).ok()?;
     let info = raw::image_with(Index::Export, DataDirectory::default(), file_alignment, opts);
-    let sections = raw::Sections::of(sections).ok()?;
-    View { bytes: &[], info: &info, sections: sections.list() }.offset(rva)
+    let by = |sections: &[_]| View::of(&[], &info, sections).offset(rva);
+    by(raw::first_around(sections, rva).as_slice()).or_else(|| by(&raw::sections_of(sections).ok()?))
 }
 
 /// The same, and an error with a text in place of `None`.
