@@ -1,4 +1,4 @@
-use Rattle.std.proofs.Common.{Bool, Some, None, if◌then◌else◌, subst, arith}
+use Rattle.std.proofs.Common.{Bool, true, false, Some, None, if◌then◌else◌, subst, arith}
 use Rattle.pe_frame.specs.FrameWalks.{Advances, Process, state_of}
 use Rattle.pe_c.proofs.NextFrames.{done, none_left, over, same_position, same_remaining}
 use Rattle.pe_c.proofs.frame_calls.next_frame_from.Goals as goal
