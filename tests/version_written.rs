@@ -1,8 +1,8 @@
 //! Blocks of version information that are written: their bytes, by Microsoft's page on VS_VERSIONINFO and its children, and
 //! refusals.
 
-use pe_resource::{Translation, VsFixedFileInfo};
 use pe_edit::RecordRange;
+use pe_resource::{Translation, VsFixedFileInfo};
 use pe_version::{
     LanguageRecord, NewBlock, StringRecord, StringTable, TableRecord, VersionError, VersionRecords,
     VersionText, VersionValue, block_len, read_version, version_bytes, version_len, write_block,
