@@ -43,6 +43,7 @@ pub mod TeRanges
 pub mod ViewedModules
 pub mod WalkFrames
 pub mod Arm64WalkFrames
+pub mod MappedRooms
 pub mod NextFrames
 pub mod FrameRuns
 pub mod FilledLists
