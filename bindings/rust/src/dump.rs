@@ -351,7 +351,9 @@ impl<'a> Dump<'a> {
         let raised = self.exception().ok().flatten().unwrap_or_default();
         let found = match self.system()?.map(|system| system.processor_architecture) {
             Some(X64) => look(self.bytes, sys::pe_c_dump_thread_context, thread, &raised)?.map(DumpContext::X64),
-            Some(ARM64) => look(self.bytes, sys::pe_c_dump_thread_context_arm64, thread, &raised)?.map(DumpContext::Arm64),
+            Some(ARM64) => {
+                look(self.bytes, sys::pe_c_dump_thread_context_arm64, thread, &raised)?.map(DumpContext::Arm64)
+            }
             _ => None,
         };
         found.ok_or(Error::DUMP_MACHINE)

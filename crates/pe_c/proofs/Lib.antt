@@ -51,6 +51,7 @@ pub mod ListRuns
 pub mod ResourceEdits
 pub mod DumpEntries
 pub mod DumpRanges
+pub mod DumpStacks
 pub mod SignatureRuns
 pub mod SoughtAttributes
 pub mod IndexCuts

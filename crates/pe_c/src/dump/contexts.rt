@@ -157,11 +157,7 @@ pub extern "C" fn pe_c_dump_context_arm64(
     hand_out_dump(context_arm64_at(bytes, location), out)
 }
 
-fn thread_context_at(
-    bytes: &[u8],
-    thread: &Thread,
-    raised: &DumpException,
-) -> Result<X64Context>
+fn thread_context_at(bytes: &[u8], thread: &Thread, raised: &DumpException) -> Result<X64Context>
     ensures { dump_answer result ≡ thread_context_at (context_x64_at bytes.now) thread.now raised.now }
 {
     if raised.thread_id == thread.thread_id {

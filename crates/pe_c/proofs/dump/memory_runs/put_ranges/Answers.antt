@@ -1,5 +1,4 @@
-use Rattle.std.proofs.Common.{◌∙◌, ap, arith, length-set, map, refl}
-use Rattle.std.proofs.lemmas.List.{take_all}
+use Rattle.std.proofs.Common.{◌∙◌, arith, length-set, refl}
 use Rattle.pe_c.specs.DumpRuns.{range_in}
 use Rattle.pe_c.proofs.MappedRooms.{more_mapped, others_left}
 use Rattle.pe_c.proofs.dump.memory_runs.put_ranges.Goals as goal
@@ -11,7 +10,7 @@ pub loop-i-preserved : goal.loop-i-preserved
 loop-i-preserved c =
     let kept = c.loop-i.invariant in
     record {
-      found = more_mapped (range_in c.args.pieces.now) c.args.asked.now c.loop-i.found c.loop-i.i _ _ kept.found (omega arith) (omega arith) refl c.range_in.ensures;
+      found = more_mapped (range_in c.args.pieces.now) c.args.asked.now c.loop-i.found c.loop-i.i _ _ kept.found (omega arith) (omega arith) c.range_in.ensures;
       others = others_left c.args.found.now c.loop-i.found c.loop-i.i _ kept.others;
       same = length-set _ _ _ ∙ kept.same;
     }
