@@ -49,7 +49,7 @@ fn runs_have_the_first_piece_of_an_address(rt: HostRuntime) -> Result<(), Fail> 
     );
     assert_eq!(rt; written, 5);
     assert_eq!(rt;
-        runs[..5],
+        [runs[0], runs[1], runs[2], runs[3], runs[4]],
         [
             piece(0x1000, 0x40, 8),
             piece(0x1008, 0x20, 8),
@@ -92,6 +92,7 @@ fn runs_that_are_refused_change_nothing(rt: HostRuntime) -> Result<(), Fail> {
         pe_c_memory_runs(&list, &mut entries, &mut runs[..9], &mut written),
         ROOM
     );
+    // shows: pe_c/src/dump/memory_runs.rt pe_c_memory_runs Short
     let past = [piece(0x1000, u64::MAX, 1)];
     assert_eq!(rt;
         pe_c_memory_runs(&past, &mut entries, &mut runs, &mut written),
@@ -125,11 +126,11 @@ fn ranges_of_addresses_are_found(rt: HostRuntime) -> Result<(), Fail> {
     );
     assert_eq!(rt; written, 4);
     let places: [[u64; 2]; 5] = [
-        of_range(&found[0]),
-        of_range(&found[1]),
-        of_range(&found[2]),
-        of_range(&found[3]),
-        of_range(&found[4]),
+        of_range(found[0]),
+        of_range(found[1]),
+        of_range(found[2]),
+        of_range(found[3]),
+        of_range(found[4]),
     ];
     assert_eq!(rt; places, [[0x44, 4], [0, 0], [0x5F, 1], [0x40, 3], [7, 8]]);
     // In pieces in any order it is the first that has the address, up to its end.
@@ -138,7 +139,7 @@ fn ranges_of_addresses_are_found(rt: HostRuntime) -> Result<(), Fail> {
         pe_c_memory_ranges(&memory, &five_pieces(), &asked, &mut found, &mut written),
         DONE
     );
-    assert_eq!(rt; (written, of_range(&found[0])), (1, [0x14, 12]));
+    assert_eq!(rt; (written, of_range(found[0])), (1, [0x14, 12]));
     Ok(())
 }
 
@@ -155,7 +156,7 @@ fn ranges_that_are_refused_change_nothing(rt: HostRuntime) -> Result<(), Fail> {
         pe_c_memory_ranges(&memory, &list, &asked, &mut found[..1], &mut written),
         ROOM
     );
-    assert_eq!(rt; (written, of_range(&found[0])), (9, [7, 8]));
-    assert_eq!(rt; of_range(&found[1]), [7, 8]);
+    assert_eq!(rt; (written, of_range(found[0])), (9, [7, 8]));
+    assert_eq!(rt; of_range(found[1]), [7, 8]);
     Ok(())
 }
