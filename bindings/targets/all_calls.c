@@ -775,7 +775,12 @@ static void dump_lists(const struct file *file, const pe_c_range *stream)
         CALL(pe_c_dump_thread_context, context, BYTES, &thread, &raised, &context);
         CALL(pe_c_dump_thread_context_arm64, arm64_context, BYTES, &thread, &raised, &arm64_context);
         CALL(pe_c_dump_module_at, module, BYTES, stream, i, &module);
-        CALL(pe_c_is_image_of, is_image, &file->image, &module);
+        pe_c_image_info image = file->image;
+        CALL(pe_c_is_image_of, is_image, &image, &module);
+        image.width = 64;
+        image.time_date_stamp = module.time_date_stamp;
+        image.size_of_image = module.size_of_image;
+        CALL(pe_c_is_image_of, is_image, &image, &module);
         CALL(pe_c_dump_range, range, BYTES, &module.cv_record, &range);
         CALL(pe_c_dump_text, range, BYTES, module.module_name_rva, &range);
         CALL(pe_c_dump_thread_name_at, name, BYTES, stream, i, &name);
