@@ -2582,10 +2582,10 @@ uint32_t pe_c_list_pogo_entries(const pe_c_view *view, pe_c_range *walk, pe_c_po
  * each stream is, one of each kind. A caller takes the range of a stream once, and reads its records by index, until
  * PE_C_NOTHING. A stream that is damaged costs that stream alone.
  *
- * The stack of a thread: take the context of the exception, if the thread is the one that it names, else that of the thread, by
- * pe_c_dump_context. The images of the modules make pe_c_module records: one is the image of a module if time_date_stamp and
- * size_of_image are the same. pe_c_dump_memory_at and pe_c_next_memory64 return the pieces of memory, which pe_c_next_frame
- * takes with the bytes of the dump as its memory.
+ * The stack of a thread: pe_c_dump_thread_context reads the registers that count, those of the exception first. The images of the
+ * modules make pe_c_module records: pe_c_is_image_of says which image is a module's. pe_c_dump_memory_at and pe_c_next_memory64
+ * return the pieces of memory, which pe_c_next_frame takes with the bytes of the dump as its memory. pe_c_memory_runs puts them in
+ * order, for walks over many pieces, and by pe_c_memory_ranges the dump's own memory has images.
  *
  * A location is what a record says, and may be anywhere: the calls that take one test it.
  * https://learn.microsoft.com/windows/win32/api/minidumpapiset/ */
@@ -2794,6 +2794,13 @@ typedef struct {
     uint64_t next;                  /* offset of the bytes of the next piece */
 } pe_c_memory64_walk;
 
+/* An entry of an index of pieces of memory, which pe_c_memory_runs makes on the way: the addresses from `start` up to the start of
+ * the next entry. */
+typedef struct {
+    uint64_t start;
+    uint64_t number;                /* index of the piece that has them, plus 1; 0 where none does */
+} pe_c_range_entry;
+
 /* The registers of a thread on x64, CONTEXT. */
 typedef struct {
     pe_c_registers registers;       /* xmm is 0 where it was not saved */
@@ -2827,6 +2834,7 @@ PE_C_SIZE(pe_c_dump_power, 20);
 PE_C_SIZE(pe_c_dump_process_info, 48);
 PE_C_SIZE(pe_c_dump_piece, 32);
 PE_C_SIZE(pe_c_memory64_walk, 24);
+PE_C_SIZE(pe_c_range_entry, 16);
 PE_C_SIZE(pe_c_context, 400);
 PE_C_SIZE(pe_c_arm64_context, 336);
 
@@ -2926,6 +2934,40 @@ uint32_t pe_c_dump_context(const uint8_t *bytes, size_t length, const pe_c_dump_
 /* The same of ARM64, whose contexts have 912 bytes. Errors: those of pe_c_dump_context. */
 uint32_t pe_c_dump_context_arm64(const uint8_t *bytes, size_t length, const pe_c_dump_location *location,
                                  pe_c_arm64_context *out) PE_C_RESULT(3, 4);
+
+/* Reads the registers of a thread that count, on x64: those of the exception, if it names the thread and they can be read, since
+ * the thread's own may be of the code that wrote the dump; else the thread's own. `raised` is what pe_c_dump_exception returned, or
+ * PE_C_EMPTY without an exception.
+ * Errors: those of the thread's own context, as of pe_c_dump_context. */
+uint32_t pe_c_dump_thread_context(const uint8_t *bytes, size_t length, const pe_c_dump_thread *thread,
+                                  const pe_c_dump_raised *raised, pe_c_context *out) PE_C_RESULT(3, 4, 5);
+
+/* The same of ARM64. Errors: those of the thread's own context, as of pe_c_dump_context_arm64. */
+uint32_t pe_c_dump_thread_context_arm64(const uint8_t *bytes, size_t length, const pe_c_dump_thread *thread,
+                                        const pe_c_dump_raised *raised, pe_c_arm64_context *out) PE_C_RESULT(3, 4, 5);
+
+/* Returns PE_C_DONE where an image is that of a module: its time stamp and its size are the module's. PE_C_NOTHING where it is
+ * another one, or has no optional header. The checksum is not asked. */
+uint32_t pe_c_is_image_of(const pe_c_image_info *image, const pe_c_dump_module *module) PE_C_RESULT(1, 2);
+
+/* Writes the memory of pieces in any order to `runs`, as pieces that ascend and do not overlap, and to `written` how many there
+ * are: an address is that of the first of the pieces that has it. Two that follow one another in memory and in the file are one. In
+ * such pieces pe_c_next_frame looks an address up by binary search. `entries` has to have four entries for each piece, and `runs`
+ * two; what is in the entries then is left open.
+ * Errors, which change nothing: PE_C_SHORT if a piece ends past offset 2^64 - 1; PE_C_ROOM. */
+uint32_t pe_c_memory_runs(const pe_c_memory_piece *pieces, size_t piece_count, pe_c_range_entry *entries,
+                          size_t number_of_entries, pe_c_memory_piece *runs, size_t number_of_runs, uint64_t *written)
+    PE_C_RESULT(7);
+
+/* Writes to `found`, for each of the ranges that are asked for, an address and how many bytes from it on at most, the range of
+ * `memory` where these bytes are: those of the first piece that has the address, up to its end. Where no piece has it the range has
+ * no bytes. `written` is how many. In what pe_c_memory_runs writes a range ends at the first address that the dump has no byte of, or
+ * has elsewhere: so the images of modules are found that the dump's own memory has, for pe_c_image with PE_C_MAPPED. The pieces are
+ * tested once a call.
+ * Errors, which change nothing: PE_C_SHORT if a piece is not inside `memory`; PE_C_ROOM where there is room for fewer than are asked for. */
+uint32_t pe_c_memory_ranges(const uint8_t *memory, size_t memory_length, const pe_c_memory_piece *pieces, size_t piece_count,
+                            const pe_c_range *asked, size_t asked_count, pe_c_range *found, size_t found_count,
+                            uint64_t *written) PE_C_RESULT(9);
 
 #ifdef __cplusplus
 }

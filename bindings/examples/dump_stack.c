@@ -14,8 +14,10 @@ enum { MOST_PIECES = 1 << 16, MOST_FRAMES = 1000 };
 static uint8_t dump[1 << 26];
 static size_t dump_length;
 static pe_c_dump_info info = PE_C_EMPTY;
-static pe_c_memory_piece pieces[MOST_PIECES];
+static pe_c_memory_piece pieces[MOST_PIECES], runs[2 * MOST_PIECES];
+static pe_c_range_entry entries[4 * MOST_PIECES];
 static size_t piece_count;
+static uint64_t run_count;
 static pe_c_module module;
 
 /* Why a walk is over, by PE_C_END_*. */
@@ -42,16 +44,21 @@ static uint32_t read_memory(void)
     return result;
 }
 
+/* Puts them in order. */
+static uint32_t order_memory(void)
+{
+    return pe_c_memory_runs(pieces, piece_count, entries, 4 * MOST_PIECES, runs, 2 * MOST_PIECES, &run_count);
+}
+
 /* Finds the module whose image this is: its time stamp and its size are the image's. */
 static uint32_t find_module(void)
 {
     pe_c_range stream = PE_C_EMPTY;
     pe_c_dump_module found = PE_C_EMPTY;
-    const pe_c_image_info *image = module.image.image;
     uint32_t result = pe_c_dump_stream(dump, dump_length, &info.directory, PE_C_MODULE_LIST_STREAM, &stream);
     for (uint64_t i = 0; result == PE_C_DONE; i++) {
         result = pe_c_dump_module_at(dump, dump_length, &stream, i, &found);
-        if (result == PE_C_DONE && found.time_date_stamp == image->time_date_stamp && found.size_of_image == image->size_of_image) {
+        if (result == PE_C_DONE && pe_c_is_image_of(module.image.image, &found) == PE_C_DONE) {
             module.base = found.base_of_image;
             return PE_C_DONE;
         }
@@ -88,7 +95,7 @@ static uint32_t show_stack(const pe_c_context *context)
     uint32_t result;
     walk.registers = context->registers;
     walk.remaining = MOST_FRAMES;
-    while ((result = pe_c_next_frame(&module, 1, dump, dump_length, pieces, piece_count, &walk)) == PE_C_DONE) {
+    while ((result = pe_c_next_frame(&module, 1, dump, dump_length, runs, (size_t)run_count, &walk)) == PE_C_DONE) {
         uint64_t rip = walk.registers.rip;
         if (rip - module.base < module.image.image->size_of_image)
             printf("image+%" PRIx64 "\n", rip - module.base);
@@ -118,6 +125,8 @@ int main(int argc, char **argv)
     if (result == PE_C_DONE)
         result = read_memory();
     if (result == PE_C_DONE || result == PE_C_NOTHING)
+        result = order_memory();
+    if (result == PE_C_DONE)
         result = read_context(&context);
     if (result == PE_C_DONE)
         result = show_stack(&context);

@@ -79,9 +79,25 @@ export class Dump extends File {
     return this.utf16(this.call('pe_c_dump_text', { rva }), { isWhole: true });
   }
 
-  /** The registers of a thread, or of the exception, by the location of its context: those of the machine that the dump names. */
+  /** The memory of both lists as pieces in ascending order, apart: an address is that of the first piece that has it. */
+  runs() {
+    const pieces = [...this.list('pieces'), ...this.fullPieces()].map((it) => it.memory);
+    const room = (most) => Array.from({ length: most * pieces.length }, () => ({})), runs = room(2);
+    return runs.slice(0, Number(this.call('pe_c_memory_runs', { pieces, entries: room(4), runs })));
+  }
+
+  #isArm64() {
+    return this.system()?.processor_architecture === ARM64;
+  }
+
+  /** The registers at the location of a context: those of the machine that the dump names. */
   context(location) {
-    const isArm64 = this.system()?.processor_architecture === ARM64;
-    return this.call(isArm64 ? 'pe_c_dump_context_arm64' : 'pe_c_dump_context', { location });
+    return this.call(this.#isArm64() ? 'pe_c_dump_context_arm64' : 'pe_c_dump_context', { location });
+  }
+
+  /** The registers of a thread: those of the exception, if it names the thread and they can be read, else its own. */
+  contextOf(thread) {
+    const raised = this.exception() ?? {};
+    return this.call(this.#isArm64() ? 'pe_c_dump_thread_context_arm64' : 'pe_c_dump_thread_context', { thread, raised });
   }
 }

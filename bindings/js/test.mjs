@@ -708,6 +708,22 @@ test('each stream of a minidump', () => {
   assert.equal(refused(() => library.openDump(bytes)).constant, 'PE_C_DUMP_VERSION');
 });
 
+test('the memory of a minidump in order, and what in it is an image', () => {
+  const bytes = readFileSync(join(folder, 'x64.dmp')), x64 = library.openDump(bytes), [module] = x64.list('modules');
+  const piece = (start, offset, length) => ({ start, offset, length }), room = (n) => Array.from({ length: n }, () => ({}));
+  const runs = room(4), pieces = [piece(0x108n, 0n, 8n), piece(0x100n, 16n, 16n)];
+  assert.equal(x64.call('pe_c_memory_runs', { pieces, entries: room(8), runs }), 2n);
+  assert.deepEqual(runs.slice(0, 2), [piece(0x100n, 16n, 8n), piece(0x108n, 0n, 8n)]);
+  assert.equal(refused(() => x64.call('pe_c_memory_runs', { pieces, entries: room(7), runs })).constant, 'PE_C_ROOM');
+  const found = room(2), asked = [{ offset: 0x104n, length: 100n }, { offset: 0x110n, length: 1n }];
+  assert.equal(x64.call('pe_c_memory_ranges', { memory: bytes, pieces: runs.slice(0, 2), asked, found }), 2n);
+  assert.deepEqual(found, [{ offset: 20n, length: 4n }, { offset: 0n, length: 0n }]);
+  assert.deepEqual(x64.runs().map((it) => it.start), [0x20000n]);
+  const image = { time_date_stamp: module.time_date_stamp, size_of_image: 0x6000, width: 64 };
+  assert.equal(x64.call('pe_c_is_image_of', { image, module }), true);
+  assert.equal(x64.call('pe_c_is_image_of', { image: { ...image, size_of_image: 0x6001 }, module }), null);
+});
+
 // On ARM64 the record's last code takes the stack pointer from the frame pointer, which is 0 on this stack.
 test('the stacks of minidumps, on x64 and on ARM64', () => {
   for (const [name, image, rip, end, error] of [['x64', 'functions', 0x5000n, 'BOTTOM', undefined],
@@ -715,6 +731,9 @@ test('the stacks of minidumps, on x64 and on ARM64', () => {
     const bytes = readFileSync(join(folder, `${name}.dmp`)), found = library.openDump(bytes);
     const { registers } = found.context(found.exception().thread_context), pieces = [...found.list('pieces')].map((it) => it.memory);
     assert.equal(registers.rip ?? registers.pc, BASE + rip);
+    const [thread] = found.list('threads'), none = { ...thread, thread_context: {} };
+    assert.deepEqual([found.contextOf(thread).registers, found.contextOf(none).registers], [registers, registers]);
+    assert.equal(refused(() => found.contextOf({ ...none, thread_id: 1 })).constant, 'PE_C_DUMP_CONTEXT_SIZE');
     const process = library.process({ modules: [{ bytes: file(image), base: BASE }], memory: bytes, pieces });
     const walk = () => ({ registers, remaining: 9n }), one = walk(), several = walk(), frames = Array.from({ length: 4 }, () => ({}));
     const each = [...name === 'x64' ? process.frames(one) : process.arm64Frames(one)];

@@ -753,8 +753,22 @@ static void in_mode(struct file *file, uint32_t mode)
 
 /* ---- the file as a minidump, whatever it is */
 
+/* Four pieces of memory in order, and where an address and the one after a piece are. */
+static void dump_memory(const struct file *file, const pe_c_memory_piece *pieces)
+{
+    pe_c_range_entry entries[16] = PE_C_EMPTY;
+    pe_c_memory_piece runs[8] = PE_C_EMPTY;
+    uint64_t count = 0;
+    if (!IS_DONE(pe_c_memory_runs, count, pieces, 4, entries, 16, runs, 8, &count))
+        return;
+    add_bytes((const uint8_t *)runs, count * sizeof *runs);
+    pe_c_range asked[2] = {{runs->start, 64}, {pieces->start + pieces->length, 64}}, found[2] = PE_C_EMPTY;
+    CALL(pe_c_memory_ranges, found, BYTES, runs, (size_t)count, asked, 2, found, 2, &count);
+}
+
 static void dump_lists(const struct file *file, const pe_c_range *stream)
 {
+    pe_c_memory_piece pieces[4] = PE_C_EMPTY;
     pe_c_dump_thread thread = PE_C_EMPTY;
     pe_c_dump_module module = PE_C_EMPTY;
     pe_c_dump_thread_name name = PE_C_EMPTY;
@@ -764,9 +778,22 @@ static void dump_lists(const struct file *file, const pe_c_range *stream)
     pe_c_dump_region region = PE_C_EMPTY;
     pe_c_dump_piece piece = PE_C_EMPTY;
     pe_c_range range = PE_C_EMPTY;
+    pe_c_dump_raised raised = PE_C_EMPTY;
+    pe_c_context context = PE_C_EMPTY;
+    pe_c_arm64_context arm64_context = PE_C_EMPTY;
+    uint32_t is_image = 0;
     for (uint64_t i = 0; i < 4; i++) {
         CALL(pe_c_dump_thread_at, thread, BYTES, stream, i, &thread);
+        raised.thread_id = (uint32_t)i;
+        CALL(pe_c_dump_thread_context, context, BYTES, &thread, &raised, &context);
+        CALL(pe_c_dump_thread_context_arm64, arm64_context, BYTES, &thread, &raised, &arm64_context);
         CALL(pe_c_dump_module_at, module, BYTES, stream, i, &module);
+        pe_c_image_info image = file->image;
+        CALL(pe_c_is_image_of, is_image, &image, &module);
+        image.width = 64;
+        image.time_date_stamp = module.time_date_stamp;
+        image.size_of_image = module.size_of_image;
+        CALL(pe_c_is_image_of, is_image, &image, &module);
         CALL(pe_c_dump_range, range, BYTES, &module.cv_record, &range);
         CALL(pe_c_dump_text, range, BYTES, module.module_name_rva, &range);
         CALL(pe_c_dump_thread_name_at, name, BYTES, stream, i, &name);
@@ -775,7 +802,9 @@ static void dump_lists(const struct file *file, const pe_c_range *stream)
         CALL(pe_c_dump_handle_at, handle, BYTES, stream, i, &handle);
         CALL(pe_c_dump_region_at, region, BYTES, stream, i, &region);
         CALL(pe_c_dump_memory_at, piece, BYTES, stream, i, &piece);
+        pieces[i] = piece.memory;
     }
+    dump_memory(file, pieces);
 }
 
 static void dump_stream(const struct file *file, const pe_c_range *stream)

@@ -2,12 +2,16 @@
 
 use super::made::{
     DUMP_CONTEXT_FLAGS, DUMP_CONTEXT_SIZE, DUMP_DIRECTORY, DUMP_ENTRY_SIZE, DUMP_LIST_SIZE,
-    DUMP_LOCATION, DUMP_MACHINE, DUMP_SIGNATURE, DUMP_TEXT, DUMP_VERSION, SHORT, UNTOUCHED,
+    DUMP_LOCATION, DUMP_MACHINE, DUMP_SIGNATURE, DUMP_TEXT, DUMP_VERSION, SHORT, UNTOUCHED, image,
     of_range, range,
 };
 use crate::arm64::frames::Arm64FrameRegisters;
 use crate::debug_records::{SymbolKey, pe_c_codeview};
-use crate::dump::contexts::{Arm64Context, X64Context, pe_c_dump_context, pe_c_dump_context_arm64};
+use crate::dump::contexts::{
+    Arm64Context, X64Context, pe_c_dump_context, pe_c_dump_context_arm64, pe_c_dump_thread_context,
+    pe_c_dump_thread_context_arm64,
+};
+use crate::dump::images::pe_c_is_image_of;
 use crate::dump::lists::{
     DumpMemoryRegion, DumpModule, DumpThreadName, pe_c_dump_handle_at, pe_c_dump_module_at,
     pe_c_dump_region_at, pe_c_dump_thread_at, pe_c_dump_thread_info_at, pe_c_dump_thread_name_at,
@@ -23,6 +27,7 @@ use crate::dump::records::{
 use crate::dump::{
     DumpInfo, pe_c_dump, pe_c_dump_entry_at, pe_c_dump_range, pe_c_dump_stream, pe_c_dump_text,
 };
+use crate::image::Image;
 use crate::ranges::Range;
 use crate::results::{DONE, NOTHING};
 use crate::stack_frames::FrameRegisters;
@@ -382,35 +387,38 @@ fn threads_by_their_index(rt: HostRuntime) -> Result<(), Fail> {
     Ok(())
 }
 
+const NO_VERSION: FixedFileInfo = FixedFileInfo {
+    signature: 0,
+    struc_version: 0,
+    file_version_ms: 0,
+    file_version_ls: 0,
+    product_version_ms: 0,
+    product_version_ls: 0,
+    file_flags_mask: 0,
+    file_flags: 0,
+    file_os: 0,
+    file_type: 0,
+    file_subtype: 0,
+    file_date_ms: 0,
+    file_date_ls: 0,
+};
+
+const NO_MODULE: DumpModule = DumpModule {
+    base_of_image: 9,
+    size_of_image: 9,
+    check_sum: 9,
+    time_date_stamp: 9,
+    module_name_rva: 9,
+    version_info: NO_VERSION,
+    cv_record: NO_BYTES,
+    misc_record: NO_BYTES,
+    spare: 9,
+};
+
 #[test]
 fn modules_by_their_index(rt: HostRuntime) -> Result<(), Fail> {
     let bytes = dump(rt.alloc())?;
-    let zero = FixedFileInfo {
-        signature: 0,
-        struc_version: 0,
-        file_version_ms: 0,
-        file_version_ls: 0,
-        product_version_ms: 0,
-        product_version_ls: 0,
-        file_flags_mask: 0,
-        file_flags: 0,
-        file_os: 0,
-        file_type: 0,
-        file_subtype: 0,
-        file_date_ms: 0,
-        file_date_ls: 0,
-    };
-    let mut out = DumpModule {
-        base_of_image: 9,
-        size_of_image: 9,
-        check_sum: 9,
-        time_date_stamp: 9,
-        module_name_rva: 9,
-        version_info: zero,
-        cv_record: NO_BYTES,
-        misc_record: NO_BYTES,
-        spare: 9,
-    };
+    let (zero, mut out) = (NO_VERSION, NO_MODULE);
     assert_eq!(rt;
         pe_c_dump_module_at(&bytes, &stream(1), 1, &mut out),
         NOTHING
@@ -643,19 +651,21 @@ fn regions_by_their_index(rt: HostRuntime) -> Result<(), Fail> {
     Ok(())
 }
 
+const NO_EXCEPTION: DumpException = DumpException {
+    thread_id: 9,
+    exception_code: 9,
+    exception_flags: 9,
+    number_parameters: 9,
+    exception_record: 9,
+    exception_address: 9,
+    exception_information: [9; 15],
+    thread_context: NO_BYTES,
+};
+
 #[test]
 fn exception_of_a_dump(rt: HostRuntime) -> Result<(), Fail> {
     let bytes = dump(rt.alloc())?;
-    let mut out = DumpException {
-        thread_id: 9,
-        exception_code: 9,
-        exception_flags: 9,
-        number_parameters: 9,
-        exception_record: 9,
-        exception_address: 9,
-        exception_information: [9; 15],
-        thread_context: NO_BYTES,
-    };
+    let mut out = NO_EXCEPTION;
     assert_eq!(rt;
         pe_c_dump_exception(&bytes, &range(0x1F0, 167), &mut out),
         SHORT
@@ -944,19 +954,21 @@ fn context_of_x64(rt: HostRuntime) -> Result<(), Fail> {
     Ok(())
 }
 
+const NO_ARM64: Arm64Context = Arm64Context {
+    registers: Arm64FrameRegisters {
+        general: [77; 31],
+        floats: [77; 8],
+        sp: 77,
+        pc: 77,
+    },
+    context_flags: 77,
+    cpsr: 77,
+};
+
 #[test]
 fn context_of_arm64(rt: HostRuntime) -> Result<(), Fail> {
     let mut bytes = dump(rt.alloc())?;
-    let mut out = Arm64Context {
-        registers: Arm64FrameRegisters {
-            general: [77; 31],
-            floats: [77; 8],
-            sp: 77,
-            pc: 77,
-        },
-        context_flags: 77,
-        cpsr: 77,
-    };
+    let mut out = NO_ARM64;
     assert_eq!(rt;
         pe_c_dump_context_arm64(&bytes, &NO_BYTES, &mut out),
         DUMP_CONTEXT_SIZE
@@ -973,5 +985,117 @@ fn context_of_arm64(rt: HostRuntime) -> Result<(), Fail> {
     put(&mut bytes, &[(0x910, b"\x03")]);
     assert_eq!(rt; pe_c_dump_context_arm64(&bytes, &ARM64, &mut out), DONE);
     assert_eq!(rt; out.registers.floats, [0; 8]);
+    Ok(())
+}
+
+/// The dump with a second context of a machine after it: the first one's, with another byte of its counter.
+fn with_crash(
+    alloc: Global,
+    context: Location,
+    counter: usize,
+) -> Result<(Vec<u8>, Location), AllocError> {
+    let mut bytes = dump(alloc)?;
+    let (start, end) = (context.rva as usize, bytes.len());
+    for index in start..start + context.size as usize {
+        let byte = bytes[index];
+        bytes.push(byte)?;
+    }
+    bytes[end + counter] = 0x99;
+    Ok((
+        bytes,
+        Location {
+            size: context.size,
+            rva: end as u32,
+        },
+    ))
+}
+
+/// Of a thread and what the exception names, by their contexts, the counter that the call reads of x64.
+#[test]
+fn context_of_the_crash_counts(rt: HostRuntime) -> Result<(), Fail> {
+    let (bytes, crash) = with_crash(rt.alloc(), X64, 0xF8)?;
+    let thread = |thread_context: Location| Thread {
+        thread_context,
+        ..NO_THREAD
+    };
+    let raised = |thread_id: u32, thread_context: Location| DumpException {
+        thread_id,
+        thread_context,
+        ..NO_EXCEPTION
+    };
+    let mut out = NO_X64;
+    for (own, named, found, counter) in [
+        (X64, raised(9, crash), DONE, 0x99),
+        (NO_BYTES, raised(9, crash), DONE, 0x99),
+        (X64, raised(8, crash), DONE, 0x33),
+        (X64, raised(9, NO_BYTES), DONE, 0x33),
+        (crash, raised(9, ARM64), DONE, 0x99),
+        (NO_BYTES, raised(8, crash), DUMP_CONTEXT_SIZE, 77),
+        (ARM64, raised(9, NO_BYTES), DUMP_CONTEXT_SIZE, 77),
+    ] {
+        out = NO_X64;
+        assert_eq!(rt;
+            pe_c_dump_thread_context(&bytes, &thread(own), &named, &mut out),
+            found
+        );
+        assert_eq!(rt; out.registers.rip, counter);
+    }
+    assert_eq!(rt; (out.context_flags, out.eflags), (77, 77));
+    Ok(())
+}
+
+#[test]
+fn context_of_the_crash_counts_on_arm64(rt: HostRuntime) -> Result<(), Fail> {
+    let (bytes, crash) = with_crash(rt.alloc(), ARM64, 0x108)?;
+    let thread = |thread_context: Location| Thread {
+        thread_context,
+        ..NO_THREAD
+    };
+    let raised = |thread_id: u32| DumpException {
+        thread_id,
+        thread_context: crash,
+        ..NO_EXCEPTION
+    };
+    for (own, id, found, counter) in [
+        (ARM64, 9, DONE, 0x99),
+        (ARM64, 8, DONE, 0x44),
+        (NO_BYTES, 8, DUMP_CONTEXT_SIZE, 77),
+    ] {
+        let mut out = NO_ARM64;
+        assert_eq!(rt;
+            pe_c_dump_thread_context_arm64(&bytes, &thread(own), &raised(id), &mut out),
+            found
+        );
+        assert_eq!(rt; out.registers.pc, counter);
+    }
+    Ok(())
+}
+
+#[test]
+fn images_of_modules_match_by_stamp_and_size(rt: HostRuntime) -> Result<(), Fail> {
+    let bytes = dump(rt.alloc())?;
+    let mut module = NO_MODULE;
+    assert_eq!(rt; pe_c_dump_module_at(&bytes, &stream(1), 0, &mut module), DONE);
+    let own = Image {
+        time_date_stamp: 7,
+        size_of_image: 0x2_1000,
+        ..image(0x8664)
+    };
+    assert_eq!(rt; pe_c_is_image_of(&own, &module), DONE);
+    for other in [
+        Image {
+            time_date_stamp: 6,
+            ..own
+        },
+        Image {
+            size_of_image: 0x2_1001,
+            ..own
+        },
+        Image { width: 0, ..own },
+    ] {
+        assert_eq!(rt; pe_c_is_image_of(&other, &module), NOTHING);
+    }
+    // The checksum is not asked.
+    assert_eq!(rt; pe_c_is_image_of(&Image { checksum: 5, ..own }, &module), DONE);
     Ok(())
 }

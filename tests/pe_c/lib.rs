@@ -24,6 +24,7 @@ mod load_config;
 mod loaded;
 mod made;
 mod maps;
+mod memory_runs;
 mod overlay;
 mod plan;
 mod resource_edit;

@@ -132,6 +132,55 @@ fn change(input: &mut [u8], offsets: &[Range<usize>], random: &mut Random) -> Ve
     before
 }
 
+/// Memory in pieces that are near one another, or lie: an address is that of the first piece that has it, also in runs of them.
+fn memory_of_lies(bytes: &[u8], random: &mut Random, number: u64) {
+    let any = random.below(4) == 0;
+    let pieces: [sys::MemoryPiece; 4] = std::array::from_fn(|_| match any {
+        true => {
+            sys::MemoryPiece { start: random.edge(number), offset: random.edge(number), length: random.edge(number) }
+        }
+        false => sys::MemoryPiece { start: random.edge(16), offset: random.next() % 16, length: random.next() % 9 },
+    });
+    let (mut entries, mut runs, mut count) = ([sys::RangeEntry::default(); 16], [sys::MemoryPiece::default(); 9], 0);
+    let rooms = (random.below(17), random.below(10));
+    // SAFETY: the pointers and lengths are those of slices, and the number is lent for the call.
+    let made = unsafe {
+        let (entry, run) = (entries.as_mut_ptr(), runs.as_mut_ptr());
+        sys::pe_c_memory_runs(pieces.as_ptr(), 4, entry, rooms.0, run, rooms.1, &mut count)
+    };
+    assert!(runs[if made == sys::DONE { 8 } else { 0 }..].iter().all(|it| *it == sys::MemoryPiece::default()));
+    let place = |list: &[sys::MemoryPiece], address: u64| {
+        let piece = list.iter().find(|it| it.start <= address && address - it.start < it.length)?;
+        Some(piece.offset + (address - piece.start))
+    };
+    let asked: [sys::Range; 4] =
+        std::array::from_fn(|_| sys::Range { offset: random.edge(16), length: random.edge(16) });
+    for it in asked.iter().filter(|_| made == sys::DONE) {
+        assert_eq!(place(&runs[..count as usize], it.offset), place(&pieces, it.offset), "{pieces:?}");
+    }
+    let (mut found, mut written) = ([sys::Range::default(); 4], 0);
+    // SAFETY: as above.
+    let number = unsafe {
+        let (start, length) = (bytes.as_ptr(), bytes.len());
+        sys::pe_c_memory_ranges(
+            start,
+            length,
+            pieces.as_ptr(),
+            4,
+            asked.as_ptr(),
+            4,
+            found.as_mut_ptr(),
+            4,
+            &mut written,
+        )
+    };
+    for (it, asked) in found.iter().zip(&asked).filter(|_| number == sys::DONE) {
+        let at = place(&pieces, asked.offset).filter(|_| asked.length > 0);
+        assert!(it.length <= asked.length && (at.is_none() || at == Some(it.offset)), "{pieces:?}");
+        assert!(it.offset + it.length <= bytes.len() as u64);
+    }
+}
+
 /// Makes calls with wrong records: none may touch anything but the bytes and its arguments.
 fn read_by_lies(bytes: &[u8], random: &mut Random, seen: &mut Seen) {
     let (start, length) = (bytes.as_ptr(), bytes.len());
@@ -317,6 +366,14 @@ fn read_by_lies(bytes: &[u8], random: &mut Random, seen: &mut Seen) {
     call!(pe_c_dump_process(&range), DumpProcess);
     call!(pe_c_dump_context(&location), Context);
     call!(pe_c_dump_context_arm64(&location), Arm64Context);
+    let raised = sys::DumpException { thread_id: few % 2, thread_context: location, ..sys::DumpException::default() };
+    let thread = call!(pe_c_dump_thread_at(&range, 0), DumpThread);
+    call!(pe_c_dump_thread_context(&thread, &raised), Context);
+    call!(pe_c_dump_thread_context_arm64(&thread, &raised), Arm64Context);
+    let module = call!(pe_c_dump_module_at(&range, 0), DumpModule);
+    // SAFETY: both records are lent for the call.
+    assert!([sys::DONE, sys::NOTHING].contains(&unsafe { sys::pe_c_is_image_of(&image, &module) }));
+    memory_of_lies(bytes, random, number);
     let memory = call!(pe_c_dump_memory64(&range), Memory64Walk);
     walk!(pe_c_next_memory64(sys::Memory64Walk { next: index, ..memory }), DumpPiece);
     walk!(pe_c_next_debug_entry(range), DebugEntry);

@@ -348,11 +348,15 @@ impl<'a> Dump<'a> {
     ///
     /// Those of [`Dump::context`].
     pub fn thread_context(&self, thread: &DumpThread) -> Result<DumpContext, Error> {
-        let raised = self.exception().ok().flatten().filter(|raised| raised.thread_id == thread.thread_id);
-        match raised.map(|raised| self.context(&raised.thread_context)) {
-            Some(Ok(context)) => Ok(context),
-            _ => self.context(&thread.thread_context),
-        }
+        let raised = self.exception().ok().flatten().unwrap_or_default();
+        let found = match self.system()?.map(|system| system.processor_architecture) {
+            Some(X64) => look(self.bytes, sys::pe_c_dump_thread_context, thread, &raised)?.map(DumpContext::X64),
+            Some(ARM64) => {
+                look(self.bytes, sys::pe_c_dump_thread_context_arm64, thread, &raised)?.map(DumpContext::Arm64)
+            }
+            _ => None,
+        };
+        found.ok_or(Error::DUMP_MACHINE)
     }
 }
 

@@ -11,10 +11,9 @@ use crate::dump::{Dump, DumpContext, DumpRegisters};
 use crate::frames::MemoryList;
 use crate::image::{number_of, Error, Image, Layout, Mode};
 use crate::stack_walk::{End, Frame, Frames, MachineRegisters, Module};
-use crate::sys::{self, DumpModule, DumpThread, ImageInfo, MemoryPiece};
-use alloc::collections::BinaryHeap;
+use crate::sys::{self, DumpModule, DumpThread, ImageInfo, MemoryPiece, Range, RangeEntry};
+use alloc::vec;
 use alloc::vec::Vec;
-use core::cmp::Reverse;
 
 /// How many section headers all images of a dump may have together.
 const MOST_SECTIONS: usize = 1 << 20;
@@ -23,58 +22,51 @@ const RANGES_A_FRAME: usize = 1000;
 /// How many section headers cost as much as a frame: a scan asks them for each word.
 const SECTIONS_A_FRAME: usize = 100;
 
-/// Addresses that belong to the range with an index in a list.
-#[derive(Clone, Copy, Debug, PartialEq, Eq)]
-struct Owned {
-    start: u64,
-    length: u64,
-    owner: usize,
+/// How far an index of a module is shifted in the offset of its piece, which has at most 2^32 - 1 bytes.
+const BITS_OF_SIZE: u32 = 32;
+
+/// The pieces in ascending order, apart: an address is that of the first of them that has it. Two that follow one another, by
+/// their offsets too, are one.
+fn runs_of(pieces: &[MemoryPiece]) -> Vec<MemoryPiece> {
+    let mut entries = vec![RangeEntry::default(); 4 * pieces.len()];
+    let (mut runs, mut written) = (vec![MemoryPiece::default(); 2 * pieces.len()], 0);
+    // SAFETY: each pointer and its length are those of one slice; the number is lent for the call.
+    let number = unsafe {
+        sys::pe_c_memory_runs(
+            pieces.as_ptr(),
+            pieces.len(),
+            entries.as_mut_ptr(),
+            entries.len(),
+            runs.as_mut_ptr(),
+            runs.len(),
+            &mut written,
+        )
+    };
+    debug_assert_eq!(number, sys::DONE, "there is room, and all pieces end below offset 2^64");
+    runs.truncate(if number == sys::DONE { written as usize } else { 0 });
+    runs.shrink_to_fit();
+    runs
 }
 
-/// The addresses of ranges, each a start and a length, in ascending order: an address belongs to the first range that has it.
-/// It has at most two pieces for each range, and is made in n log n steps.
-fn first_wins(ranges: &[(u64, u64)]) -> Vec<Owned> {
-    let end = |index: usize| u128::from(ranges[index].0) + u128::from(ranges[index].1);
-    let start = |index: usize| u128::from(ranges[index].0);
-    let mut order: Vec<usize> = (0..ranges.len()).filter(|&index| ranges[index].1 > 0).collect();
-    order.sort_by_key(|&index| ranges[index].0);
-    let mut order = order.into_iter().peekable();
-    // Those that have the address, of which the first in the list is the greatest; ones that have ended may be among them.
-    let mut having: BinaryHeap<Reverse<usize>> = BinaryHeap::new();
-    let (mut found, mut at): (Vec<Owned>, u128) = (Vec::new(), 0);
-    loop {
-        while having.peek().is_some_and(|&Reverse(index)| end(index) <= at) {
-            having.pop();
-        }
-        if having.is_empty() {
-            let Some(&next) = order.peek() else { return found };
-            at = start(next);
-        }
-        while let Some(index) = order.next_if(|&index| start(index) <= at) {
-            having.push(Reverse(index));
-        }
-        let Some(&Reverse(owner)) = having.peek() else { return found };
-        if end(owner) <= at {
-            continue;
-        }
-        let stop = order.peek().map_or(end(owner), |&next| end(owner).min(start(next))).min(1 << 64);
-        if at >= stop {
-            return found;
-        }
-        match found.last_mut() {
-            Some(last) if last.owner == owner && u128::from(last.start) + u128::from(last.length) == at => {
-                last.length += (stop - at) as u64;
-            }
-            _ => found.push(Owned { start: at as u64, length: (stop - at) as u64, owner }),
-        }
-        at = stop;
-    }
+/// The run that has an address.
+fn run_at(runs: &[MemoryPiece], address: u64) -> Option<&MemoryPiece> {
+    let after = runs.partition_point(|it| it.start <= address);
+    runs.get(after.checked_sub(1)?).filter(|it| address - it.start < it.length)
 }
 
-/// The last of ascending ranges that starts at or before an address, if it has the address.
-fn owner_of(owned: &[Owned], address: u64) -> Option<&Owned> {
-    let after = owned.partition_point(|it| it.start <= address);
-    owned.get(after.checked_sub(1)?).filter(|it| address - it.start < it.length)
+/// The addresses of modules, as pieces whose offsets say which module has them.
+fn owned_by(modules: &[DumpModule]) -> Vec<MemoryPiece> {
+    let piece_of = |(index, it): (usize, &DumpModule)| MemoryPiece {
+        start: it.base_of_image,
+        offset: (index as u64) << BITS_OF_SIZE,
+        length: it.size_of_image.into(),
+    };
+    runs_of(&modules.iter().enumerate().map(piece_of).collect::<Vec<_>>())
+}
+
+/// The index of the module that has such a piece.
+fn owner_of(piece: &MemoryPiece) -> usize {
+    (piece.offset >> BITS_OF_SIZE) as usize
 }
 
 /// The memory of a minidump: its pieces in ascending order, apart. The byte at an address is that of the first piece that has it,
@@ -103,24 +95,7 @@ impl<'a> DumpMemory<'a> {
             Ok(list) => list.into_iter().flatten().flatten().for_each(&mut add),
             Err(error) => refused.push((sys::MEMORY64_LIST_STREAM, error)),
         }
-        let ranges: Vec<_> = listed.iter().map(|piece| (piece.start, piece.length)).collect();
-        let piece_of = |it: &Owned| {
-            let offset = listed[it.owner].offset + (it.start - listed[it.owner].start);
-            MemoryPiece { start: it.start, offset, length: it.length }
-        };
-        let mut pieces: Vec<MemoryPiece> = Vec::new();
-        for piece in first_wins(&ranges).iter().map(piece_of) {
-            match pieces.last_mut() {
-                Some(last)
-                    if last.start.checked_add(last.length) == Some(piece.start)
-                        && last.offset + last.length == piece.offset =>
-                {
-                    last.length += piece.length;
-                }
-                _ => pieces.push(piece),
-            }
-        }
-        DumpMemory { bytes: dump.bytes(), pieces, lost, refused }
+        DumpMemory { bytes: dump.bytes(), pieces: runs_of(&listed), lost, refused }
     }
 
     /// The pieces, of the bytes of the dump. Two that follow one another, in the file too, are one.
@@ -147,11 +122,33 @@ impl<'a> DumpMemory<'a> {
     /// The bytes from an address on that follow one another in the file too, at most so many. They end at the first gap, also
     /// one that the file alone has: empty where the address has none.
     pub fn bytes_from(&self, address: u64, most: u64) -> &'a [u8] {
-        let after = self.pieces.partition_point(|piece| piece.start <= address);
-        let Some(piece) = after.checked_sub(1).and_then(|index| self.pieces.get(index)) else { return &[] };
-        let inside = (address - piece.start).min(piece.length);
+        let Some(piece) = run_at(&self.pieces, address) else { return &[] };
+        let inside = address - piece.start;
         let length = most.min(piece.length - inside);
         sys::Range { offset: piece.offset + inside, length }.of(self.bytes).unwrap_or_default()
+    }
+
+    /// The same for the addresses of modules, each with the size of its image.
+    fn loaded(&self, modules: &[DumpModule]) -> Vec<&'a [u8]> {
+        let asked_of = |it: &DumpModule| Range { offset: it.base_of_image, length: it.size_of_image.into() };
+        let asked: Vec<_> = modules.iter().map(asked_of).collect();
+        let (mut found, mut written) = (vec![Range::default(); asked.len()], 0);
+        // SAFETY: each pointer and its length are those of one slice; the number is lent for the call.
+        let number = unsafe {
+            sys::pe_c_memory_ranges(
+                self.bytes.as_ptr(),
+                self.bytes.len(),
+                self.pieces.as_ptr(),
+                self.pieces.len(),
+                asked.as_ptr(),
+                asked.len(),
+                found.as_mut_ptr(),
+                found.len(),
+                &mut written,
+            )
+        };
+        debug_assert_eq!(number, sys::DONE, "there is room, and the pieces lie in the bytes");
+        found.into_iter().map(|it| it.of(self.bytes).unwrap_or_default()).collect()
     }
 }
 
@@ -186,38 +183,37 @@ pub struct DumpImages<'a> {
     memory: DumpMemory<'a>,
     modules: Vec<DumpModule>,
     images: Vec<Option<DumpImage<'a>>>,
-    owned: Vec<Owned>,
+    owned: Vec<MemoryPiece>,
 }
 
 /// What is known of images as they are found.
-struct Search<'s, 'a> {
-    memory: &'s DumpMemory<'a>,
+struct Search {
     sections: usize,
 }
 
-impl<'a> Search<'_, 'a> {
+impl Search {
     /// The image of a module in these bytes, if it is the module's, and all images have not too many sections with it.
-    fn image_in(&mut self, module: &DumpModule, bytes: &'a [u8], layout: Layout) -> Option<Image<'a>> {
+    fn image_in<'a>(&mut self, module: &DumpModule, bytes: &'a [u8], layout: Layout) -> Option<Image<'a>> {
         let mut info = ImageInfo::default();
         let way = number_of(Mode::Permissive, layout);
         // SAFETY: the pointer and the length are those of one slice; the record is lent for the call.
         let number = unsafe { sys::pe_c_image(bytes.as_ptr(), bytes.len(), way, &mut info) };
-        let is_its_own = number == sys::DONE
-            && info.time_date_stamp == module.time_date_stamp
-            && info.size_of_image == module.size_of_image;
+        // SAFETY: both records are lent for the call.
+        let is_its_own = number == sys::DONE && unsafe { sys::pe_c_is_image_of(&info, module) } == sys::DONE;
         let sections = self.sections.checked_sub(info.number_of_sections.into())?;
         let image = if is_its_own { Image::parse_as(bytes, Mode::Permissive, layout).ok()? } else { return None };
         self.sections = sections;
         Some(image)
     }
 
-    fn image_of(
+    /// The image of a module of which the memory has these bytes.
+    fn image_of<'a>(
         &mut self,
         module: &DumpModule,
+        loaded: &'a [u8],
         look_up: &mut impl FnMut(&DumpModule) -> Option<&'a [u8]>,
     ) -> Option<DumpImage<'a>> {
         let size = u64::from(module.size_of_image);
-        let loaded = self.memory.bytes_from(module.base_of_image, size);
         let is_whole = size > 0 && loaded.len() as u64 == size;
         if is_whole {
             if let Some(image) = self.image_in(module, loaded, Layout::Mapped) {
@@ -243,10 +239,12 @@ impl<'a> DumpImages<'a> {
     pub fn new(dump: &Dump<'a>, mut look_up: impl FnMut(&DumpModule) -> Option<&'a [u8]>) -> Result<Self, Error> {
         let memory = DumpMemory::new(dump);
         let modules: Vec<DumpModule> = dump.modules()?.into_iter().flatten().collect();
-        let ranges: Vec<_> = modules.iter().map(|it| (it.base_of_image, it.size_of_image.into())).collect();
-        let mut search = Search { memory: &memory, sections: MOST_SECTIONS };
-        let images = modules.iter().map(|module| search.image_of(module, &mut look_up)).collect();
-        Ok(DumpImages { memory, modules, images, owned: first_wins(&ranges) })
+        let mut search = Search { sections: MOST_SECTIONS };
+        let loaded = memory.loaded(&modules);
+        let image_of = |(module, loaded)| search.image_of(module, loaded, &mut look_up);
+        let images = modules.iter().zip(loaded).map(image_of).collect();
+        let owned = owned_by(&modules);
+        Ok(DumpImages { memory, modules, images, owned })
     }
 
     /// The memory.
@@ -266,17 +264,17 @@ impl<'a> DumpImages<'a> {
 
     /// The index of the module that has an address: the first that does.
     pub fn module_at(&self, address: u64) -> Option<usize> {
-        owner_of(&self.owned, address).map(|it| it.owner)
+        run_at(&self.owned, address).map(owner_of)
     }
 
     /// The modules with an image, as walks take them: in ascending order, apart. One that another one overlaps which stands before
     /// it in the list is left out, as is one whose function table is damaged.
     fn loaded(&self) -> Vec<Module<'_>> {
         let whole = self.owned.iter().filter(|it| {
-            let module = &self.modules[it.owner];
+            let module = &self.modules[owner_of(it)];
             it.start == module.base_of_image && it.length == u64::from(module.size_of_image)
         });
-        whole.filter_map(|it| Module::new(&self.images[it.owner].as_ref()?.image, it.start).ok()).collect()
+        whole.filter_map(|it| Module::new(&self.images[owner_of(it)].as_ref()?.image, it.start).ok()).collect()
     }
 }
 
@@ -396,21 +394,28 @@ mod tests {
     }
 
     #[test]
-    fn first_range_of_the_list_has_an_address() {
+    fn first_module_of_the_list_has_an_address() {
         let mut number = 1u64;
         let mut random = |below: u64| {
             number = number.wrapping_mul(6_364_136_223_846_793_005).wrapping_add(1_442_695_040_888_963_407);
             (number >> 33) % below
         };
+        let module = |start, length: u64| DumpModule {
+            base_of_image: start,
+            size_of_image: length as u32,
+            ..DumpModule::default()
+        };
         for _ in 0..2000 {
             let ranges: Vec<_> = (0..random(7)).map(|_| (random(8), random(5))).collect();
-            let owned = first_wins(&ranges);
-            let found: Vec<_> = (0..12).map(|it| owner_of(&owned, it).map(|it| it.owner)).collect();
+            let modules: Vec<_> = ranges.iter().map(|&(start, length)| module(start, length)).collect();
+            let owned = owned_by(&modules);
+            let found: Vec<_> = (0..12).map(|it| run_at(&owned, it).map(owner_of)).collect();
             assert_eq!(found, one_by_one(&ranges), "{ranges:?}");
             assert!(owned.len() <= 2 * ranges.len(), "{ranges:?}");
             assert!(owned.windows(2).all(|it| it[0].start + it[0].length <= it[1].start), "{ranges:?}");
         }
-        let last = [(u64::MAX - 1, 8), (u64::MAX, u64::MAX)];
-        assert_eq!(first_wins(&last), [Owned { start: u64::MAX - 1, length: 2, owner: 0 }]);
+        let last = owned_by(&[module(u64::MAX - 1, 8), module(u64::MAX, 9)]);
+        let found = [u64::MAX - 2, u64::MAX - 1, u64::MAX].map(|it| run_at(&last, it).map(owner_of));
+        assert_eq!(found, [None, Some(0), Some(0)]);
     }
 }

@@ -1911,6 +1911,15 @@ Memory64Walk, 24 {
     next: u64,
 });
 record!(
+/// An entry of an index of pieces of memory, which pe_c_memory_runs makes on the way: the addresses from `start` up to the start of
+/// the next entry.
+RangeEntry, 16 {
+    /// The first address.
+    start: u64,
+    /// Index of the piece that has them, plus 1; 0 where none does.
+    number: u64,
+});
+record!(
 /// The registers of a thread on x64, CONTEXT.
 Context, 400 {
     /// Xmm is 0 where it was not saved.
@@ -1982,6 +1991,30 @@ extern "C" {
     pub fn pe_c_map(view: *const View, room: *mut u8, room_length: usize, written: *mut u64) -> u32;
     /// Relocates an image as loaded by the base relocations of a view.
     pub fn pe_c_relocate(view: *const View, difference: u64, room: *mut u8, room_length: usize) -> u32;
+    /// Writes the memory of pieces in any order as pieces that ascend and do not overlap.
+    pub fn pe_c_memory_runs(
+        pieces: *const MemoryPiece,
+        piece_count: usize,
+        entries: *mut RangeEntry,
+        number_of_entries: usize,
+        runs: *mut MemoryPiece,
+        number_of_runs: usize,
+        written: *mut u64,
+    ) -> u32;
+    /// Returns where the bytes of ranges of addresses are.
+    pub fn pe_c_memory_ranges(
+        memory: *const u8,
+        memory_length: usize,
+        pieces: *const MemoryPiece,
+        piece_count: usize,
+        asked: *const Range,
+        asked_count: usize,
+        found: *mut Range,
+        found_count: usize,
+        written: *mut u64,
+    ) -> u32;
+    /// Returns whether an image is that of a module.
+    pub fn pe_c_is_image_of(image: *const ImageInfo, module: *const DumpModule) -> u32;
     /// Makes an index of the sections of a view.
     pub fn pe_c_index(view: *const View, room: *mut IndexEntry, entries: usize, written: *mut u64) -> u32;
     /// Lists the next functions of a table, from an index on.
@@ -2438,6 +2471,10 @@ calls_of_bytes! {
     pe_c_dump_context(location: *const DumpLocation) -> Context;
     /// The same of ARM64, whose contexts have 912 bytes.
     pe_c_dump_context_arm64(location: *const DumpLocation) -> Arm64Context;
+    /// Reads the registers of a thread that count, on x64: those of the exception first.
+    pe_c_dump_thread_context(thread: *const DumpThread, raised: *const DumpException) -> Context;
+    /// The same of ARM64.
+    pe_c_dump_thread_context_arm64(thread: *const DumpThread, raised: *const DumpException) -> Arm64Context;
 }
 
 calls_of_an_image! {

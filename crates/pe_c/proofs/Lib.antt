@@ -43,6 +43,7 @@ pub mod TeRanges
 pub mod ViewedModules
 pub mod WalkFrames
 pub mod Arm64WalkFrames
+pub mod MappedRooms
 pub mod NextFrames
 pub mod FrameRuns
 pub mod FilledLists
@@ -50,6 +51,7 @@ pub mod ListRuns
 pub mod ResourceEdits
 pub mod DumpEntries
 pub mod DumpRanges
+pub mod DumpStacks
 pub mod SignatureRuns
 pub mod SoughtAttributes
 pub mod IndexCuts

@@ -4,7 +4,7 @@ use Rattle.std.specs.Option.{option_map}
 use Rattle.pe_core.specs.Bytes.{le}
 use Rattle.pe_core.specs.Refusals.{Refusal, ◌>>=◌}
 use Rattle.pe_minidump.specs.Dumps.{located}
-use Rattle.pe_minidump.specs.Memory64.{Listed64, memory64_of}
+use Rattle.pe_minidump.specs.Memory64.{memory64_of}
 use Rattle.pe_minidump.specs.Pieces.{PieceView, piece}
 use Rattle.pe_minidump.specs.Refusals.{DumpRefusal}
 use Rattle.pe_minidump.specs.declared.memory.MemoryDescriptor.{MemoryDescriptor}

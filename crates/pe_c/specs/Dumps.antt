@@ -1,5 +1,5 @@
 -- What calls return of minidumps. A refusal is the number of the error.
-use Rattle.std.specs.Prelude.{◌≡◌, ℕ, ◌+◌, ◌*◌, ◌/◌, List, length, Option, Some, None, Result, Ok, Err}
+use Rattle.std.specs.Prelude.{◌≡◌, ℕ, ◌+◌, ◌/◌, List, length, Option, Some, None, Result, Ok, Err}
 use Rattle.pe_core.specs.Refusals.{◌>>=◌}
 use Rattle.pe_minidump.specs.Dumps.{DumpView, dump_of, first_entry, located, text_at}
 use Rattle.pe_minidump.specs.Records.{directory_entry}

@@ -49,7 +49,9 @@ pub mod Failures
 pub mod ResourceEdits
 pub mod VersionWrites
 pub mod Dumps
+pub mod DumpImages
 pub mod DumpRecords
+pub mod DumpRuns
 pub mod DumpMemory
 pub mod DumpContexts
 pub mod DumpLaws

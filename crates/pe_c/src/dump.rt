@@ -3,8 +3,10 @@
 //! https://learn.microsoft.com/windows/win32/api/minidumpapiset/
 
 pub mod contexts;
+pub mod images;
 pub mod lists;
 pub mod memory;
+pub mod memory_runs;
 pub mod records;
 
 ghost use Rattle.std.specs.Prelude.{◌≡◌};

@@ -1,5 +1,6 @@
 pub mod AppendedRuns
 pub mod Founds
+pub mod FullMemory
 pub mod Headline
 pub mod IndexCuts
 pub mod IndexHalves

@@ -36,11 +36,11 @@ still_found rs x y r up found low high =
     (ap (lists_byte y) here ∙ has_it r.start r.length y low high)
     ∙ ap (λ (p : MemoryPiece). Some p) here
 
-by_offset : (file : List ℕ) (y : ℕ) (o : Option MemoryPiece) → option_map (λ p. slice_index file (p.offset + (y - p.start))) o ≡ option_map (slice_index file) (option_map (λ p. p.offset + (y - p.start)) o)
+pub by_offset : (file : List ℕ) (y : ℕ) (o : Option MemoryPiece) → option_map (λ p. slice_index file (p.offset + (y - p.start))) o ≡ option_map (slice_index file) (option_map (λ p. p.offset + (y - p.start)) o)
 by_offset file y None = refl
 by_offset file y (Some p) = refl
 
-below : (ps : List MemoryPiece) (y : ℕ) → y < 2 ^ 64 → offset_at ps y ≡ offset_in ps y
+pub below : (ps : List MemoryPiece) (y : ℕ) → y < 2 ^ 64 → offset_at ps y ≡ offset_in ps y
 below ps y small = let t : nat_lt y (2 ^ 64) ≡ true = grind (arith, nat_tests) in ap (λ (b : Bool). if b then offset_in ps y else None) t
 
 byte_by : (file : List ℕ) (pieces runs : List MemoryPiece) (x n k : ℕ) (o : Option MemoryPiece) → AreRuns pieces runs → are_inside file pieces ≡ true → x + k < 2 ^ 64 → find (lists_byte x) runs ≡ o → k < length (bytes_in file x n o) → listed_byte file pieces (x + k) ≡ Some (slice_index (bytes_in file x n o) k)

@@ -1,8 +1,9 @@
 -- The memory of a dump: the pieces of both of its lists, as walks take them.
-use Rattle.std.specs.Prelude.{ℕ, List, [], ◌++◌, length, map, Option, Some, None, Result, Ok, Err, min}
+use Rattle.std.specs.Prelude.{◌≡◌, ℕ, ◌+◌, ◌-◌, ◌*◌, ◌/◌, ◌<◌, ◌&&◌, Bool, true, false, List, [], ◌++◌, length, map, nat_le, nat_lt, Option, Some, None, Result, Ok, Err, min}
+use Rattle.pe_core.specs.Bytes.{le}
 use Rattle.pe_frame.specs.declared.memory_list.MemoryPiece.{MemoryPiece}
 use Rattle.pe_minidump.specs.Dumps.{DumpView, read_stream}
-use Rattle.pe_minidump.specs.Memory64.{Listed64, memory64_of, pieces_from}
+use Rattle.pe_minidump.specs.Memory64.{Listed64, memory64_of, pieces_from, size_of_first, size_of_piece}
 use Rattle.pe_minidump.specs.Pieces.{PieceView, piece}
 use Rattle.pe_minidump.specs.Refusals.{DumpRefusal}
 use Rattle.pe_minidump.specs.Streams.{memory_list}
@@ -37,3 +38,23 @@ listed_all file l = map (listed_piece file) (pieces_from file l.ranges l.base_rv
 -- the pieces of both lists, those of the memory list first
 abbrev pub pieces_of : DumpView → List MemoryPiece
 pieces_of d = elements (described_all d.bytes) (memory_list d) ++ elements (listed_all d.bytes) (read_stream memory64_of d 9)
+
+-- ---- a full dump's list by its numbers
+
+-- where in the file the bytes of the piece with an index are: after those of all pieces before it
+abbrev pub offset64 : Listed64 → ℕ → ℕ
+offset64 l i = l.base_rva + size_of_first l.ranges i
+
+-- the address of the piece
+abbrev pub start64 : Listed64 → ℕ → ℕ
+start64 l i = le l.ranges (16 * i) 8
+
+-- the file has a byte of the piece for an address; a truncated one has those of its bytes that are before its end
+abbrev pub has64 : List ℕ → Listed64 → ℕ → ℕ → Bool
+has64 file l x i = nat_le (start64 l i) x && nat_lt x (start64 l i + min (size_of_piece l.ranges i) (length file - offset64 l i))
+
+-- of the pieces it is the first for which the file has that
+pub record IsFirst64 (file : List ℕ) (l : Listed64) (x i : ℕ) : Type 0 where
+  pub within : i < length l.ranges / 16
+  pub has : has64 file l x i ≡ true
+  pub before : (j : ℕ) → j < i → has64 file l x j ≡ false

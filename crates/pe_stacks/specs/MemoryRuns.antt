@@ -1,5 +1,5 @@
 -- The memory of a dump in ascending order, as runs of addresses whose bytes follow one another in the file too.
-use Rattle.std.specs.Prelude.{◌≡◌, ℕ, ◌+◌, ◌-◌, ◌<◌, ◌≤◌, ◌^◌, ◌==◌, ◌&&◌, Bool, true, false, List, [], ◌∷◌, length, Option, Some, None, nat_le, nat_lt, min, if◌then◌else◌, slice_index_or}
+use Rattle.std.specs.Prelude.{◌≡◌, ℕ, ◌+◌, ◌-◌, ◌*◌, ◌<◌, ◌≤◌, ◌^◌, ◌==◌, ◌&&◌, Bool, true, false, List, [], ◌∷◌, length, Option, Some, None, drop, nat_le, nat_lt, min, if◌then◌else◌, slice_index_or, take}
 use Rattle.std.specs.List.{find, list_all}
 use Rattle.std.specs.Option.{option_map}
 use Rattle.pe_core.specs.Bytes.{range}
@@ -86,3 +86,12 @@ pub record IsRunOf (pieces : List MemoryPiece) (es : List RangeEntry) (i : ℕ) 
 -- the pieces end below offset 2^64
 abbrev pub end_low : List MemoryPiece → Bool
 end_low pieces = list_all (λ p. nat_le (p.offset + p.length) (2 ^ 64 - 1)) pieces
+
+-- the rooms for an index of pieces and for their runs have four entries and two runs for each piece
+abbrev pub has_rooms : List MemoryPiece → List RangeEntry × List MemoryPiece → Bool
+has_rooms pieces (es, rs) = nat_le (4 * length pieces) (length es) && nat_le (2 * length pieces) (length rs)
+
+-- what writing the runs to rooms returns: how many there are, if the rooms have the room
+abbrev pub PutsRuns : List MemoryPiece → List RangeEntry × List MemoryPiece → List RangeEntry × List MemoryPiece → Option ℕ → Type 0
+PutsRuns pieces (es, rs) (fs, ss) (Some n) = (has_rooms pieces (es, rs) ≡ true) × (n ≤ 2 * length pieces) × AreRuns pieces (take n ss) × (drop (2 * length pieces) ss ≡ drop (2 * length pieces) rs) × (drop (4 * length pieces) fs ≡ drop (4 * length pieces) es)
+PutsRuns pieces old new None = (has_rooms pieces old ≡ false) × (new ≡ old)

@@ -1,9 +1,16 @@
 //! What the definitions that contracts cite say together.
 
-ghost use Rattle.std.specs.Prelude.{◌≡◌, ◌+◌, ◌<◌, ◌^◌, ℕ, Err, List, None, Ok, Some, length, slice_index, true};
+ghost use Rattle.std.specs.Prelude.{◌≡◌, ◌+◌, ◌-◌, ◌/◌, ◌<◌, ◌^◌, ℕ, Err, List, None, Ok, Some, false, length, slice_index, true};
 ghost use Rattle.pe_core.specs.declared.options.ParseOptions.{ParseOptions};
-ghost use Rattle.pe_frame.specs.MemoryLists.{are_inside, listed_byte};
+ghost use Rattle.pe_frame.specs.Arm64Walks as arm64;
+ghost use Rattle.pe_frame.specs.FrameWalks.{IsWalk, starting_walk};
+ghost use Rattle.pe_frame.specs.MemoryLists.{are_inside, listed_byte, listed_word};
+ghost use Rattle.pe_frame.specs.Walks.{Calls};
+ghost use Rattle.pe_frame.specs.declared.arm64.walk.Arm64StackFrame.{Arm64StackFrame};
 ghost use Rattle.pe_frame.specs.declared.memory_list.MemoryPiece.{MemoryPiece};
+ghost use Rattle.pe_frame.specs.declared.modules.Module as modules;
+ghost use Rattle.pe_frame.specs.declared.walk.StackFrame.{StackFrame};
+ghost use Rattle.pe_frame.specs.declared.walk.WalkEnd.{WalkEnd};
 ghost use Rattle.pe_minidump.specs.Contexts.{context_arm64, context_x64};
 ghost use Rattle.pe_minidump.specs.Dumps.{DumpView, read_stream};
 ghost use Rattle.pe_minidump.specs.Memory64.{Listed64, memory64_of};
@@ -14,7 +21,7 @@ ghost use Rattle.pe_minidump.specs.declared.context_x64.ContextX64.{ContextX64};
 ghost use Rattle.pe_minidump.specs.declared.location.Location.{Location};
 ghost use Rattle.pe_minidump.specs.declared.module.Module.{Module};
 ghost use Rattle.pe_minidump.specs.declared.thread.Thread.{Thread};
-ghost use Rattle.pe_stacks.specs.DumpMemory.{listed_all, pieces_of};
+ghost use Rattle.pe_stacks.specs.DumpMemory.{IsFirst64, has64, listed_all, offset64, pieces_of, start64};
 ghost use Rattle.pe_stacks.specs.Images.{Fits, ModuleImageView, image_of};
 ghost use Rattle.pe_stacks.specs.MemoryRuns.{AreRuns, bytes_at};
 ghost use Rattle.pe_stacks.specs.ThreadContexts.{context_at, raised_at, thread_context};
@@ -38,6 +45,32 @@ pub fn loaded_bytes_are_memory()
 pub fn full_memory_is_its_list()
     ensures { (d : DumpView) (l : Listed64) → memory_list d ≡ Ok None → read_stream memory64_of d 9 ≡ Ok (Some l) →
         pieces_of d ≡ listed_all d.bytes l }
+{}
+
+/// The byte of such a list at an address is that of the first piece for which the file has one there. It stands in the file after the
+/// bytes of all pieces before it. Where the file has one for no piece there is none.
+pub fn full_memory_is_sums()
+    ensures found { (file : List ℕ) (l : Listed64) (x i : ℕ) → IsFirst64 file l x i →
+        listed_byte file (listed_all file l) x ≡ Some (slice_index file (offset64 l i + (x - start64 l i))) }
+    ensures none { (file : List ℕ) (l : Listed64) (x : ℕ) → ((i : ℕ) → i < length l.ranges / 16 → has64 file l x i ≡ false) →
+        listed_byte file (listed_all file l) x ≡ None }
+{}
+
+/// The memory of runs is that of the pieces that they are made of, so that a walk over runs is the walk over these pieces; and in a
+/// full dump without another list it is the walk over the pieces of that list.
+pub fn full_stacks_are_walks()
+    ensures memory { (file : List ℕ) (pieces runs : List MemoryPiece) → AreRuns pieces runs →
+        listed_word file runs ≡ listed_word file pieces }
+    ensures x64 { (d : DumpView) (l : Listed64) (runs : List MemoryPiece) (ms : List modules.Module)
+        (top : StackFrame) (most : ℕ) (frames : List StackFrame) (end : WalkEnd) →
+        memory_list d ≡ Ok None → read_stream memory64_of d 9 ≡ Ok (Some l) → AreRuns (pieces_of d) runs →
+        IsWalk Calls (starting_walk (record { memory = listed_word d.bytes runs; modules = ms }) top most) frames end →
+        IsWalk Calls (starting_walk (record { memory = listed_word d.bytes (listed_all d.bytes l); modules = ms }) top most) frames end }
+    ensures arm64 { (d : DumpView) (l : Listed64) (runs : List MemoryPiece) (ms : List modules.Module)
+        (top : Arm64StackFrame) (most : ℕ) (frames : List Arm64StackFrame) (end : WalkEnd) →
+        memory_list d ≡ Ok None → read_stream memory64_of d 9 ≡ Ok (Some l) → AreRuns (pieces_of d) runs →
+        IsWalk arm64.Calls (starting_walk (record { memory = listed_word d.bytes runs; modules = ms }) top most) frames end →
+        IsWalk arm64.Calls (starting_walk (record { memory = listed_word d.bytes (listed_all d.bytes l); modules = ms }) top most) frames end }
 {}
 
 /// The registers of a thread are those of the exception, where it names the thread and they can be read (`raised`); and its own where

@@ -30,4 +30,5 @@ pub use modules::IndexedModules;
 pub use range_index::{RangeEntry, put_index};
 pub use ranges::IndexedRanges;
 pub use run_memory::MemoryRuns;
+pub use runs::put_memory_runs;
 pub use stacks::{Stacks, ThreadFrames, ThreadStack};

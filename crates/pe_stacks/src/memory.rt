@@ -5,7 +5,8 @@ ghost use Rattle.std.specs.Prelude.{◌≡◌, ◌+◌, ◌-◌, ◌++◌, ◌<�
 ghost use Rattle.std.specs.List.{find};
 ghost use Rattle.std.specs.Option.{option_map};
 ghost use Rattle.pe_core.specs.Bytes.{holds};
-ghost use Rattle.pe_core.specs.Refusals.{ReturnsUnlessMemory};
+ghost use Rattle.pe_core.specs.Refusals.{ReturnsUnlessMemory, kind_of};
+ghost use Rattle.pe_core.specs.Refusals as refused;
 ghost use Rattle.pe_frame.specs.MemoryLists.{are_inside, listed_byte, lists_byte, memory_of};
 ghost use Rattle.pe_frame.specs.declared.memory_list.MemoryPiece.{MemoryPiece};
 ghost use Rattle.pe_minidump.specs.Dumps.{dump_view};
@@ -96,11 +97,13 @@ pub struct IndexedMemory<'a, A: Allocator + Drop> {
 }
 
 impl<'a, A: Allocator + Copy + Drop> IndexedMemory<'a, A> {
-    /// Memory in these pieces of the bytes of a file. Errors: `Short` if a piece does not lie in the bytes; `Memory`.
+    /// Memory in these pieces of the bytes of a file. Errors: `Short` if a piece does not lie in the bytes; `Memory`, which it is not
+    /// where there are no pieces.
     pub fn new(alloc: A, bytes: &'a [u8], pieces: &'a [MemoryPiece]) -> Result<IndexedMemory<'a, A>>
-        ensures { ReturnsUnlessMemory {Y = List ℕ × List MemoryPiece}
+        ensures pieces { ReturnsUnlessMemory {Y = List ℕ × List MemoryPiece}
             (λ m. (m.bytes.now, m.pieces.ranges.now)) result
             (memory_of bytes.entry.now pieces.entry.now) }
+        ensures memory { IfErr result (λ e. kind_of e ≡ refused.Memory → 0 < length pieces.entry.now) }
     {
         MemoryList::new(bytes, pieces)?;
         Ok(IndexedMemory {

@@ -1,11 +1,11 @@
 //! The memory of a dump as runs in its file: `runs` makes them. Steps and walks take them as pieces, by binary search, and the image
 //! of a module whose memory the dump has is borrowed from them.
 
-ghost use Rattle.std.specs.Prelude.{◌≡◌, ◌+◌, ◌-◌, ◌∷◌, [], IfOk, IsTrue, min};
+ghost use Rattle.std.specs.Prelude.{◌≡◌, ◌+◌, ◌-◌, ◌<◌, ◌∷◌, [], IfErr, IfOk, IsTrue, length, min};
 ghost use Rattle.std.specs.List.{find};
 ghost use Rattle.std.specs.Option.{option_map};
 ghost use Rattle.pe_core.specs.Bytes.{holds, range};
-ghost use Rattle.pe_core.specs.Refusals.{ReturnsUnlessMemory, Short, outcome};
+ghost use Rattle.pe_core.specs.Refusals.{Memory, ReturnsUnlessMemory, Short, kind_of, outcome};
 ghost use Rattle.pe_frame.specs.AddressRanges.{AreAscending};
 ghost use Rattle.pe_frame.specs.MemoryLists.{are_inside, lists_byte};
 ghost use Rattle.pe_stacks.specs.MemoryRuns.{AreRuns, bytes_at};
@@ -27,12 +27,13 @@ pub struct MemoryRuns<'a, A: Allocator + Drop> {
 
 impl<'a, A: Allocator + Copy + Drop> MemoryRuns<'a, A> {
     /// The runs of these pieces of the bytes of a file, in any order: an address is that of the first piece that has it. Errors:
-    /// `Short` if a piece does not lie in the bytes; `Memory`.
+    /// `Short` if a piece does not lie in the bytes; `Memory`, which it is not where there are no pieces.
     pub fn new(alloc: A, bytes: &'a [u8], pieces: &[MemoryPiece]) -> Result<MemoryRuns<'a, A>>
         ensures bytes { IfOk result (λ m. m.bytes.now ≡ bytes.entry.now) }
         ensures runs { IfOk result (λ m. AreRuns pieces.now m.runs.items) }
         ensures refused { ReturnsUnlessMemory {Y = Unit {0}} (λ m. tt) result
             (outcome ((are_inside bytes.entry.now pieces.now, Short) ∷ []) tt) }
+        ensures memory { IfErr result (λ e. kind_of e ≡ Memory → 0 < length pieces.now) }
     {
         MemoryList::new(bytes, pieces)?;
         let entries = index_of(alloc, pieces)?;

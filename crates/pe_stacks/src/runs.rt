@@ -4,10 +4,10 @@
 
 ghost use Rattle.std.specs.Prelude.{◌≡◌, ◌+◌, ◌<◌, ◌≤◌, ◌^◌, IsTrue, length, take};
 ghost use Rattle.pe_frame.specs.MemoryLists.{lists_byte};
-ghost use Rattle.pe_stacks.specs.MemoryRuns.{AreRuns, IsRunOf, addresses_of, appended, end_low, is_followed, part_of};
+ghost use Rattle.pe_stacks.specs.MemoryRuns.{AreRuns, IsRunOf, PutsRuns, addresses_of, appended, end_low, is_followed, part_of};
 ghost use Rattle.pe_stacks.specs.RangeIndexes.{Indexes};
 
-use crate::range_index::RangeEntry;
+use crate::range_index::{RangeEntry, put_index};
 use pe_frame::MemoryPiece;
 
 /// How many addresses there are from the start of an entry up to that of the next one, or of the last entry to the last address.
@@ -103,4 +103,28 @@ pub(crate) fn put_runs(
         count = append(run, room, count);
     }
     count
+}
+
+/// Writes the runs of pieces to the start of a room, and returns how many there are, two at most for each piece; by an index of the
+/// pieces, which it makes at the start of `entries`. `None` where `entries` has room for fewer than four for each piece, or `runs`
+/// for fewer than two; then nothing changes.
+pub fn put_memory_runs(
+    pieces: &[MemoryPiece],
+    entries: &mut [RangeEntry],
+    runs: &mut [MemoryPiece],
+) -> Option<usize>
+    requires low { IsTrue (end_low pieces.now) }
+    ensures { PutsRuns pieces.now (entries.old, runs.old) (entries.new, runs.new) result }
+{
+    if runs.len() < 2 * pieces.len() {
+        return None;
+    }
+    match put_index(pieces, entries) {
+        Ok(count) => {
+            let (index, _) = entries.split_at(count);
+            let (room, _) = runs.split_at_mut(count);
+            Some(put_runs(pieces, index, room))
+        }
+        Err(_) => None,
+    }
 }

@@ -2,14 +2,15 @@
 //! https://learn.microsoft.com/windows/win32/api/winnt/ns-winnt-context
 
 ghost use Rattle.std.specs.Prelude.{◌≡◌, ◌%◌, ◌^◌, ◌<◌, slice_index};
-ghost use Rattle.pe_c.specs.DumpContexts.{arm64_reported, context_arm64_at, context_x64_at, floats_or_zero, low_halves, x64_reported, xmm_or_zero};
+ghost use Rattle.pe_c.specs.DumpContexts.{arm64_reported, context_arm64_at, context_x64_at, floats_or_zero, low_halves, thread_context_at, x64_reported, xmm_or_zero};
 ghost use Rattle.pe_c.specs.Dumps.{DumpHandsOut, dump_answer};
 
 use crate::arm64::frames::Arm64FrameRegisters;
 use crate::dump::hand_out_dump;
+use crate::dump::records::DumpException;
 use crate::stack_frames::{FrameRegisters, flat_registers};
 use pe_frame::Registers;
-use pe_minidump::{ContextArm64, ContextX64, Location, Result, located};
+use pe_minidump::{ContextArm64, ContextX64, Location, Result, Thread, located};
 
 /// The registers of a thread on x64 (`CONTEXT`).
 #[repr(C)]
@@ -154,4 +155,64 @@ pub extern "C" fn pe_c_dump_context_arm64(
     ensures { DumpHandsOut result out.old out.new (context_arm64_at bytes.now location.now) }
 {
     hand_out_dump(context_arm64_at(bytes, location), out)
+}
+
+fn thread_context_at(bytes: &[u8], thread: &Thread, raised: &DumpException) -> Result<X64Context>
+    ensures { dump_answer result ≡ thread_context_at (context_x64_at bytes.now) thread.now raised.now }
+{
+    if raised.thread_id == thread.thread_id {
+        if let Ok(context) = context_x64_at(bytes, &raised.thread_context) {
+            return Ok(context);
+        }
+    }
+    context_x64_at(bytes, &thread.thread_context)
+}
+
+/// Reads the registers of a thread that count, on x64: those of the exception, if it names the thread and they can be read, since the
+/// thread's own may be of the code that wrote the dump; else the thread's own. `raised` is what `pe_c_dump_exception` returned, or of
+/// zeros without an exception.
+///
+/// Errors: those of the thread's own context, as of `pe_c_dump_context`.
+#[unsafe(no_mangle)]
+pub extern "C" fn pe_c_dump_thread_context(
+    bytes: &[u8],
+    thread: &Thread,
+    raised: &DumpException,
+    out: &mut X64Context,
+) -> u32
+    ensures { DumpHandsOut result out.old out.new
+        (thread_context_at (context_x64_at bytes.now) thread.now raised.now) }
+{
+    hand_out_dump(thread_context_at(bytes, thread, raised), out)
+}
+
+fn thread_context_arm64_at(
+    bytes: &[u8],
+    thread: &Thread,
+    raised: &DumpException,
+) -> Result<Arm64Context>
+    ensures { dump_answer result ≡ thread_context_at (context_arm64_at bytes.now) thread.now raised.now }
+{
+    if raised.thread_id == thread.thread_id {
+        if let Ok(context) = context_arm64_at(bytes, &raised.thread_context) {
+            return Ok(context);
+        }
+    }
+    context_arm64_at(bytes, &thread.thread_context)
+}
+
+/// The same of ARM64.
+///
+/// Errors: those of the thread's own context, as of `pe_c_dump_context_arm64`.
+#[unsafe(no_mangle)]
+pub extern "C" fn pe_c_dump_thread_context_arm64(
+    bytes: &[u8],
+    thread: &Thread,
+    raised: &DumpException,
+    out: &mut Arm64Context,
+) -> u32
+    ensures { DumpHandsOut result out.old out.new
+        (thread_context_at (context_arm64_at bytes.now) thread.now raised.now) }
+{
+    hand_out_dump(thread_context_arm64_at(bytes, thread, raised), out)
 }

@@ -1,12 +1,28 @@
 //! Laws of minidumps: what the ranges that calls return have to do with the dump as pe_minidump reads it.
 
 ghost use Rattle.std.specs.Prelude.{◌≡◌, ℕ, List, Some, Ok};
-ghost use Rattle.pe_minidump.specs.Dumps.{located};
+ghost use Rattle.pe_core.specs.Bytes.{range};
+ghost use Rattle.pe_core.specs.Header.{HeaderView};
+ghost use Rattle.pe_frame.specs.declared.memory_list.MemoryPiece.{MemoryPiece};
+ghost use Rattle.pe_minidump.specs.Contexts.{context_arm64, context_x64};
+ghost use Rattle.pe_minidump.specs.Dumps.{DumpView, located};
 ghost use Rattle.pe_minidump.specs.Pieces.{bytes_from, piece};
+ghost use Rattle.pe_minidump.specs.Streams.{exception};
 ghost use Rattle.pe_minidump.specs.declared.dump.DumpHeader.{DumpHeader};
-ghost use Rattle.pe_c.specs.DumpLaws.{IsStreamOf, memory_range};
+ghost use Rattle.pe_minidump.specs.declared.exception.Exception.{Exception};
+ghost use Rattle.pe_minidump.specs.declared.module.Module.{Module};
+ghost use Rattle.pe_minidump.specs.declared.thread.Thread.{Thread};
+ghost use Rattle.pe_stacks.specs.Images.{is_image_of};
+ghost use Rattle.pe_stacks.specs.MemoryRuns.{bytes_at};
+ghost use Rattle.pe_stacks.specs.ThreadContexts.{thread_context};
+ghost use Rattle.pe_c.specs.DumpContexts.{arm64_reported, context_arm64_at, context_x64_at, thread_context_at, x64_reported};
+ghost use Rattle.pe_c.specs.DumpImages.{fits};
+ghost use Rattle.pe_c.specs.DumpLaws.{IsStreamOf, as_reported, memory_range};
 ghost use Rattle.pe_c.specs.DumpMemory.{piece_reported};
+ghost use Rattle.pe_c.specs.DumpRecords.{exception_reported, module_reported};
+ghost use Rattle.pe_c.specs.DumpRuns.{range_in};
 ghost use Rattle.pe_c.specs.Dumps.{dump_stream_at};
+ghost use Rattle.pe_c.specs.Images.{image_info_of};
 ghost use Rattle.pe_c.specs.Ranges.{IsRange};
 ghost use Rattle.pe_c.specs.declared.ranges.Range.{Range};
 
@@ -26,4 +42,28 @@ pub fn pieces_of_dumps_are_inside()
     ensures { (b : List ℕ) (start offset size : ℕ) →
         IsRange b (memory_range (piece_reported b (piece b start offset size)).memory)
         (bytes_from b offset size) }
+{}
+
+/// Where `pe_c_dump_exception` returns the exception of a dump, the registers that a thread has by it are those that count by
+/// pe_stacks.
+pub fn contexts_of_threads_count()
+    ensures x64 { (d : DumpView) (t : Thread) (e : Exception) → exception d ≡ Ok (Some e) →
+        thread_context_at (context_x64_at d.bytes) t (exception_reported e)
+        ≡ as_reported x64_reported (thread_context context_x64 d t) }
+    ensures arm64 { (d : DumpView) (t : Thread) (e : Exception) → exception d ≡ Ok (Some e) →
+        thread_context_at (context_arm64_at d.bytes) t (exception_reported e)
+        ≡ as_reported arm64_reported (thread_context context_arm64 d t) }
+{}
+
+/// `pe_c_is_image_of` says of an image and a module what `is_image_of` of pe_stacks says of its headers and the module.
+pub fn images_of_modules_are_those_of_stacks()
+    ensures { (mode : ℕ) (h : HeaderView) (m : Module) →
+        fits (image_info_of mode h) (module_reported m) ≡ is_image_of h m }
+{}
+
+/// The bytes at what `pe_c_memory_ranges` finds are those from the address on, as pe_stacks takes the images of modules from the
+/// memory of a dump.
+pub fn memory_ranges_are_bytes()
+    ensures { (memory : List ℕ) (pieces : List MemoryPiece) (r : Range) →
+        range memory (range_in pieces r).offset (range_in pieces r).length ≡ bytes_at memory pieces r.offset r.length }
 {}
