@@ -2336,6 +2336,49 @@ PE_C_SIZE(pe_c_load_config_directory, 88);
  * Errors: PE_C_UNMAPPED; PE_C_SHORT of the 4 bytes of its size. */
 uint32_t pe_c_load_config(const pe_c_view *view, pe_c_load_config_directory *out) PE_C_RESULT(1, 2);
 
+/* ---- tables of a load configuration
+ *
+ * Of code to which control may go: exception handlers of x86, functions that may be called indirectly, entries of the import
+ * address table whose address is taken, targets of longjmp, and where execution goes on after exceptions. An entry is an RVA of 4
+ * bytes, and flags. Microsoft's linker sorts entries by RVA; that is not tested.
+ * https://learn.microsoft.com/windows/win32/secbp/pe-metadata */
+
+/* The tables, by their numbers. */
+enum {
+    PE_C_GUARD_SE_HANDLERS = 0,             /* SEHandlerTable */
+    PE_C_GUARD_CF_FUNCTIONS = 1,            /* GuardCFFunctionTable */
+    PE_C_GUARD_ADDRESS_TAKEN_IAT_ENTRIES = 2,   /* GuardAddressTakenIatEntryTable */
+    PE_C_GUARD_LONG_JUMP_TARGETS = 3,       /* GuardLongJumpTargetTable */
+    PE_C_GUARD_EH_CONTINUATIONS = 4         /* GuardEHContinuationTable */
+};
+
+/* A walk over the entries of a table. */
+typedef struct {
+    pe_c_range entries;             /* from the next entry to the end of the bytes */
+    uint64_t count;                 /* how many entries are left */
+    uint32_t flag_size;             /* bytes of flags that an entry has after its RVA; of handlers 0 */
+    uint32_t spare;                 /* 0 */
+} pe_c_guard_entries;
+
+PE_C_SIZE(pe_c_guard_entries, 32);
+
+typedef struct {
+    pe_c_range flag_bytes;          /* the flags that follow the RVA */
+    uint32_t rva;
+    uint32_t flags;                 /* their first byte, IMAGE_GUARD_FLAG_ flags; 0 where there is none */
+} pe_c_guard_entry;
+
+PE_C_SIZE(pe_c_guard_entry, 24);
+
+/* Returns a walk over the table with a number, PE_C_GUARD_. PE_C_NOTHING where the image has no load configuration or this has no
+ * such table, and for other numbers.
+ * Errors: those of pe_c_load_config; PE_C_DIRECTORY_VA_BELOW_BASE, PE_C_UNMAPPED. */
+uint32_t pe_c_guard_table(const pe_c_view *view, uint32_t table, pe_c_guard_entries *out) PE_C_RESULT(1, 3);
+
+/* Returns the next entry of a table. Error: PE_C_SHORT where the bytes end before the table does. */
+uint32_t pe_c_next_guard_entry(const uint8_t *bytes, size_t length, pe_c_guard_entries *walk, pe_c_guard_entry *out)
+    PE_C_RESULT(3, 4);
+
 /* ---- base relocations
  *
  * What to change in an image that is not at its preferred base, in blocks of one page each.
@@ -2530,6 +2573,10 @@ uint32_t pe_c_list_delayed_functions(const pe_c_view *view, pe_c_delayed_functio
 /* Lists the entries of a POGO record. Errors: PE_C_ROOM; those of pe_c_next_pogo_entry. */
 uint32_t pe_c_list_pogo_entries(const pe_c_view *view, pe_c_range *walk, pe_c_pogo_entry *entries,
                                 size_t number_of_entries, uint64_t *written) PE_C_RESULT(1, 2, 5);
+
+/* Lists the entries of a table of a load configuration. Errors: PE_C_ROOM; those of pe_c_next_guard_entry. */
+uint32_t pe_c_list_guard_entries(const pe_c_view *view, pe_c_guard_entries *walk, pe_c_guard_entry *entries,
+                                 size_t number_of_entries, uint64_t *written) PE_C_RESULT(1, 2, 5);
 
 /* ---- minidumps
  *

@@ -552,6 +552,18 @@ static void resources(const struct file *file)
         }
 }
 
+static void guard_tables(const struct file *file)
+{
+    pe_c_guard_entries entries = PE_C_EMPTY;
+    pe_c_guard_entry entry = PE_C_EMPTY;
+    for (uint32_t table = 0; table <= PE_C_GUARD_EH_CONTINUATIONS + 1; table++)
+        if (IS_DONE(pe_c_guard_table, entries, VIEW, table, &entries)) {
+            pe_c_guard_entries walk = entries;
+            WALK(ITEMS, pe_c_next_guard_entry, entry, BYTES, &walk, &entry) {}
+            LIST(pe_c_list_guard_entries, pe_c_guard_entry, VIEW, &entries);
+        }
+}
+
 static void directories(const struct file *file)
 {
     pe_c_tls_directory tls = PE_C_EMPTY;
@@ -566,6 +578,7 @@ static void directories(const struct file *file)
     if (IS_DONE(pe_c_tls, tls, VIEW, &tls) && IS_DONE(pe_c_tls_callbacks, walk, VIEW, &tls, &walk))
         WALK(ITEMS, pe_c_next_tls_callback, callback, VIEW, &walk, &callback) {}
     CALL(pe_c_load_config, config, VIEW, &config);
+    guard_tables(file);
     if (IS_DONE(pe_c_relocation_blocks, walk, VIEW, &walk))
         WALK(ITEMS, pe_c_next_relocation_block, block, BYTES, &walk, &block)
             WALK(INNER, pe_c_next_relocation, relocation, BYTES, block.page_rva, &block.entries, &relocation) {}

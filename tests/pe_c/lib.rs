@@ -16,6 +16,7 @@ mod delay_imports;
 mod dump;
 mod exports;
 mod failure;
+mod guard_tables;
 mod headers;
 mod image;
 mod imports;

@@ -1021,6 +1021,28 @@ LoadConfig, 88 {
     has_guard_flags: u8,
 });
 record!(
+/// A walk over the entries of a table of a load configuration.
+GuardEntries, 32 {
+    /// From the next entry to the end of the bytes.
+    entries: Range,
+    /// How many entries are left.
+    count: u64,
+    /// Bytes of flags that an entry has after its RVA.
+    flag_size: u32,
+    /// 0.
+    spare: u32,
+});
+record!(
+/// An entry of a table of a load configuration. See [`GuardEntry`](crate::GuardEntry).
+GuardEntry, 24 {
+    /// The flags that follow the RVA.
+    flag_bytes: Range,
+    /// An RVA.
+    rva: u32,
+    /// The first byte of flags; 0 where there is none.
+    flags: u32,
+});
+record!(
 /// A block of base relocations. See [`RelocationBlock`](crate::RelocationBlock).
 RelocationBlock, 24 {
     /// 2 bytes each; a walk through the relocations of the block.
@@ -2067,6 +2089,14 @@ extern "C" {
         number_of_entries: usize,
         written: *mut u64,
     ) -> u32;
+    /// Lists the next entries of a table of a load configuration.
+    pub fn pe_c_list_guard_entries(
+        view: *const View,
+        walk: *mut GuardEntries,
+        entries: *mut GuardEntry,
+        number_of_entries: usize,
+        written: *mut u64,
+    ) -> u32;
     /// Lists the next entries of a POGO record.
     pub fn pe_c_list_pogo_entries(
         view: *const View,
@@ -2298,6 +2328,8 @@ calls_of_bytes! {
     pe_c_arm64_codes(codes: *const Range, start: u64) -> Arm64Walk;
     /// Returns the next ARM64 unwind code.
     pe_c_next_arm64_code(walk: *mut Arm64Walk) -> Arm64Code;
+    /// Returns the next entry of a table of a load configuration.
+    pe_c_next_guard_entry(walk: *mut GuardEntries) -> GuardEntry;
     /// Returns the next stream of CLR metadata.
     pe_c_next_metadata_stream(walk: *mut MetadataStreams) -> MetadataStream;
     /// Returns the fixed file information in the content of a leaf.
@@ -2481,6 +2513,8 @@ calls_of_an_image! {
     pe_c_next_tls_callback(walk: *mut Range) -> u64;
     /// Returns the load configuration.
     pe_c_load_config() -> LoadConfig;
+    /// Returns a walk over a table of the load configuration, by its number.
+    pe_c_guard_table(table: u32) -> GuardEntries;
     /// Returns the blocks of the base relocations, as a walk.
     pe_c_relocation_blocks() -> Range;
     /// Returns the CLR header.

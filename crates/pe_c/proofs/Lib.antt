@@ -8,6 +8,7 @@ pub mod DirectoryParts
 pub mod DirectoryRuns
 pub mod DirectoryLists
 pub mod NumberLists
+pub mod GuardLists
 pub mod StreamLists
 pub mod ListStarts
 pub mod EntryRuns

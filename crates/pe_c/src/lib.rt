@@ -27,6 +27,7 @@ mod export_addresses;
 mod exports;
 mod failure;
 mod frame_calls;
+mod guard_tables;
 mod headers;
 mod image;
 mod imports;
