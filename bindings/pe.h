@@ -203,11 +203,12 @@ enum {
 /* Modes. PE_C_MAPPED is added to one of the others, or stands for PE_C_STRICT | PE_C_MAPPED. */
 enum { PE_C_STRICT = 0, PE_C_PERMISSIVE = 1, PE_C_MAPPED = 2 };
 
-/* Writes the text of a result to the start of the array, in UTF-8, truncated at the array's end and not NUL-terminated.
- * Returns the length of the whole text in bytes, which is below 128.
+/* Writes the text of a result to the start of the array, in UTF-8, with a zero after it; where the array is too small as much of
+ * it as has room before the zero. Returns the length of the whole text in bytes, which is below 128.
  *
  *     uint8_t text[128];
- *     printf("%.*s\n", (int)pe_c_text(result, text, sizeof text), (const char *)text); */
+ *     pe_c_text(result, text, sizeof text);
+ *     printf("%s\n", (const char *)text); */
 size_t pe_c_text(uint32_t number, uint8_t *room, size_t length);
 
 /* ---- the image
@@ -2486,6 +2487,43 @@ uint32_t pe_c_clr_metadata(const pe_c_view *view, const pe_c_cor20_header *heade
  * PE_C_SHORT of the zeros after the name, up to a multiple of 4. */
 uint32_t pe_c_next_metadata_stream(const uint8_t *bytes, size_t length, pe_c_metadata_streams *walk,
                                    pe_c_metadata_stream *out) PE_C_RESULT(3, 4);
+
+/* ---- texts
+ *
+ * Names and texts are ranges of the bytes, in UTF-8 or in UTF-16, little-endian. They may hold anything, control characters too.
+ * A call that writes a text ends it with a zero, and `written` gets its length without the zero. Where the array has no more bytes
+ * than the text the call returns PE_C_ROOM: then the array is unchanged, and `written` is how many bytes it has to have. It may be
+ * NULL if room_length is 0, and overlaps no other argument. */
+
+/* How a GUID is written. Other numbers are as PE_C_GUID_DIGITS. */
+enum {
+    PE_C_GUID_HYPHENS = 0,          /* 497B72F6-390A-44FC-878E-5A2D63B6CC4B, 36 characters */
+    PE_C_GUID_DIGITS = 1            /* 497B72F6390A44FC878E5A2D63B6CC4B, 32 characters, as on a symbol server */
+};
+
+/* Writes the text of a GUID, the first 16 of these bytes, as those of pe_c_key.
+ * Errors: PE_C_SHORT where there are fewer; PE_C_ROOM. */
+uint32_t pe_c_guid_text(const uint8_t *guid, size_t guid_length, uint32_t form, uint8_t *room, size_t room_length,
+                        uint64_t *written) PE_C_RESULT(6);
+
+/* Writes the text of a range in UTF-16 as UTF-8. U+FFFD stands for a surrogate without a partner, zeros in the text are
+ * characters, and an odd byte at the end is left out.
+ * Errors: PE_C_SHORT where the range is not inside the bytes; PE_C_ROOM. */
+uint32_t pe_c_utf16_text(const uint8_t *bytes, size_t length, const pe_c_range *range, uint8_t *room, size_t room_length,
+                         uint64_t *written) PE_C_RESULT(3, 6);
+
+/* A text in the bytes. */
+typedef struct {
+    pe_c_range text;                /* what stands before the first zero */
+    uint32_t is_terminated;         /* 1 where a zero follows: then bytes + text.offset is a string of C; else 0 */
+    uint32_t spare;                 /* 0 */
+} pe_c_text_in_bytes;
+
+PE_C_SIZE(pe_c_text_in_bytes, 24);
+
+/* Returns the text in a range up to its first zero, and whether a zero follows it, in the range or right after it.
+ * Error: PE_C_SHORT where the range is not inside the bytes. */
+uint32_t pe_c_text_in(const uint8_t *bytes, size_t length, const pe_c_range *range, pe_c_text_in_bytes *out) PE_C_RESULT(3, 4);
 
 /* ---- lists in one call
  *

@@ -14,6 +14,7 @@ mod debug;
 mod debug_walks;
 mod delay_imports;
 mod dump;
+mod ended_texts;
 mod exports;
 mod failure;
 mod guard_tables;

@@ -257,9 +257,11 @@ fn texts_differ(rt: HostRuntime) {
 fn a_text_is_cut_at_the_end_of_its_room(rt: HostRuntime) {
     let mut room = [b'.'; 6];
     assert_eq!(rt; pe_c_text(0, &mut room), 4);
-    assert_eq!(rt; &room, b"done..");
+    assert_eq!(rt; &room, b"done\0.");
     assert_eq!(rt; pe_c_text(2, &mut room), 9);
-    assert_eq!(rt; &room, b"trunca");
+    assert_eq!(rt; &room, b"trunc\0");
+    assert_eq!(rt; pe_c_text(2, &mut room[..1]), 9);
+    assert_eq!(rt; &room, b"\0runc\0");
     assert_eq!(rt; pe_c_text(2, &mut []), 9);
 }
 

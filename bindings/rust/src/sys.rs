@@ -1021,6 +1021,16 @@ LoadConfig, 88 {
     has_guard_flags: u8,
 });
 record!(
+/// A text in the bytes.
+TextInBytes, 24 {
+    /// What stands before the first zero.
+    text: Range,
+    /// 1 where a zero follows, else 0.
+    is_terminated: u32,
+    /// 0.
+    spare: u32,
+});
+record!(
 /// A walk over the entries of a table of a load configuration.
 GuardEntries, 32 {
     /// From the next entry to the end of the bytes.
@@ -1950,6 +1960,24 @@ extern "C" {
     pub fn pe_c_abi_4() -> u32;
     /// Writes the text of a result to the start of the array, truncated at its end. Returns the length of the whole text.
     pub fn pe_c_text(number: u32, room: *mut u8, length: usize) -> usize;
+    /// Writes the text of a GUID, with a zero after it.
+    pub fn pe_c_guid_text(
+        guid: *const u8,
+        guid_length: usize,
+        form: u32,
+        room: *mut u8,
+        room_length: usize,
+        written: *mut u64,
+    ) -> u32;
+    /// Writes a text in UTF-16 as UTF-8, with a zero after it.
+    pub fn pe_c_utf16_text(
+        bytes: *const u8,
+        length: usize,
+        range: *const Range,
+        room: *mut u8,
+        room_length: usize,
+        written: *mut u64,
+    ) -> u32;
     /// Writes the section headers of a COFF object to the start of an array.
     pub fn pe_c_coff_sections(
         bytes: *const u8,
@@ -2328,6 +2356,8 @@ calls_of_bytes! {
     pe_c_arm64_codes(codes: *const Range, start: u64) -> Arm64Walk;
     /// Returns the next ARM64 unwind code.
     pe_c_next_arm64_code(walk: *mut Arm64Walk) -> Arm64Code;
+    /// Returns the text in a range up to its first zero.
+    pe_c_text_in(range: *const Range) -> TextInBytes;
     /// Returns the next entry of a table of a load configuration.
     pe_c_next_guard_entry(walk: *mut GuardEntries) -> GuardEntry;
     /// Returns the next stream of CLR metadata.

@@ -66,7 +66,10 @@ fn place_of(table: u32, config: &LoadConfig) -> Place
     let tables = config.guard_tables;
     let (va, count) = match table {
         0 => (config.se_handler_table, config.se_handler_count),
-        1 => (config.guard_cf_function_table, config.guard_cf_function_count),
+        1 => (
+            config.guard_cf_function_table,
+            config.guard_cf_function_count,
+        ),
         2 => (
             tables.address_taken_iat_entry_table,
             tables.address_taken_iat_entry_count,
@@ -76,7 +79,11 @@ fn place_of(table: u32, config: &LoadConfig) -> Place
         _ => (None, None),
     };
     // Exception handlers have no flags.
-    let flag_size = if table == 0 || table > 4 { 0 } else { config.flag_size() };
+    let flag_size = if table == 0 || table > 4 {
+        0
+    } else {
+        config.flag_size()
+    };
     Place {
         va,
         count,

@@ -23,6 +23,7 @@ mod debug_walks;
 mod delay_imports;
 mod directories;
 mod dump;
+mod ended_texts;
 mod export_addresses;
 mod exports;
 mod failure;
