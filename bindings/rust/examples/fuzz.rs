@@ -427,6 +427,14 @@ fn read_by_lies(bytes: &[u8], random: &mut Random, seen: &mut Seen) {
         }
     }
     call_of_image!(pe_c_load_config(), LoadConfig);
+    let (mut text, mut written) = ([0; 64], 0);
+    // SAFETY: as above; the room is an array of its own.
+    unsafe {
+        sys::pe_c_guid_text(start, length, few % 3, text.as_mut_ptr(), few as usize % 65, &mut written);
+        sys::pe_c_utf16_text(start, length, &range, text.as_mut_ptr(), few as usize % 65, &mut written);
+        let mut found = sys::TextInBytes::default();
+        sys::pe_c_text_in(start, length, &range, &mut found);
+    }
     let guarded = call_of_image!(pe_c_guard_table(few % 6), GuardEntries);
     walk!(pe_c_next_guard_entry(guarded), GuardEntry);
     walk!(pe_c_next_guard_entry(sys::GuardEntries { entries: range, count: number, flag_size: few, spare: 1 }), GuardEntry);

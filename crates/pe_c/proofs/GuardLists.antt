@@ -2,6 +2,7 @@
 use Rattle.std.proofs.Common.{◌≡◌, ◌⊎◌, inl, inr, ℕ, ◌+◌, ◌-◌, ◌≤◌, ◌==◌, Bool, true, false, List, [], ◌∷◌, length, drop, Option, Some, None, Result, Ok, Err, refl, sym, ap, subst, ◌∙◌, arith}
 use Rattle.std.specs.Prelude.{◌||◌, if◌then◌else◌}
 use Rattle.std.specs.Option.{unwrap_or}
+use Rattle.std.proofs.lemmas.Bool.Decides.{nat_tests}
 use Rattle.pe_core.proofs.Ranges.{length_range, range_in_range}
 use Rattle.pe_core.specs.Bytes.{holds, le, range}
 use Rattle.pe_core.specs.Refusals.{Short, outcome, ◌>>=◌}
@@ -30,7 +31,7 @@ use Rattle.pe_c.specs.declared.ranges.Range.{Range}
 -- ---- what stands first, and what it leaves
 
 -- an entry takes its RVA and its flags from the front
-abbrev IsTaken : ℕ → ℕ × List ℕ → Guarded → ℕ × List ℕ → Type 0
+abbrev pub IsTaken : ℕ → ℕ × List ℕ → Guarded → ℕ × List ℕ → Type 0
 IsTaken n s x t = (t.0 ≡ s.0 - 1) × (t.1 ≡ drop (4 + n) s.1) × (4 + n ≤ length s.1) × (x.flags ≡ range s.1 4 n)
 
 first_by : (n : ℕ) (s : ℕ × List ℕ) (none whole : Bool) (x : Guarded) (t : ℕ × List ℕ) → holds s.1 0 (4 + n) ≡ whole →
@@ -45,7 +46,7 @@ first_by n s false true x t h e =
       sym (ap (λ (p : Guarded × (ℕ × List ℕ)). p.0.flags) pair),
     )
 
-first_taken : (n : ℕ) (s : ℕ × List ℕ) (x : Guarded) (t : ℕ × List ℕ) → first_guarded n s ≡ Some (Ok (x, t)) → IsTaken n s x t
+pub first_taken : (n : ℕ) (s : ℕ × List ℕ) (x : Guarded) (t : ℕ × List ℕ) → first_guarded n s ≡ Some (Ok (x, t)) → IsTaken n s x t
 unfolding first_guarded
 first_taken n s x t e = first_by n s (s.0 == 0) (holds s.1 0 (4 + n)) x t refl e
 
@@ -56,10 +57,10 @@ abbrev HoldsEntries : ℕ → List ℕ → GuardEntries → ℕ × List ℕ → 
 HoldsEntries n b w s = (bytes_at b w.entries ≡ Ok s.1) × (w.count ≡ s.0) × (w.flag_size ≡ n)
 
 entries_there : (n : ℕ) (b : List ℕ) (w : GuardEntries) (s : ℕ × List ℕ) → HoldsEntries n b w s → entries_in b w ≡ Ok s
-entries_there n b w s h = rw h.0 (ap (λ (k : ℕ). Ok (k, s.1)) h.1.0)
+entries_there n b w s h = rw h.0 (ap (λ (k : ℕ). Ok (k, s.1)) h.1)
 
 sees : (n : ℕ) (b : List ℕ) (w : GuardEntries) (s : ℕ × List ℕ) → HoldsEntries n b w s → first_entry_in b w ≡ first_guarded n s
-sees n b w s h = ap (first_of (first_guarded w.flag_size)) (entries_there n b w s h) ∙ ap (λ (k : ℕ). first_guarded k s) h.1.1
+sees n b w s h = ap (first_of (first_guarded w.flag_size)) (entries_there n b w s h) ∙ ap (λ (k : ℕ). first_guarded k s) h.2
 
 abbrev next_entries : GuardEntries → Guarded → ℕ × List ℕ → GuardEntries
 next_entries w x t = record w { entries = range_left w.entries (length t.1); count = t.0 }
@@ -76,13 +77,13 @@ entries_go_on : (n : ℕ) (b : List ℕ) (w : GuardEntries) (s : ℕ × List ℕ
     (next_entries w x t ≡ after_entry w x) × HoldsEntries n b (after_entry w x) t
 entries_go_on n b w s x t h e =
     let taken = first_taken n s x t e in
-    let flags : 4 + n ≡ 4 + w.flag_size = ap (λ (k : ℕ). 4 + k) (sym h.1.1) in
-    let rest : t.1 ≡ drop (4 + w.flag_size) s.1 = taken.1.0 ∙ ap (λ (k : ℕ). drop k s.1) flags in
-    let some : 4 + w.flag_size ≤ length s.1 = subst (λ (k : ℕ). k ≤ length s.1) flags taken.1.1.0 in
+    let flags : 4 + n ≡ 4 + w.flag_size = ap (λ (k : ℕ). 4 + k) (sym h.2) in
+    let rest : t.1 ≡ drop (4 + w.flag_size) s.1 = taken.1 ∙ ap (λ (k : ℕ). drop k s.1) flags in
+    let some : 4 + w.flag_size ≤ length s.1 = subst (λ (k : ℕ). k ≤ length s.1) flags taken.2 in
     let on = goes_on b w.entries s.1 t.1 (4 + w.flag_size) h.0 rest some in
-    let count : w.count - 1 ≡ t.0 = ap (λ (k : ℕ). k - 1) h.1.0 ∙ sym taken.0 in (
+    let count : w.count - 1 ≡ t.0 = ap (λ (k : ℕ). k - 1) h.1 ∙ sym taken.0 in (
       ap (λ (r : Range). record w { entries = r; count = t.0 }) on.0 ∙ ap (λ (k : ℕ). record w { entries = range_after w.entries (4 + w.flag_size); count = k }) (sym count),
-      (on.1, count, h.1.1),
+      (on.1, count, h.2),
     )
 
 none_of : (n : ℕ) (s : ℕ × List ℕ) → s.0 ≡ 0 → first_guarded n s ≡ None
@@ -106,8 +107,8 @@ flags_stand : (n : ℕ) (b : List ℕ) (w : GuardEntries) (s : ℕ × List ℕ) 
 flags_stand n b w s x t h taken =
     let in_b = there b w.entries s.1 (holds b w.entries.offset w.entries.length) refl h.0 in
     let size : length s.1 ≡ w.entries.length = size_of b w.entries s.1 h.0 in
-    let whole : 4 + n ≤ w.entries.length = subst (λ (k : ℕ). 4 + n ≤ k) size taken.1.1.0 in
-    let same : x.flags ≡ range b (w.entries.offset + 4) n = taken.1.1.1 ∙ ap (λ (d : List ℕ). range d 4 n) in_b.1 ∙ sym (range_in_range b w.entries.offset w.entries.length 4 n in_b.0 whole) in
+    let whole : 4 + n ≤ w.entries.length = subst (λ (k : ℕ). 4 + n ≤ k) size taken.2 in
+    let same : x.flags ≡ range b (w.entries.offset + 4) n = taken.3 ∙ ap (λ (d : List ℕ). range d 4 n) in_b.1 ∙ sym (range_in_range b w.entries.offset w.entries.length 4 n in_b.0 whole) in
     let inside : w.entries.offset + w.entries.length ≤ length b = in_b.0 in
     let held_there : w.entries.offset + 4 + n ≤ length b = omega (arith, whole, inside) in
     let many : length x.flags ≡ n = ap length same ∙ length_range b (w.entries.offset + 4) n held_there in
@@ -142,7 +143,9 @@ none_by n count (Err r ∷ items) some f e =
 
 no_entry : (n count : ℕ) → (count == 0) ≡ false → first_guarded n (count, []) ≡ Some (Err (Image Short))
 unfolding first_guarded
-no_entry n count some = rw some refl
+no_entry n count some =
+    let short : holds [] 0 (4 + n) ≡ false = grind (arith, nat_tests) in
+    rw (some, short) refl
 
 truncated : (n count : ℕ) (items : List (Result Guarded DirectoryRefusal)) → (count == 0) ≡ false → Items (first_guarded n) (count, []) items → items ≡ Err (Image Short) ∷ []
 truncated n count items some f = none_by n count items some f (no_entry n count some)

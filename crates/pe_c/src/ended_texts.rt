@@ -3,11 +3,11 @@
 //! https://learn.microsoft.com/windows/win32/api/guiddef/ns-guiddef-guid
 
 ghost use Rattle.std.specs.Char.Utf16.{is_high_surrogate, is_low_surrogate, lone_unit_char, surrogate_pair_char, utf16_lossy_chars};
-ghost use Rattle.std.specs.Option.{option_map, unwrap_or};
-ghost use Rattle.std.specs.Prelude.{◌≡◌, ◌+◌, ◌<◌, ◌≤◌, ◌/◌, ◌%◌, ◌==◌, ◌∷◌, ◌++◌, true, drop, length, nat_lt, position, slice_get};
+ghost use Rattle.std.specs.Option.{unwrap_or};
+ghost use Rattle.std.specs.Prelude.{◌≡◌, ◌+◌, ◌*◌, ◌<◌, ◌≤◌, ◌/◌, ◌%◌, ◌==◌, ◌∷◌, ◌++◌, true, drop, length, nat_lt, position, slice_get};
 ghost use Rattle.pe_core.specs.Bytes.{splice};
 ghost use Rattle.pe_resource.specs.VersionStrings.{units};
-ghost use Rattle.pe_c.specs.EndedTexts.{PutsIf, PutsText, ended, guid_text, second_of, hex_digit, hex_digits, hyphenated, one_if_zero, text_before, text_in, unhyphenated, utf16_text, utf16_text_at};
+ghost use Rattle.pe_c.specs.EndedTexts.{PutsIf, PutsText, cut_text, ended, guid_text, second_of, hex_digit, hex_digits, hyphenated, one_if_zero, text_before, text_in, unhyphenated, utf16_text, utf16_text_at};
 ghost use Rattle.pe_c.specs.HandsOut.{HandsOut};
 ghost use Rattle.pe_core.specs.Refusals.{answer_of, ReturnsAs};
 
@@ -32,6 +32,28 @@ const SIZE_OF_GUID: usize = 16;
 
 /// Writes a text and a zero to the start of a room.
 #[tactic(auto, using(crate::proofs::Utf16Texts::text_and_zero))]
+fn put_with_zero(text: &[u8], room: &mut [u8])
+    requires { length text.now < length room.old }
+    ensures { room.new ≡ splice room.old 0 (ended text.now) }
+{
+    set_slice(room, 0, text);
+    set_slice(room, text.len(), &[0]);
+}
+
+/// Writes as much of a text as a room has bytes for before a zero.
+#[tactic(auto, using(crate::proofs::Utf16Texts::cut_is))]
+pub fn put_cut(text: &[u8], room: &mut [u8])
+    ensures { room.new ≡ cut_text room.old text.now }
+{
+    if room.is_empty() {
+        return;
+    }
+    let count = text.len().min(room.len() - 1);
+    put_with_zero(text.split_at(count).0, room);
+}
+
+/// Writes a text and a zero, if the room has more bytes than the text.
+#[tactic(auto, using(crate::proofs::Utf16Texts::has_room))]
 fn put_ended(text: &[u8], room: &mut [u8], written: &mut u64) -> u32
     ensures { PutsIf (nat_lt (length text.now) (length room.old))
         result room.old room.new written.new text.now }
@@ -41,8 +63,7 @@ fn put_ended(text: &[u8], room: &mut [u8], written: &mut u64) -> u32
         *written = length as u64 + 1;
         return ROOM;
     }
-    set_slice(room, 0, text);
-    set_slice(room, length, &[0]);
+    put_with_zero(text, room);
     *written = length as u64;
     DONE
 }
@@ -197,20 +218,38 @@ fn first_character(text: &[u8]) -> (char, usize)
 /// How many bytes a text in UTF-16 has in UTF-8.
 #[tactic(auto, using(crate::proofs::Utf16Texts::more_length, crate::proofs::Utf16Texts::no_text))]
 fn length_in_utf8(text: &[u8]) -> usize
-    ensures { result ≡ length (utf16_text text.now) }
+    ensures length { result ≡ length (utf16_text text.now) }
+    ensures small { result ≤ 2 * length text.now }
 {
     let mut length = 0;
     let mut rest = text;
     while 2 <= rest.len() {
         let (character, size) = first_character(rest);
         length += character.len_utf8();
-        rest = &rest[size..];
+        rest = rest.split_at(size).1;
     }
     length
 }
 
+/// Writes the first character of a text, and returns how many bytes its code units have, and how many it has in UTF-8.
+fn put_first(text: &[u8], room: &mut [u8], at: usize) -> (usize, usize)
+    requires some { 2 ≤ length text.now }
+    requires fits { at + length (utf16_text text.now) < length room.old }
+    ensures some { 2 ≤ result.0 }
+    ensures most { result.0 ≤ length text.now }
+    ensures left { splice room.new (at + result.1) (ended (utf16_text (drop result.0 text.now)))
+        ≡ splice room.old at (ended (utf16_text text.now)) }
+    ensures fits { at + result.1 + length (utf16_text (drop result.0 text.now)) < length room.new }
+{
+    let (character, size) = first_character(text);
+    let mut bytes = [0; 4];
+    let written = character.encode_utf8(&mut bytes).as_bytes();
+    set_slice(room, at, written);
+    (size, written.len())
+}
+
 /// Writes a text in UTF-16 as UTF-8 to the start of a room, and a zero.
-#[tactic(auto, using(crate::proofs::Utf16Texts::more_text, crate::proofs::Utf16Texts::more_length, crate::proofs::Utf16Texts::no_text, crate::proofs::Utf16Texts::one_more))]
+#[tactic(auto, using(crate::proofs::Utf16Texts::no_text))]
 fn put_utf8(text: &[u8], room: &mut [u8])
     requires { length (utf16_text text.now) < length room.old }
     ensures { room.new ≡ splice room.old 0 (ended (utf16_text text.now)) }
@@ -218,17 +257,15 @@ fn put_utf8(text: &[u8], room: &mut [u8])
     let mut at = 0;
     let mut rest = text;
     while 2 <= rest.len() {
-        let (character, size) = first_character(rest);
-        let mut bytes = [0; 4];
-        let written = character.encode_utf8(&mut bytes).as_bytes();
-        set_slice(room, at, written);
-        at += written.len();
-        rest = &rest[size..];
+        let (size, count) = put_first(rest, room, at);
+        at += count;
+        rest = rest.split_at(size).1;
     }
     set_slice(room, at, &[0]);
 }
 
 /// The same, if the room has more bytes than the text.
+#[tactic(auto, using(crate::proofs::Utf16Texts::has_room))]
 fn put_text(text: &[u8], room: &mut [u8], written: &mut u64) -> u32
     ensures { PutsIf (nat_lt (length (utf16_text text.now)) (length room.old))
         result room.old room.new written.new (utf16_text text.now) }
@@ -266,12 +303,12 @@ pub extern "C" fn pe_c_utf16_text(
 }
 
 /// 1 where a byte is there and is zero, else 0.
-fn one_if_zero(byte: Option<&u8>) -> u32
-    ensures { result ≡ one_if_zero (option_map (λ c. c.now) byte) }
+fn one_if_zero(bytes: &[u8], at: usize) -> u32
+    ensures { result ≡ one_if_zero (slice_get bytes.now at) }
 {
-    match byte {
-        Some(0) => 1,
-        _ => 0,
+    match bytes.get(at) {
+        Some(byte) => u32::from(*byte == 0),
+        None => 0,
     }
 }
 
@@ -297,7 +334,7 @@ fn text_in(bytes: &[u8], range: &Range) -> Result<TextInBytes>
         },
         None => TextInBytes {
             text: *range,
-            is_terminated: one_if_zero(bytes.get(range.offset as usize + text.len())),
+            is_terminated: one_if_zero(bytes, range.offset as usize + text.len()),
             spare: 0,
         },
     })

@@ -160,6 +160,7 @@ fn entry_reported(walk: &GuardEntries, entry: &Entry<'_>) -> GuardEntry
 }
 
 /// The next entry of a walk. It is over after an error.
+#[tactic(auto, using(crate::proofs::GuardLists::first_taken))]
 pub fn next_entry(bytes: &[u8], walk: &mut GuardEntries) -> Result<Option<GuardEntry>>
     ensures entry { directory_answer (λ x. x) result
         ≡ step_of (entry_reported walk.old) (first_entry_in bytes.now walk.old) }

@@ -5,8 +5,8 @@ ghost use Rattle.pe_c.specs.EndedTexts.{cut_text};
 ghost use Rattle.pe_c.specs.declared.results.TheConstants.{NOTHING};
 ghost use Rattle.pe_c.specs.Texts.{refusal_text, other_text, result_text, sign_text, directory_text, tree_text, edit_text, signature_text, dump_text};
 
+use crate::ended_texts::put_cut;
 use crate::results::{BAD_ADDRESS, BAD_OPERATION, LONG_CHAIN, MISSING, NOT_RISING, NOTHING, ROOM};
-use pe_core::set_slice;
 
 /// The number of the first error of signing.
 const SIGNING: u32 = 201;
@@ -242,17 +242,12 @@ fn text_of(number: u32) -> &'static str
 
 /// Writes the text of a result to the start of `room`, in UTF-8, with a zero after it; where the room is too small as much of it
 /// as there is room for before the zero. Returns the length of the whole text in bytes.
-#[tactic(auto, using(crate::proofs::Utf16Texts::text_and_zero))]
 #[unsafe(no_mangle)]
 pub extern "C" fn pe_c_text(number: u32, room: &mut [u8]) -> usize
     ensures whole { result ≡ length (result_text number) }
     ensures put { room.new ≡ cut_text room.old (result_text number) }
 {
     let text = text_of(number).as_bytes();
-    if !room.is_empty() {
-        let count = text.len().min(room.len() - 1);
-        set_slice(room, 0, &text[..count]);
-        set_slice(room, count, &[0]);
-    }
+    put_cut(text, room);
     text.len()
 }
