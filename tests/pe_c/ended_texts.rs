@@ -23,17 +23,30 @@ fn guids_with_hyphens_and_without(rt: HostRuntime) -> Result<(), Fail> {
         bytes[..16].copy_from_slice(&GUID);
         assert_eq!(rt; pe_c_guid_text(&bytes, form, &mut room, &mut written), DONE);
         assert_eq!(rt; &room[..length], want.as_bytes());
-        assert_eq!(rt; (written, room[length], room[length + 1]), (length as u64, 0, 0x55));
+        assert_eq!(rt;
+            (written, room[length], room[length + 1]),
+            (length as u64, 0, 0x55)
+        );
         // the zero needs room too
         let mut room = [0x55; 40];
-        assert_eq!(rt; pe_c_guid_text(&GUID, form, &mut room[..length], &mut written), ROOM);
+        assert_eq!(rt;
+            pe_c_guid_text(&GUID, form, &mut room[..length], &mut written),
+            ROOM
+        );
         assert_eq!(rt; (written, room), (length as u64 + 1, [0x55; 40]));
-        assert_eq!(rt; pe_c_guid_text(&GUID, form, &mut room[..length + 1], &mut written), DONE);
+        assert_eq!(rt;
+            pe_c_guid_text(&GUID, form, &mut room[..length + 1], &mut written),
+            DONE
+        );
         assert_eq!(rt; pe_c_guid_text(&GUID, form, &mut [], &mut written), ROOM);
     }
     let mut room = [0x55; 40];
     let mut written = 9;
-    assert_eq!(rt; pe_c_guid_text(&GUID[..15], 0, &mut room, &mut written), SHORT);
+    // shows: pe_c/src/ended_texts.rt pe_c_guid_text Short
+    assert_eq!(rt;
+        pe_c_guid_text(&GUID[..15], 0, &mut room, &mut written),
+        SHORT
+    );
     assert_eq!(rt; (written, room), (9, [0x55; 40]));
     Ok(())
 }
@@ -45,7 +58,7 @@ fn all_digits_of_guids(rt: HostRuntime) -> Result<(), Fail> {
     let mut written = 0;
     let guid = *b"\x67\x45\x23\x01\xAB\x89\xEF\xCD\x01\x23\x45\x67\x89\xAB\xCD\xEF";
     assert_eq!(rt; pe_c_guid_text(&guid, 1, &mut room, &mut written), DONE);
-    assert_eq!(rt; &room[..32], b"0123456789ABCDEF0123456789ABCDEF");
+    assert_eq!(rt; &room[..32], b"0123456789ABCDEF0123456789ABCDEF".as_slice());
     Ok(())
 }
 
@@ -78,19 +91,33 @@ fn texts_in_utf8(rt: HostRuntime) -> Result<(), Fail> {
 fn surrogates_without_a_partner(rt: HostRuntime) -> Result<(), Fail> {
     let other = b"\xEF\xBF\xBD";
     let mut room = [0; 20];
-    for bytes in [b"\x3D\xD8".as_slice(), b"\x00\xDE", b"\xFF\xDB", b"\x00\xDC\x41"] {
+    for bytes in [
+        b"\x3D\xD8".as_slice(),
+        b"\x00\xDE",
+        b"\xFF\xDB",
+        b"\x00\xDC\x41",
+    ] {
         assert_eq!(rt; utf8_of(bytes, &mut room), (DONE, 3));
-        assert_eq!(rt; &room[..4], b"\xEF\xBF\xBD\0");
+        assert_eq!(rt; &room[..4], b"\xEF\xBF\xBD\0".as_slice());
     }
     assert_eq!(rt; utf8_of(b"\x3D\xD8A\0", &mut room), (DONE, 4));
     assert_eq!(rt; (&room[..3], room[3]), (&other[..], b'A'));
     assert_eq!(rt; utf8_of(b"\x3D\xD8\x3D\xD8\x00\xDE", &mut room), (DONE, 7));
-    assert_eq!(rt; (&room[..3], &room[3..7]), (&other[..], &b"\xF0\x9F\x98\x80"[..]));
+    assert_eq!(rt;
+        (&room[..3], &room[3..7]),
+        (&other[..], &b"\xF0\x9F\x98\x80"[..])
+    );
     // the last and the first of each kind
     assert_eq!(rt; utf8_of(b"\xFF\xD7\x00\xE0\xFF\xFF", &mut room), (DONE, 9));
-    assert_eq!(rt; &room[..9], b"\xED\x9F\xBF\xEE\x80\x80\xEF\xBF\xBF");
-    assert_eq!(rt; utf8_of(b"\xFF\xDB\xFF\xDF\x00\xD8\x00\xDC", &mut room), (DONE, 8));
-    assert_eq!(rt; &room[..8], b"\xF4\x8F\xBF\xBF\xF0\x90\x80\x80");
+    assert_eq!(rt;
+        &room[..9],
+        b"\xED\x9F\xBF\xEE\x80\x80\xEF\xBF\xBF".as_slice()
+    );
+    assert_eq!(rt;
+        utf8_of(b"\xFF\xDB\xFF\xDF\x00\xD8\x00\xDC", &mut room),
+        (DONE, 8)
+    );
+    assert_eq!(rt; &room[..8], b"\xF4\x8F\xBF\xBF\xF0\x90\x80\x80".as_slice());
     Ok(())
 }
 
@@ -104,7 +131,10 @@ fn short_texts_and_ranges_that_lie(rt: HostRuntime) -> Result<(), Fail> {
     assert_eq!(rt; room, [b'A', 0, 0x55, 0x55]);
     for lie in lies(8) {
         let mut written = 9;
-        assert_eq!(rt; pe_c_utf16_text(&[0x41; 8], &lie, &mut room, &mut written), SHORT);
+        assert_eq!(rt;
+            pe_c_utf16_text(&[0x41; 8], &lie, &mut room, &mut written),
+            SHORT
+        );
         assert_eq!(rt; (written, room), (9, [b'A', 0, 0x55, 0x55]));
     }
     // a range in the middle

@@ -7,20 +7,27 @@ use super::made::{
 use crate::guard_tables::{GuardEntries, GuardEntry, pe_c_guard_table, pe_c_next_guard_entry};
 use crate::image::Image;
 use crate::lists::guard_tables::pe_c_list_guard_entries;
+use crate::ranges::Range;
 use crate::results::{DONE, NOTHING, ROOM};
 use std::alloc::{AllocError, Global};
 use std::test::Fail;
 
 /// What `out` is before each call.
 const NO_WALK: GuardEntries = GuardEntries {
-    entries: range(1, 2),
+    entries: Range {
+        offset: 1,
+        length: 2,
+    },
     count: 3,
     flag_size: 4,
     spare: 5,
 };
 
 const NO_ENTRY: GuardEntry = GuardEntry {
-    flag_bytes: range(1, 2),
+    flag_bytes: Range {
+        offset: 1,
+        length: 2,
+    },
     rva: 3,
     flags: 4,
 };
@@ -223,7 +230,10 @@ fn walks_over_entries_that_lie(rt: HostRuntime) -> Result<(), Fail> {
         };
         let mut out = NO_ENTRY;
         assert_eq!(rt; pe_c_next_guard_entry(&bytes, &mut walk, &mut out), SHORT);
-        assert_eq!(rt; (of_entry(&out), fields(&walk)), (of_entry(&NO_ENTRY), ([0, 0], 0, 0, 0)));
+        assert_eq!(rt;
+            (of_entry(&out), fields(&walk)),
+            (of_entry(&NO_ENTRY), ([0, 0], 0, 0, 0))
+        );
     }
     for (count, flag_size) in [(u64::MAX, u32::MAX), (1, 17), (u64::MAX, 17)] {
         let mut walk = GuardEntries {
@@ -253,21 +263,36 @@ fn entries_in_lists(rt: HostRuntime) -> Result<(), Fail> {
     };
     let mut entries = [NO_ENTRY; 3];
     let mut written = 9;
-    assert_eq!(rt; pe_c_list_guard_entries(&view, &mut walk, &mut [], &mut written), ROOM);
+    assert_eq!(rt;
+        pe_c_list_guard_entries(&view, &mut walk, &mut [], &mut written),
+        ROOM
+    );
     assert_eq!(rt; written, 9);
-    assert_eq!(rt; pe_c_list_guard_entries(&view, &mut walk, &mut entries, &mut written), DONE);
+    assert_eq!(rt;
+        pe_c_list_guard_entries(&view, &mut walk, &mut entries, &mut written),
+        DONE
+    );
     assert_eq!(rt;
         (written, entries[0].rva, entries[1].rva, entries[2].rva),
         (3, 0x0403_0201, 0x0807_0605, 0x0C0B_0A09)
     );
-    assert_eq!(rt; pe_c_list_guard_entries(&view, &mut walk, &mut entries, &mut written), DONE);
+    assert_eq!(rt;
+        pe_c_list_guard_entries(&view, &mut walk, &mut entries, &mut written),
+        DONE
+    );
     assert_eq!(rt;
         (written, entries[0].rva, entries[1].rva, entries[2].rva),
         (2, 0x100F_0E0D, 0x1413_1211, 0x0C0B_0A09)
     );
-    assert_eq!(rt; pe_c_list_guard_entries(&view, &mut walk, &mut entries, &mut written), SHORT);
+    assert_eq!(rt;
+        pe_c_list_guard_entries(&view, &mut walk, &mut entries, &mut written),
+        SHORT
+    );
     assert_eq!(rt; (written, fields(&walk)), (2, ([0, 0], 0, 0, 0)));
-    assert_eq!(rt; pe_c_list_guard_entries(&view, &mut walk, &mut entries, &mut written), DONE);
+    assert_eq!(rt;
+        pe_c_list_guard_entries(&view, &mut walk, &mut entries, &mut written),
+        DONE
+    );
     assert_eq!(rt; written, 0);
     Ok(())
 }

@@ -18,10 +18,10 @@ use Rattle.pe_c.proofs.DirectoryRuns.{IsWalk, each_has, goes_on, in_turn, makes_
 use Rattle.pe_c.proofs.LeftBytes.{size_of, there}
 use Rattle.pe_c.proofs.NumberLists.{tail_from, tail_there}
 use Rattle.pe_c.specs.Directories.{first_of, image_parts, range_left}
-use Rattle.pe_c.specs.GuardTables.{HasGuarded, ReturnsEntries, StepsGuardEntries, after_entry, entries_after, entries_in, entries_of, entries_reported, entry_reported, first_entry_in, guard_table_at, no_entries, place_of}
+use Rattle.pe_c.specs.GuardTables.{HasGuarded, ReturnsEntries, StepsGuardEntries, after_entry, entries_after, entries_in, entries_of, entry_reported, first_entry_in, guard_table_at, no_entries, place_of}
 use Rattle.pe_c.specs.Images.{directory, is_absent}
 use Rattle.pe_c.specs.Ranges.{IsRange, bytes_at, range_after}
-use Rattle.pe_c.specs.Runs.{EachHas, ReturnsItems}
+use Rattle.pe_c.specs.Runs.{ReturnsItems}
 use Rattle.pe_c.specs.declared.guard_tables.GuardEntries.{GuardEntries}
 use Rattle.pe_c.specs.declared.guard_tables.GuardEntry.{GuardEntry}
 use Rattle.pe_c.specs.declared.guard_tables.Place.{Place}

@@ -11,7 +11,7 @@ use Rattle.std.specs.Str.{encode_utf8_all}
 use Rattle.pe_core.proofs.NumberBytes.{le-same}
 use Rattle.pe_core.proofs.Splices.{length-splice, splice-splice}
 use Rattle.pe_core.specs.Bytes.{le, splice}
-use Rattle.pe_resource.proofs.Units.{unit_at, units_count}
+use Rattle.pe_resource.proofs.Units.{unit_at}
 use Rattle.pe_resource.specs.VersionStrings.{units}
 use Rattle.pe_c.specs.EndedTexts.{cut_text, ended, second_of, utf16_text}
 

@@ -1,7 +1,6 @@
 -- Texts that calls write for a caller, each with a final zero, as C has them.
 use Rattle.std.specs.Prelude.{◌≡◌, ℕ, ◌+◌, ◌-◌, ◌/◌, ◌%◌, ◌==◌, ◌&&◌, Bool, true, false, List, [], ◌∷◌, ◌++◌, length, take, nat_le, nat_lt, position, slice_get, slice_index, Option, Some, None, Result, Ok, Err, if◌then◌else◌}
 use Rattle.std.specs.Char.Utf16.{is_high_surrogate, is_low_surrogate, utf16_lossy_chars}
-use Rattle.std.specs.Option.{unwrap_or}
 use Rattle.std.specs.Str.{encode_utf8_all}
 use Rattle.pe_core.specs.Bytes.{le, splice}
 use Rattle.pe_core.specs.Refusals.{Refusal, Short, ◌>>=◌}

@@ -18,7 +18,6 @@ use Rattle.pe_c.specs.declared.guard_tables.GuardEntries.{GuardEntries}
 use Rattle.pe_c.specs.declared.guard_tables.GuardEntry.{GuardEntry}
 use Rattle.pe_c.specs.declared.guard_tables.Place.{Place}
 use Rattle.pe_c.specs.declared.image.Image as images
-use Rattle.pe_c.specs.declared.ranges.Range.{Range}
 
 -- ---- where a table is
 

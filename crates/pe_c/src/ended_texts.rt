@@ -4,12 +4,12 @@
 
 ghost use Rattle.std.specs.Char.Utf16.{is_high_surrogate, is_low_surrogate, lone_unit_char, surrogate_pair_char, utf16_lossy_chars};
 ghost use Rattle.std.specs.Option.{unwrap_or};
-ghost use Rattle.std.specs.Prelude.{◌≡◌, ◌+◌, ◌*◌, ◌<◌, ◌≤◌, ◌/◌, ◌%◌, ◌==◌, ◌∷◌, ◌++◌, true, drop, length, nat_lt, position, slice_get};
+ghost use Rattle.std.specs.Prelude.{◌≡◌, ◌+◌, ◌*◌, ◌<◌, ◌≤◌, ◌/◌, ◌%◌, ◌==◌, ◌∷◌, true, drop, length, nat_lt, position, slice_get};
 ghost use Rattle.pe_core.specs.Bytes.{splice};
 ghost use Rattle.pe_resource.specs.VersionStrings.{units};
-ghost use Rattle.pe_c.specs.EndedTexts.{PutsIf, PutsText, cut_text, ended, guid_text, second_of, hex_digit, hex_digits, hyphenated, one_if_zero, text_before, text_in, unhyphenated, utf16_text, utf16_text_at};
+ghost use Rattle.pe_c.specs.EndedTexts.{PutsIf, PutsText, cut_text, ended, guid_text, second_of, hex_digit, hex_digits, hyphenated, one_if_zero, text_in, unhyphenated, utf16_text, utf16_text_at};
 ghost use Rattle.pe_c.specs.HandsOut.{HandsOut};
-ghost use Rattle.pe_core.specs.Refusals.{answer_of, ReturnsAs};
+ghost use Rattle.pe_core.specs.Refusals.{answer_of};
 
 use crate::ranges::{Range, slice_of};
 use crate::results::{DONE, ROOM, hand_out, number_of};

@@ -1,9 +1,7 @@
-use Rattle.std.proofs.Common.{◌≡◌, ◌+◌, ◌<◌, ◌≤◌, List, ℕ, length, drop, refl, sym, subst, ◌∙◌}
+use Rattle.std.proofs.Common.{◌+◌, ◌≤◌, List, ℕ, length, refl, sym, subst, ◌∙◌}
 use Rattle.std.specs.Char.{encode_utf8}
-use Rattle.pe_core.specs.Bytes.{splice}
 use Rattle.pe_c.proofs.Utf16Texts.{next_character}
 use Rattle.pe_c.proofs.ended_texts.put_first.Goals as goal
-use Rattle.pe_c.specs.EndedTexts.{ended, utf16_text}
 
 pub set_slice-requires : goal.set_slice-requires
 set_slice-requires c =
