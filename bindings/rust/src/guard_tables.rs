@@ -36,7 +36,7 @@ pub struct GuardEntry<'a> {
 ///
 /// ```
 /// # #[path = "../tests/made/mod.rs"] mod made;
-/// # let bytes = made::with_guard_table();
+/// # let bytes = made::with_guards();
 /// use pe_c::{GuardTable, Image, Mode};
 ///
 /// let image = Image::parse(&bytes, Mode::Permissive)?;
@@ -45,7 +45,7 @@ pub struct GuardEntry<'a> {
 /// for entry in functions {
 ///     rvas.push(entry?.rva);
 /// }
-/// assert_eq!(rvas, [0x1010, 0x1020]);
+/// assert_eq!(rvas, [0x2010, 0x2030]);
 /// # Ok::<(), pe_c::Error>(())
 /// ```
 #[derive(Clone, Debug)]

@@ -138,19 +138,22 @@ fn table(image: &Image<'_>, table: GuardTable) -> Option<Vec<(u32, Vec<u8>)>> {
 
 #[test]
 fn guard_tables_are_read() {
-    let bytes = with_guard_table();
+    let bytes = with_guards();
     let image = strict(&bytes);
-    let functions = Some(vec![(0x1010, vec![0]), (0x1020, vec![2])]);
+    let functions = Some(vec![(0x2010, vec![1]), (0x2030, vec![8])]);
     assert_eq!(table(&image, GuardTable::CfFunctions), functions);
-    assert_eq!(table(&image, GuardTable::EhContinuations), Some(vec![(0x1030, vec![1])]));
-    for absent in [GuardTable::SeHandlers, GuardTable::AddressTakenIatEntries, GuardTable::LongJumpTargets] {
-        assert_eq!(table(&image, absent), None);
-    }
+    assert_eq!(table(&image, GuardTable::AddressTakenIatEntries), Some(vec![(0x2040, vec![0])]));
+    let refused = |it| image.guard_table(it).unwrap_err();
+    assert_eq!(refused(GuardTable::LongJumpTargets), Error::DIRECTORY_VA_BELOW_BASE);
+    assert_eq!(refused(GuardTable::EhContinuations), Error::UNMAPPED);
+    let mut handlers = image.guard_table(GuardTable::SeHandlers).unwrap().unwrap();
+    assert_eq!((handlers.flag_size(), handlers.next().unwrap().unwrap().rva), (0, 0x2050));
     assert_eq!(image.guard_table(GuardTable::CfFunctions).unwrap().unwrap().flag_size(), 1);
     let memory = as_loaded(&image);
     let module = Image::parse_as(&memory, Mode::Strict, Layout::Mapped).unwrap();
     assert_eq!(table(&module, GuardTable::CfFunctions), functions);
     assert_eq!(table(&strict(&with_debug()), GuardTable::CfFunctions), None);
+    assert_eq!(table(&strict(&with_load_config()), GuardTable::SeHandlers), None);
 }
 
 /// More entries than a list call returns, then an error, after which the walk is over.
@@ -158,11 +161,10 @@ fn guard_tables_are_read() {
 fn truncated_guard_tables_end_with_an_error() {
     let mut bytes = with_load_config();
     let offset = OFFSET as usize;
-    // 3 of 5 bytes each at RVA 0x4000 are not mapped; at the start of the section the file has some hundred bytes
+    // the table is at RVA 0x4000, which no section has
     assert_eq!(strict(&bytes).guard_table(GuardTable::CfFunctions).unwrap_err(), Error::UNMAPPED);
-    let start = bytes[offset + 112..offset + 116].to_vec();
-    assert_eq!(start, 0x8000_3000u32.to_le_bytes());
-    let rva = image_rva(&bytes);
+    // at the RVA of the load configuration there are some hundred bytes up to the end of the file
+    let rva = strict(&bytes).info().directory(DirectoryIndex::LoadConfig).unwrap().virtual_address;
     bytes[offset + 128..offset + 136].copy_from_slice(&(0x1_8000_0000 + u64::from(rva)).to_le_bytes());
     bytes[offset + 136..offset + 144].copy_from_slice(&u64::MAX.to_le_bytes());
     let image = strict(&bytes);
@@ -174,9 +176,4 @@ fn truncated_guard_tables_end_with_an_error() {
     assert_eq!(entries[whole], Err(Error::SHORT));
     bytes[offset + 128..offset + 136].copy_from_slice(&1u64.to_le_bytes());
     assert_eq!(strict(&bytes).guard_table(GuardTable::CfFunctions).unwrap_err(), Error::DIRECTORY_VA_BELOW_BASE);
-}
-
-/// The RVA of the load configuration.
-fn image_rva(bytes: &[u8]) -> u32 {
-    strict(bytes).info().directory(DirectoryIndex::LoadConfig).unwrap().virtual_address
 }
