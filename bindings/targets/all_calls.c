@@ -571,13 +571,13 @@ static void texts_of_bytes(const struct file *file)
 
 static void guard_tables(const struct file *file)
 {
-    pe_c_guard_entries entries = PE_C_EMPTY;
+    pe_c_guard_entries start = PE_C_EMPTY;
     pe_c_guard_entry entry = PE_C_EMPTY;
     for (uint32_t table = 0; table <= PE_C_GUARD_EH_CONTINUATIONS + 1; table++)
-        if (IS_DONE(pe_c_guard_table, entries, VIEW, table, &entries)) {
-            pe_c_guard_entries walk = entries;
+        if (IS_DONE(pe_c_guard_table, start, VIEW, table, &start)) {
+            pe_c_guard_entries walk = start;
             WALK(ITEMS, pe_c_next_guard_entry, entry, BYTES, &walk, &entry) {}
-            LIST(pe_c_list_guard_entries, pe_c_guard_entry, VIEW, &entries);
+            LIST(pe_c_list_guard_entries, pe_c_guard_entry, VIEW, &start);
         }
 }
 

@@ -135,8 +135,9 @@ fn check_text(rt: &impl Abort, answer: u32, want: &str) {
     let length = pe_c_text(answer, &mut room);
     assert!(rt; want.len() <= length && length < 128, "of {answer}");
     assert_eq!(rt; &room[..want.len()], want.as_bytes(), "of {answer}");
+    assert_eq!(rt; room[length], 0, "after {answer}");
     assert!(rt;
-        room[length..].iter().all(|byte| *byte == b'.'),
+        room[length + 1..].iter().all(|byte| *byte == b'.'),
         "after {answer}"
     );
 }
