@@ -437,7 +437,10 @@ fn read_by_lies(bytes: &[u8], random: &mut Random, seen: &mut Seen) {
     }
     let guarded = call_of_image!(pe_c_guard_table(few % 6), GuardEntries);
     walk!(pe_c_next_guard_entry(guarded), GuardEntry);
-    walk!(pe_c_next_guard_entry(sys::GuardEntries { entries: range, count: number, flag_size: few, spare: 1 }), GuardEntry);
+    walk!(
+        pe_c_next_guard_entry(sys::GuardEntries { entries: range, count: number, flag_size: few, spare: 1 }),
+        GuardEntry
+    );
     let clr = call_of_image!(pe_c_clr_header(), ClrHeader);
     let metadata = call_of_image!(pe_c_clr_metadata(&sys::ClrHeader { metadata: directory, ..clr }), Metadata);
     walk!(pe_c_next_metadata_stream(metadata.streams), MetadataStream);
