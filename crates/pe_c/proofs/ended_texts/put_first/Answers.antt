@@ -1,5 +1,4 @@
 use Rattle.std.proofs.Common.{◌+◌, ◌≤◌, List, ℕ, length, refl, sym, subst, ◌∙◌}
-use Rattle.std.specs.Char.{encode_utf8}
 use Rattle.pe_c.proofs.Utf16Texts.{next_character}
 use Rattle.pe_c.proofs.ended_texts.put_first.Goals as goal
 
