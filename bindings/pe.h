@@ -203,11 +203,12 @@ enum {
 /* Modes. PE_C_MAPPED is added to one of the others, or stands for PE_C_STRICT | PE_C_MAPPED. */
 enum { PE_C_STRICT = 0, PE_C_PERMISSIVE = 1, PE_C_MAPPED = 2 };
 
-/* Writes the text of a result to the start of the array, in UTF-8, truncated at the array's end and not NUL-terminated.
- * Returns the length of the whole text in bytes, which is below 128.
+/* Writes the text of a result to the start of the array, in UTF-8, with a zero after it; where the array is too small as much of
+ * it as has room before the zero. Returns the length of the whole text in bytes, which is below 128.
  *
  *     uint8_t text[128];
- *     printf("%.*s\n", (int)pe_c_text(result, text, sizeof text), (const char *)text); */
+ *     pe_c_text(result, text, sizeof text);
+ *     printf("%s\n", (const char *)text); */
 size_t pe_c_text(uint32_t number, uint8_t *room, size_t length);
 
 /* ---- the image
@@ -2381,6 +2382,49 @@ PE_C_SIZE(pe_c_load_config_directory, 88);
  * Errors: PE_C_UNMAPPED; PE_C_SHORT of the 4 bytes of its size. */
 uint32_t pe_c_load_config(const pe_c_view *view, pe_c_load_config_directory *out) PE_C_RESULT(1, 2);
 
+/* ---- tables of a load configuration
+ *
+ * Of code to which control may go: exception handlers of x86, functions that may be called indirectly, entries of the import
+ * address table whose address is taken, targets of longjmp, and where execution goes on after exceptions. An entry is an RVA of 4
+ * bytes, and flags. Microsoft's linker sorts entries by RVA; that is not tested.
+ * https://learn.microsoft.com/windows/win32/secbp/pe-metadata */
+
+/* The tables, by their numbers. */
+enum {
+    PE_C_GUARD_SE_HANDLERS = 0,             /* SEHandlerTable */
+    PE_C_GUARD_CF_FUNCTIONS = 1,            /* GuardCFFunctionTable */
+    PE_C_GUARD_ADDRESS_TAKEN_IAT_ENTRIES = 2,   /* GuardAddressTakenIatEntryTable */
+    PE_C_GUARD_LONG_JUMP_TARGETS = 3,       /* GuardLongJumpTargetTable */
+    PE_C_GUARD_EH_CONTINUATIONS = 4         /* GuardEHContinuationTable */
+};
+
+/* A walk over the entries of a table. */
+typedef struct {
+    pe_c_range entries;             /* from the next entry to the end of the bytes */
+    uint64_t count;                 /* how many entries are left */
+    uint32_t flag_size;             /* bytes of flags that an entry has after its RVA; of handlers 0 */
+    uint32_t spare;                 /* 0 */
+} pe_c_guard_entries;
+
+PE_C_SIZE(pe_c_guard_entries, 32);
+
+typedef struct {
+    pe_c_range flag_bytes;          /* the flags that follow the RVA */
+    uint32_t rva;
+    uint32_t flags;                 /* their first byte, IMAGE_GUARD_FLAG_ flags; 0 where there is none */
+} pe_c_guard_entry;
+
+PE_C_SIZE(pe_c_guard_entry, 24);
+
+/* Returns a walk over the table with a number, PE_C_GUARD_. PE_C_NOTHING where the image has no load configuration or this has no
+ * such table, and for other numbers.
+ * Errors: those of pe_c_load_config; PE_C_DIRECTORY_VA_BELOW_BASE, PE_C_UNMAPPED. */
+uint32_t pe_c_guard_table(const pe_c_view *view, uint32_t table, pe_c_guard_entries *out) PE_C_RESULT(1, 3);
+
+/* Returns the next entry of a table. Error: PE_C_SHORT where the bytes end before the table does. */
+uint32_t pe_c_next_guard_entry(const uint8_t *bytes, size_t length, pe_c_guard_entries *walk, pe_c_guard_entry *out)
+    PE_C_RESULT(3, 4);
+
 /* ---- base relocations
  *
  * What to change in an image that is not at its preferred base, in blocks of one page each.
@@ -2489,6 +2533,43 @@ uint32_t pe_c_clr_metadata(const pe_c_view *view, const pe_c_cor20_header *heade
 uint32_t pe_c_next_metadata_stream(const uint8_t *bytes, size_t length, pe_c_metadata_streams *walk,
                                    pe_c_metadata_stream *out) PE_C_RESULT(3, 4);
 
+/* ---- texts
+ *
+ * Names and texts are ranges of the bytes, in UTF-8 or in UTF-16, little-endian. They may hold anything, control characters too.
+ * A call that writes a text ends it with a zero, and `written` gets its length without the zero. Where the array has no more bytes
+ * than the text the call returns PE_C_ROOM: then the array is unchanged, and `written` is how many bytes it has to have. It may be
+ * NULL if room_length is 0, and overlaps no other argument. */
+
+/* How a GUID is written. Other numbers are as PE_C_GUID_DIGITS. */
+enum {
+    PE_C_GUID_HYPHENS = 0,          /* 497B72F6-390A-44FC-878E-5A2D63B6CC4B, 36 characters */
+    PE_C_GUID_DIGITS = 1            /* 497B72F6390A44FC878E5A2D63B6CC4B, 32 characters, as on a symbol server */
+};
+
+/* Writes the text of a GUID, the first 16 of these bytes, as those of pe_c_key.
+ * Errors: PE_C_SHORT where there are fewer; PE_C_ROOM. */
+uint32_t pe_c_guid_text(const uint8_t *guid, size_t guid_length, uint32_t form, uint8_t *room, size_t room_length,
+                        uint64_t *written) PE_C_RESULT(6);
+
+/* Writes the text of a range in UTF-16 as UTF-8. U+FFFD stands for a surrogate without a partner, zeros in the text are
+ * characters, and an odd byte at the end is left out.
+ * Errors: PE_C_SHORT where the range is not inside the bytes; PE_C_ROOM. */
+uint32_t pe_c_utf16_text(const uint8_t *bytes, size_t length, const pe_c_range *range, uint8_t *room, size_t room_length,
+                         uint64_t *written) PE_C_RESULT(3, 6);
+
+/* A text in the bytes. */
+typedef struct {
+    pe_c_range text;                /* what stands before the first zero */
+    uint32_t is_terminated;         /* 1 where a zero follows: then bytes + text.offset is a string of C; else 0 */
+    uint32_t spare;                 /* 0 */
+} pe_c_text_in_bytes;
+
+PE_C_SIZE(pe_c_text_in_bytes, 24);
+
+/* Returns the text in a range up to its first zero, and whether a zero follows it, in the range or right after it.
+ * Error: PE_C_SHORT where the range is not inside the bytes. */
+uint32_t pe_c_text_in(const uint8_t *bytes, size_t length, const pe_c_range *range, pe_c_text_in_bytes *out) PE_C_RESULT(3, 4);
+
 /* ---- lists in one call
  *
  * Each of these calls fills an array with what the calls of one walk return, one after the other, and leaves the walk after
@@ -2575,6 +2656,10 @@ uint32_t pe_c_list_delayed_functions(const pe_c_view *view, pe_c_delayed_functio
 /* Lists the entries of a POGO record. Errors: PE_C_ROOM; those of pe_c_next_pogo_entry. */
 uint32_t pe_c_list_pogo_entries(const pe_c_view *view, pe_c_range *walk, pe_c_pogo_entry *entries,
                                 size_t number_of_entries, uint64_t *written) PE_C_RESULT(1, 2, 5);
+
+/* Lists the entries of a table of a load configuration. Errors: PE_C_ROOM; those of pe_c_next_guard_entry. */
+uint32_t pe_c_list_guard_entries(const pe_c_view *view, pe_c_guard_entries *walk, pe_c_guard_entry *entries,
+                                 size_t number_of_entries, uint64_t *written) PE_C_RESULT(1, 2, 5);
 
 /* ---- minidumps
  *

@@ -87,8 +87,8 @@ static uint32_t read_image(image *it, uint32_t mode)
 static int refused(const image *it, uint32_t result, const char *advice)
 {
     uint8_t text[128];
-    int length = (int)pe_c_text(result, text, sizeof text);
-    fprintf(stderr, "pe_list: \"%s\" is refused: %.*s%s\n", it->file, length, (const char *)text, advice);
+    pe_c_text(result, text, sizeof text);
+    fprintf(stderr, "pe_list: \"%s\" is refused: %s%s\n", it->file, (const char *)text, advice);
     return REFUSED;
 }
 
@@ -353,11 +353,10 @@ static int show_key(image *it)
     }
     if (result != PE_C_DONE)
         return refused(it, result, "");
-    static const int order[16] = {3, 2, 1, 0, 5, 4, 7, 6, 8, 9, 10, 11, 12, 13, 14, 15};
-    printf("key ");
-    for (int i = 0; i < 16; i++)
-        printf("%02X", key.guid[order[i]]);
-    printf("%" PRIX32 " ", key.age);
+    uint8_t guid[33] = "";
+    uint64_t written = 0;
+    pe_c_guid_text(key.guid, sizeof key.guid, PE_C_GUID_DIGITS, guid, sizeof guid, &written);
+    printf("key %s%" PRIX32 " ", (const char *)guid, key.age);
     show_name(it->bytes + key.name.offset, key.name.length);
     putchar('\n');
     return FINE;
@@ -370,20 +369,13 @@ static const char *const names[] = {
     "OriginalFilename", "PrivateBuild", "ProductName", "ProductVersion", "SpecialBuild"
 };
 
-/* Prints UTF-16 code units up to the first zero. */
-static void show_units(const uint8_t *units, uint64_t length)
+/* Prints a text in UTF-16 up to the first zero: a version text has at most 32,767 code units, of up to 3 bytes in UTF-8. */
+static void show_units(const image *it, const pe_c_range *units)
 {
-    for (uint64_t i = 0; i + 2 <= length; i += 2) {
-        uint32_t unit = units[i] | (uint32_t)units[i + 1] << 8;
-        if (unit == 0)
-            return;
-        if (unit >= 0xD800 && unit < 0xDC00 && i + 4 <= length && units[i + 3] >> 2 == 0x37) {
-            uint32_t low = units[i + 2] | (uint32_t)units[i + 3] << 8;
-            unit = 0x10000 + ((unit - 0xD800) << 10) + (low - 0xDC00);
-            i += 2;
-        }
-        show_character(unit);
-    }
+    static uint8_t text[3 * 32767 + 1];
+    uint64_t written = 0;
+    if (pe_c_utf16_text(BYTES(it), units, text, sizeof text, &written) == PE_C_DONE)
+        show_name(text, written);
 }
 
 static int show_version(image *it)
@@ -405,7 +397,7 @@ static int show_version(image *it)
         pe_c_range text = PE_C_EMPTY;
         if (pe_c_version_text(&it->view, name, &text) == PE_C_DONE) {
             printf("%s ", names[name]);
-            show_units(it->bytes + text.offset, text.length);
+            show_units(it, &text);
             putchar('\n');
         }
     }

@@ -64,7 +64,8 @@ static int status_of(uint32_t result)
     if (result == PE_C_DONE || result == PE_C_NOTHING || result == PE_C_MISSING)
         return 0;
     fflush(stdout);
-    fprintf(stderr, "%.*s\n", (int)pe_c_text(result, text, sizeof text), (const char *)text);
+    pe_c_text(result, text, sizeof text);
+    fprintf(stderr, "%s\n", (const char *)text);
     return 1;
 }
 

@@ -10,11 +10,10 @@
 
 static void show_key(const pe_c_view *view, const pe_c_key *key)
 {
-    static const int order[16] = {3, 2, 1, 0, 5, 4, 7, 6, 8, 9, 10, 11, 12, 13, 14, 15};
-    printf("symbols ");
-    for (int i = 0; i < 16; i++)
-        printf("%02X", key->guid[order[i]]);
-    printf("%" PRIX32 " ", key->age);
+    uint8_t guid[33] = "";
+    uint64_t written = 0;
+    pe_c_guid_text(key->guid, sizeof key->guid, PE_C_GUID_DIGITS, guid, sizeof guid, &written);
+    printf("symbols %s%" PRIX32 " ", (const char *)guid, key->age);
     show_name(view->bytes, &key->name);
     printf("\n");
 }

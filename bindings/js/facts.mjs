@@ -1,7 +1,6 @@
 // What an image is, as the program pe says it in JSON (bindings/pe/docs/JSON.md): the same names, values and errors
 // of these parts, without hashes, entropy, what an overlay is, and all that needs more than the image. Numbers above
 // 2^53 are BigInt.
-import { guards } from './guards.mjs';
 import { PeError, constants } from './library.mjs';
 import { Tables } from './metadata.mjs';
 import * as names from './names.mjs';
@@ -405,18 +404,33 @@ function loadConfig(image) {
       guard_cf_function_table_va: fieldOf(config, 'guard_cf_function_table'),
       guard_cf_function_count: fieldOf(config, 'guard_cf_function_count'),
       guard_flags: guardFlags === null ? null : flags(guardFlags, names.GUARD_FLAGS),
-      ...Object.assign({}, ...guards(image, config, new Budget(image, 0)).map(([key, read]) => guardList(key, read))),
+      ...guards(image, new Budget(image, 0)),
     };
   });
 }
 
-function guardList(key, read) {
-  const said = part(key, read), found = said[key];
-  const of = (it) => (key === 'se_handlers' ? it.rva
-    : { rva: it.rva, flags: it.flags === null ? null : flags(it.flags, names.GUARDED_FLAGS) });
-  const isLimited = Boolean(found?.isLimited);
-  const short = found && !found.isWhole && !isLimited ? { number: constants.PE_C_SHORT, name: 'SHORT', text: 'truncated' } : null;
-  return { [key]: found && found.entries.map(of), [`${key}_error`]: said[`${key}_error`] ?? short, [`${key}_is_limited`]: isLimited };
+// The tables of a load configuration, by the names of the lists.
+const GUARDS = {
+  se_handlers: 'PE_C_GUARD_SE_HANDLERS', guarded_functions: 'PE_C_GUARD_CF_FUNCTIONS',
+  guarded_iat_entries: 'PE_C_GUARD_ADDRESS_TAKEN_IAT_ENTRIES', long_jump_targets: 'PE_C_GUARD_LONG_JUMP_TARGETS',
+  eh_continuations: 'PE_C_GUARD_EH_CONTINUATIONS',
+};
+// How many bytes an RVA has, and how many an entry of a list counts for.
+const SIZE_OF_RVA = 4, ENTRY = 8;
+
+/** The lists of code that a load configuration leads to. They have one budget: tables may be the same bytes. */
+function guards(image, budget) {
+  return Object.assign({}, ...Object.entries(GUARDS).map(([key, table]) => guardList(image, key, constants[table], budget)));
+}
+
+function guardList(image, key, table, budget) {
+  const said = part(key, () => image.call('pe_c_guard_table', { table })), walk = said[key];
+  if (walk === null) return { ...said, [`${key}_is_limited`]: false };
+  const flagsOf = (it) => (walk.flag_size ? flags(it.flags, names.GUARDED_FLAGS) : null);
+  const of = (it) => (key === 'se_handlers' ? it.rva : { rva: it.rva, flags: flagsOf(it) });
+  // Each byte of an entry counts for an entry, so tables that share no bytes are shown whole: they can not use the budget up.
+  const takes = budget.takes.bind(budget, ENTRY * (SIZE_OF_RVA + walk.flag_size));
+  return list(key, image.items('pe_c_next_guard_entry', walk), (it) => (takes() ? of(it) : null));
 }
 
 const CLR_DIRECTORIES = ['metadata', 'resources', 'strong_name_signature', 'code_manager_table', 'vtable_fixups',

@@ -815,6 +815,34 @@ test('tables of guarded functions that are the same bytes', () => {
   assert.equal(lists.reduce((sum, it) => sum + said[it].length, 0), Math.floor(whole.length / 2));
 });
 
+test('entries of guard tables, one a step and in one call', () => {
+  const rows = [0x10, 0x20, 0, 0, 1, 0x30, 0x20, 0, 0, 8], va = wide(0x1_8000_1000 + 280);
+  const image = library.open(patched('load_config', [[0, word(280)], [128, [...va, ...wide(2)]], [280, rows]]));
+  const walk = () => image.call('pe_c_guard_table', { table: 1 }), found = [...image.items('pe_c_next_guard_entry', walk())];
+  assert.deepEqual(found.map((it) => [it.rva, it.flags, it.flag_bytes]),
+    [[0x2010, 1, { offset: 0x51Cn, length: 1n }], [0x2030, 8, { offset: 0x521n, length: 1n }]]);
+  assert.deepEqual(listed(image, 'pe_c_list_guard_entries', { walk: walk() }), found);
+  assert.deepEqual([2, 5].map((table) => image.call('pe_c_guard_table', { table })), [null, null]);
+});
+
+test('texts with a final zero', () => {
+  const bytes = new Uint8Array([0x41, 0, 0xE9, 0, 0x3D, 0xD8, 0x42, 0, 0, 0, 0x43]), image = library.file(bytes);
+  const guid = Uint8Array.from('f6727b490a39fc44878e5a2d63b6cc4b'.match(/../g), (it) => parseInt(it, 16));
+  for (const [form, text] of [[0, '497B72F6-390A-44FC-878E-5A2D63B6CC4B'], [1, '497B72F6390A44FC878E5A2D63B6CC4B']]) {
+    const room = new Uint8Array(text.length + 1).fill(7);
+    assert.equal(image.call('pe_c_guid_text', { guid, form, room }), BigInt(text.length));
+    assert.equal(new TextDecoder().decode(room), `${text}\0`);
+    const small = { guid, form, room: room.slice(1) };
+    assert.equal(refused(() => image.call('pe_c_guid_text', small)).constant, 'PE_C_ROOM');
+  }
+  const room = new Uint8Array(8), range = { offset: 0n, length: 8n };
+  assert.equal(image.call('pe_c_utf16_text', { range, room }), 7n);
+  assert.equal(new TextDecoder().decode(room), 'A\xE9\uFFFDB\0');
+  const found = image.call('pe_c_text_in', { range: { offset: 10n, length: 1n } });
+  assert.deepEqual([found.text, found.is_terminated], [{ offset: 10n, length: 1n }, 0]);
+  assert.equal(image.call('pe_c_text_in', { range: { offset: 6n, length: 2n } }).is_terminated, 1);
+});
+
 // What no one imports from the package: it is reached beside what they do.
 const beside = dirname(createRequire(import.meta.url).resolve('pe-c/facts'));
 const { dotted } = await import(pathToFileURL(join(beside, 'signatures.mjs')));

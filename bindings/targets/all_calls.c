@@ -565,6 +565,35 @@ static void resources(const struct file *file)
         }
 }
 
+/* What the bytes are as a GUID and as a text, from each of some offsets. */
+static void texts_of_bytes(const struct file *file)
+{
+    for (size_t at = 0; at <= 64 && at <= file->length; at += 16) {
+        uint8_t room[200] = PE_C_EMPTY;
+        uint64_t written = 0;
+        pe_c_text_in_bytes text = PE_C_EMPTY;
+        pe_c_range range = {at, file->length - at < 60 ? file->length - at : 60};
+        for (uint32_t form = 0; form <= PE_C_GUID_DIGITS; form++)
+            CALL(pe_c_guid_text, room, file->bytes + at, file->length - at, form, room, 36 + at, &written);
+        add(written);
+        CALL(pe_c_utf16_text, room, BYTES, &range, room, sizeof room, &written);
+        add(written);
+        CALL(pe_c_text_in, text, BYTES, &range, &text);
+    }
+}
+
+static void guard_tables(const struct file *file)
+{
+    pe_c_guard_entries start = PE_C_EMPTY;
+    pe_c_guard_entry entry = PE_C_EMPTY;
+    for (uint32_t table = 0; table <= PE_C_GUARD_EH_CONTINUATIONS + 1; table++)
+        if (IS_DONE(pe_c_guard_table, start, VIEW, table, &start)) {
+            pe_c_guard_entries walk = start;
+            WALK(ITEMS, pe_c_next_guard_entry, entry, BYTES, &walk, &entry) {}
+            LIST(pe_c_list_guard_entries, pe_c_guard_entry, VIEW, &start);
+        }
+}
+
 static void directories(const struct file *file)
 {
     pe_c_tls_directory tls = PE_C_EMPTY;
@@ -579,6 +608,8 @@ static void directories(const struct file *file)
     if (IS_DONE(pe_c_tls, tls, VIEW, &tls) && IS_DONE(pe_c_tls_callbacks, walk, VIEW, &tls, &walk))
         WALK(ITEMS, pe_c_next_tls_callback, callback, VIEW, &walk, &callback) {}
     CALL(pe_c_load_config, config, VIEW, &config);
+    guard_tables(file);
+    texts_of_bytes(file);
     if (IS_DONE(pe_c_relocation_blocks, walk, VIEW, &walk))
         WALK(ITEMS, pe_c_next_relocation_block, block, BYTES, &walk, &block)
             WALK(INNER, pe_c_next_relocation, relocation, BYTES, block.page_rva, &block.entries, &relocation) {}

@@ -135,8 +135,9 @@ fn check_text(rt: &impl Abort, answer: u32, want: &str) {
     let length = pe_c_text(answer, &mut room);
     assert!(rt; want.len() <= length && length < 128, "of {answer}");
     assert_eq!(rt; &room[..want.len()], want.as_bytes(), "of {answer}");
+    assert_eq!(rt; room[length], 0, "after {answer}");
     assert!(rt;
-        room[length..].iter().all(|byte| *byte == b'.'),
+        room[length + 1..].iter().all(|byte| *byte == b'.'),
         "after {answer}"
     );
 }
@@ -257,9 +258,11 @@ fn texts_differ(rt: HostRuntime) {
 fn a_text_is_cut_at_the_end_of_its_room(rt: HostRuntime) {
     let mut room = [b'.'; 6];
     assert_eq!(rt; pe_c_text(0, &mut room), 4);
-    assert_eq!(rt; &room, b"done..");
+    assert_eq!(rt; &room, b"done\0.");
     assert_eq!(rt; pe_c_text(2, &mut room), 9);
-    assert_eq!(rt; &room, b"trunca");
+    assert_eq!(rt; &room, b"trunc\0");
+    assert_eq!(rt; pe_c_text(2, &mut room[..1]), 9);
+    assert_eq!(rt; &room, b"\0runc\0");
     assert_eq!(rt; pe_c_text(2, &mut []), 9);
 }
 

@@ -325,6 +325,7 @@ fn read_by_lies(bytes: &[u8], random: &mut Random, seen: &mut Seen) {
     list!(pe_c_list_delay_imports(; range), DelayImport);
     list!(pe_c_list_delayed_functions(; sys::DelayedFunctions { left: range, attributes: few, spare: 1 }), DelayedFunction);
     list!(pe_c_list_pogo_entries(; range), PogoEntry);
+    list!(pe_c_list_guard_entries(; sys::GuardEntries { entries: range, count: index, flag_size: few, spare: 1 }), GuardEntry);
     let (mut record, mut codes, mut written) = (sys::Record::default(), [sys::Code::default(); 3], 0);
     let room = few as usize % 4;
     // SAFETY: as above.
@@ -494,6 +495,20 @@ fn read_by_lies(bytes: &[u8], random: &mut Random, seen: &mut Seen) {
         }
     }
     call_of_image!(pe_c_load_config(), LoadConfig);
+    let (mut text, mut written) = ([0; 64], 0);
+    // SAFETY: as above; the room is an array of its own.
+    unsafe {
+        sys::pe_c_guid_text(start, length, few % 3, text.as_mut_ptr(), few as usize % 65, &mut written);
+        sys::pe_c_utf16_text(start, length, &range, text.as_mut_ptr(), few as usize % 65, &mut written);
+        let mut found = sys::TextInBytes::default();
+        sys::pe_c_text_in(start, length, &range, &mut found);
+    }
+    let guarded = call_of_image!(pe_c_guard_table(few % 6), GuardEntries);
+    walk!(pe_c_next_guard_entry(guarded), GuardEntry);
+    walk!(
+        pe_c_next_guard_entry(sys::GuardEntries { entries: range, count: number, flag_size: few, spare: 1 }),
+        GuardEntry
+    );
     let clr = call_of_image!(pe_c_clr_header(), ClrHeader);
     let metadata = call_of_image!(pe_c_clr_metadata(&sys::ClrHeader { metadata: directory, ..clr }), Metadata);
     walk!(pe_c_next_metadata_stream(metadata.streams), MetadataStream);

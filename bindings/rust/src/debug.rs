@@ -65,7 +65,7 @@ impl<'a> SymbolKey<'a> {
 
 impl fmt::Display for SymbolKey<'_> {
     fn fmt(&self, f: &mut fmt::Formatter<'_>) -> fmt::Result {
-        self.guid.write(f, "")?;
+        self.guid.write(f, Guid::DIGITS)?;
         write!(f, "{:X}", self.age)
     }
 }

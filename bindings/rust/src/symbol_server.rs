@@ -5,7 +5,7 @@
 //! URL, or to the folder of its own store.
 
 use crate::debug::{Pdb20, SymbolKey};
-use crate::sys::ImageInfo;
+use crate::sys::{self, ImageInfo};
 use core::fmt;
 
 /// A GUID, as the bytes of a file have it: little-endian u32, u16, u16, then 8 bytes.
@@ -19,28 +19,28 @@ use core::fmt;
 #[derive(Clone, Copy, Debug, Default, PartialEq, Eq, Hash)]
 pub struct Guid(pub [u8; 16]);
 
-/// The bytes of a GUID in the order in which its digits are written, in the groups that hyphens divide.
-const GROUPS: [&[usize]; 5] = [&[3, 2, 1, 0], &[5, 4], &[7, 6], &[8, 9], &[10, 11, 12, 13, 14, 15]];
-
 impl Guid {
-    /// Writes the 32 digits, and a text between their groups.
-    pub(crate) fn write(&self, f: &mut fmt::Formatter<'_>, between: &str) -> fmt::Result {
-        for (group, offsets) in GROUPS.iter().enumerate() {
-            if group > 0 {
-                f.write_str(between)?;
-            }
-            for offset in *offsets {
-                write!(f, "{:02X}", self.0[*offset])?;
-            }
-        }
-        Ok(())
+    /// How a GUID is written: with hyphens, or as on a symbol server.
+    const HYPHENS: u32 = 0;
+    pub(crate) const DIGITS: u32 = 1;
+
+    /// Writes the 32 digits, with hyphens or without them.
+    pub(crate) fn write(&self, f: &mut fmt::Formatter<'_>, form: u32) -> fmt::Result {
+        let (mut room, mut written) = ([0; 37], 0);
+        // SAFETY: the pointers and lengths are those of two arrays, which do not overlap and are lent for the call, as `written` is.
+        let number = unsafe {
+            let (guid, room) = (&self.0, &mut room);
+            sys::pe_c_guid_text(guid.as_ptr(), guid.len(), form, room.as_mut_ptr(), room.len(), &mut written)
+        };
+        let text = room.get(..written as usize).filter(|_| number == sys::DONE).unwrap_or_default();
+        f.write_str(core::str::from_utf8(text).unwrap_or_default())
     }
 }
 
 impl fmt::Display for Guid {
     fn fmt(&self, f: &mut fmt::Formatter<'_>) -> fmt::Result {
         f.write_str("{")?;
-        self.write(f, "-")?;
+        self.write(f, Guid::HYPHENS)?;
         f.write_str("}")
     }
 }
@@ -76,7 +76,7 @@ impl fmt::Display for SymbolPath<'_> {
         write!(f, "{}/", self.name)?;
         match self.identifier {
             Identifier::Pdb { guid, age } => {
-                guid.write(f, "")?;
+                guid.write(f, Guid::DIGITS)?;
                 write!(f, "{age:X}")?;
             }
             Identifier::Pdb20 { signature, age } => write!(f, "{signature:08X}{age:X}")?,

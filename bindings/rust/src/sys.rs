@@ -1021,6 +1021,38 @@ LoadConfig, 88 {
     has_guard_flags: u8,
 });
 record!(
+/// A text in the bytes.
+TextInBytes, 24 {
+    /// What stands before the first zero.
+    text: Range,
+    /// 1 where a zero follows, else 0.
+    is_terminated: u32,
+    /// 0.
+    spare: u32,
+});
+record!(
+/// A walk over the entries of a table of a load configuration.
+GuardEntries, 32 {
+    /// From the next entry to the end of the bytes.
+    entries: Range,
+    /// How many entries are left.
+    count: u64,
+    /// Bytes of flags that an entry has after its RVA.
+    flag_size: u32,
+    /// 0.
+    spare: u32,
+});
+record!(
+/// An entry of a table of a load configuration. See [`GuardEntry`](crate::GuardEntry).
+GuardEntry, 24 {
+    /// The flags that follow the RVA.
+    flag_bytes: Range,
+    /// An RVA.
+    rva: u32,
+    /// The first byte of flags; 0 where there is none.
+    flags: u32,
+});
+record!(
 /// A block of base relocations. See [`RelocationBlock`](crate::RelocationBlock).
 RelocationBlock, 24 {
     /// 2 bytes each; a walk through the relocations of the block.
@@ -1963,6 +1995,24 @@ extern "C" {
     pub fn pe_c_abi_4() -> u32;
     /// Writes the text of a result to the start of the array, truncated at its end. Returns the length of the whole text.
     pub fn pe_c_text(number: u32, room: *mut u8, length: usize) -> usize;
+    /// Writes the text of a GUID, with a zero after it.
+    pub fn pe_c_guid_text(
+        guid: *const u8,
+        guid_length: usize,
+        form: u32,
+        room: *mut u8,
+        room_length: usize,
+        written: *mut u64,
+    ) -> u32;
+    /// Writes a text in UTF-16 as UTF-8, with a zero after it.
+    pub fn pe_c_utf16_text(
+        bytes: *const u8,
+        length: usize,
+        range: *const Range,
+        room: *mut u8,
+        room_length: usize,
+        written: *mut u64,
+    ) -> u32;
     /// Writes the section headers of a COFF object to the start of an array.
     pub fn pe_c_coff_sections(
         bytes: *const u8,
@@ -2123,6 +2173,14 @@ extern "C" {
         view: *const View,
         walk: *mut DelayedFunctions,
         entries: *mut DelayedFunction,
+        number_of_entries: usize,
+        written: *mut u64,
+    ) -> u32;
+    /// Lists the next entries of a table of a load configuration.
+    pub fn pe_c_list_guard_entries(
+        view: *const View,
+        walk: *mut GuardEntries,
+        entries: *mut GuardEntry,
         number_of_entries: usize,
         written: *mut u64,
     ) -> u32;
@@ -2385,6 +2443,10 @@ calls_of_bytes! {
     pe_c_arm64_codes(codes: *const Range, start: u64) -> Arm64Walk;
     /// Returns the next ARM64 unwind code.
     pe_c_next_arm64_code(walk: *mut Arm64Walk) -> Arm64Code;
+    /// Returns the text in a range up to its first zero.
+    pe_c_text_in(range: *const Range) -> TextInBytes;
+    /// Returns the next entry of a table of a load configuration.
+    pe_c_next_guard_entry(walk: *mut GuardEntries) -> GuardEntry;
     /// Returns the next stream of CLR metadata.
     pe_c_next_metadata_stream(walk: *mut MetadataStreams) -> MetadataStream;
     /// Returns the fixed file information in the content of a leaf.
@@ -2572,6 +2634,8 @@ calls_of_an_image! {
     pe_c_next_tls_callback(walk: *mut Range) -> u64;
     /// Returns the load configuration.
     pe_c_load_config() -> LoadConfig;
+    /// Returns a walk over a table of the load configuration, by its number.
+    pe_c_guard_table(table: u32) -> GuardEntries;
     /// Returns the blocks of the base relocations, as a walk.
     pe_c_relocation_blocks() -> Range;
     /// Returns the CLR header.

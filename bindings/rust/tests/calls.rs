@@ -196,7 +196,8 @@ fn a_text_is_cut_at_the_end_of_its_room() {
         assert_eq!(pe_c::sys::pe_c_text(2, room.as_mut_ptr(), 6), length);
         assert_eq!(pe_c::sys::pe_c_text(2, core::ptr::null_mut(), 0), length);
     }
-    assert_eq!(room[..6], whole[..6]);
+    assert_eq!(room[..5], whole[..5]);
+    assert_eq!(room[5], 0);
     assert_eq!(room[6..], *b"..");
 }
 

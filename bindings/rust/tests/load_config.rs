@@ -5,7 +5,7 @@ mod made;
 
 use facts::as_loaded;
 use made::*;
-use pe_c::{Error, Image, Layout, LoadConfig, Mode};
+use pe_c::{DirectoryIndex, Error, GuardTable, Image, Layout, LoadConfig, Mode};
 
 fn strict(bytes: &[u8]) -> Image<'_> {
     Image::parse(bytes, Mode::Strict).unwrap()
@@ -129,4 +129,51 @@ fn load_configurations_of_pe32_are_read() {
         guard_flags: Some(0x500),
     };
     assert_eq!(config, wanted);
+}
+
+fn table(image: &Image<'_>, table: GuardTable) -> Option<Vec<(u32, Vec<u8>)>> {
+    let entries = image.guard_table(table).unwrap()?;
+    Some(entries.map(|entry| entry.unwrap()).map(|entry| (entry.rva, entry.flags.to_vec())).collect())
+}
+
+#[test]
+fn guard_tables_are_read() {
+    let bytes = with_guards();
+    let image = strict(&bytes);
+    let functions = Some(vec![(0x2010, vec![1]), (0x2030, vec![8])]);
+    assert_eq!(table(&image, GuardTable::CfFunctions), functions);
+    assert_eq!(table(&image, GuardTable::AddressTakenIatEntries), Some(vec![(0x2040, vec![0])]));
+    let refused = |it| image.guard_table(it).unwrap_err();
+    assert_eq!(refused(GuardTable::LongJumpTargets), Error::DIRECTORY_VA_BELOW_BASE);
+    assert_eq!(refused(GuardTable::EhContinuations), Error::UNMAPPED);
+    let mut handlers = image.guard_table(GuardTable::SeHandlers).unwrap().unwrap();
+    assert_eq!((handlers.flag_size(), handlers.next().unwrap().unwrap().rva), (0, 0x2050));
+    assert_eq!(image.guard_table(GuardTable::CfFunctions).unwrap().unwrap().flag_size(), 1);
+    let memory = as_loaded(&image);
+    let module = Image::parse_as(&memory, Mode::Strict, Layout::Mapped).unwrap();
+    assert_eq!(table(&module, GuardTable::CfFunctions), functions);
+    assert_eq!(table(&strict(&with_debug()), GuardTable::CfFunctions), None);
+    assert_eq!(table(&strict(&with_load_config()), GuardTable::SeHandlers), None);
+}
+
+/// More entries than a list call returns, then an error, after which the walk is over.
+#[test]
+fn truncated_guard_tables_end_with_an_error() {
+    let mut bytes = with_load_config();
+    let offset = OFFSET as usize;
+    // the table is at RVA 0x4000, which no section has
+    assert_eq!(strict(&bytes).guard_table(GuardTable::CfFunctions).unwrap_err(), Error::UNMAPPED);
+    // at the RVA of the load configuration there are some hundred bytes up to the end of the file
+    let rva = strict(&bytes).info().directory(DirectoryIndex::LoadConfig).unwrap().virtual_address;
+    bytes[offset + 128..offset + 136].copy_from_slice(&(0x1_8000_0000 + u64::from(rva)).to_le_bytes());
+    bytes[offset + 136..offset + 144].copy_from_slice(&u64::MAX.to_le_bytes());
+    let image = strict(&bytes);
+    let entries: Vec<_> = image.guard_table(GuardTable::CfFunctions).unwrap().unwrap().collect();
+    let whole = (bytes.len() - offset) / 5;
+    assert!(whole > 16);
+    assert_eq!(entries.len(), whole + 1);
+    assert_eq!(entries[0].unwrap().rva, 148);
+    assert_eq!(entries[whole], Err(Error::SHORT));
+    bytes[offset + 128..offset + 136].copy_from_slice(&1u64.to_le_bytes());
+    assert_eq!(strict(&bytes).guard_table(GuardTable::CfFunctions).unwrap_err(), Error::DIRECTORY_VA_BELOW_BASE);
 }

@@ -8,6 +8,8 @@ pub mod DirectoryParts
 pub mod DirectoryRuns
 pub mod DirectoryLists
 pub mod NumberLists
+pub mod GuardLists
+pub mod Utf16Texts
 pub mod StreamLists
 pub mod ListStarts
 pub mod EntryRuns

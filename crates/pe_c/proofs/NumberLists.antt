@@ -146,7 +146,7 @@ range_to_end b p h = same_lists _ _ (grind (arith, places)) (λ j d lt. grind (a
 abbrev pub tail_from : List ℕ → ℕ → Range
 tail_from b p = record { offset = p; length = length b - p }
 
-tail_there : (b : List ℕ) (p : ℕ) (inside : Bool) → holds b p (length b - p) ≡ inside → (bytes_at b (tail_from b p) ≡ Ok (drop p b)) ⊎ ((bytes_at b (tail_from b p) ≡ Err Short) × (drop p b ≡ []))
+pub tail_there : (b : List ℕ) (p : ℕ) (inside : Bool) → holds b p (length b - p) ≡ inside → (bytes_at b (tail_from b p) ≡ Ok (drop p b)) ⊎ ((bytes_at b (tail_from b p) ≡ Err Short) × (drop p b ≡ []))
 tail_there b p true h = inl (rw h (ap (λ (d : List ℕ). Ok d) (range_to_end b p (grind (arith, nat_tests)))))
 tail_there b p false h = inr (rw h refl, drop_all p b (grind (arith, nat_tests)))
 

@@ -60,3 +60,5 @@ pub mod SectionIndexes
 pub mod Views
 pub mod WalkStarts
 pub mod Loaded
+pub mod GuardTables
+pub mod EndedTexts

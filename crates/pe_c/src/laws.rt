@@ -7,6 +7,7 @@ pub mod directories;
 pub mod dumps;
 pub mod failures;
 pub mod frames;
+pub mod guard_tables;
 pub mod indexes;
 pub mod lists;
 pub mod results;

@@ -16,6 +16,7 @@ pub mod arm64;
 pub mod debug;
 pub mod delay_imports;
 pub mod exports;
+pub mod guard_tables;
 pub mod imports;
 pub mod relocations;
 pub mod resources;

@@ -1,9 +1,11 @@
 //! The texts of the results of calls, for a caller's messages.
 
-ghost use Rattle.std.specs.Prelude.{◌≡◌, ◌≤◌, length, take, drop, ◌++◌};
+ghost use Rattle.std.specs.Prelude.{◌≡◌, ◌≤◌, length};
+ghost use Rattle.pe_c.specs.EndedTexts.{cut_text};
 ghost use Rattle.pe_c.specs.declared.results.TheConstants.{NOTHING};
 ghost use Rattle.pe_c.specs.Texts.{refusal_text, other_text, result_text, sign_text, directory_text, tree_text, edit_text, signature_text, dump_text};
 
+use crate::ended_texts::put_cut;
 use crate::results::{BAD_ADDRESS, BAD_OPERATION, LONG_CHAIN, MISSING, NOT_RISING, NOTHING, ROOM};
 
 /// The number of the first error of signing.
@@ -238,16 +240,14 @@ fn text_of(number: u32) -> &'static str
     }
 }
 
-/// Writes the text of a result to the start of `room`, in UTF-8, truncated at the end of `room` and not NUL-terminated.
-/// Returns the length of the whole text in bytes.
+/// Writes the text of a result to the start of `room`, in UTF-8, with a zero after it; where the room is too small as much of it
+/// as there is room for before the zero. Returns the length of the whole text in bytes.
 #[unsafe(no_mangle)]
 pub extern "C" fn pe_c_text(number: u32, room: &mut [u8]) -> usize
     ensures whole { result ≡ length (result_text number) }
-    ensures put { room.new ≡ take (length room.old)
-        (result_text number) ++ drop (length (result_text number)) room.old }
+    ensures put { room.new ≡ cut_text room.old (result_text number) }
 {
     let text = text_of(number).as_bytes();
-    let count = text.len().min(room.len());
-    room[..count].copy_from_slice(&text[..count]);
+    put_cut(text, room);
     text.len()
 }

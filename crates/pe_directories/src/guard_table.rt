@@ -43,11 +43,23 @@ pub struct GuardEntry<'a> {
 #[derive(Clone, Copy, Debug)]
 pub struct GuardTable<'a> {
     count: u64,
-    flag_size: u8,
+    flag_size: u32,
     left: Option<&'a [u8]>,
 }
 
 impl<'a> GuardTable<'a> {
+    /// The table at the start of these bytes with this many entries, which have `flag_size` bytes of flags each.
+    pub fn new(bytes: &'a [u8], count: u64, flag_size: u32) -> GuardTable<'a>
+        ensures left { guarded_left result ≡ Some (count, bytes.entry.now) }
+        ensures flags { flag_size_of result ≡ flag_size }
+    {
+        GuardTable {
+            count,
+            flag_size,
+            left: Some(bytes),
+        }
+    }
+
     /// The table at a virtual address with this many entries, which have `flag_size` bytes of flags each. Errors, in order:
     /// `VaBelowBase`; `Image` with `Unmapped`.
     #[tactic(auto, unfolding(crate::specs::GuardTables::guard_table))]
@@ -64,7 +76,7 @@ impl<'a> GuardTable<'a> {
         let count = count.unwrap_or(0);
         let mut table = GuardTable {
             count,
-            flag_size,
+            flag_size: u32::from(flag_size),
             left: None,
         };
         if va != 0 && count != 0 {

@@ -53,7 +53,7 @@ pub fn of(image: &Image<'_>) -> Part<LoadConfig> {
             guard_cf_function_table_va: config.guard_cf_function_table,
             guard_cf_function_count: config.guard_cf_function_count,
             guard_flags: config.guard_flags.map(|flags| Flags::of(flags, GUARD_FLAGS)),
-            guards: guards::of(image, &config),
+            guards: guards::of(image),
         })
     });
     found.into()

@@ -28,6 +28,22 @@ LIST(delay_imports, pe_c_range, pe_c_delay_imports(VIEW, &walk), pe_c_delay_impo
 LIST(debug_entries, pe_c_range, pe_c_debug_entries(VIEW, &walk), pe_c_debug_entry, pe_c_next_debug_entry(BYTES, &walk, &item), ROW_OF(debug_entry))
 LIST(resources, pe_c_resource_walk, pe_c_resource_leaves(VIEW, &walk), pe_c_resource_leaf, pe_c_next_resource_leaf(VIEW, &walk, &item), ROW_OF(resource_leaf))
 LIST(te_debug_entries, pe_c_range, pe_c_te_debug_entries(BYTES, &self->te, &walk), pe_c_debug_entry, pe_c_next_te_debug_entry(BYTES, &self->te, &walk, &item), ROW_OF(debug_entry))
+static PyObject *guard_entries(Image *self, PyObject *arguments)
+{
+    unsigned int table;
+    unsigned long long most;
+    pe_c_guard_entries walk = PE_C_EMPTY;
+    pe_c_guard_entry item = PE_C_EMPTY;
+    if (!PyArg_ParseTuple(arguments, "IK", &table, &most))
+        return NULL;
+    OPEN
+    budget = (Budget){UINT64_MAX, UINT64_MAX, 0, 0, 0};
+    rows = rows_of(self, &budget);
+    starts(&rows, pe_c_guard_table(VIEW, table, &walk));
+    walk.count = walk.count < most ? walk.count : most;
+    EACH(&rows, pe_c_next_guard_entry(BYTES, &walk, &item), ROW_OF(guard_entry));
+    return finished(&rows);
+}
 SIGNED(codeview, pe_c_key, pe_c_codeview(BYTES, &range, &item), ROW_OF(key))
 SIGNED(fixed_version_in, pe_c_version, pe_c_fixed_version_in(BYTES, &range, &item), ROW_OF(version))
 SIGNED(signature, pe_c_signed_data, pe_c_signature(BYTES, &range, &failure, &item), ROW_OF(signed_data))
@@ -79,6 +95,7 @@ CONTEXT(dump_context_arm64, pe_c_arm64_context, pe_c_dump_context_arm64(BYTES, &
     {"debug_entries", (PyCFunction)debug_entries, METH_NOARGS, NULL}, \
     {"resources", (PyCFunction)resources, METH_NOARGS, NULL}, \
     {"te_debug_entries", (PyCFunction)te_debug_entries, METH_NOARGS, NULL}, \
+    {"guard_entries", (PyCFunction)guard_entries, METH_VARARGS, NULL}, \
     {"codeview", (PyCFunction)codeview, METH_VARARGS, NULL}, \
     {"fixed_version_in", (PyCFunction)fixed_version_in, METH_VARARGS, NULL}, \
     {"signature", (PyCFunction)signature, METH_VARARGS, NULL}, \

@@ -627,7 +627,7 @@ def guards(image: Exact, config: _core.LoadConfig) -> Facts:
     def target(it: _guards.Entry) -> Facts:
         return {"rva": it[0], "flags": known[it[1]]}
     said: Facts = {}
-    for name, found in _guards.lists(image.core, image.value("headers"), config):
+    for name, found in _guards.lists(image.core, config):
         said.update(rows(name, found, (lambda it: it[0]) if name == "se_handlers" else target))
     return said
 

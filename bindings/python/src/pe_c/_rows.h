@@ -74,6 +74,7 @@ static PyObject *row_resource_leaf(Image *self, Rows *rows, const pe_c_resource_
 static PyObject *row_tls_directory(Image *self, Rows *rows, const pe_c_tls_directory *it);
 static PyObject *tls_callbacks(Image *self, Rows *rows, const pe_c_tls_directory *it);
 static PyObject *row_load_config_directory(Image *self, Rows *rows, const pe_c_load_config_directory *it);
+static PyObject *row_guard_entry(Image *self, Rows *rows, const pe_c_guard_entry *it);
 static PyObject *row_relocation_block(Image *self, Rows *rows, const pe_c_relocation_block *it);
 static PyObject *relocations_of(Image *self, Rows *rows, const pe_c_relocation_block *it);
 static PyObject *row_relocation(Image *self, Rows *rows, const pe_c_relocation *it);
@@ -1624,6 +1625,22 @@ static PyObject *row_load_config_directory(Image *self, Rows *rows, const pe_c_l
     return filled(self, ROW_LOAD_CONFIG_DIRECTORY, items, 13);
 }
 
+static PyStructSequence_Field row_guard_entry_fields[] = {
+    {"rva", NULL},
+    {"flags", "their first byte, IMAGE_GUARD_FLAG_ flags; 0 where there is none"},
+    {NULL, NULL}};
+
+static PyObject *row_guard_entry(Image *self, Rows *rows, const pe_c_guard_entry *it)
+{
+    if (!takes(rows, 0))
+        return NULL;
+    PyObject *items[] = {
+        N(it->rva),
+        N(it->flags),
+    };
+    return filled(self, ROW_GUARD_ENTRY, items, 2);
+}
+
 static PyStructSequence_Field row_relocation_block_fields[] = {
     {"entries", "2 bytes each; a walk through the relocations of the block"},
     {"size_of_block", "2 bytes each; a walk through the relocations of the block"},
@@ -2280,6 +2297,7 @@ static const PyStructSequence_Desc row_kinds[] = {
     [ROW_RESOURCE_LEAF] = {"pe_c._core.Resource", NULL, row_resource_leaf_fields, 9},
     [ROW_TLS_DIRECTORY] = {"pe_c._core.Tls", "IMAGE_TLS_DIRECTORY.", row_tls_directory_fields, 7},
     [ROW_LOAD_CONFIG_DIRECTORY] = {"pe_c._core.LoadConfig", "IMAGE_LOAD_CONFIG_DIRECTORY32 or IMAGE_LOAD_CONFIG_DIRECTORY64, up to the guard flags. A field that the structure is too short for, or the image, is 0, and so is the field of its name with has_, which else is 1. The addresses are virtual addresses, mostly 0 where there is nothing: less image->base one is an RVA, for pe_c_offset.", row_load_config_directory_fields, 13},
+    [ROW_GUARD_ENTRY] = {"pe_c._core.GuardEntry", NULL, row_guard_entry_fields, 2},
     [ROW_RELOCATION_BLOCK] = {"pe_c._core.RelocationBlock", "IMAGE_BASE_RELOCATION.", row_relocation_block_fields, 3},
     [ROW_RELOCATION] = {"pe_c._core.Relocation", NULL, row_relocation_fields, 3},
     [ROW_COR20_HEADER] = {"pe_c._core.ClrHeader", "IMAGE_COR20_HEADER.", row_cor20_header_fields, 12},

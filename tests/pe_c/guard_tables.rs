@@ -1,0 +1,298 @@
+//! The tables of a load configuration: which is which, where each starts, its entries one a step and in lists.
+
+use super::made::{
+    DIRECTORY_VA_BELOW_BASE, SHORT, UNMAPPED, X64, directory, having, image, in_mode, lies,
+    of_range, range, sections, view, words,
+};
+use crate::guard_tables::{GuardEntries, GuardEntry, pe_c_guard_table, pe_c_next_guard_entry};
+use crate::image::Image;
+use crate::lists::guard_tables::pe_c_list_guard_entries;
+use crate::ranges::Range;
+use crate::results::{DONE, NOTHING, ROOM};
+use std::alloc::{AllocError, Global};
+use std::test::Fail;
+
+/// What `out` is before each call.
+const NO_WALK: GuardEntries = GuardEntries {
+    entries: Range {
+        offset: 1,
+        length: 2,
+    },
+    count: 3,
+    flag_size: 4,
+    spare: 5,
+};
+
+const NO_ENTRY: GuardEntry = GuardEntry {
+    flag_bytes: Range {
+        offset: 1,
+        length: 2,
+    },
+    rva: 3,
+    flags: 4,
+};
+
+/// `IMAGE_LOAD_CONFIG_DIRECTORY64` of 280 bytes at RVA 0x1000, whose entries have `flag_size` bytes of flags, and 20 bytes of
+/// entries after it. The tables, by the offsets of winnt.h, are at RVAs 0x1118 to 0x111C and have 1 to 5 entries.
+fn with_tables(alloc: Global, flag_size: u32) -> Result<Vec<u8>, AllocError> {
+    let mut numbers = [0; 75];
+    numbers[0] = 280;
+    numbers[144 / 4] = flag_size << 28 | 0x500;
+    let mut i = 0;
+    for offset in [96, 128, 160, 176, 264] {
+        numbers[offset / 4] = 0x4000_1118 + i;
+        numbers[offset / 4 + 1] = 1;
+        numbers[offset / 4 + 2] = i + 1;
+        i += 1;
+    }
+    for j in 0..5 {
+        numbers[70 + j] = 0x0403_0201 + 0x0404_0404 * j as u32;
+    }
+    words(alloc, &numbers)
+}
+
+fn of_config(image: Image) -> Image {
+    having(image, 10, directory(0x1000, 280))
+}
+
+fn start(bytes: &[u8], image: &Image, table: u32) -> (u32, GuardEntries) {
+    let mut out = NO_WALK;
+    let answer = pe_c_guard_table(&view(bytes, image, &sections()), table, &mut out);
+    (answer, out)
+}
+
+fn fields(walk: &GuardEntries) -> ([u64; 2], u64, u32, u32) {
+    (
+        of_range(walk.entries),
+        walk.count,
+        walk.flag_size,
+        walk.spare,
+    )
+}
+
+fn of_entry(entry: &GuardEntry) -> ([u64; 2], u32, u32) {
+    (of_range(entry.flag_bytes), entry.rva, entry.flags)
+}
+
+/// Each table by its number: exception handlers have no flags.
+#[test]
+fn tables_start_where_the_structure_says(rt: HostRuntime) -> Result<(), Fail> {
+    let image = of_config(image(X64));
+    let bytes = with_tables(rt.alloc(), 3)?;
+    for (table, flag_size) in [(0, 0), (1, 3), (2, 3), (3, 3), (4, 3)] {
+        let (answer, walk) = start(&bytes, &image, table);
+        let offset = 280 + u64::from(table);
+        let want = ([offset, 300 - offset], u64::from(table) + 1, flag_size, 0);
+        assert_eq!(rt; (answer, fields(&walk)), (DONE, want));
+    }
+    for table in [5, 6, u32::MAX] {
+        let (answer, walk) = start(&bytes, &image, table);
+        assert_eq!(rt; (answer, fields(&walk)), (NOTHING, fields(&NO_WALK)));
+    }
+    Ok(())
+}
+
+/// PE32 has other offsets, those of `IMAGE_LOAD_CONFIG_DIRECTORY32`, and addresses of 4 bytes.
+#[test]
+fn tables_of_pe32(rt: HostRuntime) -> Result<(), Fail> {
+    let image = Image {
+        width: 32,
+        base: 0x40_0000,
+        ..of_config(image(X64))
+    };
+    let mut numbers = [0; 75];
+    numbers[0] = 172;
+    let mut i = 0;
+    for offset in [64, 80, 104, 112, 164] {
+        numbers[offset / 4] = 0x40_1100 + i;
+        numbers[offset / 4 + 1] = i + 1;
+        i += 1;
+    }
+    let bytes = words(rt.alloc(), &numbers)?;
+    for table in 0..5 {
+        let (answer, walk) = start(&bytes, &image, table);
+        let offset = 256 + u64::from(table);
+        let want = ([offset, 300 - offset], u64::from(table) + 1, 0, 0);
+        assert_eq!(rt; (answer, fields(&walk)), (DONE, want));
+    }
+    Ok(())
+}
+
+/// No table without its address, its number of entries, or a structure that has both.
+#[test]
+fn absent_tables_and_refusals(rt: HostRuntime) -> Result<(), Fail> {
+    let there = of_config(image(X64));
+    let mut bytes = with_tables(rt.alloc(), 0)?;
+    for (length, image, want) in [
+        (300, there, DONE),
+        (280, there, DONE),
+        (279, there, NOTHING),
+        (263, there, NOTHING),
+        (4, there, NOTHING),
+        (3, there, SHORT),
+        (300, having(there, 10, directory(0, 0)), NOTHING),
+        (300, having(there, 10, directory(0x2000, 280)), UNMAPPED),
+        // In an image as loaded the address is the offset.
+        (300, in_mode(&having(there, 10, directory(0, 280)), 2), DONE),
+        (300, in_mode(&there, 1), DONE),
+    ] {
+        let (answer, walk) = start(&bytes[..length], &image, 4);
+        assert_eq!(rt; answer, want);
+        assert_eq!(rt; fields(&walk) == fields(&NO_WALK), want != DONE);
+    }
+    for (word, number, want) in [
+        (264 / 4, 0x4000_2FFF, DONE),
+        (264 / 4, 0x4000_3000, UNMAPPED),
+        (264 / 4, 0x3FFF_FFFF, DIRECTORY_VA_BELOW_BASE),
+        (272 / 4, 0, NOTHING),
+    ] {
+        let before = u32::from_le_bytes([
+            bytes[4 * word],
+            bytes[4 * word + 1],
+            bytes[4 * word + 2],
+            bytes[4 * word + 3],
+        ]);
+        bytes[4 * word..4 * word + 4].copy_from_slice(&u32::to_le_bytes(number));
+        let base = Image {
+            base: if number == 0x4000_2FFF {
+                0x1_4000_1000
+            } else {
+                0x1_4000_0000
+            },
+            ..there
+        };
+        let (answer, _) = start(&bytes, &base, 4);
+        assert_eq!(rt; answer, want);
+        bytes[4 * word..4 * word + 4].copy_from_slice(&before.to_le_bytes());
+    }
+    Ok(())
+}
+
+/// Where the address is mapped to an offset after the end of the bytes, the table has no entry there.
+#[test]
+fn tables_after_the_bytes(rt: HostRuntime) -> Result<(), Fail> {
+    let mut bytes = with_tables(rt.alloc(), 0)?;
+    bytes[264..268].copy_from_slice(&[0, 0x1F, 0, 0x40]);
+    let image = of_config(image(X64));
+    let (answer, mut walk) = start(&bytes, &image, 4);
+    assert_eq!(rt; (answer, fields(&walk)), (DONE, ([0xF00, 0], 5, 0, 0)));
+    let mut out = NO_ENTRY;
+    assert_eq!(rt; pe_c_next_guard_entry(&bytes, &mut walk, &mut out), SHORT);
+    assert_eq!(rt; fields(&walk), ([0, 0], 0, 0, 0));
+    Ok(())
+}
+
+/// Entries follow one another, each an RVA and then its flags.
+#[test]
+fn entries_one_a_step(rt: HostRuntime) -> Result<(), Fail> {
+    let bytes = with_tables(rt.alloc(), 0)?;
+    let mut walk = GuardEntries {
+        entries: range(280, 20),
+        count: 3,
+        flag_size: 3,
+        spare: 9,
+    };
+    let mut out = NO_ENTRY;
+    for (want, left) in [
+        (([284, 3], 0x0403_0201, 5), ([287, 13], 2, 3, 9)),
+        (([291, 3], 0x0B0A_0908, 12), ([294, 6], 1, 3, 9)),
+    ] {
+        assert_eq!(rt; pe_c_next_guard_entry(&bytes, &mut walk, &mut out), DONE);
+        assert_eq!(rt; (of_entry(&out), fields(&walk)), (want, left));
+    }
+    // the third needs 7 bytes, and 6 are left
+    assert_eq!(rt; pe_c_next_guard_entry(&bytes, &mut walk, &mut out), SHORT);
+    assert_eq!(rt; (out.rva, fields(&walk)), (0x0B0A_0908, ([0, 0], 0, 0, 0)));
+    assert_eq!(rt; pe_c_next_guard_entry(&bytes, &mut walk, &mut out), NOTHING);
+    // after the last entry the walk stays
+    let mut walk = GuardEntries {
+        entries: range(280, 20),
+        count: 1,
+        flag_size: 0,
+        spare: 0,
+    };
+    assert_eq!(rt; pe_c_next_guard_entry(&bytes, &mut walk, &mut out), DONE);
+    assert_eq!(rt; of_entry(&out), ([284, 0], 0x0403_0201, 0));
+    assert_eq!(rt; pe_c_next_guard_entry(&bytes, &mut walk, &mut out), NOTHING);
+    assert_eq!(rt; fields(&walk), ([284, 16], 0, 0, 0));
+    Ok(())
+}
+
+#[test]
+fn walks_over_entries_that_lie(rt: HostRuntime) -> Result<(), Fail> {
+    let bytes = with_tables(rt.alloc(), 0)?;
+    for entries in lies(300) {
+        let mut walk = GuardEntries {
+            entries,
+            count: 1,
+            flag_size: 0,
+            spare: 0,
+        };
+        let mut out = NO_ENTRY;
+        assert_eq!(rt; pe_c_next_guard_entry(&bytes, &mut walk, &mut out), SHORT);
+        assert_eq!(rt;
+            (of_entry(&out), fields(&walk)),
+            (of_entry(&NO_ENTRY), ([0, 0], 0, 0, 0))
+        );
+    }
+    for (count, flag_size) in [(u64::MAX, u32::MAX), (1, 17), (u64::MAX, 17)] {
+        let mut walk = GuardEntries {
+            entries: range(280, 20),
+            count,
+            flag_size,
+            spare: 0,
+        };
+        let mut out = NO_ENTRY;
+        assert_eq!(rt; pe_c_next_guard_entry(&bytes, &mut walk, &mut out), SHORT);
+    }
+    Ok(())
+}
+
+/// A list has what the steps return, and goes on where it stopped.
+#[test]
+fn entries_in_lists(rt: HostRuntime) -> Result<(), Fail> {
+    let bytes = with_tables(rt.alloc(), 0)?;
+    let image = image(X64);
+    let sections = sections();
+    let view = view(&bytes, &image, &sections);
+    let mut walk = GuardEntries {
+        entries: range(280, 20),
+        count: 6,
+        flag_size: 0,
+        spare: 0,
+    };
+    let mut entries = [NO_ENTRY; 3];
+    let mut written = 9;
+    assert_eq!(rt;
+        pe_c_list_guard_entries(&view, &mut walk, &mut [], &mut written),
+        ROOM
+    );
+    assert_eq!(rt; written, 9);
+    assert_eq!(rt;
+        pe_c_list_guard_entries(&view, &mut walk, &mut entries, &mut written),
+        DONE
+    );
+    assert_eq!(rt;
+        (written, entries[0].rva, entries[1].rva, entries[2].rva),
+        (3, 0x0403_0201, 0x0807_0605, 0x0C0B_0A09)
+    );
+    assert_eq!(rt;
+        pe_c_list_guard_entries(&view, &mut walk, &mut entries, &mut written),
+        DONE
+    );
+    assert_eq!(rt;
+        (written, entries[0].rva, entries[1].rva, entries[2].rva),
+        (2, 0x100F_0E0D, 0x1413_1211, 0x0C0B_0A09)
+    );
+    assert_eq!(rt;
+        pe_c_list_guard_entries(&view, &mut walk, &mut entries, &mut written),
+        SHORT
+    );
+    assert_eq!(rt; (written, fields(&walk)), (2, ([0, 0], 0, 0, 0)));
+    assert_eq!(rt;
+        pe_c_list_guard_entries(&view, &mut walk, &mut entries, &mut written),
+        DONE
+    );
+    assert_eq!(rt; written, 0);
+    Ok(())
+}
