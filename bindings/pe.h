@@ -2503,6 +2503,36 @@ uint32_t pe_c_list_libraries(const pe_c_view *view, pe_c_libraries *walk, pe_c_l
 uint32_t pe_c_list_imports(const pe_c_view *view, pe_c_imports *walk, pe_c_import *entries, size_t number_of_entries,
                            uint64_t *written) PE_C_RESULT(1, 2, 5);
 
+/* Room for what the next three calls find out of names and lists; what is in it has no meaning to callers. */
+typedef struct {
+    uint64_t start;
+    uint64_t end;
+    uint64_t text;
+} pe_c_run;
+
+PE_C_SIZE(pe_c_run, 24);
+
+/* Lists what pe_c_list_exports does, and reads the names together. With a run for each entry that the name table has left, or
+ * more, a call takes about as long as to sort these and to read each byte twice, however many of the names share a text: a hostile
+ * file may let all of them start in one long text. With fewer runs further names are read to their end each; none are needed.
+ * What is in `runs` after the call is left open. Errors: as pe_c_list_exports. */
+uint32_t pe_c_list_exports_together(const pe_c_view *view, pe_c_exports *walk, pe_c_run *runs, size_t number_of_runs,
+                                    pe_c_export *entries, size_t number_of_entries,
+                                    uint64_t *written) PE_C_RESULT(1, 2, 7);
+
+/* Lists what pe_c_list_libraries does, and reads the names together, and looks for the ends of the lists of imports together.
+ * With two runs for each library that is left, or more, this takes as long as said above, however many share a text or a list.
+ * What is in `runs` after the call is left open. Errors: as pe_c_list_libraries. */
+uint32_t pe_c_list_libraries_together(const pe_c_view *view, pe_c_libraries *walk, pe_c_run *runs, size_t number_of_runs,
+                                      pe_c_library *entries, size_t number_of_entries,
+                                      uint64_t *written) PE_C_RESULT(1, 2, 7);
+
+/* Lists what pe_c_list_imports does, and reads the names together, with a run for each import that is left, or more.
+ * What is in `runs` after the call is left open. Errors: as pe_c_list_imports. */
+uint32_t pe_c_list_imports_together(const pe_c_view *view, pe_c_imports *walk, pe_c_run *runs, size_t number_of_runs,
+                                    pe_c_import *entries, size_t number_of_entries,
+                                    uint64_t *written) PE_C_RESULT(1, 2, 7);
+
 /* Lists the leaves of a resource tree. Errors: PE_C_ROOM; those of pe_c_next_resource_leaf. */
 uint32_t pe_c_list_resource_leaves(const pe_c_view *view, pe_c_resource_walk *walk, pe_c_resource_leaf *entries,
                                    size_t number_of_entries, uint64_t *written) PE_C_RESULT(1, 2, 5);

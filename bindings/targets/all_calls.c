@@ -582,16 +582,25 @@ static void lists_of_names(const struct file *file)
     pe_c_libraries libraries = PE_C_EMPTY;
     pe_c_library library = PE_C_EMPTY;
     uint64_t next = 0;
-    if (pe_c_export_tables(VIEW, &tables) == PE_C_DONE)
+    pe_c_run runs[ROWS] = PE_C_EMPTY;
+    if (pe_c_export_tables(VIEW, &tables) == PE_C_DONE) {
+        pe_c_exports together = tables;
         LIST(pe_c_list_exports, pe_c_export, VIEW, &tables);
+        LIST(pe_c_list_exports_together, pe_c_export, VIEW, &together, runs, ROWS);
+    }
     if (pe_c_export_addresses(VIEW, &table) == PE_C_DONE)
         LIST(pe_c_list_export_addresses, pe_c_exported, VIEW, &table, &next);
     if (pe_c_import_libraries(VIEW, &libraries) != PE_C_DONE)
         return;
     pe_c_libraries walk = libraries;
     LIST(pe_c_list_libraries, pe_c_library, VIEW, &walk);
-    if (pe_c_next_library(VIEW, &libraries, &library) == PE_C_DONE)
+    walk = libraries;
+    LIST(pe_c_list_libraries_together, pe_c_library, VIEW, &walk, runs, ROWS);
+    if (pe_c_next_library(VIEW, &libraries, &library) == PE_C_DONE) {
+        pe_c_imports together = library.imports;
         LIST(pe_c_list_imports, pe_c_import, VIEW, &library.imports);
+        LIST(pe_c_list_imports_together, pe_c_import, VIEW, &together, runs, ROWS);
+    }
 }
 
 static void lists_of_functions(const struct file *file)

@@ -60,3 +60,4 @@ pub mod IndexFound
 pub mod IndexMaps
 pub mod RecordCodes
 pub mod SplitRooms
+mod TextRuns

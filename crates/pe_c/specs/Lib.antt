@@ -58,3 +58,4 @@ pub mod SectionIndexes
 pub mod Views
 pub mod WalkStarts
 pub mod Loaded
+pub mod TextRuns
