@@ -2533,6 +2533,32 @@ uint32_t pe_c_list_imports_together(const pe_c_view *view, pe_c_imports *walk, p
                                     pe_c_import *entries, size_t number_of_entries,
                                     uint64_t *written) PE_C_RESULT(1, 2, 7);
 
+/* A COFF symbol with its name. */
+typedef struct {
+    pe_c_symbol_entry symbol;
+    pe_c_range name;                /* UTF-8, not NUL-terminated; empty after an error */
+    uint32_t name_result;           /* what pe_c_symbol_name returns: PE_C_DONE, or the error of this name alone */
+    uint32_t spare;                 /* 0 */
+} pe_c_named_symbol;
+
+/* A walk over COFF symbols with their names: of an object what pe_c_coff_symbols and pe_c_coff_strings return. Without a string
+ * table the range is empty. */
+typedef struct {
+    pe_c_symbol_walk symbols;
+    pe_c_range strings;
+} pe_c_named_symbol_walk;
+
+PE_C_SIZE(pe_c_named_symbol, 72);
+PE_C_SIZE(pe_c_named_symbol_walk, 40);
+
+/* Lists the symbols of a walk as pe_c_next_symbol returns them, each with what pe_c_symbol_name returns of it. The names are read
+ * together, with a run for each entry that the symbol table has left, or more, as said above; the string table stays as it is.
+ * What is in `runs` after the call is left open.
+ * Errors: PE_C_ROOM; PE_C_SHORT where the symbol table is not inside the bytes. */
+uint32_t pe_c_list_symbols(const uint8_t *bytes, size_t length, pe_c_named_symbol_walk *walk, pe_c_run *runs,
+                           size_t number_of_runs, pe_c_named_symbol *entries, size_t number_of_entries,
+                           uint64_t *written) PE_C_RESULT(3, 8);
+
 /* Lists the leaves of a resource tree. Errors: PE_C_ROOM; those of pe_c_next_resource_leaf. */
 uint32_t pe_c_list_resource_leaves(const pe_c_view *view, pe_c_resource_walk *walk, pe_c_resource_leaf *entries,
                                    size_t number_of_entries, uint64_t *written) PE_C_RESULT(1, 2, 5);

@@ -696,6 +696,11 @@ static void symbols(const struct file *file, const pe_c_coff_header *coff)
     CALL(pe_c_coff_strings, strings, BYTES, coff, &strings);
     if (!IS_DONE(pe_c_coff_symbols, walk, BYTES, coff, &walk))
         return;
+    pe_c_run runs[ROWS] = PE_C_EMPTY;
+    pe_c_named_symbol_walk named = PE_C_EMPTY;
+    named.symbols = walk;
+    named.strings = strings;
+    LIST(pe_c_list_symbols, pe_c_named_symbol, BYTES, &named, runs, ROWS);
     WALK(ITEMS, pe_c_next_symbol, symbol, BYTES, &walk, &symbol) {
         CALL(pe_c_symbol_name, name, BYTES, &walk.table, &strings, symbol.index, &name);
         CALL(pe_c_symbol, symbol, BYTES, &walk.table, symbol.index + 1, &symbol);

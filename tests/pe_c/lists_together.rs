@@ -1,6 +1,9 @@
 //! Lists whose names are read together in a room of the caller: whatever the room has, they are those that are read by themselves.
 
-use super::made::{IMPORT_NAME, OVER, X64, image, of_range, range, sections, view};
+use super::made::{
+    IMPORT_NAME, OVER, SHORT, STRING_TABLE, X64, image, of_range, range, sections, view,
+};
+use crate::coff::{Symbol, SymbolWalk};
 use crate::exports::{Export, Exports};
 use crate::imports::{Import, Imports, Libraries, Library};
 use crate::lists::exports::{pe_c_list_exports, pe_c_list_exports_together};
@@ -8,6 +11,7 @@ use crate::lists::imports::{
     pe_c_list_imports, pe_c_list_imports_together, pe_c_list_libraries,
     pe_c_list_libraries_together,
 };
+use crate::lists::symbols::{NamedSymbol, NamedSymbolWalk, pe_c_list_symbols};
 use crate::ranges::Range;
 use crate::results::{DONE, ROOM};
 use crate::text_runs::Run;
@@ -152,7 +156,7 @@ const LIBRARIES: [(usize, &[u8]); 7] = [
     (0x38, &[0xC4, 0x10]),
     (0x44, &[0x01, 0x11, 0, 0, 0, 0x22]),
     (
-        0x180,
+        0xC0,
         &[
             1, 0, 0, 0, 0, 0, 0, 0, 2, 0, 0, 0, 0, 0, 0, 0, 3, 0, 0, 0, 0, 0, 0, 0, 0, 0, 0, 0, 0,
             0, 0, 0,
@@ -265,5 +269,124 @@ fn imports_together(rt: HostRuntime) -> Result<(), Fail> {
             entries.map(|it| of_range(it.name))
         );
     }
+    Ok(())
+}
+
+/// Seven entries of 18 bytes from 20h on: a symbol `abc` with an auxiliary record, and five with names in the string table.
+const SYMBOLS: [(usize, &[u8]); 7] = [
+    (0x20, b"abc"),
+    (0x30, &[2, 1]),
+    (0x48, &[0x10]),
+    (0x5A, &[0x58]),
+    (0x6C, &[0x57]),
+    (0x7E, &[2]),
+    (0x90, &[0x86]),
+];
+
+const NO_SYMBOL: NamedSymbol = NamedSymbol {
+    symbol: Symbol {
+        auxiliary: NO_RANGE,
+        index: 9,
+        name: [0; 8],
+        value: 0,
+        string_offset: 0,
+        section_number: 0,
+        typ: 0,
+        storage_class: 0,
+        number_of_aux_symbols: 0,
+        spare: 0,
+    },
+    name: NO_RANGE,
+    name_result: 7,
+    spare: 0,
+};
+
+/// A walk over the symbols, with a string table.
+fn symbols(table: Range, strings: Range) -> NamedSymbolWalk {
+    NamedSymbolWalk {
+        symbols: SymbolWalk { table, next: 0 },
+        strings,
+    }
+}
+
+#[test]
+fn symbols_with_their_names(rt: HostRuntime) -> Result<(), Fail> {
+    let bytes = with_texts(rt.alloc(), &SYMBOLS)?;
+    let (table, strings) = (range(0x20, 126), range(0xF0, 0x110));
+    let want = [
+        (0, [0x20, 3], DONE),
+        (2, [0x100, 82], DONE),
+        (3, [0x148, 10], DONE),
+        (4, [0, 0], STRING_TABLE),
+        (5, [0, 0], STRING_TABLE),
+        (6, [0x176, 59], DONE),
+        (9, [0, 0], 7),
+    ];
+    for room in 0..9 {
+        let mut runs = [RUN; 8];
+        let mut walk = symbols(table, strings);
+        for (most, first, count) in [(4, 0, 4), (7, 4, 2), (7, 6, 0)] {
+            let mut entries = [NO_SYMBOL; 7];
+            let mut written = 77;
+            let lent = &mut runs[..room.min(8)];
+            let answer = pe_c_list_symbols(
+                &bytes,
+                &mut walk,
+                lent,
+                &mut entries[..most],
+                &mut written,
+            );
+            assert_eq!(rt; (answer, written), (DONE, count as u64));
+            assert_eq!(rt; of_range(walk.strings), [0xF0, 0x110]);
+            for i in 0..7 {
+                let NamedSymbol {
+                    symbol,
+                    name,
+                    name_result,
+                    ..
+                } = entries[i];
+                let expected = if i < count { want[first + i] } else { want[6] };
+                assert_eq!(rt; (symbol.index, of_range(name), name_result), expected);
+            }
+            if first == 0 {
+                let Symbol {
+                    auxiliary,
+                    storage_class,
+                    string_offset,
+                    ..
+                } = entries[0].symbol;
+                assert_eq!(rt;
+                    (of_range(auxiliary), storage_class, string_offset),
+                    ([0x32, 18], 2, 0)
+                );
+                assert_eq!(rt; entries[1].symbol.string_offset, 0x10);
+            }
+        }
+        assert_eq!(rt; walk.symbols.next, 7);
+    }
+    Ok(())
+}
+
+#[test]
+fn symbols_and_strings_outside_of_the_bytes(rt: HostRuntime) -> Result<(), Fail> {
+    let bytes = with_texts(rt.alloc(), &SYMBOLS)?;
+    let mut walk = symbols(range(0x20, 126), range(0xF0, 0x111));
+    let (mut entries, mut written) = ([NO_SYMBOL; 7], 77);
+    let answer = pe_c_list_symbols(&bytes, &mut walk, &mut [], &mut entries, &mut written);
+    assert_eq!(rt; (answer, written), (DONE, 6));
+    assert_eq!(rt;
+        entries.map(|it| it.name_result),
+        [SHORT, SHORT, SHORT, SHORT, SHORT, SHORT, 7]
+    );
+    let mut walk = symbols(range(0x20, 0x1E1), range(0xF0, 0x110));
+    let (mut entries, mut written) = ([NO_SYMBOL; 1], 77);
+    let answer = pe_c_list_symbols(&bytes, &mut walk, &mut [], &mut [], &mut written);
+    assert_eq!(rt; (answer, written), (ROOM, 77));
+    let answer = pe_c_list_symbols(&bytes, &mut walk, &mut [], &mut entries, &mut written);
+    assert_eq!(rt;
+        (answer, written, of_range(walk.symbols.table)),
+        (SHORT, 77, OVER)
+    );
+    assert_eq!(rt; entries[0].name_result, 7);
     Ok(())
 }

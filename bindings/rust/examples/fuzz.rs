@@ -494,6 +494,15 @@ fn read_by_lies(bytes: &[u8], random: &mut Random, seen: &mut Seen) {
     walk!(pe_c_next_symbol(sys::SymbolWalk { table: range, next: index }), SymbolEntry);
     call!(pe_c_symbol_name(&range, &strings, index), Range);
     call!(pe_c_symbol_name(&strings, &range, index), Range);
+    let mut named = sys::NamedSymbolWalk { symbols: sys::SymbolWalk { table: range, next: index }, strings };
+    let mut runs = [sys::Run { start: index, end: 0, text: 9 }; 3];
+    let (mut symbols, mut written) = ([sys::NamedSymbol::default(); 3], 0);
+    // SAFETY: as above.
+    let answer = unsafe {
+        let (room, most) = (runs.as_mut_ptr(), symbols.len());
+        sys::pe_c_list_symbols(bytes.as_ptr(), bytes.len(), &mut named, room, 3, symbols.as_mut_ptr(), most, &mut written)
+    };
+    assert!(written <= 3 && (answer == 0 || written == 0) && named.strings == strings);
     call!(pe_c_te(), TeHeader);
     call!(pe_c_te_debug_entries(&te), Range);
     call!(pe_c_te_first_debug_entry(&te, few % 24), DebugEntry);

@@ -1555,6 +1555,26 @@ SymbolWalk, 24 {
     next: u64,
 });
 record!(
+/// A COFF symbol with its name.
+NamedSymbol, 72 {
+    /// The symbol.
+    symbol: SymbolEntry,
+    /// UTF-8, without its final zero; empty after an error.
+    name: Range,
+    /// What [`pe_c_symbol_name`] returns of it.
+    name_result: u32,
+    /// 0.
+    spare: u32,
+});
+record!(
+/// A walk over COFF symbols with their names.
+NamedSymbolWalk, 40 {
+    /// What [`pe_c_coff_symbols`] returns.
+    symbols: SymbolWalk,
+    /// What [`pe_c_coff_strings`] returns.
+    strings: Range,
+});
+record!(
 /// The header of a TE image. Its RVAs are reduced by `rva_offset`.
 TeHeader, 48 {
     /// The preferred virtual address of the image.
@@ -2072,6 +2092,17 @@ extern "C" {
         runs: *mut Run,
         number_of_runs: usize,
         entries: *mut Import,
+        number_of_entries: usize,
+        written: *mut u64,
+    ) -> u32;
+    /// Lists the next COFF symbols with their names, which are read together.
+    pub fn pe_c_list_symbols(
+        bytes: *const u8,
+        length: usize,
+        walk: *mut NamedSymbolWalk,
+        runs: *mut Run,
+        number_of_runs: usize,
+        entries: *mut NamedSymbol,
         number_of_entries: usize,
         written: *mut u64,
     ) -> u32;

@@ -59,3 +59,4 @@ pub mod Views
 pub mod WalkStarts
 pub mod Loaded
 pub mod TextRuns
+pub mod NamedSymbols

@@ -166,7 +166,7 @@ fn keep_runs(bytes: &[u8], room: &mut [Run]) -> usize
 /// Bytes in which texts are looked up.
 #[derive(Clone, Copy)]
 pub struct Texts<'a> {
-    bytes: &'a [u8],
+    pub bytes: &'a [u8],
     /// Where they are sorted by start, a text of one of them costs as much as a short one.
     runs: &'a [Run],
     ghost are: { All (IsTextRun bytes.now) runs.now },
