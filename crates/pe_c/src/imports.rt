@@ -296,11 +296,12 @@ pub fn import_step(names: &NamedView<'_>, walk: &mut Imports) -> Result<Option<I
     }
 }
 
-/// One of the records that a walk has left, by its index among them.
+/// One of the records that a walk may have left, by its index among them. None at the record that ends the directory.
 fn record_left(view: &View, walk: &Libraries, index: usize) -> Option<ImportDirectoryEntry> {
     let offset = index.saturating_mul(SIZE_OF_RECORD as usize);
     let at = (walk.next as usize).saturating_add(offset);
-    ImportDirectoryEntry::parse(view.bytes, at).ok()
+    let entry = ImportDirectoryEntry::parse(view.bytes, at).ok()?;
+    if entry.is_last() { None } else { Some(entry) }
 }
 
 /// Writes the offsets of the names of the next libraries to a room, as starts, as far as it has room, and returns how many they are.

@@ -3,14 +3,14 @@
 ghost use Rattle.std.specs.Prelude.{◌≡◌, ◌<◌, ◌^◌, IfOk, IfSome, Ok};
 ghost use Rattle.pe_core.specs.Refusals.{answer_of};
 ghost use Rattle.pe_c.specs.HandsOut.{result_number};
-ghost use Rattle.pe_c.specs.Lists.{HandsOutList, Numbered};
+ghost use Rattle.pe_c.specs.Lists.{HandsOutList, Numbered, by_number};
 ghost use Rattle.pe_c.specs.NamedSymbols.{StepsNamedSymbols, named_after, named_at, named_by};
 ghost use Rattle.pe_c.specs.Ranges.{bytes_at};
 
 use crate::coff::{
     Symbol, SymbolWalk, put_string_offsets, symbol_at, symbol_name_at, symbol_name_by,
 };
-use crate::lists::{Steps, hand_out_list, numbered};
+use crate::lists::{Steps, hand_out_list};
 use crate::ranges::{NO_BYTES, Range, slice_of};
 use crate::results::{DONE, NOTHING, number_of};
 use crate::text_runs::{Run, Texts};
@@ -56,21 +56,25 @@ fn named_by(symbol: Symbol, given: Result<Option<Range>>) -> NamedSymbol
     }
 }
 
-/// The walk after a step.
-fn named_after(walk: &SymbolWalk, given: &Result<Option<NamedSymbol>>) -> SymbolWalk
-    requires { IfOk given.now (λ o. IfSome o (λ x. walk.now.next < 2 ^ 62)) }
-    ensures { result ≡ named_after walk.now (answer_of given.now) }
+/// What a step returns, by what is read at the walk, which moves past it.
+fn next_named(
+    walk: &mut SymbolWalk,
+    given: Result<Option<NamedSymbol>>,
+) -> std::result::Result<Option<NamedSymbol>, u32>
+    requires { IfOk given (λ o. IfSome o (λ x. walk.old.next < 2 ^ 62)) }
+    ensures value { result ≡ by_number result_number (answer_of given) }
+    ensures walk { walk.new ≡ named_after walk.old (answer_of given) }
 {
     match given {
-        Ok(Some(found)) => SymbolWalk {
-            table: walk.table,
-            next: walk.next + 1 + u64::from(found.symbol.number_of_aux_symbols),
-        },
-        Ok(None) => *walk,
-        Err(_) => SymbolWalk {
-            table: NO_BYTES,
-            next: walk.next,
-        },
+        Ok(Some(found)) => {
+            walk.next = walk.next + 1 + u64::from(found.symbol.number_of_aux_symbols);
+            Ok(Some(found))
+        }
+        Ok(None) => Ok(None),
+        Err(error) => {
+            walk.table = NO_BYTES;
+            Err(number_of(&error))
+        }
     }
 }
 
@@ -103,8 +107,7 @@ impl<'a> Steps<SymbolWalk, NamedSymbol> for Alone<'a> {
 
     fn step(&self, walk: &mut SymbolWalk) -> std::result::Result<Option<NamedSymbol>, u32> {
         let given = self.named_at(walk);
-        *walk = named_after(walk, &given);
-        numbered(given)
+        next_named(walk, given)
     }
 }
 
@@ -140,8 +143,7 @@ impl<'a> Steps<SymbolWalk, NamedSymbol> for Together<'a> {
 
     fn step(&self, walk: &mut SymbolWalk) -> std::result::Result<Option<NamedSymbol>, u32> {
         let given = self.named_at(walk);
-        *walk = named_after(walk, &given);
-        numbered(given)
+        next_named(walk, given)
     }
 }
 
