@@ -2629,6 +2629,62 @@ uint32_t pe_c_list_libraries(const pe_c_view *view, pe_c_libraries *walk, pe_c_l
 uint32_t pe_c_list_imports(const pe_c_view *view, pe_c_imports *walk, pe_c_import *entries, size_t number_of_entries,
                            uint64_t *written) PE_C_RESULT(1, 2, 5);
 
+/* Room for what the next three calls find out of names and lists; what is in it has no meaning to callers. */
+typedef struct {
+    uint64_t start;
+    uint64_t end;
+    uint64_t text;
+} pe_c_run;
+
+PE_C_SIZE(pe_c_run, 24);
+
+/* Lists what pe_c_list_exports does, and reads the names together. With a run for each entry that the name table has left, or
+ * more, a call takes about as long as to sort these and to read each byte twice, however many of the names share a text: a hostile
+ * file may let all of them start in one long text. With fewer runs further names are read to their end each; none are needed.
+ * What is in `runs` after the call is left open. Errors: as pe_c_list_exports. */
+uint32_t pe_c_list_exports_together(const pe_c_view *view, pe_c_exports *walk, pe_c_run *runs, size_t number_of_runs,
+                                    pe_c_export *entries, size_t number_of_entries,
+                                    uint64_t *written) PE_C_RESULT(1, 2, 7);
+
+/* Lists what pe_c_list_libraries does, and reads the names together, and looks for the ends of the lists of imports together.
+ * With two runs for each library that is left, or more, this takes as long as said above, however many share a text or a list.
+ * What is in `runs` after the call is left open. Errors: as pe_c_list_libraries. */
+uint32_t pe_c_list_libraries_together(const pe_c_view *view, pe_c_libraries *walk, pe_c_run *runs, size_t number_of_runs,
+                                      pe_c_library *entries, size_t number_of_entries,
+                                      uint64_t *written) PE_C_RESULT(1, 2, 7);
+
+/* Lists what pe_c_list_imports does, and reads the names together, with a run for each import that is left, or more.
+ * What is in `runs` after the call is left open. Errors: as pe_c_list_imports. */
+uint32_t pe_c_list_imports_together(const pe_c_view *view, pe_c_imports *walk, pe_c_run *runs, size_t number_of_runs,
+                                    pe_c_import *entries, size_t number_of_entries,
+                                    uint64_t *written) PE_C_RESULT(1, 2, 7);
+
+/* A COFF symbol with its name. */
+typedef struct {
+    pe_c_symbol_entry symbol;
+    pe_c_range name;                /* UTF-8, not NUL-terminated; empty after an error */
+    uint32_t name_result;           /* what pe_c_symbol_name returns: PE_C_DONE, or the error of this name alone */
+    uint32_t spare;                 /* 0 */
+} pe_c_named_symbol;
+
+/* A walk over COFF symbols with their names: of an object what pe_c_coff_symbols and pe_c_coff_strings return. Without a string
+ * table the range is empty. */
+typedef struct {
+    pe_c_symbol_walk symbols;
+    pe_c_range strings;
+} pe_c_named_symbol_walk;
+
+PE_C_SIZE(pe_c_named_symbol, 72);
+PE_C_SIZE(pe_c_named_symbol_walk, 40);
+
+/* Lists the symbols of a walk as pe_c_next_symbol returns them, each with what pe_c_symbol_name returns of it. The names are read
+ * together, with a run for each entry that the symbol table has left, or more, as said above; the string table stays as it is.
+ * What is in `runs` after the call is left open.
+ * Errors: PE_C_ROOM; PE_C_SHORT where the symbol table is not inside the bytes. */
+uint32_t pe_c_list_symbols(const uint8_t *bytes, size_t length, pe_c_named_symbol_walk *walk, pe_c_run *runs,
+                           size_t number_of_runs, pe_c_named_symbol *entries, size_t number_of_entries,
+                           uint64_t *written) PE_C_RESULT(3, 8);
+
 /* Lists the leaves of a resource tree. Errors: PE_C_ROOM; those of pe_c_next_resource_leaf. */
 uint32_t pe_c_list_resource_leaves(const pe_c_view *view, pe_c_resource_walk *walk, pe_c_resource_leaf *entries,
                                    size_t number_of_entries, uint64_t *written) PE_C_RESULT(1, 2, 5);

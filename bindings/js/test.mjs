@@ -573,6 +573,11 @@ test('a list in one call has what its walk has, and starts where that is', () =>
   assert.deepEqual(listed(image, 'pe_c_list_imports', { walk: structuredClone(dll.imports) }), [...image.imports(dll)]);
   assert.deepEqual(listed(delayed, 'pe_c_list_delayed_functions', { walk: structuredClone(late.functions) }),
     [...delayed.delayedFunctions(late)]);
+  const together = (call, walk) => listed(image, `pe_c_list_${call}_together`, { walk, runs: [{}, {}] });
+  assert.deepEqual(together('libraries', image.call('pe_c_import_libraries')), [...image.list('libraries')]);
+  assert.deepEqual(together('imports', structuredClone(dll.imports)), [...image.imports(dll)]);
+  const names = opened('exports'), tables = names.call('pe_c_export_tables');
+  assert.deepEqual(listed(names, 'pe_c_list_exports_together', { walk: tables, runs: [{}] }), [...names.list('exports')]);
   const moved = opened('relocations'), [block] = moved.list('relocationBlocks');
   assert.deepEqual(listed(moved, 'pe_c_list_relocations', { page_rva: block.page_rva, walk: { ...block.entries } }),
     [...moved.relocations(block)]);

@@ -626,16 +626,25 @@ static void lists_of_names(const struct file *file)
     pe_c_libraries libraries = PE_C_EMPTY;
     pe_c_library library = PE_C_EMPTY;
     uint64_t next = 0;
-    if (pe_c_export_tables(VIEW, &tables) == PE_C_DONE)
+    pe_c_run runs[ROWS] = PE_C_EMPTY;
+    if (pe_c_export_tables(VIEW, &tables) == PE_C_DONE) {
+        pe_c_exports together = tables;
         LIST(pe_c_list_exports, pe_c_export, VIEW, &tables);
+        LIST(pe_c_list_exports_together, pe_c_export, VIEW, &together, runs, ROWS);
+    }
     if (pe_c_export_addresses(VIEW, &table) == PE_C_DONE)
         LIST(pe_c_list_export_addresses, pe_c_exported, VIEW, &table, &next);
     if (pe_c_import_libraries(VIEW, &libraries) != PE_C_DONE)
         return;
     pe_c_libraries walk = libraries;
     LIST(pe_c_list_libraries, pe_c_library, VIEW, &walk);
-    if (pe_c_next_library(VIEW, &libraries, &library) == PE_C_DONE)
+    walk = libraries;
+    LIST(pe_c_list_libraries_together, pe_c_library, VIEW, &walk, runs, ROWS);
+    if (pe_c_next_library(VIEW, &libraries, &library) == PE_C_DONE) {
+        pe_c_imports together = library.imports;
         LIST(pe_c_list_imports, pe_c_import, VIEW, &library.imports);
+        LIST(pe_c_list_imports_together, pe_c_import, VIEW, &together, runs, ROWS);
+    }
 }
 
 static void lists_of_functions(const struct file *file)
@@ -731,6 +740,11 @@ static void symbols(const struct file *file, const pe_c_coff_header *coff)
     CALL(pe_c_coff_strings, strings, BYTES, coff, &strings);
     if (!IS_DONE(pe_c_coff_symbols, walk, BYTES, coff, &walk))
         return;
+    pe_c_run runs[ROWS] = PE_C_EMPTY;
+    pe_c_named_symbol_walk named = PE_C_EMPTY;
+    named.symbols = walk;
+    named.strings = strings;
+    LIST(pe_c_list_symbols, pe_c_named_symbol, BYTES, &named, runs, ROWS);
     WALK(ITEMS, pe_c_next_symbol, symbol, BYTES, &walk, &symbol) {
         CALL(pe_c_symbol_name, name, BYTES, &walk.table, &strings, symbol.index, &name);
         CALL(pe_c_symbol, symbol, BYTES, &walk.table, symbol.index + 1, &symbol);

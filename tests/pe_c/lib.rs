@@ -22,6 +22,7 @@ mod headers;
 mod image;
 mod imports;
 mod lists;
+mod lists_together;
 mod load_config;
 mod loaded;
 mod made;

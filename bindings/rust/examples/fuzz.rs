@@ -326,6 +326,29 @@ fn read_by_lies(bytes: &[u8], random: &mut Random, seen: &mut Seen) {
     list!(pe_c_list_delayed_functions(; sys::DelayedFunctions { left: range, attributes: few, spare: 1 }), DelayedFunction);
     list!(pe_c_list_pogo_entries(; range), PogoEntry);
     list!(pe_c_list_guard_entries(; sys::GuardEntries { entries: range, count: index, flag_size: few, spare: 1 }), GuardEntry);
+    macro_rules! together {
+        ($name:ident($walk:expr), $out:ident) => {{
+            let mut walk = $walk;
+            for room in (0..4).cycle().take(MOST) {
+                let mut runs = [sys::Run { start: index, end: 0, text: 9 }; 4];
+                let mut entries = [sys::$out::default(); 3];
+                let mut written = 0;
+                // SAFETY: as above.
+                let answer = unsafe {
+                    sys::$name(&view, &mut walk, runs.as_mut_ptr(), 4 - room, entries.as_mut_ptr(), room, &mut written)
+                };
+                assert!(written <= room as u64 && (answer == 0 || written == 0));
+                assert!(entries[written as usize..].iter().all(|it| *it == sys::$out::default()));
+                if room > 0 && written == 0 {
+                    break;
+                }
+            }
+        }};
+    }
+    together!(pe_c_list_exports_together(names), Export);
+    let libraries = sys::Libraries { next: range.offset, ..sys::Libraries::default() };
+    together!(pe_c_list_libraries_together(libraries), Library);
+    together!(pe_c_list_imports_together(sys::Imports { left: range, rva: index }), Import);
     let (mut record, mut codes, mut written) = (sys::Record::default(), [sys::Code::default(); 3], 0);
     let room = few as usize % 4;
     // SAFETY: as above.
@@ -554,6 +577,15 @@ fn read_by_lies(bytes: &[u8], random: &mut Random, seen: &mut Seen) {
     walk!(pe_c_next_symbol(sys::SymbolWalk { table: range, next: index }), SymbolEntry);
     call!(pe_c_symbol_name(&range, &strings, index), Range);
     call!(pe_c_symbol_name(&strings, &range, index), Range);
+    let mut named = sys::NamedSymbolWalk { symbols: sys::SymbolWalk { table: range, next: index }, strings };
+    let mut runs = [sys::Run { start: index, end: 0, text: 9 }; 3];
+    let (mut symbols, mut written) = ([sys::NamedSymbol::default(); 3], 0);
+    // SAFETY: as above.
+    let answer = unsafe {
+        let (room, most) = (runs.as_mut_ptr(), symbols.len());
+        sys::pe_c_list_symbols(bytes.as_ptr(), bytes.len(), &mut named, room, 3, symbols.as_mut_ptr(), most, &mut written)
+    };
+    assert!(written <= 3 && (answer == 0 || written == 0) && named.strings == strings);
     call!(pe_c_te(), TeHeader);
     call!(pe_c_te_debug_entries(&te), Range);
     call!(pe_c_te_first_debug_entry(&te, few % 24), DebugEntry);

@@ -124,11 +124,17 @@ impl<'a> Image<'a> {
     }
 }
 
+/// So many records, for a call to fill.
+pub(crate) fn room_for<T: Clone>(count: usize, value: T) -> Result<Vec<T>, Error> {
+    let mut room = Vec::new();
+    room.try_reserve_exact(count).map_err(|_| Error::MEMORY)?;
+    room.resize(count, value);
+    Ok(room)
+}
+
 /// Section headers that a call writes.
 pub(crate) fn sections_of(count: usize, call: impl FnOnce(*mut Section, usize) -> u32) -> Result<Vec<Section>, Error> {
-    let mut sections = Vec::new();
-    sections.try_reserve_exact(count).map_err(|_| Error::MEMORY)?;
-    sections.resize(count, Section::default());
+    let mut sections = room_for(count, Section::default())?;
     Error::of(call(sections.as_mut_ptr(), count)).map(|()| sections)
 }
 
@@ -163,6 +169,35 @@ impl<'a> Symbols<'a> {
         Some(Symbol { tables: self.tables, entry })
     }
 
+    /// The symbols that are left, each with its name, which are read together: this takes about as long as to read both tables and
+    /// to sort the names in the string table, where [`Symbol::name`] of each reads a string that many names share as often.
+    ///
+    /// # Errors
+    ///
+    /// [`Error::MEMORY`] where 96 bytes for each entry that is left cannot be allocated. The error of a name is its own:
+    /// that of [`Symbol::name`].
+    pub fn named(self) -> Result<Vec<NamedSymbol<'a>>, Error> {
+        let Tables { bytes, strings, .. } = self.tables;
+        let symbols = *self.walk.left();
+        let left = (symbols.table.length / 18).saturating_sub(symbols.next) as usize;
+        let mut walk = sys::NamedSymbolWalk { symbols, strings };
+        let mut runs = room_for(left, sys::Run::default())?;
+        let mut entries = room_for(left.max(1), sys::NamedSymbol::default())?;
+        let mut written = 0;
+        // SAFETY: the pointers and the lengths are those of a slice and of two vectors; the walk and `written` are lent for the call.
+        Error::of(unsafe {
+            let (lent, room) = (runs.as_mut_ptr(), entries.as_mut_ptr());
+            sys::pe_c_list_symbols(bytes.as_ptr(), bytes.len(), &mut walk, lent, runs.len(), room, entries.len(), &mut written)
+        })?;
+        let mut found = Vec::new();
+        found.try_reserve_exact(written as usize).map_err(|_| Error::MEMORY)?;
+        for it in &entries[..written as usize] {
+            let name = Error::of(it.name_result).and_then(|()| bytes_of(it.name, bytes));
+            found.push(NamedSymbol { symbol: Symbol { tables: self.tables, entry: it.symbol }, name });
+        }
+        Ok(found)
+    }
+
     /// The table: entries of 18 bytes.
     pub fn table(&self) -> &'a [u8] {
         self.tables.symbols.of(self.tables.bytes).unwrap_or_default()
@@ -185,6 +220,15 @@ impl<'a> Iterator for Symbols<'a> {
 }
 
 impl FusedIterator for Symbols<'_> {}
+
+/// A COFF symbol with its name, as [`Symbol::name`] returns it.
+#[derive(Clone, Copy, Debug)]
+pub struct NamedSymbol<'a> {
+    /// The symbol.
+    pub symbol: Symbol<'a>,
+    /// UTF-8, without its final zero.
+    pub name: Result<&'a [u8], Error>,
+}
 
 /// A COFF symbol. The fields of its entry are those of [`SymbolEntry`](sys::SymbolEntry).
 #[derive(Clone, Copy)]

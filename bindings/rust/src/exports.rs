@@ -48,7 +48,9 @@ impl<'a> Iterator for Exports<'_, 'a> {
     type Item = Result<Export<'a>, Error>;
 
     fn next(&mut self) -> Option<Self::Item> {
-        let found = match self.0.step(sys::pe_c_list_exports)? {
+        // All at once: those that are skipped have runs too.
+        let most = |walk: &sys::Exports, _| (walk.names.length / 4).saturating_sub(walk.next) as usize;
+        let found = match self.0.step_together(sys::pe_c_list_exports, sys::pe_c_list_exports_together, 1, most)? {
             Ok(found) => found,
             Err(error) => return Some(Err(error)),
         };

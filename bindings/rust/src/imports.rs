@@ -4,7 +4,7 @@
 
 use crate::image::{bytes_of, Error, Image};
 use crate::sys;
-use crate::walk::ImageList;
+use crate::walk::{ImageList, List, Together, MOST};
 use core::iter::FusedIterator;
 
 /// A DLL that an image imports from.
@@ -61,7 +61,10 @@ impl<'i, 'a> Iterator for Libraries<'i, 'a> {
 
     fn next(&mut self) -> Option<Self::Item> {
         let image = self.0.image;
-        let found: Result<sys::Library, Error> = self.0.step(sys::pe_c_list_libraries)?;
+        // Nothing says how many are left: four times as many as there were.
+        let most = |_: &sys::Libraries, taken: usize| (4 * taken).min(MOST);
+        let (call, together) = (sys::pe_c_list_libraries as List<_, _>, sys::pe_c_list_libraries_together as Together<_, _>);
+        let found: Result<sys::Library, Error> = self.0.step_together(call, together, 2, most)?;
         Some(found.and_then(|raw| {
             let name = bytes_of(raw.name, image.bytes())?;
             Ok(Library { image, name, raw })
@@ -94,7 +97,8 @@ impl<'a> Iterator for Imports<'_, 'a> {
 
     fn next(&mut self) -> Option<Self::Item> {
         let bytes = self.0.image.bytes();
-        let found = self.0.step(sys::pe_c_list_imports)?;
+        let most = |walk: &sys::Imports, _| (walk.left.length / 4).min(MOST as u64) as usize;
+        let found = self.0.step_together(sys::pe_c_list_imports, sys::pe_c_list_imports_together, 1, most)?;
         Some(found.and_then(|found| {
             let name = bytes_of(found.name, bytes)?;
             Ok(Import { name: (found.has_name != 0).then_some(name), ordinal: found.ordinal, rva: found.rva })

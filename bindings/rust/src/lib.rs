@@ -126,7 +126,7 @@ pub use arm64::{
 pub use bound_imports::{BoundForwarder, BoundForwarders, BoundImport, BoundImports};
 pub use certificates::{Certificate, Certificates};
 pub use clr::{Clr, Metadata, MetadataStream, MetadataStreams};
-pub use coff::{Coff, Symbol, Symbols};
+pub use coff::{Coff, NamedSymbol, Symbol, Symbols};
 pub use debug::{DebugEntries, EmbeddedPdb, Pdb20, PdbChecksum, Pogo, PogoEntries, PogoEntry, Repro, SymbolKey};
 pub use delay_imports::{DelayImport, DelayImports, DelayedFunction, DelayedFunctions};
 pub use dump::{Dump, DumpContext, DumpMemory64, DumpRecords, DumpRegisters};

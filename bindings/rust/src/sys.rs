@@ -148,6 +148,16 @@ IndexEntry, 16 {
     /// The index of the section that maps them, plus 1; 0 where none does.
     section: u64,
 });
+record!(
+/// Room for what the calls that read names together find out; what is in it has no meaning to callers.
+Run, 24 {
+    /// The offset of a name.
+    start: u64,
+    /// The offset of the zero after it.
+    end: u64,
+    /// Where the longest text starts that ends there.
+    text: u64,
+});
 /// An image as calls take it.
 #[repr(C)]
 #[derive(Clone, Copy, Debug)]
@@ -1603,6 +1613,26 @@ SymbolWalk, 24 {
     next: u64,
 });
 record!(
+/// A COFF symbol with its name.
+NamedSymbol, 72 {
+    /// The symbol.
+    symbol: SymbolEntry,
+    /// UTF-8, without its final zero; empty after an error.
+    name: Range,
+    /// What [`pe_c_symbol_name`] returns of it.
+    name_result: u32,
+    /// 0.
+    spare: u32,
+});
+record!(
+/// A walk over COFF symbols with their names.
+NamedSymbolWalk, 40 {
+    /// What [`pe_c_coff_symbols`] returns.
+    symbols: SymbolWalk,
+    /// What [`pe_c_coff_strings`] returns.
+    strings: Range,
+});
+record!(
 /// The header of a TE image. Its RVAs are reduced by `rva_offset`.
 TeHeader, 48 {
     /// The preferred virtual address of the image.
@@ -2141,6 +2171,47 @@ extern "C" {
         view: *const View,
         walk: *mut Imports,
         entries: *mut Import,
+        number_of_entries: usize,
+        written: *mut u64,
+    ) -> u32;
+    /// Lists the next exports that have a name, and reads the names together.
+    pub fn pe_c_list_exports_together(
+        view: *const View,
+        walk: *mut Exports,
+        runs: *mut Run,
+        number_of_runs: usize,
+        entries: *mut Export,
+        number_of_entries: usize,
+        written: *mut u64,
+    ) -> u32;
+    /// Lists the next libraries, and reads the names together, and the ends of their lists.
+    pub fn pe_c_list_libraries_together(
+        view: *const View,
+        walk: *mut Libraries,
+        runs: *mut Run,
+        number_of_runs: usize,
+        entries: *mut Library,
+        number_of_entries: usize,
+        written: *mut u64,
+    ) -> u32;
+    /// Lists the next imports of a library, and reads the names together.
+    pub fn pe_c_list_imports_together(
+        view: *const View,
+        walk: *mut Imports,
+        runs: *mut Run,
+        number_of_runs: usize,
+        entries: *mut Import,
+        number_of_entries: usize,
+        written: *mut u64,
+    ) -> u32;
+    /// Lists the next COFF symbols with their names, which are read together.
+    pub fn pe_c_list_symbols(
+        bytes: *const u8,
+        length: usize,
+        walk: *mut NamedSymbolWalk,
+        runs: *mut Run,
+        number_of_runs: usize,
+        entries: *mut NamedSymbol,
         number_of_entries: usize,
         written: *mut u64,
     ) -> u32;

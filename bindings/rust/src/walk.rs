@@ -1,6 +1,9 @@
 //! What all walks share: the call of a step, and that a walk is over after its end or an error.
 
+use crate::coff::room_for;
 use crate::image::{returned, Error, Image, Look as ImageLook};
+use crate::sys::{Run, View};
+use alloc::vec::Vec;
 
 /// A call that takes the bytes, a record and a number, and returns a record.
 pub(crate) type Look<M, N, T> = unsafe extern "C" fn(*const u8, usize, *const M, N, *mut T) -> u32;
@@ -58,6 +61,11 @@ pub(crate) struct Walk<'a, W> {
 impl<'a, W> Walk<'a, W> {
     pub fn new(bytes: &'a [u8], walk: W) -> Self {
         Walk { bytes, walk, is_over: false }
+    }
+
+    /// What is left.
+    pub fn left(&self) -> &W {
+        &self.walk
     }
 
     /// The next item.
@@ -120,8 +128,15 @@ impl<'i, 'a, W> ImageWalk<'i, 'a, W> {
 /// How many items a walk takes a call.
 const ROOM: usize = 16;
 
+/// From so many names on these are read together, of which each call takes so many where all of them are returned.
+const MANY: usize = 256;
+pub(crate) const MOST: usize = 1 << 16;
+
 /// A call that writes items to an array, and moves a walk past them.
-pub(crate) type List<W, T> = unsafe extern "C" fn(*const crate::sys::View, *mut W, *mut T, usize, *mut u64) -> u32;
+pub(crate) type List<W, T> = unsafe extern "C" fn(*const View, *mut W, *mut T, usize, *mut u64) -> u32;
+
+/// The same of items whose names are read together, with runs for these.
+pub(crate) type Together<W, T> = unsafe extern "C" fn(*const View, *mut W, *mut Run, usize, *mut T, usize, *mut u64) -> u32;
 
 /// A walk over an image that takes several items a call. Its items are those of the steps, one after the other.
 #[derive(Clone)]
@@ -129,8 +144,12 @@ pub(crate) struct ImageList<'i, 'a, W, T> {
     pub image: &'i Image<'a>,
     walk: W,
     items: [T; ROOM],
+    /// What the last call wrote in place of these, if it read names together.
+    many: Vec<T>,
     /// Of the items those that are not returned yet.
     left: core::ops::Range<usize>,
+    /// How many items were written by all calls.
+    taken: usize,
     is_over: bool,
 }
 
@@ -148,24 +167,66 @@ impl<W: core::fmt::Debug, T> core::fmt::Debug for ImageList<'_, '_, W, T> {
 
 impl<'i, 'a, W, T: Copy + Default> ImageList<'i, 'a, W, T> {
     pub fn new(image: &'i Image<'a>, walk: W) -> Self {
-        ImageList { image, walk, items: [T::default(); ROOM], left: 0..0, is_over: false }
+        ImageList { image, walk, items: [T::default(); ROOM], many: Vec::new(), left: 0..0, taken: 0, is_over: false }
+    }
+
+    /// Makes a call, and keeps how many items it wrote. Returns the error of the walk, if it is one.
+    fn fill(&mut self, call: impl FnOnce(&View, &mut Self, &mut u64) -> u32) -> Option<Error> {
+        let (view, mut written) = (self.image.view(), 0);
+        let number = call(&view, self, &mut written);
+        let count = returned(number, written).map(|count| count.unwrap_or(0) as usize);
+        self.left = 0..count.unwrap_or(0);
+        self.taken += self.left.len();
+        self.is_over = self.left.is_empty();
+        count.err()
+    }
+
+    /// The next of the items that the last call wrote.
+    fn first_left(&mut self) -> Option<Result<T, Error>> {
+        let i = self.left.next()?;
+        Some(Ok(if self.many.is_empty() { self.items[i] } else { self.many[i] }))
     }
 
     /// The next item.
     pub fn step(&mut self, call: List<W, T>) -> Option<Result<T, Error>> {
-        if self.left.is_empty() {
-            match unless_over(&mut self.is_over, || {
-                let view = self.image.view();
-                let mut written = 0;
-                // SAFETY: as in `look`; the view, the walk and `written` are lent for the call, the array has so many items, and
-                // none overlaps another.
-                let number = unsafe { call(&view, &mut self.walk, self.items.as_mut_ptr(), ROOM, &mut written) };
-                Ok(returned(number, written)?.filter(|&count| count > 0))
-            })? {
-                Ok(count) => self.left = 0..count as usize,
-                Err(error) => return Some(Err(error)),
+        if self.left.is_empty() && !self.is_over {
+            self.many.clear();
+            // SAFETY: as in `look`; the view, the walk and `written` are lent for the call, the array has so many items, and
+            // none overlaps another.
+            let refused = self.fill(|view, list, written| unsafe {
+                call(view, &mut list.walk, list.items.as_mut_ptr(), ROOM, written)
+            });
+            if let Some(error) = refused {
+                return Some(Err(error));
             }
         }
-        self.left.next().map(|i| Ok(self.items[i]))
+        self.first_left()
+    }
+
+    /// The next item of a walk that may have so many names left, by the walk and how many it returned. Many are read together, with
+    /// `runs` for each; where there is no memory for that each is read by itself.
+    pub fn step_together(
+        &mut self,
+        call: List<W, T>,
+        together: Together<W, T>,
+        runs: usize,
+        most: impl FnOnce(&W, usize) -> usize,
+    ) -> Option<Result<T, Error>> {
+        if !self.left.is_empty() || self.is_over {
+            return self.first_left();
+        }
+        let most = most(&self.walk, self.taken);
+        if most < MANY {
+            return self.step(call);
+        }
+        let (Ok(mut room), Ok(many)) = (room_for(runs * most, Run::default()), room_for(most, T::default())) else {
+            return self.step(call);
+        };
+        self.many = many;
+        // SAFETY: as above, and of the runs.
+        let refused = self.fill(|view, list, written| unsafe {
+            together(view, &mut list.walk, room.as_mut_ptr(), room.len(), list.many.as_mut_ptr(), most, written)
+        });
+        refused.map(Err).or_else(|| self.first_left())
     }
 }

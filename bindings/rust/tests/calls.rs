@@ -892,3 +892,20 @@ fn damaged_base_relocations_are_refused() {
     assert_eq!(relocations[2], Err(Error::DIRECTORY_NO_ARGUMENT));
     assert_eq!(Error::DIRECTORY_NO_ARGUMENT.number(), 303);
 }
+
+#[test]
+fn many_names_in_one_text_are_read_together() {
+    let bytes = with_names_in_one_text();
+    let image = strict(&bytes);
+    let exports: Vec<_> = image.exports().unwrap().unwrap().map(|it| it.unwrap().name).collect();
+    let text = [b'a'; 400];
+    let wanted: Vec<_> = (0..300).map(|i| &text[i..]).collect();
+    assert_eq!(exports, wanted);
+    let libraries: Vec<_> = image.libraries().unwrap().unwrap().map(Result::unwrap).collect();
+    assert_eq!(libraries.iter().map(|it| it.name).collect::<Vec<_>>(), wanted);
+    let imports: Vec<_> = libraries[299].imports().map(|it| it.unwrap()).collect();
+    assert_eq!(imports.iter().map(|it| it.name.unwrap()).collect::<Vec<_>>(), wanted);
+    // The hint is two letters of the text, but for the first; each slot follows the one before.
+    assert_eq!((imports[0].ordinal, imports[1].ordinal, imports[2].ordinal), (0, 0x6100, 0x6161));
+    assert_eq!(imports[299].rva, imports[0].rva + 8 * 299);
+}

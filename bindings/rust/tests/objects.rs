@@ -29,6 +29,13 @@ fn objects_are_read() {
         (11, b"outside", 0),
     ];
     assert_eq!(found, wanted.map(Ok));
+    let named = symbols.clone().named().unwrap();
+    let named: Vec<_> = named.iter().map(|it| (it.symbol.index, it.name.unwrap(), it.symbol.section_number)).collect();
+    assert_eq!(named, wanted);
+    let mut rest = symbols.clone();
+    assert_eq!(rest.by_ref().take(5).count(), 5);
+    let rest = rest.named().unwrap();
+    assert_eq!(rest.iter().map(|it| it.name).collect::<Vec<_>>(), [Ok(b"five".as_slice()), Ok(b"outside")]);
     let file = symbols.get(0).unwrap();
     assert_eq!((file.storage_class, file.auxiliary()), (103, b"b.s\0\0\0\0\0\0\0\0\0\0\0\0\0\0\0".as_slice()));
     assert!(symbols.get(12).is_none());
@@ -52,6 +59,8 @@ fn damaged_objects_are_refused() {
     let short = Coff::parse(&bytes[..0x17E]).unwrap().symbols().unwrap().unwrap();
     assert_eq!(short.get(2).unwrap().name(), Err(Error::STRING_TABLE));
     assert_eq!(short.get(10).unwrap().name(), Ok(b"five".as_slice()));
+    let named: Vec<_> = short.named().unwrap().iter().map(|it| it.name).collect();
+    assert_eq!((named.len(), named[1], named[5]), (7, Err(Error::STRING_TABLE), Ok(b"five".as_slice())));
     assert_eq!(Coff::parse(&[0; 20]).unwrap().symbols().unwrap().map(|it| it.count()), None);
 }
 

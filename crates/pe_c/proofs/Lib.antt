@@ -64,3 +64,4 @@ pub mod IndexFound
 pub mod IndexMaps
 pub mod RecordCodes
 pub mod SplitRooms
+mod TextRuns

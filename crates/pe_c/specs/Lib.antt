@@ -62,3 +62,5 @@ pub mod WalkStarts
 pub mod Loaded
 pub mod GuardTables
 pub mod EndedTexts
+pub mod TextRuns
+pub mod NamedSymbols

@@ -6,19 +6,25 @@
 //! A linker or a symbol dumper starts with the header: of an object by `pe_c_coff`, of an image by `pe_c_headers`. Sections,
 //! symbols and strings are a call each, so that one damaged table does not cost the others.
 
-ghost use Rattle.std.specs.Prelude.{◌≡◌, ◌+◌, ◌*◌, ◌≤◌, ◌<◌, ◌^◌, IfOk, IfSome};
-ghost use Rattle.pe_core.specs.Refusals.{answer_of};
+ghost use Rattle.std.specs.Prelude.{◌≡◌, ◌+◌, ◌*◌, ◌≤◌, ◌<◌, ◌^◌, IfOk, IfSome, Ok, length};
+ghost use Rattle.pe_core.specs.Refusals.{ReturnsAs, answer_of};
+ghost use Rattle.pe_core.specs.Symbols.{symbol_name};
 ghost use Rattle.pe_c.specs.Coff.{PutsObjectSections, coff_header_of, coff_strings_at, name_range, object_at, symbol_at, symbol_name_at, symbol_with, symbols_after, symbols_at};
 ghost use Rattle.pe_c.specs.HandsOut.{HandsOut, HandsOutIf};
+ghost use Rattle.pe_c.specs.Ranges.{bytes_at};
 
 use crate::headers::{CoffFields, coff_fields};
 use crate::image::sections_into;
 use crate::ranges::{NO_BYTES, Range, slice_of};
 use crate::results::{hand_out, hand_out_some};
-use pe_core::{CoffHeader, Result, SIZE_OF_SYMBOL, SectionTable, Strtab, read_u32};
+use crate::text_runs::{Run, Texts};
+use pe_core::{CoffHeader, Error, Reason, Result, SIZE_OF_SYMBOL, SectionTable, Strtab, read_u32};
 
 /// The size of a COFF header in bytes.
 const SIZE_OF_COFF_HEADER: usize = 20;
+
+/// The size of the size of a string table, which is at its start.
+const SIZE_OF_STRINGS_SIZE: u32 = 4;
 
 /// A COFF symbol, `IMAGE_SYMBOL` of winnt.h, with what its entry says of others.
 #[repr(C)]
@@ -184,7 +190,7 @@ fn symbol_with(table: &Range, rows: u64, index: u64, symbol: &pe_core::Symbol) -
     }
 }
 
-fn symbol_at(bytes: &[u8], table: &Range, index: u64) -> Result<Option<Symbol>>
+pub fn symbol_at(bytes: &[u8], table: &Range, index: u64) -> Result<Option<Symbol>>
     ensures symbol { answer_of result ≡ symbol_at bytes.now table.now index }
     ensures small { IfOk result (λ o. IfSome o (λ s. index < 2 ^ 62)) }
 {
@@ -263,19 +269,77 @@ fn name_range(
     }
 }
 
-fn symbol_name_at(bytes: &[u8], table: &Range, strings: &Range, index: u64) -> Result<Option<Range>>
+/// The name of a symbol by texts of its string table.
+#[tactic(auto, unfolding(pe_core::specs::Symbols::symbol_name))]
+fn name_by<'a>(symbol: &'a pe_core::Symbol, texts: Texts<'a>) -> Result<&'a str>
+    ensures { ReturnsAs (λ s. s.now) result (symbol_name symbol.entry.now texts.entry.bytes.now) }
+{
+    if symbol.name[0] != 0 {
+        return symbol.name(&Strtab { bytes: texts.bytes });
+    }
+    let offset = read_u32(&symbol.name, 4);
+    let name = if offset < SIZE_OF_STRINGS_SIZE {
+        None
+    } else {
+        texts.at(offset as usize)
+    };
+    name.ok_or(Error::Malformed(Reason::StringTable(offset)))
+}
+
+/// The range of the name of the symbol in an entry, by texts of the string table at a range.
+pub fn symbol_name_by(
+    bytes: &[u8],
+    table: &Range,
+    strings: &Range,
+    index: u64,
+    texts: Texts<'_>,
+) -> Result<Option<Range>>
+    requires { bytes_at bytes.now strings.now ≡ Ok texts.bytes.now }
     ensures { answer_of result ≡ symbol_name_at bytes.now table.now strings.now index }
 {
     let entries = slice_of(bytes, table)?;
-    let texts = Strtab {
-        bytes: slice_of(bytes, strings)?,
-    };
     if (entries.len() / SIZE_OF_SYMBOL) as u64 <= index {
         return Ok(None);
     }
     let symbol = pe_core::Symbol::parse(entries, SIZE_OF_SYMBOL * index as usize)?;
-    let name = symbol.name(&texts)?;
+    let name = name_by(&symbol, texts)?;
     Ok(Some(name_range(table, strings, index, &symbol, name)))
+}
+
+/// The same, read by itself.
+pub fn symbol_name_at(
+    bytes: &[u8],
+    table: &Range,
+    strings: &Range,
+    index: u64,
+) -> Result<Option<Range>>
+    ensures { answer_of result ≡ symbol_name_at bytes.now table.now strings.now index }
+{
+    let texts = Texts::alone(slice_of(bytes, strings)?);
+    symbol_name_by(bytes, table, strings, index, texts)
+}
+
+/// Writes where in the string table the names of the symbols in the next entries start to a room, as starts, as far as it has room,
+/// and returns how many they are.
+pub fn put_string_offsets(bytes: &[u8], walk: &SymbolWalk, room: &mut [Run]) -> usize
+    ensures { result ≤ length room.new }
+{
+    let mut count = 0;
+    let Ok(entries) = slice_of(bytes, &walk.table) else {
+        return count;
+    };
+    for i in walk.next as usize..entries.len() / SIZE_OF_SYMBOL {
+        if count == room.len() {
+            break;
+        }
+        // An auxiliary record is taken for a symbol, which costs a run that is not asked for.
+        let name = SIZE_OF_SYMBOL * i;
+        if read_u32(entries, name) == 0 {
+            room[count] = Run::at(read_u32(entries, name + 4) as usize);
+            count += 1;
+        }
+    }
+    count
 }
 
 /// Returns the name of the symbol in an entry of a symbol table, in UTF-8 without its final zero: in the entry itself, or in

@@ -12,10 +12,12 @@ ghost use Rattle.pe_c.specs.Images.{map_of_image};
 ghost use Rattle.pe_c.specs.Views.{map_of};
 
 use crate::image::{EXPORT_TABLE, directory, is_absent, offset_of};
+use crate::named_view::NamedView;
 use crate::ranges::{NO_BYTES, Range, range_from, slice_of};
 use crate::results::{hand_out_some, options};
+use crate::text_runs::Run;
 use crate::view::{View, map_by};
-use pe_core::{DataDirectory, ExportData, Result, read_u32, text_at, u16_at, u32_at};
+use pe_core::{DataDirectory, ExportData, Result, read_u32, u16_at, u32_at};
 
 /// A walk over the exports of an image: the tables of its export directory, and the index of the next name.
 #[repr(C)]
@@ -121,16 +123,16 @@ struct Tables<'a> {
 
 /// The export of entry `i` of the name table, if its name is mapped and is text, and its ordinal is in the address
 /// table.
-fn reported_entry(view: &View, tables: &Tables<'_>, i: usize) -> Option<Export>
+fn reported_entry(names: &NamedView<'_>, tables: &Tables<'_>, i: usize) -> Option<Export>
     requires { 4 * i + 4 ≤ length tables.now.names.now }
     ensures { result ≡ reported_entry
-        (map_of view.now) view.now.bytes.now (view_of tables.now) i }
+        (map_of names.now.view.now) names.now.view.now.bytes.now (view_of tables.now) i }
 {
-    let offset = map_by(view, read_u32(tables.names, 4 * i))?;
-    let name = text_at(view.bytes, offset)?;
+    let offset = map_by(names.view, read_u32(tables.names, 4 * i))?;
+    let name = names.text_at(offset)?;
     let ordinal = u16_at(tables.ordinals, 2 * i).ok()?;
     let rva = u32_at(tables.addresses, 4 * usize::from(ordinal)).ok()?;
-    let exported = map_by(view, rva);
+    let exported = map_by(names.view, rva);
     Some(Export {
         name: Range {
             offset: offset as u64,
@@ -145,12 +147,12 @@ fn reported_entry(view: &View, tables: &Tables<'_>, i: usize) -> Option<Export>
 }
 
 /// The first entry of the name table, from `from` on, that has an export, and the index after it.
-fn find_next(view: &View, tables: &Tables<'_>, from: usize) -> Option<(Export, u64)>
-    ensures { FindsNext (reported_entry (map_of view.now) view.now.bytes.now (view_of tables.now))
+fn find_next(names: &NamedView<'_>, tables: &Tables<'_>, from: usize) -> Option<(Export, u64)>
+    ensures { FindsNext (reported_entry (map_of names.now.view.now) names.now.view.now.bytes.now (view_of tables.now))
         from (length tables.now.names.now / 4) result }
 {
     for i in from..tables.names.len() / 4 {
-        if let Some(export) = reported_entry(view, tables, i) {
+        if let Some(export) = reported_entry(names, tables, i) {
             return Some((export, i as u64 + 1));
         }
     }
@@ -168,16 +170,36 @@ fn tables_of<'a>(bytes: &'a [u8], walk: &Exports) -> Result<Tables<'a>>
     })
 }
 
+/// Writes the offsets of the next names to a room, as starts, as far as it has room, and returns how many they are.
+pub fn put_name_offsets(view: &View, walk: &Exports, room: &mut [Run]) -> usize
+    ensures { result ≤ length room.new }
+{
+    let mut count = 0;
+    let Ok(names) = slice_of(view.bytes, &walk.names) else {
+        return count;
+    };
+    for i in walk.next as usize..names.len() / 4 {
+        if count == room.len() {
+            break;
+        }
+        if let Some(offset) = map_by(view, read_u32(names, 4 * i)) {
+            room[count] = Run::at(offset);
+            count += 1;
+        }
+    }
+    count
+}
+
 /// One step of a walk.
-pub fn step(view: &View, walk: &mut Exports) -> Result<Option<Export>>
+pub fn step(names: &NamedView<'_>, walk: &mut Exports) -> Result<Option<Export>>
     ensures { StepsExports
-        (map_of view.now) view.now.bytes.now walk.old (answer_of result) walk.new }
+        (map_of names.now.view.now) names.now.view.now.bytes.now walk.old (answer_of result) walk.new }
 {
     let count = walk.names.length / 4;
     if count <= walk.next {
         return Ok(None);
     }
-    let tables = match tables_of(view.bytes, walk) {
+    let tables = match tables_of(names.view.bytes, walk) {
         Ok(tables) => tables,
         Err(error) => {
             // Without names the walk is over.
@@ -185,7 +207,7 @@ pub fn step(view: &View, walk: &mut Exports) -> Result<Option<Export>>
             return Err(error);
         }
     };
-    match find_next(view, &tables, walk.next as usize) {
+    match find_next(names, &tables, walk.next as usize) {
         Some((export, next)) => {
             walk.next = next;
             Ok(Some(export))
@@ -207,5 +229,5 @@ pub extern "C" fn pe_c_next_export(view: &View, walk: &mut Exports, out: &mut Ex
     ensures { HandsOutExport
         (map_of view.now) view.now.bytes.now walk.old walk.new result out.old out.new }
 {
-    hand_out_some(step(view, walk), out)
+    hand_out_some(step(&NamedView::alone(view), walk), out)
 }

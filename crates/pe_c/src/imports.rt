@@ -3,8 +3,8 @@
 //! of each.
 //! https://learn.microsoft.com/windows/win32/debug/pe-format#the-idata-section
 
-ghost use Rattle.std.specs.Prelude.{◌≡◌, ◌==◌, ◌+◌, ◌≤◌, length, Some, IfOk, IfSome};
-ghost use Rattle.pe_core.specs.Imports.{entry_size, lookups_at, name_or_refusal};
+ghost use Rattle.std.specs.Prelude.{◌≡◌, ◌==◌, ◌+◌, ◌<◌, ◌≤◌, ◌^◌, length, Some, IfOk, IfSome};
+ghost use Rattle.pe_core.specs.Imports.{entry_size, name_or_refusal};
 ghost use Rattle.pe_core.specs.Refusals.{Returns, ReturnsAs, answer_of};
 ghost use Rattle.pe_core.specs.SectionMap.{mapped};
 ghost use Rattle.pe_core.specs.Text.{text_at};
@@ -14,14 +14,16 @@ ghost use Rattle.pe_c.specs.Views.{map_of};
 ghost use Rattle.pe_c.specs.Imports.{import_at, import_step, libraries_at, library_at, library_of, library_step, named_reported};
 
 use crate::image::{IMPORT_TABLE, Image, directory, is_absent};
-use crate::ranges::{NO_BYTES, Range, range_from};
+use crate::named_view::NamedView;
+use crate::ranges::{NO_BYTES, Range, range_from, slice_of};
 use crate::results::{hand_out_some, options};
 use crate::section_index::sections_by;
+use crate::text_runs::Run;
 use crate::view::{View, map_by};
 use crate::walks::next_entry;
 use pe_core::{
     Error, ImportDirectoryEntry, Reason, Result, SectionTable, lookup_number, lookup_size,
-    lookups_at, mapped_offset, text_at, u16_at,
+    mapped_offset, u16_at,
 };
 
 /// The size of a record of the import directory in bytes.
@@ -111,10 +113,11 @@ fn require_offset_by(view: &View, rva: u32) -> Result<usize>
 }
 
 /// The name at a file offset, to which an RVA leads: `ImportName` where it is not NUL-terminated or not UTF-8.
-fn name_at(bytes: &[u8], offset: usize, rva: u32) -> Result<&str>
-    ensures { ReturnsAs (λ s. s.now) result (name_or_refusal (text_at bytes.now offset)) }
+fn name_at<'a>(names: &NamedView<'a>, offset: usize, rva: u32) -> Result<&'a str>
+    ensures { ReturnsAs (λ s. s.now) result
+        (name_or_refusal (text_at names.now.view.now.bytes.now offset)) }
 {
-    match text_at(bytes, offset) {
+    match names.text_at(offset) {
         Some(name) => Ok(name),
         None => Err(Error::Malformed(Reason::ImportName(rva))),
     }
@@ -147,26 +150,16 @@ pub extern "C" fn pe_c_import_libraries(view: &View, out: &mut Libraries) -> u32
     hand_out_some(libraries_at(view), out)
 }
 
-/// The entries of the list at a file offset, none without an offset. `Short` where no zero entry ends them.
-fn list_at(bytes: &[u8], offset: Option<usize>, is_64: bool) -> Result<&[u8]>
-    ensures { ReturnsAs (λ s. s.now) result (lookups_at (entry_size is_64) bytes.now offset) }
-{
-    match offset {
-        Some(offset) => lookups_at(bytes, offset, is_64),
-        None => Ok(&[]),
-    }
-}
-
 /// The library of a record. Errors: `Unmapped`, `ImportName` of its name, then `Short` of its list.
 #[tactic(auto, unfolding(pe_core::specs::Imports::import_record))]
-fn library_of(view: &View, entry: &ImportDirectoryEntry) -> Result<Library>
-    ensures { ReturnsAs (λ l. Some l) result (library_of (map_of view.now)
-        (entry_size (view.now.image.now.width == 64)) view.now.bytes.now entry.now) }
+fn library_of(names: &NamedView<'_>, entry: &ImportDirectoryEntry) -> Result<Library>
+    ensures { ReturnsAs (λ l. Some l) result (library_of (map_of names.now.view.now)
+        (entry_size (names.now.view.now.image.now.width == 64)) names.now.view.now.bytes.now entry.now) }
 {
-    let offset = require_offset_by(view, entry.name_rva)?;
-    let name = name_at(view.bytes, offset, entry.name_rva)?;
-    let list_offset = map_by(view, entry.lookups_rva());
-    let list = list_at(view.bytes, list_offset, view.image.width == 64)?;
+    let offset = require_offset_by(names.view, entry.name_rva)?;
+    let name = name_at(names, offset, entry.name_rva)?;
+    let list_offset = map_by(names.view, entry.lookups_rva());
+    let list = names.list_at(list_offset)?;
     Ok(Library {
         name: range_from(name.len() as u64, Some(offset)),
         imports: Imports {
@@ -184,29 +177,29 @@ fn library_of(view: &View, entry: &ImportDirectoryEntry) -> Result<Library>
 
 /// The library whose record is at a file offset, or none where the record ends the directory.
 #[tactic(auto, unfolding(pe_core::specs::Imports::import_record_at))]
-fn library_at(view: &View, offset: usize) -> Result<Option<Library>>
-    ensures returned { Returns result (library_at (map_of view.now)
-        (entry_size (view.now.image.now.width == 64)) view.now.bytes.now offset) }
-    ensures inside { IfOk result (λ l. IfSome l (λ _. offset + 20 ≤ length view.now.bytes.now)) }
+fn library_at(names: &NamedView<'_>, offset: usize) -> Result<Option<Library>>
+    ensures returned { Returns result (library_at (map_of names.now.view.now)
+        (entry_size (names.now.view.now.image.now.width == 64)) names.now.view.now.bytes.now offset) }
+    ensures small { IfOk result (λ l. IfSome l (λ _. offset + 20 < 2 ^ 64)) }
 {
-    let entry = ImportDirectoryEntry::parse(view.bytes, offset)?;
+    let entry = ImportDirectoryEntry::parse(names.view.bytes, offset)?;
     if entry.is_last() {
         return Ok(None);
     }
-    let library = library_of(view, &entry)?;
+    let library = library_of(names, &entry)?;
     Ok(Some(library))
 }
 
 /// One step over libraries: its result, and the walk after it.
 #[tactic(auto, unfolding(crate::specs::Imports::library_step))]
-pub fn library_step(view: &View, walk: Libraries) -> (Result<Option<Library>>, Libraries)
-    ensures { (answer_of result.0, result.1) ≡ library_step (map_of view.now)
-        (entry_size (view.now.image.now.width == 64)) view.now.bytes.now walk }
+pub fn library_step(names: &NamedView<'_>, walk: Libraries) -> (Result<Option<Library>>, Libraries)
+    ensures { (answer_of result.0, result.1) ≡ library_step (map_of names.now.view.now)
+        (entry_size (names.now.view.now.image.now.width == 64)) names.now.view.now.bytes.now walk }
 {
     if walk.is_over != 0 {
         return (Ok(None), walk);
     }
-    match library_at(view, walk.next as usize) {
+    match library_at(names, walk.next as usize) {
         Ok(Some(library)) => {
             let after = Libraries {
                 next: walk.next + SIZE_OF_RECORD,
@@ -233,20 +226,20 @@ pub extern "C" fn pe_c_next_library(view: &View, walk: &mut Libraries, out: &mut
     ensures walk { walk.new ≡ (library_step (map_of view.now)
         (entry_size (view.now.image.now.width == 64)) view.now.bytes.now walk.old).1 }
 {
-    let (reported, after) = library_step(view, *walk);
+    let (reported, after) = library_step(&NamedView::alone(view), *walk);
     *walk = after;
     hand_out_some(reported, out)
 }
 
 /// The import by name of an entry. Errors: `Unmapped` of the entry's RVA, `Short` of the hint, `ImportName`.
-fn named_import(view: &View, entry: u64, rva: u64) -> Result<Import>
+fn named_import(names: &NamedView<'_>, entry: u64, rva: u64) -> Result<Import>
     ensures { Returns result
-        (named_reported (map_of view.now) view.now.bytes.now entry rva) }
+        (named_reported (map_of names.now.view.now) names.now.view.now.bytes.now entry rva) }
 {
     let name_rva = (entry % 0x8000_0000) as u32;
-    let offset = require_offset_by(view, name_rva)?;
-    let hint = u16_at(view.bytes, offset)?;
-    let name = name_at(view.bytes, offset + SIZE_OF_HINT, name_rva)?;
+    let offset = require_offset_by(names.view, name_rva)?;
+    let hint = u16_at(names.view.bytes, offset)?;
+    let name = name_at(names, offset + SIZE_OF_HINT, name_rva)?;
     Ok(Import {
         name: range_from(name.len() as u64, Some(offset + SIZE_OF_HINT)),
         rva,
@@ -258,11 +251,11 @@ fn named_import(view: &View, entry: u64, rva: u64) -> Result<Import>
 /// The import of an entry and its slot. With its highest bit set the low 16 bits of an entry are an ordinal; else its
 /// low 31 bits are the RVA of a hint and a name.
 #[tactic(auto, unfolding(pe_core::specs::Imports::import_of))]
-fn import_at(view: &View, entry: u64, rva: u64) -> Result<Import>
-    ensures { Returns result (import_at (map_of view.now)
-        (entry_size (view.now.image.now.width == 64)) view.now.bytes.now entry rva) }
+fn import_at(names: &NamedView<'_>, entry: u64, rva: u64) -> Result<Import>
+    ensures { Returns result (import_at (map_of names.now.view.now)
+        (entry_size (names.now.view.now.image.now.width == 64)) names.now.view.now.bytes.now entry rva) }
 {
-    let highest = if view.image.width == 64 {
+    let highest = if names.view.image.width == 64 {
         0x8000_0000_0000_0000
     } else {
         0x8000_0000
@@ -275,22 +268,22 @@ fn import_at(view: &View, entry: u64, rva: u64) -> Result<Import>
             has_name: 0,
         });
     }
-    named_import(view, entry, rva)
+    named_import(names, entry, rva)
 }
 
 /// One step over the imports of a library.
 #[tactic(auto, unfolding(crate::specs::Imports::import_step))]
-pub fn import_step(view: &View, walk: &mut Imports) -> Result<Option<Import>>
-    ensures { (answer_of result, walk.new) ≡ import_step (map_of view.now)
-        (entry_size (view.now.image.now.width == 64)) view.now.bytes.now walk.old }
+pub fn import_step(names: &NamedView<'_>, walk: &mut Imports) -> Result<Option<Import>>
+    ensures { (answer_of result, walk.new) ≡ import_step (map_of names.now.view.now)
+        (entry_size (names.now.view.now.image.now.width == 64)) names.now.view.now.bytes.now walk.old }
 {
-    let is_64 = view.image.width == 64;
+    let is_64 = names.view.image.width == 64;
     let size = lookup_size(is_64);
-    let Some(left) = next_entry(view.bytes, &mut walk.left, size)? else {
+    let Some(left) = next_entry(names.view.bytes, &mut walk.left, size)? else {
         return Ok(None);
     };
     let entry = lookup_number(left, 0, is_64);
-    match import_at(view, entry, walk.rva) {
+    match import_at(names, entry, walk.rva) {
         Ok(import) => {
             // A caller may pass any RVA.
             walk.rva = walk.rva.wrapping_add(size as u64);
@@ -301,6 +294,72 @@ pub fn import_step(view: &View, walk: &mut Imports) -> Result<Option<Import>>
             Err(error)
         }
     }
+}
+
+/// One of the records that a walk may have left, by its index among them. None at the record that ends the directory.
+fn record_left(view: &View, walk: &Libraries, index: usize) -> Option<ImportDirectoryEntry> {
+    let offset = index.saturating_mul(SIZE_OF_RECORD as usize);
+    let at = (walk.next as usize).saturating_add(offset);
+    let entry = ImportDirectoryEntry::parse(view.bytes, at).ok()?;
+    if entry.is_last() { None } else { Some(entry) }
+}
+
+/// Writes the offsets of the names of the next libraries to a room, as starts, as far as it has room, and returns how many they are.
+pub fn put_library_names(view: &View, walk: &Libraries, room: &mut [Run]) -> usize
+    ensures { result ≤ length room.new }
+{
+    let mut count = 0;
+    for i in 0..room.len() {
+        let Some(entry) = record_left(view, walk, i) else {
+            break;
+        };
+        if let Some(offset) = map_by(view, entry.name_rva) {
+            room[count] = Run::at(offset);
+            count += 1;
+        }
+    }
+    count
+}
+
+/// The same of the offsets of their lists.
+pub fn put_library_lists(view: &View, walk: &Libraries, room: &mut [Run]) -> usize
+    ensures { result ≤ length room.new }
+{
+    let mut count = 0;
+    for i in 0..room.len() {
+        let Some(entry) = record_left(view, walk, i) else {
+            break;
+        };
+        if let Some(offset) = map_by(view, entry.lookups_rva()) {
+            room[count] = Run::at(offset);
+            count += 1;
+        }
+    }
+    count
+}
+
+/// The same of the offsets of the names of the next imports. An ordinal counts as the RVA of a name, which costs a run that is not
+/// asked for.
+pub fn put_import_names(view: &View, walk: &Imports, room: &mut [Run]) -> usize
+    ensures { result ≤ length room.new }
+{
+    let mut count = 0;
+    let is_64 = view.image.width == 64;
+    let size = lookup_size(is_64);
+    let Ok(left) = slice_of(view.bytes, &walk.left) else {
+        return count;
+    };
+    for i in 0..left.len() / size {
+        if count == room.len() {
+            break;
+        }
+        let rva = (lookup_number(left, size * i, is_64) % 0x8000_0000) as u32;
+        if let Some(offset) = map_by(view, rva) {
+            room[count] = Run::at(offset.saturating_add(SIZE_OF_HINT));
+            count += 1;
+        }
+    }
+    count
 }
 
 /// Reads the next import of a library: `NOTHING` after the last. Each name is read to its end, so names that overlap
@@ -316,5 +375,5 @@ pub extern "C" fn pe_c_next_import(view: &View, walk: &mut Imports, out: &mut Im
     ensures walk { walk.new ≡ (import_step (map_of view.now)
         (entry_size (view.now.image.now.width == 64)) view.now.bytes.now walk.old).1 }
 {
-    hand_out_some(import_step(view, walk), out)
+    hand_out_some(import_step(&NamedView::alone(view), walk), out)
 }

@@ -20,6 +20,7 @@ pub mod guard_tables;
 pub mod imports;
 pub mod relocations;
 pub mod resources;
+pub mod symbols;
 pub mod x64;
 
 /// The steps of a walk, and what they read. A walk `W` is what callers hold, a value `T` what they get.

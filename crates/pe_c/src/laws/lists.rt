@@ -10,9 +10,11 @@ ghost use Rattle.pe_c.specs.Exports.{StepsExports};
 ghost use Rattle.pe_c.specs.HandsOut.{result_number};
 ghost use Rattle.pe_c.specs.Imports.{StepsImports, StepsLibraries};
 ghost use Rattle.pe_c.specs.Lists.{GiveLists};
+ghost use Rattle.pe_c.specs.NamedSymbols.{StepsNamedSymbols};
 ghost use Rattle.pe_c.specs.ResourceLeaves.{StepsLeaves, tree_number};
 ghost use Rattle.pe_c.specs.Unwinding.{StepsCodes};
 ghost use Rattle.pe_c.specs.declared.image.Image.{Image};
+ghost use Rattle.pe_c.specs.declared.ranges.Range.{Range};
 
 /// Where the steps of a walk return some items, which the laws of walks say for each of them, a list call with room for `n`
 /// entries returns the first `n`, or all that come before the end or before an error, and the walk after it has the other items
@@ -27,6 +29,8 @@ pub fn lists_are_what_steps_return()
         GiveLists result_number (StepsLibraries offset w b) }
     ensures imports { (offset : ℕ → Option ℕ) (w : ℕ) (b : List ℕ) →
         GiveLists result_number (StepsImports offset w b) }
+    ensures symbols { (b : List ℕ) (strings : Range) →
+        GiveLists result_number (StepsNamedSymbols b strings) }
     ensures leaves { (b : List ℕ) (offset : ℕ → Option ℕ) →
         GiveLists tree_number (StepsLeaves b offset) }
     ensures relocation_blocks { (b : List ℕ) → GiveLists directory_number (StepsBlocks b) }

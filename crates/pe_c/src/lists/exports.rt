@@ -8,22 +8,18 @@ ghost use Rattle.pe_c.specs.Lists.{HandsOutList, Numbered, StepsByIndex};
 ghost use Rattle.pe_c.specs.Views.{map_of};
 
 use crate::export_addresses::{AddressTable, Exported, exported_at};
-use crate::exports::{Export, Exports, step};
+use crate::exports::{Export, Exports, put_name_offsets, step};
 use crate::lists::{Steps, hand_out_list, next_index, numbered};
+use crate::named_view::NamedView;
+use crate::text_runs::Run;
 use crate::view::View;
 
-/// Steps over the exports of an image that have a name.
-#[derive(Clone, Copy)]
-struct Names<'a> {
-    view: &'a View<'a>,
-}
-
-impl<'a> Steps<Exports, Export> for Names<'a> {
+impl<'a> Steps<Exports, Export> for NamedView<'a> {
     ghost steps = { λ s. Numbered result_number (StepsExports
         (map_of s.view.now) s.view.now.bytes.now) };
 
     fn step(&self, walk: &mut Exports) -> Result<Option<Export>, u32> {
-        numbered(step(self.view, walk))
+        numbered(step(self, walk))
     }
 }
 
@@ -41,7 +37,29 @@ pub extern "C" fn pe_c_list_exports(
         (StepsExports (map_of view.now) view.now.bytes.now))
         result walk.old walk.new entries.old entries.new written.old written.new }
 {
-    hand_out_list(&Names { view }, walk, entries, written)
+    hand_out_list(&NamedView::alone(view), walk, entries, written)
+}
+
+/// Lists what `pe_c_list_exports` does, and reads the names together: with one of `runs` for each entry that the name table has
+/// left, or more, a call takes about as long as to sort these and to read each byte once or twice, however many of the names
+/// share a text. With less room further names are read to their end each. What is in `runs` after the call is left open.
+///
+/// Errors: as `pe_c_list_exports`.
+#[unsafe(no_mangle)]
+pub extern "C" fn pe_c_list_exports_together(
+    view: &View,
+    walk: &mut Exports,
+    runs: &mut [Run],
+    entries: &mut [Export],
+    written: &mut u64,
+) -> u32
+    ensures { HandsOutList (Numbered result_number
+        (StepsExports (map_of view.now) view.now.bytes.now))
+        result walk.old walk.new entries.old entries.new written.old written.new }
+{
+    let count = put_name_offsets(view, walk, runs);
+    let names = NamedView::together(view, &mut runs[..count]);
+    hand_out_list(&names, walk, entries, written)
 }
 
 /// Steps over the entries of an address table.

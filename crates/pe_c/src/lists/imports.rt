@@ -7,23 +7,22 @@ ghost use Rattle.pe_c.specs.Imports.{StepsImports, StepsLibraries};
 ghost use Rattle.pe_c.specs.Lists.{HandsOutList, Numbered};
 ghost use Rattle.pe_c.specs.Views.{map_of};
 
-use crate::imports::{Import, Imports, Libraries, Library, import_step, library_step};
+use crate::imports::{
+    Import, Imports, Libraries, Library, import_step, library_step, put_import_names,
+    put_library_lists, put_library_names,
+};
 use crate::lists::{Steps, hand_out_list, numbered};
+use crate::named_view::NamedView;
+use crate::text_runs::Run;
 use crate::view::View;
 
-/// Steps over the libraries of an import directory.
-#[derive(Clone, Copy)]
-struct LibrarySteps<'a> {
-    view: &'a View<'a>,
-}
-
-impl<'a> Steps<Libraries, Library> for LibrarySteps<'a> {
+impl<'a> Steps<Libraries, Library> for NamedView<'a> {
     ghost steps = { λ s. Numbered result_number (StepsLibraries
         (map_of s.view.now)
         (entry_size (s.view.now.image.now.width == 64)) s.view.now.bytes.now) };
 
     fn step(&self, walk: &mut Libraries) -> Result<Option<Library>, u32> {
-        let (given, after) = library_step(self.view, *walk);
+        let (given, after) = library_step(self, *walk);
         *walk = after;
         numbered(given)
     }
@@ -44,22 +43,50 @@ pub extern "C" fn pe_c_list_libraries(
         (entry_size (view.now.image.now.width == 64)) view.now.bytes.now))
         result walk.old walk.new entries.old entries.new written.old written.new }
 {
-    hand_out_list(&LibrarySteps { view }, walk, entries, written)
+    let libraries = NamedView::alone(view);
+    hand_out_list(&libraries, walk, entries, written)
 }
 
-/// Steps over the imports of a library.
-#[derive(Clone, Copy)]
-struct ImportSteps<'a> {
-    view: &'a View<'a>,
+/// An image of which the names and lists of the next libraries are read together: a half of the room is for each.
+fn named_libraries<'a>(view: &'a View<'a>, walk: &Libraries, room: &'a mut [Run]) -> NamedView<'a>
+    ensures { result.view.now ≡ view.entry.now }
+{
+    let half = room.len() / 2;
+    let (name_room, list_room) = room.split_at_mut(half);
+    let names = put_library_names(view, walk, name_room);
+    let lists = put_library_lists(view, walk, list_room);
+    NamedView::with_lists(view, &mut name_room[..names], &mut list_room[..lists])
 }
 
-impl<'a> Steps<Imports, Import> for ImportSteps<'a> {
+/// Lists what `pe_c_list_libraries` does, and reads the names together, and the ends of the lists of imports: with two of `runs`
+/// for each library that is left, or more, a call takes about as long as to sort these and to read each byte a few times,
+/// however many of the names and lists share a text or a list. With less room further ones are read to their end each. What is in
+/// `runs` after the call is left open.
+///
+/// Errors: as `pe_c_list_libraries`.
+#[unsafe(no_mangle)]
+pub extern "C" fn pe_c_list_libraries_together(
+    view: &View,
+    walk: &mut Libraries,
+    runs: &mut [Run],
+    entries: &mut [Library],
+    written: &mut u64,
+) -> u32
+    ensures { HandsOutList (Numbered result_number
+        (StepsLibraries (map_of view.now)
+        (entry_size (view.now.image.now.width == 64)) view.now.bytes.now))
+        result walk.old walk.new entries.old entries.new written.old written.new }
+{
+    hand_out_list(&named_libraries(view, walk, runs), walk, entries, written)
+}
+
+impl<'a> Steps<Imports, Import> for NamedView<'a> {
     ghost steps = { λ s. Numbered result_number (StepsImports
         (map_of s.view.now)
         (entry_size (s.view.now.image.now.width == 64)) s.view.now.bytes.now) };
 
     fn step(&self, walk: &mut Imports) -> Result<Option<Import>, u32> {
-        numbered(import_step(self.view, walk))
+        numbered(import_step(self, walk))
     }
 }
 
@@ -78,5 +105,28 @@ pub extern "C" fn pe_c_list_imports(
         (entry_size (view.now.image.now.width == 64)) view.now.bytes.now))
         result walk.old walk.new entries.old entries.new written.old written.new }
 {
-    hand_out_list(&ImportSteps { view }, walk, entries, written)
+    hand_out_list(&NamedView::alone(view), walk, entries, written)
+}
+
+/// Lists what `pe_c_list_imports` does, and reads the names together: with one of `runs` for each import that is left, or more,
+/// a call takes about as long as to sort these and to read each byte once or twice, however many of the names share a text. With
+/// less room further names are read to their end each. What is in `runs` after the call is left open.
+///
+/// Errors: as `pe_c_list_imports`.
+#[unsafe(no_mangle)]
+pub extern "C" fn pe_c_list_imports_together(
+    view: &View,
+    walk: &mut Imports,
+    runs: &mut [Run],
+    entries: &mut [Import],
+    written: &mut u64,
+) -> u32
+    ensures { HandsOutList (Numbered result_number
+        (StepsImports (map_of view.now)
+        (entry_size (view.now.image.now.width == 64)) view.now.bytes.now))
+        result walk.old walk.new entries.old entries.new written.old written.new }
+{
+    let count = put_import_names(view, walk, runs);
+    let names = NamedView::together(view, &mut runs[..count]);
+    hand_out_list(&names, walk, entries, written)
 }

@@ -1,0 +1,129 @@
+/* Lists names of a file by the calls of the library for C: together FILE exports|libraries|imports|symbols alone|together
+ *
+ * `together` lists them by one call with room for all, which reads the names together, `alone` by calls of 64 entries, or of symbols
+ * by a call for each. Of imports those of one library are listed, the first. How many there are is printed, and the milliseconds of
+ * the processor that the calls took. */
+#include "pe.h"
+
+#include <stdio.h>
+#include <stdlib.h>
+#include <string.h>
+#include <time.h>
+
+enum { ENTRIES = 64 };
+
+static uint8_t *read_all(const char *name, size_t *length)
+{
+    FILE *file = fopen(name, "rb");
+    if (file == NULL || fseek(file, 0, SEEK_END) != 0)
+        return NULL;
+    *length = (size_t)ftell(file);
+    rewind(file);
+    uint8_t *bytes = malloc(*length + 1);
+    if (bytes != NULL && fread(bytes, 1, *length, file) != *length)
+        return NULL;
+    fclose(file);
+    return bytes;
+}
+
+/* A function that lists all that a walk has left: with these runs by one call, else some a call. */
+#define LISTS(name, walk_type, entry_type, alone, together) \
+    static uint64_t name(const pe_c_view *view, walk_type *walk, size_t most, pe_c_run *runs, size_t number_of_runs) \
+    { \
+        const size_t room = runs == NULL ? ENTRIES : most + 1; \
+        entry_type *entries = calloc(room, sizeof *entries); \
+        uint64_t count = 0, written = 1; \
+        while (entries != NULL && written > 0) { \
+            written = 0; \
+            if ((runs == NULL ? alone(view, walk, entries, room, &written) \
+                              : together(view, walk, runs, number_of_runs, entries, room, &written)) != PE_C_DONE) \
+                break; \
+            count += written; \
+        } \
+        free(entries); \
+        return count; \
+    }
+
+LISTS(list_exports, pe_c_exports, pe_c_export, pe_c_list_exports, pe_c_list_exports_together)
+LISTS(list_libraries, pe_c_libraries, pe_c_library, pe_c_list_libraries, pe_c_list_libraries_together)
+LISTS(list_imports, pe_c_imports, pe_c_import, pe_c_list_imports, pe_c_list_imports_together)
+
+static uint64_t list_symbols(const uint8_t *bytes, size_t length, pe_c_run *runs, size_t number_of_runs)
+{
+    pe_c_coff_header coff = PE_C_EMPTY;
+    pe_c_named_symbol_walk walk = PE_C_EMPTY;
+    if (pe_c_coff(bytes, length, &coff) != PE_C_DONE ||
+        pe_c_coff_symbols(bytes, length, &coff, &walk.symbols) != PE_C_DONE ||
+        pe_c_coff_strings(bytes, length, &coff, &walk.strings) != PE_C_DONE)
+        return 0;
+    uint64_t count = 0;
+    if (runs == NULL) {
+        pe_c_symbol_entry symbol = PE_C_EMPTY;
+        pe_c_range name = PE_C_EMPTY;
+        while (pe_c_next_symbol(bytes, length, &walk.symbols, &symbol) == PE_C_DONE) {
+            (void)pe_c_symbol_name(bytes, length, &walk.symbols.table, &walk.strings, symbol.index, &name);
+            count++;
+        }
+        return count;
+    }
+    const size_t room = (size_t)walk.symbols.table.length / 18 + 1;
+    pe_c_named_symbol *entries = calloc(room, sizeof *entries);
+    if (entries != NULL)
+        (void)pe_c_list_symbols(bytes, length, &walk, runs, number_of_runs, entries, room, &count);
+    free(entries);
+    return count;
+}
+
+static uint64_t list(const pe_c_view *view, const char *what, pe_c_run *runs, size_t number_of_runs)
+{
+    pe_c_exports exports = PE_C_EMPTY;
+    pe_c_libraries libraries = PE_C_EMPTY;
+    pe_c_library library = PE_C_EMPTY;
+    if (strcmp(what, "exports") == 0)
+        return pe_c_export_tables(view, &exports) != PE_C_DONE
+                   ? 0 : list_exports(view, &exports, (size_t)exports.names.length / 4, runs, number_of_runs);
+    if (pe_c_import_libraries(view, &libraries) != PE_C_DONE)
+        return 0;
+    if (strcmp(what, "libraries") == 0)
+        return list_libraries(view, &libraries, view->length / 20, runs, number_of_runs);
+    if (pe_c_next_library(view, &libraries, &library) != PE_C_DONE)
+        return 0;
+    return list_imports(view, &library.imports, (size_t)library.imports.left.length / 4, runs, number_of_runs);
+}
+
+int main(int argc, char **argv)
+{
+    if (argc != 4)
+        return 2;
+    pe_c_view view = PE_C_EMPTY;
+    pe_c_image_info image = PE_C_EMPTY;
+    uint8_t *bytes = read_all(argv[1], &view.length);
+    if (bytes == NULL)
+        return 1;
+    /* As many as there can be of any of these. */
+    const size_t most = view.length / 4 + 1;
+    pe_c_run *runs = strcmp(argv[3], "together") == 0 ? calloc(most, sizeof *runs) : NULL;
+    clock_t start = clock();
+    uint64_t count = 0;
+    if (strcmp(argv[2], "symbols") == 0) {
+        count = list_symbols(bytes, view.length, runs, most);
+    } else {
+        if (pe_c_image(bytes, view.length, PE_C_PERMISSIVE, &image) != PE_C_DONE)
+            return 1;
+        pe_c_section *sections = calloc(image.number_of_sections, sizeof *sections);
+        if (sections == NULL ||
+            pe_c_sections(bytes, view.length, &image, sections, image.number_of_sections) != PE_C_DONE)
+            return 1;
+        view.bytes = bytes;
+        view.image = &image;
+        view.sections = sections;
+        view.count = image.number_of_sections;
+        start = clock();
+        count = list(&view, argv[2], runs, most);
+        free(sections);
+    }
+    printf("%llu entries, %.0f ms\n", (unsigned long long)count, 1000.0 * (double)(clock() - start) / CLOCKS_PER_SEC);
+    free(bytes);
+    free(runs);
+    return 0;
+}

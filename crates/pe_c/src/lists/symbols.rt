@@ -1,0 +1,189 @@
+//! Lists of COFF symbols with their names.
+
+ghost use Rattle.std.specs.Prelude.{◌≡◌, ◌<◌, ◌^◌, IfOk, IfSome, Ok};
+ghost use Rattle.pe_core.specs.Refusals.{answer_of};
+ghost use Rattle.pe_c.specs.HandsOut.{result_number};
+ghost use Rattle.pe_c.specs.Lists.{HandsOutList, Numbered, by_number};
+ghost use Rattle.pe_c.specs.NamedSymbols.{StepsNamedSymbols, named_after, named_at, named_by};
+ghost use Rattle.pe_c.specs.Ranges.{bytes_at};
+
+use crate::coff::{
+    Symbol, SymbolWalk, put_string_offsets, symbol_at, symbol_name_at, symbol_name_by,
+};
+use crate::lists::{Steps, hand_out_list};
+use crate::ranges::{NO_BYTES, Range, slice_of};
+use crate::results::{DONE, NOTHING, number_of};
+use crate::text_runs::{Run, Texts};
+use pe_core::Result;
+
+/// A COFF symbol with its name.
+#[repr(C)]
+#[derive(Clone, Copy)]
+pub struct NamedSymbol {
+    pub symbol: Symbol,
+    /// UTF-8, without its final zero. Empty after an error.
+    pub name: Range,
+    /// What `pe_c_symbol_name` returns: 0, or the number of an error of the name alone.
+    pub name_result: u32,
+    /// 0.
+    pub spare: u32,
+}
+
+/// A walk over symbols with their names.
+#[repr(C)]
+#[derive(Clone, Copy)]
+pub struct NamedSymbolWalk {
+    /// What `pe_c_coff_symbols` returns.
+    pub symbols: SymbolWalk,
+    /// What `pe_c_coff_strings` returns.
+    pub strings: Range,
+}
+
+/// A symbol with what a call for its name returns.
+fn named_by(symbol: Symbol, given: Result<Option<Range>>) -> NamedSymbol
+    ensures { result ≡ named_by symbol (answer_of given) }
+{
+    let (name, name_result) = match given {
+        Ok(Some(name)) => (name, DONE),
+        Ok(None) => (NO_BYTES, NOTHING),
+        Err(error) => (NO_BYTES, number_of(&error)),
+    };
+    NamedSymbol {
+        symbol,
+        name,
+        name_result,
+        spare: 0,
+    }
+}
+
+/// What a step returns, by what is read at the walk, which moves past it.
+fn next_named(
+    walk: &mut SymbolWalk,
+    given: Result<Option<NamedSymbol>>,
+) -> std::result::Result<Option<NamedSymbol>, u32>
+    requires { IfOk given (λ o. IfSome o (λ x. walk.old.next < 2 ^ 62)) }
+    ensures value { result ≡ by_number result_number (answer_of given) }
+    ensures walk { walk.new ≡ named_after walk.old (answer_of given) }
+{
+    match given {
+        Ok(Some(found)) => {
+            walk.next = walk.next + 1 + u64::from(found.symbol.number_of_aux_symbols);
+            Ok(Some(found))
+        }
+        Ok(None) => Ok(None),
+        Err(error) => {
+            walk.table = NO_BYTES;
+            Err(number_of(&error))
+        }
+    }
+}
+
+/// Steps over symbols whose names are read by themselves.
+#[derive(Clone, Copy)]
+struct Alone<'a> {
+    bytes: &'a [u8],
+    strings: Range,
+}
+
+impl<'a> Alone<'a> {
+    #[tactic(auto, unfolding(crate::specs::NamedSymbols::named_at))]
+    fn named_at(&self, walk: &SymbolWalk) -> Result<Option<NamedSymbol>>
+        ensures named { answer_of result
+            ≡ named_at self.now.bytes.now walk.now.table self.now.strings walk.now.next }
+        ensures small { IfOk result (λ o. IfSome o (λ x. walk.now.next < 2 ^ 62)) }
+    {
+        match symbol_at(self.bytes, &walk.table, walk.next)? {
+            Some(symbol) => {
+                let name = symbol_name_at(self.bytes, &walk.table, &self.strings, walk.next);
+                Ok(Some(named_by(symbol, name)))
+            }
+            None => Ok(None),
+        }
+    }
+}
+
+impl<'a> Steps<SymbolWalk, NamedSymbol> for Alone<'a> {
+    ghost steps = { λ s. Numbered result_number (StepsNamedSymbols s.bytes.now s.strings) };
+
+    fn step(&self, walk: &mut SymbolWalk) -> std::result::Result<Option<NamedSymbol>, u32> {
+        let given = self.named_at(walk);
+        next_named(walk, given)
+    }
+}
+
+/// Steps over symbols whose names are read together.
+#[derive(Clone, Copy)]
+struct Together<'a> {
+    bytes: &'a [u8],
+    strings: Range,
+    texts: Texts<'a>,
+    ghost same: { bytes_at bytes.now strings ≡ Ok texts.bytes.now },
+}
+
+impl<'a> Together<'a> {
+    #[tactic(auto, unfolding(crate::specs::NamedSymbols::named_at))]
+    fn named_at(&self, walk: &SymbolWalk) -> Result<Option<NamedSymbol>>
+        ensures named { answer_of result
+            ≡ named_at self.now.bytes.now walk.now.table self.now.strings walk.now.next }
+        ensures small { IfOk result (λ o. IfSome o (λ x. walk.now.next < 2 ^ 62)) }
+    {
+        match symbol_at(self.bytes, &walk.table, walk.next)? {
+            Some(symbol) => {
+                let Together { bytes, strings, .. } = self;
+                let name = symbol_name_by(bytes, &walk.table, strings, walk.next, self.texts);
+                Ok(Some(named_by(symbol, name)))
+            }
+            None => Ok(None),
+        }
+    }
+}
+
+impl<'a> Steps<SymbolWalk, NamedSymbol> for Together<'a> {
+    ghost steps = { λ s. Numbered result_number (StepsNamedSymbols s.bytes.now s.strings) };
+
+    fn step(&self, walk: &mut SymbolWalk) -> std::result::Result<Option<NamedSymbol>, u32> {
+        let given = self.named_at(walk);
+        next_named(walk, given)
+    }
+}
+
+/// Lists the symbols of a walk, as `pe_c_next_symbol` returns them, each with what `pe_c_symbol_name` returns of it, and moves the
+/// walk past them. The names are read together: with one of `runs` for each entry that the symbol table has left, or more, a call
+/// takes about as long as to sort these and to read each byte of the string table twice, however many of the names share a string.
+/// With fewer further names are read to their end each. What is in `runs` after the call is left open.
+///
+/// Errors: `ROOM` where `entries` is empty; `SHORT` where the symbol table is not inside the bytes.
+#[unsafe(no_mangle)]
+pub extern "C" fn pe_c_list_symbols(
+    bytes: &[u8],
+    walk: &mut NamedSymbolWalk,
+    runs: &mut [Run],
+    entries: &mut [NamedSymbol],
+    written: &mut u64,
+) -> u32
+    ensures list { HandsOutList (Numbered result_number
+        (StepsNamedSymbols bytes.now walk.old.strings))
+        result walk.old.symbols walk.new.symbols entries.old entries.new written.old written.new }
+    ensures strings { walk.new.strings ≡ walk.old.strings }
+{
+    let strings = walk.strings;
+    match slice_of(bytes, &strings) {
+        Ok(table) => {
+            let count = put_string_offsets(bytes, &walk.symbols, runs);
+            let texts = Texts::together(table, &mut runs[..count]);
+            let names = Together {
+                bytes,
+                strings,
+                texts,
+            };
+            hand_out_list(&names, &mut walk.symbols, entries, written)
+        }
+        // Each name is refused.
+        Err(_) => hand_out_list(
+            &Alone { bytes, strings },
+            &mut walk.symbols,
+            entries,
+            written,
+        ),
+    }
+}
