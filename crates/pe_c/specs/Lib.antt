@@ -58,3 +58,6 @@ pub mod SectionIndexes
 pub mod Views
 pub mod WalkStarts
 pub mod Loaded
+pub mod ImageParts
+pub mod ImageDebug
+pub mod ImageOfCalls
