@@ -1,10 +1,10 @@
 -- The image that `pe_c_image` returns says what the layout of pe_image says: the directories, the map of RVAs, the machine.
-use Rattle.std.proofs.Common.{◌≡◌, ℕ, Bool, true, false, List, Option, Some, None, Result, Ok, Err, refl, ap, ◌∙◌}
+use Rattle.std.proofs.Common.{◌≡◌, ℕ, Bool, true, false, List, [], ◌∷◌, Option, Some, None, Result, Ok, Err, refl, ap, ◌∙◌}
 use Rattle.std.specs.Prelude.{◌==◌, slice_index_or, if◌then◌else◌}
 use Rattle.pe_core.specs.Directories.{absent_directory, present}
 use Rattle.pe_core.specs.Header.{HeaderView, OptionalHeaderView}
 use Rattle.pe_core.specs.Options.{default_options}
-use Rattle.pe_core.specs.Refusals.{Refusal, ◌>>=◌}
+use Rattle.pe_core.specs.Refusals.{Refusal, outcome, ◌>>=◌}
 use Rattle.pe_core.specs.SectionMap.{section_map}
 use Rattle.pe_core.specs.declared.data_directories.DataDirectory.{DataDirectory}
 use Rattle.pe_core.specs.declared.optional_header.TheConstants.{MAGIC_64}
@@ -37,6 +37,16 @@ same_options o = options_by o.parse_mode o.resolve_rva
 
 pub same_mode : (o : ParseOptions) → mode_of_number (mode_of o) ≡ o.parse_mode
 same_mode o = ap (λ (p : ParseOptions). p.parse_mode) (same_options o)
+
+-- ---- tests
+
+passed : {X : Type 0} (test : Bool) (e : Refusal) (tests : List (Bool × Refusal)) (x y : X) → outcome ((test, e) ∷ tests) x ≡ Ok y → (test ≡ true) × (outcome tests x ≡ Ok y)
+passed true e tests x y h = (refl, h)
+passed false e tests x y h = absurd cc
+
+pub all_passed : {X : Type 0} (tests : List (Bool × Refusal)) (x y : X) → outcome tests x ≡ Ok y → x ≡ y
+all_passed [] x y h = cc
+all_passed (t ∷ tests) x y h = all_passed tests x y (passed t.0 t.1 tests x y h).1
 
 -- ---- directories
 

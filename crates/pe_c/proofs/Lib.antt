@@ -60,3 +60,10 @@ pub mod IndexFound
 pub mod IndexMaps
 pub mod RecordCodes
 pub mod SplitRooms
+pub mod ImageFields
+pub mod ImageDirectories
+pub mod ImageExports
+pub mod ImageImports
+pub mod ImageDebugData
+pub mod ImageResources
+pub mod ImagesByCalls
