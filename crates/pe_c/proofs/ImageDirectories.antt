@@ -1,5 +1,5 @@
 -- Base relocations, exception data and certificates: what calls return of them is their field of an image.
-use Rattle.std.proofs.Common.{◌≡◌, ℕ, ◌+◌, ◌≤◌, Bool, true, false, List, [], ◌∷◌, Option, Some, None, Result, Ok, Err, refl, sym, ap, subst, ◌∙◌}
+use Rattle.std.proofs.Common.{◌≡◌, ℕ, Bool, true, false, List, [], ◌∷◌, Option, Some, None, Result, Ok, Err, refl, sym, ap, subst, ◌∙◌}
 use Rattle.std.specs.Prelude.{◌==◌, ◌%◌, if◌then◌else◌}
 use Rattle.pe_core.proofs.Ranges.{inside_if_held}
 use Rattle.pe_core.specs.Bytes.{holds, range, record_at}
@@ -12,15 +12,15 @@ use Rattle.pe_core.specs.declared.header.TheConstants.{COFF_MACHINE_ARM64, COFF_
 use Rattle.pe_core.specs.declared.options.ParseOptions.{ParseOptions}
 use Rattle.pe_core.specs.declared.section_table.SectionTable.{SectionTable}
 use Rattle.pe_directories.specs.DirectoryRefusals.{DirectoryRefusal, of_image}
-use Rattle.pe_image.specs.Fields.{certificate_field, exception_field, exceptions_for, field, relocation_field}
+use Rattle.pe_image.specs.Fields.{certificate_field, exception_field, field, relocation_field}
 use Rattle.pe_image.specs.Layout.{alignment}
 use Rattle.pe_image.specs.Layout as layout
 use Rattle.pe_records.specs.Certificates.{CertificateView, certificates_at}
-use Rattle.pe_unwind.specs.ExceptionTable.{ExceptionView, exception_at, exception_at_offset, table_range}
+use Rattle.pe_unwind.specs.ExceptionTable.{exception_at, exception_at_offset, table_range}
 use Rattle.pe_c.proofs.CertificateRuns.{certificates_in_turn, refused_in_turn}
 use Rattle.pe_c.proofs.ImageFields.{IsThere, Says, part_of, plain, same_map, there}
 use Rattle.pe_c.specs.Certificates.{ReportsCertificate, StepsCertificates, listed}
-use Rattle.pe_c.specs.Directories.{if_present, table_at}
+use Rattle.pe_c.specs.Directories.{if_present}
 use Rattle.pe_c.specs.ImageParts.{AreCertificates, AreExceptions, AreListed, AreRelocations, IsTable, Reports, function_table, is_left_out}
 use Rattle.pe_c.specs.Images.{directory, is_absent, map_of_image, or_absent}
 use Rattle.pe_c.specs.Modes.{options_of}

@@ -1,11 +1,11 @@
 -- Exports: what calls return of the export directory and of its names is what an image has.
-use Rattle.std.proofs.Common.{◌≡◌, ℕ, Bool, true, false, List, [], ◌∷◌, length, Option, Some, None, Result, Ok, Err, refl, sym, ap, subst, ◌∙◌}
+use Rattle.std.proofs.Common.{◌≡◌, ℕ, Bool, true, false, List, length, Option, Some, None, Result, Ok, Err, refl, sym, ap, subst, ◌∙◌}
 use Rattle.std.specs.Prelude.{◌*◌, ◌==◌, if◌then◌else◌}
 use Rattle.std.specs.Option.{option_and_then, option_map}
 use Rattle.pe_core.proofs.Map.{offset_is}
 use Rattle.pe_core.proofs.Steps.{given, same_inside}
 use Rattle.pe_core.specs.Bytes.{holds, record_at}
-use Rattle.pe_core.specs.Exports.{ExportDataView, export_data_at, exports, image_name, table_at}
+use Rattle.pe_core.specs.Exports.{ExportDataView, export_data_at, table_at}
 use Rattle.pe_core.specs.Header.{OptionalHeaderView}
 use Rattle.pe_core.specs.Records.{export_directory as export_directory_at}
 use Rattle.pe_core.specs.Refusals.{Refusal, Short, ◌>>=◌}
@@ -24,7 +24,7 @@ use Rattle.pe_c.proofs.ExportRuns.{directory_in_turn}
 use Rattle.pe_c.proofs.ImageFields.{IsThere, Says, same_map, there}
 use Rattle.pe_c.specs.ExportAddresses.{address_table, address_table_at, dll_name, text_range}
 use Rattle.pe_c.specs.Exports.{one_if_some, tables_at, walk_over}
-use Rattle.pe_c.specs.ImageParts.{AreExports, AreExportsBy, IsExportData}
+use Rattle.pe_c.specs.ImageParts.{AreExports, AreExportsBy}
 use Rattle.pe_c.specs.Images.{export_directory, is_absent, map_of_image, or_absent}
 use Rattle.pe_c.specs.declared.exports.Exports.{Exports}
 use Rattle.pe_c.specs.declared.image.Image.{Image}
@@ -62,8 +62,7 @@ numbers_stand offset b rva d e =
     let t : ExportDirectoryTable = directory.0 in
     let addresses = given (table_at offset b t.address_table_rva (4 * t.address_table_entries)) _ d directory.2 in
     let names = given (table_at offset b t.name_pointer_rva (4 * t.number_of_name_pointers)) _ d addresses.2 in
-    let ordinals = given (table_at offset b t.ordinal_table_rva (2 * t.number_of_name_pointers)) _ d names.2 in
-    (
+    let ordinals = given (table_at offset b t.ordinal_table_rva (2 * t.number_of_name_pointers)) _ d names.2 in (
       p.0,
       offset_is (offset rva) p.0 p.1,
       subst (λ (x : ExportDataView). x.directory ≡ export_directory_at b p.0) (same_inside _ d ordinals.2) (there_by (holds b p.0 40) (export_directory_at b p.0) t directory.1),

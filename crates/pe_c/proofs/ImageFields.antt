@@ -1,7 +1,7 @@
 -- The image that `pe_c_image` returns says what the layout of pe_image says: the directories, the map of RVAs, the machine.
-use Rattle.std.proofs.Common.{◌≡◌, ℕ, Bool, true, false, List, [], ◌∷◌, Option, Some, None, Result, Ok, Err, refl, ap, ◌∙◌}
+use Rattle.std.proofs.Common.{◌≡◌, ℕ, Bool, true, false, List, [], ◌∷◌, Option, Some, None, Result, Ok, refl, ap, ◌∙◌}
 use Rattle.std.specs.Prelude.{◌==◌, slice_index_or, if◌then◌else◌}
-use Rattle.pe_core.specs.Directories.{absent_directory, present}
+use Rattle.pe_core.specs.Directories.{absent_directory}
 use Rattle.pe_core.specs.Header.{HeaderView, OptionalHeaderView}
 use Rattle.pe_core.specs.Options.{default_options}
 use Rattle.pe_core.specs.Refusals.{Refusal, outcome, ◌>>=◌}

@@ -1,12 +1,12 @@
 -- Imports: what calls return of the libraries and of the imports of each is what an image has.
-use Rattle.std.proofs.Common.{◌≡◌, ℕ, ◌+◌, ◌/◌, ◌<◌, ◌≤◌, ◌^◌, ◌%◌, Bool, true, false, List, [], ◌∷◌, ◌++◌, length, map, Option, Some, None, Result, Ok, Err, refl, sym, ap, subst, ◌∙◌}
+use Rattle.std.proofs.Common.{◌≡◌, ℕ, ◌+◌, ◌/◌, ◌≤◌, ◌^◌, ◌%◌, Bool, true, false, List, [], ◌∷◌, ◌++◌, length, map, Option, Some, None, Result, Ok, Err, refl, sym, ap, subst, ◌∙◌}
 use Rattle.std.specs.Prelude.{◌*◌, ◌-◌, ◌==◌, nat_le, if◌then◌else◌}
 use Rattle.std.specs.List.{AllZip, range_with_len}
 use Rattle.std.specs.Option.{option_map}
 use Rattle.std.proofs.lemmas.List.{append-nil}
 use Rattle.pe_core.proofs.EntryItems.{each_as_map}
 use Rattle.pe_core.proofs.Steps.{same_inside}
-use Rattle.pe_core.specs.Bytes.{AreBytes, holds, le, record_at}
+use Rattle.pe_core.specs.Bytes.{AreBytes, holds, le}
 use Rattle.pe_core.specs.Gathered.{all_or_refusal, with_rest}
 use Rattle.pe_core.specs.Header.{OptionalHeaderView}
 use Rattle.pe_core.specs.Imports.{EntryView, ImportRecordView, ImportView, entry_size, import_data_at, import_entries, import_entry_at, import_of, import_records, imports, name_or_refusal, named_import}
@@ -25,10 +25,9 @@ use Rattle.pe_c.proofs.ImageFields.{IsThere, Says, same_map, there}
 use Rattle.pe_c.proofs.ImportRuns.{imports_in_turn, libraries_in_turn, refused_in_turn}
 use Rattle.pe_c.specs.ImageParts.{AreImports, AreImportsAfter, AreImportsBy, AreImportsOf, IsLibrary, in_turn}
 use Rattle.pe_c.specs.Images.{import_directory, is_absent, map_of_image, or_absent}
-use Rattle.pe_c.specs.Imports.{StepsImports, StepsLibraries, libraries_at, libraries_from}
+use Rattle.pe_c.specs.Imports.{libraries_at, libraries_from}
 use Rattle.pe_c.specs.Parts.{ReportsImport, ReportsLibrary}
 use Rattle.pe_c.specs.Ranges.{IsRange}
-use Rattle.pe_c.specs.Runs.{ReturnsItems, ReturnsReported}
 use Rattle.pe_c.specs.declared.image.Image.{Image}
 use Rattle.pe_c.specs.declared.imports.Import.{Import}
 use Rattle.pe_c.specs.declared.imports.Libraries.{Libraries}
@@ -171,8 +170,7 @@ by_records : (b : List ℕ) (image : Image) (sections : List SectionTable) (walk
 by_records b image sections walk (Ok rs) bytes small start e =
     let offset = map_of_image image sections in
     let w = entry_size (image.width == 64) in
-    let found = libraries_in_turn b image sections walk rs bytes small start e in
-    (
+    let found = libraries_in_turn b image sections walk rs bytes small start e in (
       found.0,
       lists_of offset w b rs,
       found.1,

@@ -2,7 +2,6 @@
 use Rattle.std.proofs.Common.{◌≡◌, ℕ, ◌+◌, ◌≤◌, Bool, true, false, List, [], ◌∷◌, length, Option, Some, None, Result, Ok, Err, refl, sym, ap, subst, ◌∙◌, arith}
 use Rattle.std.specs.Prelude.{◌*◌, ◌/◌, nat_le, if◌then◌else◌}
 use Rattle.std.specs.Option.{option_map}
-use Rattle.std.proofs.lemmas.Bool.Decides.{nat_tests}
 use Rattle.std.proofs.lemmas.List.{places}
 use Rattle.pe_core.proofs.Ranges.{held_if_inside, inside_if_held, length_range, range_in_range}
 use Rattle.pe_core.proofs.Steps.{given, same_inside}
@@ -17,22 +16,21 @@ use Rattle.pe_core.specs.declared.data_directories.DataDirectory.{DataDirectory}
 use Rattle.pe_core.specs.declared.options.ParseMode.{ParseMode}
 use Rattle.pe_core.specs.declared.options.ParseOptions.{ParseOptions}
 use Rattle.pe_core.specs.declared.section_table.SectionTable.{SectionTable}
-use Rattle.pe_image.specs.Fields.{Field, IsField, IsResourceField, resource_directory}
+use Rattle.pe_image.specs.Fields.{Field, IsField, IsResourceField}
 use Rattle.pe_image.specs.Layout.{alignment}
 use Rattle.pe_image.specs.Layout as layout
 use Rattle.pe_resource.proofs.ContentRanges.{version_named}
 use Rattle.pe_resource.proofs.Entries.{entries_count}
 use Rattle.pe_resource.proofs.ValueRanges.{inner_bytes}
-use Rattle.pe_resource.specs.Contents.{IsContent, IsContentRange, IsThere, IsVersion, content_of, data_entry_at, file_bytes, file_range, inner, map_of, named_range, range_in, version_of_content}
+use Rattle.pe_resource.specs.Contents.{IsContentRange, IsThere, content_of, data_entry_at, file_bytes, file_range, inner, map_of, named_range, range_in, version_of_content}
 use Rattle.pe_resource.specs.Directories.{count, directory_at, directory_at_offset, directory_of}
-use Rattle.pe_resource.specs.LeafPositions.{first_position, leaf_start, start_in}
+use Rattle.pe_resource.specs.LeafPositions.{first_position, start_in}
 use Rattle.pe_resource.specs.ResourceEntries.{entries}
 use Rattle.pe_resource.specs.Resources.{AreResources as AreIn, FirstDirectoryView, IsOfFirst, IsResource, ResourceView, first_directory, first_entries_in, no_resources, resources_with}
-use Rattle.pe_resource.specs.VersionFields.{FileStrings, VersionView, file_strings, fixed_info_of, value_named, value_range_in, version_in}
+use Rattle.pe_resource.specs.VersionFields.{VersionView, file_strings, fixed_info_of, value_named, version_in}
 use Rattle.pe_resource.specs.VersionStrings.{read, strings}
 use Rattle.pe_resource.specs.declared.content.ResourceDataEntry.{ResourceDataEntry}
 use Rattle.pe_resource.specs.declared.directory.ImageResourceDirectory.{ImageResourceDirectory}
-use Rattle.pe_resource.specs.declared.version.VersionName.{VersionName}
 use Rattle.pe_resource.specs.declared.version.VsFixedFileInfo.{VsFixedFileInfo}
 use Rattle.pe_c.proofs.ImageFields.{IsThere as HasDirectory, Says, part_of, plain, there}
 use Rattle.pe_c.specs.ImageParts.{AreResources, AreResourcesBy, AreResourcesUnless, AreStrings, HasOption, IsVersionAt, IsVersionBy, is_left_out, resources_at}
@@ -41,9 +39,8 @@ use Rattle.pe_c.specs.Images as images
 use Rattle.pe_c.specs.Modes.{options_of}
 use Rattle.pe_c.specs.Ranges.{IsRange, range_of}
 use Rattle.pe_c.specs.ResourceLeaves.{leaves_start, walk_at}
-use Rattle.pe_c.specs.Versions.{IsContentBy, IsContentOf, content_at, fixed_at, fixed_in, text_in, value_at}
+use Rattle.pe_c.specs.Versions.{IsContentBy, IsContentOf, content_at, fixed_at, fixed_in, value_at}
 use Rattle.pe_c.specs.declared.image.Image.{Image}
-use Rattle.pe_c.specs.declared.ranges.Range.{Range}
 use Rattle.pe_c.specs.declared.resource_leaves.ResourceLeaves.{ResourceLeaves}
 
 -- ---- a content lies in the bytes
@@ -83,8 +80,7 @@ value_by b outer (Some r) m h is =
 
 strings_are : (b : List ℕ) (c : ByteRange) (v : VersionView) → IsWithin b c → version_in (bytes_in b c) ≡ Ok v → AreStrings b (range_of c) v.strings
 strings_are b c v h is = λ name.
-    let found = version_named (bytes_in b c) v name is in
-    (
+    let found = version_named (bytes_in b c) v name is in (
       option_map (λ r. range_of (inner c r)) found.0,
       ap (λ (r : Result ByteRange Refusal). r >>= λ c. value_at b name (Some c)) (content_is b c h) ∙ ap (λ (r : Result (Option ByteRange) Refusal). r >>= λ r. Ok (option_map (λ r. range_of (inner c r)) r)) found.1,
       value_by b c found.0 (value_named name v.strings) h found.2,
@@ -199,8 +195,7 @@ tree_by b image sections d p r h first stands are =
     let is_content : (id : ℕ) (c : Result (Option ByteRange) Refusal) → IsContentRange map b d.bytes d.entries id c → IsContentOf b image sections image.mode id c = λ id c is.
     subst (λ (absent : Bool). IsContentBy absent (options_of image.mode) b image sections id c) (sym h)
     (subst (λ (q : Result (Option FirstDirectoryView) Refusal). IsOfFirst None (λ x. IsContentRange map b x.bytes x.entries id) q c) (sym first) is) in
-    let of_version : are.0 ≡ ((content >>= λ c. Ok (content_of b c)) >>= version_of_content) = version.2 ∙ ap (λ (c : Result (Option (List ℕ)) Refusal). c >>= version_of_content) version.1.2 in
-    (
+    let of_version : are.0 ≡ ((content >>= λ c. Ok (content_of b c)) >>= version_of_content) = version.2 ∙ ap (λ (c : Result (Option (List ℕ)) Refusal). c >>= version_of_content) version.1.2 in (
       content,
       are.0,
       manifest.0,

@@ -1,5 +1,5 @@
 -- An image is what the calls return of its parts, in the order and by the modes of `PE`.
-use Rattle.std.proofs.Common.{◌≡◌, ℕ, ◌+◌, ◌-◌, ◌≤◌, ◌^◌, Bool, true, false, List, [], ◌∷◌, length, Option, Some, None, Result, Ok, Err, refl, sym, ap, subst, ◌∙◌, arith}
+use Rattle.std.proofs.Common.{◌≡◌, ℕ, ◌+◌, ◌≤◌, ◌^◌, Bool, true, false, List, [], ◌∷◌, length, Option, Some, None, Result, Ok, Err, refl, sym, ap, subst, ◌∙◌, arith}
 use Rattle.std.specs.Prelude.{◌==◌, ◌||◌, nat_le, slice_range, unwrap_or, if◌then◌else◌}
 use Rattle.std.specs.Option.{option_map}
 use Rattle.std.proofs.lemmas.List.{places, same_lists}
@@ -11,7 +11,7 @@ use Rattle.pe_core.specs.Options.{is_permissive}
 use Rattle.pe_core.specs.Records.{coff_header, dos_header}
 use Rattle.pe_core.specs.Refusals.{BadMagic, HeaderPointer, Refusal, Short, outcome, ◌>>=◌}
 use Rattle.pe_core.specs.SectionMap.{section_map}
-use Rattle.pe_core.specs.Sections.{sections_at, sections_of, sections_offset}
+use Rattle.pe_core.specs.Sections.{sections_at, sections_of}
 use Rattle.pe_core.specs.declared.data_directories.DataDirectory.{DataDirectory}
 use Rattle.pe_core.specs.declared.options.ParseMode.{ParseMode}
 use Rattle.pe_core.specs.declared.options.ParseMode.TheVariants.{Strict, Permissive}
@@ -30,9 +30,9 @@ use Rattle.pe_c.proofs.ImageExports.{exports_are}
 use Rattle.pe_c.proofs.ImageFields.{Says, all_passed, part_of, same_mode, says}
 use Rattle.pe_c.proofs.ImageImports.{imports_are, imports_part}
 use Rattle.pe_c.proofs.ImageResources.{resources_are}
-use Rattle.pe_c.specs.Headers.{headers_at, headers_by, headers_of}
+use Rattle.pe_c.specs.Headers.{headers_by}
 use Rattle.pe_c.specs.ImageOfCalls.{AreParts, HasHeaders, IsImageAfter, IsImageOfCalls, IsImageWith, Parts, image_of_parts, mode_of, part_by_mode}
-use Rattle.pe_c.specs.Images.{image_at, image_info_by, image_info_of}
+use Rattle.pe_c.specs.Images.{image_info_by, image_info_of}
 use Rattle.pe_c.specs.Modes.{mode_of_number}
 use Rattle.pe_c.specs.Ranges.{IsRange}
 use Rattle.pe_c.specs.declared.image.Image.{Image}
@@ -175,11 +175,11 @@ five {X = X} m a b c d e make =
     let of_b = kept m b (λ w. part_by_mode m (part_of c) >>= λ x. part_by_mode m (part_of d) >>= λ y. part_by_mode m (part_of e) >>= λ z. Ok (make (given_value a) w x y z)) ∙ ap (λ (r : Result X Refusal). demanded m b >>= λ u. r) of_c in
     let of_a = kept m a (λ v. part_by_mode m (part_of b) >>= λ w. part_by_mode m (part_of c) >>= λ x. part_by_mode m (part_of d) >>= λ y. part_by_mode m (part_of e) >>= λ z. Ok (make v w x y z)) ∙ ap (λ (r : Result X Refusal). demanded m a >>= λ u. r) of_b in
     of_a ∙ sym (joined (demanded m a) (demanded m b) (demanded m c) (demanded m d) (demanded m e >>= λ u. made)) where
-  joined : {X : Type 0} (a b c d : Result (Unit {0}) Refusal) (r : Result X Refusal) → ((a >>= λ u. b >>= λ u. c >>= λ u. d) >>= λ u. r) ≡ (a >>= λ u. b >>= λ u. c >>= λ u. d >>= λ u. r)
-  joined (Ok a) (Ok b) (Ok c) d r = refl
-  joined (Ok a) (Ok b) (Err e) d r = refl
-  joined (Ok a) (Err e) c d r = refl
-  joined (Err e) b c d r = refl
+      joined : {X : Type 0} (a b c d : Result (Unit {0}) Refusal) (r : Result X Refusal) → ((a >>= λ u. b >>= λ u. c >>= λ u. d) >>= λ u. r) ≡ (a >>= λ u. b >>= λ u. c >>= λ u. d >>= λ u. r)
+      joined (Ok a) (Ok b) (Ok c) d r = refl
+      joined (Ok a) (Ok b) (Err e) d r = refl
+      joined (Ok a) (Err e) c d r = refl
+      joined (Err e) b c d r = refl
 
 -- the image of the parts, where the core has these imports
 by_imports : (b : List ℕ) (o : ParseOptions) (h : HeaderView) (sections : List SectionTable) (f : Field ResourceView) (i : Result (Option (List ImportRecordView × List ImportView)) Refusal) →

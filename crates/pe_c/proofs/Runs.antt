@@ -1,6 +1,5 @@
 -- What whole runs of any walk tell.
 use Rattle.std.proofs.Common.{◌≡◌, List, [], ◌∷◌, ◌++◌, map, Option, Some, None, Result, Ok, Err, refl, sym, ap, subst, ◌∙◌}
-use Rattle.std.specs.List.{AllZip}
 use Rattle.pe_core.specs.Gathered.{with_rest}
 use Rattle.pe_core.specs.Refusals.{Refusal}
 use Rattle.pe_c.specs.Runs.{ReturnsItems, ReturnsReported, IsOver}

@@ -1,5 +1,5 @@
 -- The debug data of an image by the calls: what the calls for the entries and for each record return, read as debug data.
-use Rattle.std.specs.Prelude.{◌≡◌, ℕ, List, length, Option, Some, None, Result, Ok}
+use Rattle.std.specs.Prelude.{◌≡◌, ℕ, List, Option, Some, None, Result, Ok}
 use Rattle.std.specs.Option.{option_map}
 use Rattle.pe_core.specs.Refusals.{Refusal, ◌>>=◌}
 use Rattle.pe_core.specs.declared.section_table.SectionTable.{SectionTable}

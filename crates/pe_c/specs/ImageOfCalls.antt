@@ -1,6 +1,6 @@
 -- An image by the calls, in the order and by the modes of `PE`: headers, section headers, exports and imports; then debug
 -- data, exception data, base relocations, certificates and resources, of which permissive mode leaves out what is refused.
-use Rattle.std.specs.Prelude.{◌≡◌, ℕ, ◌/◌, ◌%◌, ◌==◌, List, [], Bool, true, false, Option, Some, None, Result, Ok, Err, unwrap_or, option_and_then}
+use Rattle.std.specs.Prelude.{◌≡◌, ℕ, ◌/◌, ◌%◌, ◌==◌, List, [], Bool, true, false, Option, None, Result, Ok, Err, unwrap_or, option_and_then}
 use Rattle.std.specs.Option.{option_map}
 use Rattle.pe_core.specs.Exports.{ExportDataView, ExportView}
 use Rattle.pe_core.specs.Header.{HeaderView}

@@ -35,10 +35,8 @@ use Rattle.pe_c.specs.Runs.{ReturnsItems, ReturnsReported}
 use Rattle.pe_c.specs.Unwinding.{exception_table_at}
 use Rattle.pe_c.specs.Versions.{IsContentOf, fixed_in, text_in}
 use Rattle.pe_c.specs.declared.export_addresses.AddressTable.{AddressTable}
-use Rattle.pe_c.specs.declared.exports.Export.{Export}
 use Rattle.pe_c.specs.declared.exports.Exports.{Exports}
 use Rattle.pe_c.specs.declared.image.Image.{Image}
-use Rattle.pe_c.specs.declared.imports.Import.{Import}
 use Rattle.pe_c.specs.declared.imports.Libraries.{Libraries}
 use Rattle.pe_c.specs.declared.imports.Library.{Library}
 use Rattle.pe_c.specs.declared.ranges.Range.{Range}
