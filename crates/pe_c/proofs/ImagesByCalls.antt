@@ -59,14 +59,24 @@ first_four true true false v tests x y e = absurd cc
 first_four true false u v tests x y e = absurd cc
 first_four false t u v tests x y e = absurd cc
 
-stub_stands : (b : List ℕ) (mode : ParseMode) (h : HeaderView) → header_at b mode ≡ Ok h → IsRange b (record { offset = 64; length = length h.dos_stub }) h.dos_stub
-unfolding header_at header_tests header
-stub_stands b mode h e =
+-- the headers that are accepted are those of the bytes, of which the first 64 are there, and those of the PE signature
+accepted : (b : List ℕ) (mode : ParseMode) (h : HeaderView) → header_at b mode ≡ Ok h → (holds b 0 64 ≡ true) × (holds b (dos_header b 0).pe_pointer 4 ≡ true) × (header b ≡ h)
+unfolding header_at header_tests
+accepted b mode h e =
     let p : ℕ = (dos_header b 0).pe_pointer in
     let rest : List (Bool × Refusal) =
     (le b p 4 == 0x4550, BadMagic) ∷ (holds b (p + 4) 20, Short) ∷ (if (coff_header b (p + 4)).size_of_optional_header == 0 then [] else optional_header_tests b (p + 24)) in
-    let passed = first_four (holds b 0 64) ((dos_header b 0).signature == 0x5A4D) (nat_le 64 p || is_permissive mode) (holds b p 4) rest (header b) h e in
-    subst (λ (x : HeaderView). IsRange b (record { offset = 64; length = length x.dos_stub }) x.dos_stub) passed.2 (stub_by b p passed.0 passed.1)
+    first_four (holds b 0 64) ((dos_header b 0).signature == 0x5A4D) (nat_le 64 p || is_permissive mode) (holds b p 4) rest (header b) h e
+
+stub_stands : (b : List ℕ) (mode : ParseMode) (h : HeaderView) → header_at b mode ≡ Ok h → IsRange b (record { offset = 64; length = length h.dos_stub }) h.dos_stub
+unfolding header
+stub_stands b mode h e =
+    let is = accepted b mode h e in
+    subst (λ (x : HeaderView). IsRange b (record { offset = 64; length = length x.dos_stub }) x.dos_stub) is.2 (stub_by b (dos_header b 0).pe_pointer is.0 is.1)
+
+rest_stands : (b : List ℕ) (mode : ParseMode) (h : HeaderView) → header_at b mode ≡ Ok h → h.dos_header.rest ≡ range b 2 58
+unfolding header dos_header
+rest_stands b mode h e = ap (λ (x : HeaderView). x.dos_header.rest) (sym (accepted b mode h e).2)
 
 stub_is : (h : HeaderView) (optional : Option OptionalHeaderView) → (headers_by h optional).dos_stub ≡ record { offset = 64; length = length h.dos_stub }
 stub_is h None = refl
@@ -75,7 +85,11 @@ stub_is h (Some o) = refl
 has_headers : (b : List ℕ) (o : ParseOptions) (h : HeaderView) → header_at b o.parse_mode ≡ Ok h → HasHeaders b (mode_of o) h
 has_headers b o h e =
     let read : header_at b (mode_of_number (mode_of o)) ≡ Ok h = ap (header_at b) (same_mode o) ∙ e in
-    (rw read refl, rw (stub_is h h.optional_header) (stub_stands b o.parse_mode h e))
+    record {
+      numbers = rw read refl;
+      stub = rw (stub_is h h.optional_header) (stub_stands b o.parse_mode h e);
+      rest = rest_stands b o.parse_mode h e;
+    }
 
 -- ---- the parts
 

@@ -2,6 +2,7 @@
 -- data, exception data, base relocations, certificates and resources, of which permissive mode leaves out what is refused.
 use Rattle.std.specs.Prelude.{◌≡◌, ℕ, ◌/◌, ◌%◌, ◌==◌, List, [], Bool, true, false, Option, None, Result, Ok, Err, unwrap_or, option_and_then}
 use Rattle.std.specs.Option.{option_map}
+use Rattle.pe_core.specs.Bytes.{range}
 use Rattle.pe_core.specs.Exports.{ExportDataView, ExportView}
 use Rattle.pe_core.specs.Header.{HeaderView}
 use Rattle.pe_core.specs.Imports.{ImportRecordView, ImportView}
@@ -90,9 +91,12 @@ image_of_parts mode header image sections p = do
     resource_data = resource_data;
   })
 
--- the headers have the numbers that `pe_c_headers` returns, and the stub is the range that it returns
-abbrev pub HasHeaders : List ℕ → ℕ → HeaderView → Type 0
-HasHeaders b mode h = (headers_at b mode ≡ Ok (headers_of h)) × IsRange b (headers_of h).dos_stub h.dos_stub
+-- the headers have the numbers that `pe_c_headers` returns, and the stub is the range that it returns; the numbers of the DOS
+-- header between its signature and its pointer are read of the 58 bytes there
+pub record HasHeaders (b : List ℕ) (mode : ℕ) (h : HeaderView) : Type 0 where
+  pub numbers : headers_at b mode ≡ Ok (headers_of h)
+  pub stub : IsRange b (headers_of h).dos_stub h.dos_stub
+  pub rest : h.dos_header.rest ≡ range b 2 58
 
 -- after the section headers
 abbrev pub IsImageWith : List ℕ → ParseOptions → Image → Result (List SectionTable) Refusal → Result ImageView Refusal → Type 0
