@@ -1,15 +1,11 @@
 -- An image is what the calls return of its parts, in the order and by the modes of `PE`.
-use Rattle.std.proofs.Common.{◌≡◌, ℕ, ◌+◌, ◌≤◌, ◌^◌, Bool, true, false, List, [], ◌∷◌, length, Option, Some, None, Result, Ok, Err, refl, sym, ap, subst, ◌∙◌, arith}
-use Rattle.std.specs.Prelude.{◌==◌, ◌||◌, nat_le, slice_range, unwrap_or, if◌then◌else◌}
+use Rattle.std.proofs.Common.{◌≡◌, ℕ, ◌≤◌, ◌^◌, List, [], length, Option, Some, None, Result, Ok, Err, refl, sym, ap, subst, ◌∙◌}
+use Rattle.std.specs.Prelude.{unwrap_or}
 use Rattle.std.specs.Option.{option_map}
-use Rattle.std.proofs.lemmas.List.{places, same_lists}
-use Rattle.pe_core.proofs.Ranges.{inside_if_held}
-use Rattle.pe_core.specs.Bytes.{AreBytes, holds, le, range}
-use Rattle.pe_core.specs.Header.{HeaderView, OptionalHeaderView, header, header_at, header_tests, optional_header_tests}
+use Rattle.pe_core.specs.Bytes.{AreBytes}
+use Rattle.pe_core.specs.Header.{HeaderView, OptionalHeaderView, header_at}
 use Rattle.pe_core.specs.Imports.{ImportRecordView, ImportView, entry_size}
-use Rattle.pe_core.specs.Options.{is_permissive}
-use Rattle.pe_core.specs.Records.{coff_header, dos_header}
-use Rattle.pe_core.specs.Refusals.{BadMagic, HeaderPointer, Refusal, Short, outcome, ◌>>=◌}
+use Rattle.pe_core.specs.Refusals.{Refusal, ◌>>=◌}
 use Rattle.pe_core.specs.SectionMap.{section_map}
 use Rattle.pe_core.specs.Sections.{sections_at, sections_of}
 use Rattle.pe_core.specs.declared.data_directories.DataDirectory.{DataDirectory}
@@ -27,69 +23,15 @@ use Rattle.pe_resource.specs.Resources.{IsResource, ResourceView}
 use Rattle.pe_c.proofs.ImageDebugData.{debug_data_are}
 use Rattle.pe_c.proofs.ImageDirectories.{certificates, exceptions, relocations}
 use Rattle.pe_c.proofs.ImageExports.{exports_are}
-use Rattle.pe_c.proofs.ImageFields.{Says, all_passed, part_of, same_mode, says}
+use Rattle.pe_c.proofs.ImageFields.{Says, part_of, same_mode, says}
+use Rattle.pe_c.proofs.ImageHeaders.{headers_are}
 use Rattle.pe_c.proofs.ImageImports.{imports_are, imports_part}
 use Rattle.pe_c.proofs.ImageResources.{resources_are}
-use Rattle.pe_c.specs.Headers.{headers_by}
-use Rattle.pe_c.specs.ImageOfCalls.{AreParts, HasHeaders, IsImageAfter, IsImageOfCalls, IsImageWith, Parts, image_of_parts, mode_of, part_by_mode}
+use Rattle.pe_c.specs.Headers.{headers_of}
+use Rattle.pe_c.specs.HeadersRead.{header_of}
+use Rattle.pe_c.specs.ImageOfCalls.{AreParts, IsImageAfter, IsImageOfCalls, IsImageWith, Parts, image_of_parts, mode_of, part_by_mode}
 use Rattle.pe_c.specs.Images.{image_info_by, image_info_of}
-use Rattle.pe_c.specs.Modes.{mode_of_number}
-use Rattle.pe_c.specs.Ranges.{IsRange}
 use Rattle.pe_c.specs.declared.image.Image.{Image}
-
--- ---- the headers
-
-same_stub : (b : List ℕ) (p : ℕ) → p ≤ length b → range b 64 (length (slice_range b 64 p)) ≡ slice_range b 64 p
-same_stub b p h = same_lists _ _ (grind (arith, places)) (λ j d lt. grind (arith, places))
-
-stub_inside : (b : List ℕ) (p : ℕ) → 64 ≤ length b → p ≤ length b → 64 + length (slice_range b 64 p) ≤ length b
-stub_inside b p h i = grind (arith, places)
-
-stub_by : (b : List ℕ) (p : ℕ) → holds b 0 64 ≡ true → holds b p 4 ≡ true → IsRange b (record { offset = 64; length = length (slice_range b 64 p) }) (slice_range b 64 p)
-stub_by b p first last =
-    let long : 64 ≤ length b = inside_if_held b 0 64 first in
-    let after : p + 4 ≤ length b = inside_if_held b p 4 last in
-    record { inside = stub_inside b p long (omega (arith, after)); same = same_stub b p (omega (arith, after)) }
-
--- the first four tests of the headers have passed
-first_four : {X : Type 0} (s t u v : Bool) (tests : List (Bool × Refusal)) (x y : X) → outcome ((s, Short) ∷ (t, BadMagic) ∷ (u, HeaderPointer) ∷ (v, Short) ∷ tests) x ≡ Ok y → (s ≡ true) × (v ≡ true) × (x ≡ y)
-first_four true true true true tests x y e = (refl, refl, all_passed tests x y e)
-first_four true true true false tests x y e = absurd cc
-first_four true true false v tests x y e = absurd cc
-first_four true false u v tests x y e = absurd cc
-first_four false t u v tests x y e = absurd cc
-
--- the headers that are accepted are those of the bytes, of which the first 64 are there, and those of the PE signature
-accepted : (b : List ℕ) (mode : ParseMode) (h : HeaderView) → header_at b mode ≡ Ok h → (holds b 0 64 ≡ true) × (holds b (dos_header b 0).pe_pointer 4 ≡ true) × (header b ≡ h)
-unfolding header_at header_tests
-accepted b mode h e =
-    let p : ℕ = (dos_header b 0).pe_pointer in
-    let rest : List (Bool × Refusal) =
-    (le b p 4 == 0x4550, BadMagic) ∷ (holds b (p + 4) 20, Short) ∷ (if (coff_header b (p + 4)).size_of_optional_header == 0 then [] else optional_header_tests b (p + 24)) in
-    first_four (holds b 0 64) ((dos_header b 0).signature == 0x5A4D) (nat_le 64 p || is_permissive mode) (holds b p 4) rest (header b) h e
-
-stub_stands : (b : List ℕ) (mode : ParseMode) (h : HeaderView) → header_at b mode ≡ Ok h → IsRange b (record { offset = 64; length = length h.dos_stub }) h.dos_stub
-unfolding header
-stub_stands b mode h e =
-    let is = accepted b mode h e in
-    subst (λ (x : HeaderView). IsRange b (record { offset = 64; length = length x.dos_stub }) x.dos_stub) is.2 (stub_by b (dos_header b 0).pe_pointer is.0 is.1)
-
-rest_stands : (b : List ℕ) (mode : ParseMode) (h : HeaderView) → header_at b mode ≡ Ok h → h.dos_header.rest ≡ range b 2 58
-unfolding header dos_header
-rest_stands b mode h e = ap (λ (x : HeaderView). x.dos_header.rest) (sym (accepted b mode h e).2)
-
-stub_is : (h : HeaderView) (optional : Option OptionalHeaderView) → (headers_by h optional).dos_stub ≡ record { offset = 64; length = length h.dos_stub }
-stub_is h None = refl
-stub_is h (Some o) = refl
-
-has_headers : (b : List ℕ) (o : ParseOptions) (h : HeaderView) → header_at b o.parse_mode ≡ Ok h → HasHeaders b (mode_of o) h
-has_headers b o h e =
-    let read : header_at b (mode_of_number (mode_of o)) ≡ Ok h = ap (header_at b) (same_mode o) ∙ e in
-    record {
-      numbers = rw read refl;
-      stub = rw (stub_is h h.optional_header) (stub_stands b o.parse_mode h e);
-      rest = rest_stands b o.parse_mode h e;
-    }
 
 -- ---- the parts
 
@@ -249,7 +191,10 @@ with_sections law b o h sections r bytes small e is =
     let after : After b o h sections imports r =
     after_core law b o h sections imports r
     (subst (λ (q : Result CoreView Refusal). IsAfterCore b o (q >>= λ c. first_fields_demanded b o c >>= λ u. Ok c) r) (core_is b o h sections None) is) in
-    (h, parts_of b o h sections after.0, has_headers b o h e, are_parts b o h sections after.0 bytes small after.1, after.2 ∙ sym (image_is b o h sections after.0))
+    let headers = headers_are b o h e in
+    let whole : image_of_parts o.parse_mode (header_of b (headers_of h)) (image_info_of (mode_of o) h) sections (parts_of b o h sections after.0) ≡ image_of_parts o.parse_mode h (image_info_of (mode_of o) h) sections (parts_of b o h sections after.0) =
+    ap (λ (x : HeaderView). image_of_parts o.parse_mode x (image_info_of (mode_of o) h) sections (parts_of b o h sections after.0)) headers.1 in
+    (headers_of h, parts_of b o h sections after.0, headers.0, are_parts b o h sections after.0 bytes small after.1, after.2 ∙ sym (whole ∙ image_is b o h sections after.0))
 
 by_sections : SomeResource → (b : List ℕ) (o : ParseOptions) (h : HeaderView) (sections : Result (List SectionTable) Refusal) (r : Result ImageView Refusal) → AreBytes b → length b ≤ 2 ^ 63 → header_at b o.parse_mode ≡ Ok h →
     IsAfterCore b o ((sections >>= λ s. core_with b o h s) >>= λ c. first_fields_demanded b o c >>= λ u. Ok c) r → IsImageWith b o (image_info_of (mode_of o) h) sections r

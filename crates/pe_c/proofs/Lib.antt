@@ -67,3 +67,4 @@ pub mod ImageImports
 pub mod ImageDebugData
 pub mod ImageResources
 pub mod ImagesByCalls
+pub mod ImageHeaders

@@ -2,7 +2,6 @@
 -- data, exception data, base relocations, certificates and resources, of which permissive mode leaves out what is refused.
 use Rattle.std.specs.Prelude.{◌≡◌, ℕ, ◌/◌, ◌%◌, ◌==◌, List, [], Bool, true, false, Option, None, Result, Ok, Err, unwrap_or, option_and_then}
 use Rattle.std.specs.Option.{option_map}
-use Rattle.pe_core.specs.Bytes.{range}
 use Rattle.pe_core.specs.Exports.{ExportDataView, ExportView}
 use Rattle.pe_core.specs.Header.{HeaderView}
 use Rattle.pe_core.specs.Imports.{ImportRecordView, ImportView}
@@ -18,11 +17,12 @@ use Rattle.pe_records.specs.Certificates.{CertificateView}
 use Rattle.pe_records.specs.DebugRecords.{DebugFields}
 use Rattle.pe_resource.specs.Resources.{ResourceView}
 use Rattle.pe_unwind.specs.ExceptionTable.{ExceptionView}
-use Rattle.pe_c.specs.Headers.{headers_at, headers_of}
+use Rattle.pe_c.specs.Headers.{headers_at}
+use Rattle.pe_c.specs.HeadersRead.{header_of}
 use Rattle.pe_c.specs.ImageDebug.{AreDebugData}
 use Rattle.pe_c.specs.ImageParts.{AreCertificates, AreExceptions, AreExports, AreImports, AreRelocations, AreResources}
 use Rattle.pe_c.specs.Images.{image_at}
-use Rattle.pe_c.specs.Ranges.{IsRange}
+use Rattle.pe_c.specs.declared.headers.Headers.{Headers}
 use Rattle.pe_c.specs.declared.image.Image.{Image}
 
 -- the number of a way to read: bit 0 is permissive mode, bit 1 an image as loaded, whose RVAs are not mapped
@@ -91,19 +91,12 @@ image_of_parts mode header image sections p = do
     resource_data = resource_data;
   })
 
--- the headers have the numbers that `pe_c_headers` returns, and the stub is the range that it returns; the numbers of the DOS
--- header between its signature and its pointer are read of the 58 bytes there
-pub record HasHeaders (b : List ℕ) (mode : ℕ) (h : HeaderView) : Type 0 where
-  pub numbers : headers_at b mode ≡ Ok (headers_of h)
-  pub stub : IsRange b (headers_of h).dos_stub h.dos_stub
-  pub rest : h.dos_header.rest ≡ range b 2 58
-
--- after the section headers
+-- after the section headers: the headers are those that `pe_c_headers` returns
 abbrev pub IsImageWith : List ℕ → ParseOptions → Image → Result (List SectionTable) Refusal → Result ImageView Refusal → Type 0
 IsImageWith b o image (Err refusal) r = r ≡ Err refusal
 IsImageWith b o image (Ok sections) r =
-    (h : HeaderView) × (p : Parts) × HasHeaders b (mode_of o) h × AreParts b o image sections p
-    × (r ≡ image_of_parts o.parse_mode h image sections p)
+    (headers : Headers) × (p : Parts) × (headers_at b (mode_of o) ≡ Ok headers) × AreParts b o image sections p
+    × (r ≡ image_of_parts o.parse_mode (header_of b headers) image sections p)
 
 -- after `pe_c_image`: `pe_c_sections` reads as many section headers as the image says
 abbrev pub IsImageAfter : List ℕ → ParseOptions → Result Image Refusal → Result ImageView Refusal → Type 0

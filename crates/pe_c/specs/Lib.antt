@@ -61,3 +61,4 @@ pub mod Loaded
 pub mod ImageParts
 pub mod ImageDebug
 pub mod ImageOfCalls
+pub mod HeadersRead
