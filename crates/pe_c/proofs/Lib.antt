@@ -68,3 +68,9 @@ pub mod ImageDebugData
 pub mod ImageResources
 pub mod ImagesByCalls
 pub mod ImageHeaders
+pub mod OneRun
+pub mod OneParts
+pub mod OneImports
+pub mod OneDebugData
+pub mod OneResources
+pub mod OneImage

@@ -1,5 +1,5 @@
 -- What the calls return decides base relocations, exception data, certificates and exports of an image.
-use Rattle.std.proofs.Common.{◌≡◌, ℕ, zero, suc, ◌+◌, ◌-◌, ◌<◌, ◌≤◌, Bool, true, false, List, [], ◌∷◌, Option, Some, None, Result, Ok, Err, refl, sym, ap, subst, ◌∙◌, arith, ⊎_elim}
+use Rattle.std.proofs.Common.{◌≡◌, ℕ, zero, suc, ◌+◌, ◌-◌, ◌<◌, ◌≤◌, Bool, true, false, List, Option, Some, None, Result, Ok, Err, refl, sym, ap, subst, ◌∙◌, arith, ⊎_elim}
 use Rattle.std.specs.Prelude.{nat_le}
 use Rattle.std.proofs.lemmas.Bool.{cases_lt}
 use Rattle.std.proofs.lemmas.Bool.Decides.{nat_tests}
@@ -9,7 +9,7 @@ use Rattle.pe_core.specs.Refusals.{Refusal, ◌>>=◌}
 use Rattle.pe_core.specs.declared.data_directories.DataDirectory.{DataDirectory}
 use Rattle.pe_core.specs.declared.export.ExportDirectoryTable.{ExportDirectoryTable}
 use Rattle.pe_core.specs.declared.section_table.SectionTable.{SectionTable}
-use Rattle.pe_directories.specs.DirectoryRefusals.{DirectoryRefusal, Image as image_refusal, of_image}
+use Rattle.pe_directories.specs.DirectoryRefusals.{of_image}
 use Rattle.pe_records.specs.Certificates.{CertificateView, revision_number, revision_of, type_number, type_of}
 use Rattle.pe_records.specs.declared.certificate_table.AttributeCertificateRevision.{AttributeCertificateRevision}
 use Rattle.pe_records.specs.declared.certificate_table.AttributeCertificateRevision.TheVariants.{Revision1_0, Revision2_0}
@@ -20,12 +20,11 @@ use Rattle.pe_c.proofs.OneRun.{Moves, ReportsOne, one_list, one_option, one_resu
 use Rattle.pe_c.specs.Certificates.{ReportsCertificate, StepsCertificates, certificate_reported, certificate_step}
 use Rattle.pe_c.specs.Directories.{table_at}
 use Rattle.pe_c.specs.ExportAddresses.{address_table_at}
-use Rattle.pe_c.specs.Exports.{FindsNext, HaveNone, StepsExports, StepsExportsIf, StepsOverExports, count_of, exports_after, one_if_some, or_zero, reported_entry, tables_at, tables_or_short}
-use Rattle.pe_c.specs.ImageParts.{AreCertificates, AreExceptions, AreExports, AreExportsBy, AreListed, AreRelocations, HasOption, HasResult, IsExportData, IsTable, Reports, function_table, is_left_out}
+use Rattle.pe_c.specs.Exports.{FindsNext, StepsExports, StepsExportsIf, StepsOverExports, count_of, exports_after, one_if_some, or_zero, reported_entry, tables_at, tables_or_short}
+use Rattle.pe_c.specs.ImageParts.{AreCertificates, AreExceptions, AreExports, AreExportsBy, AreListed, AreRelocations, HasOption, IsExportData, IsTable, function_table, is_left_out}
 use Rattle.pe_c.specs.Images.{directory, export_directory, map_of_image}
 use Rattle.pe_c.specs.Parts.{ReportsExport}
 use Rattle.pe_c.specs.Ranges.{IsPart, IsRange, no_bytes}
-use Rattle.pe_c.specs.Runs.{ReturnsReported}
 use Rattle.pe_c.specs.declared.certificates.Certificate.{Certificate}
 use Rattle.pe_c.specs.declared.export_addresses.AddressTable.{AddressTable}
 use Rattle.pe_c.specs.declared.exports.Export.{Export}

@@ -77,17 +77,19 @@ ghost use Rattle.pe_unwind.specs.declared.arm64.codes.Arm64UnwindCodeData.{Arm64
 ghost use Rattle.pe_unwind.specs.declared.function_table.RuntimeFunction.{RuntimeFunction};
 ghost use Rattle.pe_unwind.specs.declared.unwind_code.UnwindCode.{UnwindCode};
 ghost use Rattle.std.specs.List.{AllZip};
-ghost use Rattle.std.specs.Prelude.{◌≡◌, ℕ, ◌+◌, List, Option, Ok, Err, IfSome, ◌⊎◌, ◌*◌, ◌%◌, ◌^◌, ◌<◌, ◌≤◌, length, Some, Result, true, false, [], ◌∷◌, ◌++◌, ◌≢◌, map};
+ghost use Rattle.std.specs.Prelude.{◌≡◌, ℕ, ◌+◌, List, Option, Ok, Err, IfSome, ◌⊎◌, ◌*◌, ◌%◌, ◌^◌, ◌<◌, ◌≤◌, length, Some, Result, true, false, [], ◌∷◌, ◌++◌, ◌≢◌, ◌↔◌, map};
 ghost use Rattle.pe_core.specs.declared.header.TheConstants.{COFF_MACHINE_X86_64};
 
 /// For all bytes and options the results of the calls on an image, in the order and by the modes of `PE`, are exactly the
-/// fields of `PE::parse_with_opts` of pe_image, or its first error. `IsImageOfCalls` names the call of each field. No slice has
-/// more bytes than 2^63 - 1.
+/// fields of `PE::parse_with_opts` of pe_image, or its first error: what the calls return decides the image, and it is that.
+/// `IsImageOfCalls` names the calls of each field. No slice has more bytes than 2^63 - 1.
 pub fn image_of_calls()
     ensures { (b : List ℕ) (o : ParseOptions) (r : Result ImageView Refusal) →
-        AreBytes b → length b ≤ 2 ^ 63 → IsImage b o r → IsImageOfCalls b o r }
+        AreBytes b → length b ≤ 2 ^ 63 → (IsImage b o r ↔ IsImageOfCalls b o r) }
 {
+    pe_image::laws::images_are_one();
     pe_resource::laws::resources::resources_have_an_answer();
+    pe_resource::laws::resources::resources_have_one_answer();
 }
 
 /// The ranges of an unwind record lie in the bytes, and are its codes and its handler's data.
