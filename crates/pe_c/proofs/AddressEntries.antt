@@ -44,7 +44,7 @@ forwarders offset b t i rva = part_if offset b rva (lies_in t.directory rva)
 
 -- ---- the table
 
-name_is : (offset : ℕ → Option ℕ) (b : List ℕ) (rva : ℕ) (d : ExportDataView) → export_data_at offset b rva ≡ Ok d → image_name offset b d.directory.name_rva ≡ d.name
+pub name_is : (offset : ℕ → Option ℕ) (b : List ℕ) (rva : ℕ) (d : ExportDataView) → export_data_at offset b rva ≡ Ok d → image_name offset b d.directory.name_rva ≡ d.name
 unfolding export_data_at
 name_is offset b rva d e =
     let p = given (mapped (offset rva)) _ d e in

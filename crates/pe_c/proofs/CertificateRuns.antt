@@ -10,10 +10,10 @@ use Rattle.pe_records.proofs.CertificateListings.{next_above}
 use Rattle.pe_records.specs.Certificates.{CertificateView, certificate_at, certificates_at}
 use Rattle.pe_c.proofs.Listings.{at_range, none_from, steps_list}
 use Rattle.pe_c.proofs.Parts.{body_is_reported}
-use Rattle.pe_c.proofs.Runs.{ReturnsReported, Makes, reports_more, reports_none, reports_refused}
+use Rattle.pe_c.proofs.Runs.{Makes, reports_more, reports_none, reports_refused}
 use Rattle.pe_c.specs.Certificates.{StepsCertificates, ReportsCertificate, certificate_reported, listed, certificate_step, step_by, walk_from}
 use Rattle.pe_c.specs.Ranges.{no_bytes}
-use Rattle.pe_c.specs.Runs.{ReturnsItems, IsOver}
+use Rattle.pe_c.specs.Runs.{ReturnsItems, IsOver, ReturnsReported}
 use Rattle.pe_c.specs.declared.certificates.Certificate.{Certificate}
 use Rattle.pe_c.specs.declared.ranges.Range.{Range}
 

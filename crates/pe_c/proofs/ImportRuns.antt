@@ -31,9 +31,9 @@ use Rattle.pe_c.specs.Images.{import_directory, is_absent, map_of_image}
 use Rattle.pe_c.specs.Imports.{import_at, import_by, import_left, import_step, import_reported, StepsImports, StepsLibraries, libraries_at, libraries_from, library_by, library_step, library_reported, no_imports, no_libraries, slot_entry}
 use Rattle.pe_c.specs.Parts.{ImportsInTurn, ReportsImport, ReportsLibrary}
 use Rattle.pe_c.specs.Ranges.{IsRange, no_bytes, range_from}
-use Rattle.pe_c.specs.Runs.{ReturnsItems, IsOver}
+use Rattle.pe_c.specs.Runs.{ReturnsItems, IsOver, ReturnsReported}
 use Rattle.pe_c.specs.Walks.{left_entry}
-use Rattle.pe_c.proofs.Runs.{ReturnsReported, makes_by, reports_more, reports_none, reports_refused}
+use Rattle.pe_c.proofs.Runs.{makes_by, reports_more, reports_none, reports_refused}
 use Rattle.pe_c.proofs.ExportParts.{text_stands}
 use Rattle.pe_core.proofs.Steps.{given, same_inside}
 use Rattle.pe_core.proofs.EntryLists.{some_size}

@@ -65,3 +65,17 @@ pub mod IndexMaps
 pub mod RecordCodes
 pub mod SplitRooms
 mod TextRuns
+pub mod ImageFields
+pub mod ImageDirectories
+pub mod ImageExports
+pub mod ImageImports
+pub mod ImageDebugData
+pub mod ImageResources
+pub mod ImagesByCalls
+pub mod ImageHeaders
+pub mod OneRun
+pub mod OneParts
+pub mod OneImports
+pub mod OneDebugData
+pub mod OneResources
+pub mod OneImage

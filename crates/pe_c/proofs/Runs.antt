@@ -1,18 +1,12 @@
 -- What whole runs of any walk tell.
 use Rattle.std.proofs.Common.{◌≡◌, List, [], ◌∷◌, ◌++◌, map, Option, Some, None, Result, Ok, Err, refl, sym, ap, subst, ◌∙◌}
-use Rattle.std.specs.List.{AllZip}
 use Rattle.pe_core.specs.Gathered.{with_rest}
 use Rattle.pe_core.specs.Refusals.{Refusal}
-use Rattle.pe_c.specs.Runs.{ReturnsItems, IsOver}
+use Rattle.pe_c.specs.Runs.{ReturnsItems, ReturnsReported, IsOver}
 
 -- whatever step is made returns this, and leaves the walk there
 abbrev pub Makes : {W X R : Type 0} → (W → Result (Option X) R → W → Type 0) → W → Result (Option X) R → W → Type 0
 Makes {W} {X} {R} Steps walk given next = (answer : Result (Option X) R) (v : W) → Steps walk answer v → (answer ≡ given) × (v ≡ next)
-
--- a walk returns what reports the elements of a list; where the list is refused, what reports some elements, and then the refusal
-abbrev pub ReturnsReported : {W X Y : Type 0} → (W → Result (Option X) Refusal → W → Type 0) → (X → Y → Type 0) → W → Result (List Y) Refusal → Type 0
-ReturnsReported {X = X} Steps Reports walk (Ok ys) = (reported : List X) × ReturnsItems Steps walk (map (λ x. Ok x) reported) × AllZip Reports reported ys
-ReturnsReported {X = X} {Y = Y} Steps Reports walk (Err e) = (reported : List X) × (ys : List Y) × ReturnsItems Steps walk (map (λ x. Ok x) reported ++ Err e ∷ []) × AllZip Reports reported ys
 
 -- a step that a function makes
 pub makes_by : {W X : Type 0} (step : W → Result (Option X) Refusal × W) (walk next : W) (given : Result (Option X) Refusal) → step walk ≡ (given, next) → Makes (λ old answer new. (answer, new) ≡ step old) walk given next

@@ -64,3 +64,7 @@ pub mod GuardTables
 pub mod EndedTexts
 pub mod TextRuns
 pub mod NamedSymbols
+pub mod ImageParts
+pub mod ImageDebug
+pub mod ImageOfCalls
+pub mod HeadersRead

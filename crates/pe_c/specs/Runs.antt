@@ -1,5 +1,7 @@
 -- Whole runs of any walk, by the relation between a walk, the result of a step, and the walk after it.
-use Rattle.std.specs.Prelude.{◌≡◌, List, [], ◌∷◌, Option, Some, None, Result, Ok, Err}
+use Rattle.std.specs.Prelude.{◌≡◌, List, [], ◌∷◌, ◌++◌, map, Option, Some, None, Result, Ok, Err}
+use Rattle.std.specs.List.{AllZip}
+use Rattle.pe_core.specs.Refusals.{Refusal}
 
 -- a walk that is over: a step returns nothing, and the walk stays as it is
 abbrev pub IsOver : {W X R : Type 0} → (W → Result (Option X) R → W → Type 0) → W → Type 0
@@ -12,6 +14,12 @@ ReturnsItems {W} {X} {R} Steps w [] = (answer : Result (Option X) R) (next : W) 
 ReturnsItems {W} {X} {R} Steps w (Ok x ∷ items) = (answer : Result (Option X) R) (next : W) → Steps w answer next → (answer ≡ Ok (Some x)) × ReturnsItems Steps next items
 ReturnsItems {W} {X} {R} Steps w (Err refusal ∷ items) =
     (items ≡ []) × ((answer : Result (Option X) R) (next : W) → Steps w answer next → (answer ≡ Err refusal) × IsOver Steps next)
+
+-- a walk returns what reports the values of a list, one a step; where the list is refused, what reports some values, and then
+-- the refusal
+abbrev pub ReturnsReported : {W X Y : Type 0} → (W → Result (Option X) Refusal → W → Type 0) → (X → Y → Type 0) → W → Result (List Y) Refusal → Type 0
+ReturnsReported {X = X} Steps Reports walk (Ok ys) = (reported : List X) × ReturnsItems Steps walk (map (λ x. Ok x) reported) × AllZip Reports reported ys
+ReturnsReported {X = X} {Y = Y} Steps Reports walk (Err e) = (reported : List X) × (ys : List Y) × ReturnsItems Steps walk (map (λ x. Ok x) reported ++ Err e ∷ []) × AllZip Reports reported ys
 
 -- ---- items that calls read further than the list which they walk over
 

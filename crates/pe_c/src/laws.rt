@@ -21,6 +21,7 @@ ghost use Rattle.pe_c.specs.Certificates.{StepsCertificates, ReportsCertificate,
 ghost use Rattle.pe_c.specs.DebugWalks.{StepsPogoEntries, entries_reported};
 ghost use Rattle.pe_c.specs.ExportAddresses.{address_table, addresses_in, exported_with, exported_at};
 ghost use Rattle.pe_c.specs.Exports.{StepsExports, count_of, tables_or_short, reported_entry, reported_from, walk_over, with_tables};
+ghost use Rattle.pe_c.specs.ImageOfCalls.{IsImageOfCalls};
 ghost use Rattle.pe_c.specs.Imports.{libraries_at};
 ghost use Rattle.pe_c.specs.Parts.{HasTables, ImportsInTurn, ReportsExport, ReportsLibraries, ReportsLibrariesUntil, import_records_at};
 ghost use Rattle.pe_c.specs.Modes.{options_of};
@@ -55,6 +56,8 @@ ghost use Rattle.pe_core.specs.Refusals.{CertificateTable, Memory, Refusal, outc
 ghost use Rattle.pe_core.specs.declared.data_directories.DataDirectory.{DataDirectory};
 ghost use Rattle.pe_core.specs.declared.error.Error.{Error};
 ghost use Rattle.pe_core.specs.declared.section_table.SectionTable.{SectionTable};
+ghost use Rattle.pe_core.specs.declared.options.ParseOptions.{ParseOptions};
+ghost use Rattle.pe_image.specs.Image.{ImageView, IsImage};
 ghost use Rattle.pe_plan.specs.Plans.{PlansFrom};
 ghost use Rattle.pe_records.specs.Certificates.{CertificateView, certificate_at};
 ghost use Rattle.pe_records.specs.DebugDirectory.{debug_entry_at};
@@ -75,8 +78,20 @@ ghost use Rattle.pe_unwind.specs.declared.arm64.codes.Arm64UnwindCodeData.{Arm64
 ghost use Rattle.pe_unwind.specs.declared.function_table.RuntimeFunction.{RuntimeFunction};
 ghost use Rattle.pe_unwind.specs.declared.unwind_code.UnwindCode.{UnwindCode};
 ghost use Rattle.std.specs.List.{AllZip};
-ghost use Rattle.std.specs.Prelude.{◌≡◌, ℕ, ◌+◌, List, Option, Ok, Err, IfSome, ◌⊎◌, ◌*◌, ◌%◌, ◌^◌, ◌<◌, ◌≤◌, length, Some, Result, true, false, [], ◌∷◌, ◌++◌, ◌≢◌, map};
+ghost use Rattle.std.specs.Prelude.{◌≡◌, ℕ, ◌+◌, List, Option, Ok, Err, IfSome, ◌⊎◌, ◌*◌, ◌%◌, ◌^◌, ◌<◌, ◌≤◌, length, Some, Result, true, false, [], ◌∷◌, ◌++◌, ◌≢◌, ◌↔◌, map};
 ghost use Rattle.pe_core.specs.declared.header.TheConstants.{COFF_MACHINE_X86_64};
+
+/// For all bytes and options the results of the calls on an image, in the order and by the modes of `PE`, are exactly the
+/// fields of `PE::parse_with_opts` of pe_image, or its first error: what the calls return decides the image, and it is that.
+/// `IsImageOfCalls` names the calls of each field. No slice has more bytes than 2^63 - 1.
+pub fn image_of_calls()
+    ensures { (b : List ℕ) (o : ParseOptions) (r : Result ImageView Refusal) →
+        AreBytes b → length b ≤ 2 ^ 63 → (IsImage b o r ↔ IsImageOfCalls b o r) }
+{
+    pe_image::laws::images_are_one();
+    pe_resource::laws::resources::resources_have_an_answer();
+    pe_resource::laws::resources::resources_have_one_answer();
+}
 
 /// The ranges of an unwind record lie in the bytes, and are its codes and its handler's data.
 pub fn ranges_of_records()

@@ -1,0 +1,76 @@
+-- The headers of an image, read of what `pe_c_headers` returns: each number is that of a field, the stub is a range, and the bytes
+-- of the DOS header between its signature and its pointer, whose numbers are returned, stand at offset 2.
+use Rattle.std.specs.Prelude.{ℕ, ◌==◌, List, take, Option, Some, None, if◌then◌else◌}
+use Rattle.pe_core.specs.Bytes.{range}
+use Rattle.pe_core.specs.Header.{HeaderView, OptionalHeaderView}
+use Rattle.pe_core.specs.declared.header.CoffHeader.{CoffHeader}
+use Rattle.pe_core.specs.declared.optional_header.StandardFields.{StandardFields}
+use Rattle.pe_core.specs.declared.optional_header.WindowsFields.{WindowsFields}
+use Rattle.pe_c.specs.declared.headers.CoffFields.{CoffFields}
+use Rattle.pe_c.specs.declared.headers.Headers.{Headers}
+use Rattle.pe_c.specs.declared.headers.OptionalFields.{OptionalFields}
+
+abbrev pub standard_of : OptionalFields → StandardFields
+standard_of x = record {
+  magic = x.magic;
+  major_linker_version = x.major_linker_version;
+  minor_linker_version = x.minor_linker_version;
+  size_of_code = x.size_of_code;
+  size_of_initialized_data = x.size_of_initialized_data;
+  size_of_uninitialized_data = x.size_of_uninitialized_data;
+  address_of_entry_point = x.address_of_entry_point;
+  base_of_code = x.base_of_code;
+  base_of_data = x.base_of_data;
+}
+
+abbrev pub windows_of : OptionalFields → WindowsFields
+windows_of x = record {
+  image_base = x.image_base;
+  section_alignment = x.section_alignment;
+  file_alignment = x.file_alignment;
+  major_operating_system_version = x.major_operating_system_version;
+  minor_operating_system_version = x.minor_operating_system_version;
+  major_image_version = x.major_image_version;
+  minor_image_version = x.minor_image_version;
+  major_subsystem_version = x.major_subsystem_version;
+  minor_subsystem_version = x.minor_subsystem_version;
+  win32_version_value = x.win32_version_value;
+  size_of_image = x.size_of_image;
+  size_of_headers = x.size_of_headers;
+  check_sum = x.check_sum;
+  subsystem = x.subsystem;
+  dll_characteristics = x.dll_characteristics;
+  size_of_stack_reserve = x.size_of_stack_reserve;
+  size_of_stack_commit = x.size_of_stack_commit;
+  size_of_heap_reserve = x.size_of_heap_reserve;
+  size_of_heap_commit = x.size_of_heap_commit;
+  loader_flags = x.loader_flags;
+  number_of_rva_and_sizes = x.number_of_rva_and_sizes;
+}
+
+abbrev pub coff_of : CoffFields → CoffHeader
+coff_of x = record {
+  machine = x.machine;
+  number_of_sections = x.number_of_sections;
+  time_date_stamp = x.time_date_stamp;
+  pointer_to_symbol_table = x.pointer_to_symbol_table;
+  number_of_symbol_table = x.number_of_symbol_table;
+  size_of_optional_header = x.size_of_optional_header;
+  characteristics = x.characteristics;
+}
+
+-- the optional header, whose offset is 0 where there is none; it has so many of the sixteen directories
+abbrev pub optional_of : Headers → Option OptionalHeaderView
+optional_of x =
+    if x.optional_offset == 0 then None
+    else Some (record { standard_fields = standard_of x.optional; windows_fields = windows_of x.optional; data_directories = take x.optional.number_of_directories x.directories })
+
+-- all headers
+abbrev pub header_of : List ℕ → Headers → HeaderView
+header_of b x = record {
+  dos_header = record { signature = x.dos.signature; rest = range b 2 58; pe_pointer = x.dos.pe_pointer };
+  dos_stub = range b x.dos_stub.offset x.dos_stub.length;
+  signature = x.signature;
+  coff_header = coff_of x.coff;
+  optional_header = optional_of x;
+}
