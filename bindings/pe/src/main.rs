@@ -227,7 +227,7 @@ fn refuse_unknown_parts(files: &Files) {
 fn write_file(command: &Command, out: &mut dyn Write) -> io::Result<Status> {
     match command {
         Command::Extract { file, part, to, which, reading } => {
-            files::each(&Files::one(file), out, |_, bytes| part.write_to(parsed(bytes, reading), which, to))
+            files::each(&Files::one(file), out, |path, bytes| part.write_to((path, parsed(bytes, reading)), which, to))
         }
         Command::Attach { file, certificate, to, in_place, reading } => {
             refuse_mapped(reading, "a certificate");
