@@ -404,7 +404,11 @@ fn is_no_image(error: Error) -> bool {
 fn of_image<'a>(bytes: &'a [u8], reading: &Reading, report: impl FnOnce(Result<Image<'a>, Error>) -> Report) -> Report {
     let image = parsed(bytes, reading);
     let is_image = image.as_ref().err().map_or(true, |error| !is_no_image(*error));
-    Report { is_image, ..report(image) }
+    let mut made = report(image);
+    if let (false, false, Some(kind)) = (is_image, made.complaints.is_empty(), facts::kind_of(bytes)) {
+        made.complaints = format!("{}; it is {kind}\n", made.complaints.trim_end());
+    }
+    Report { is_image, ..made }
 }
 
 /// A line of JSON.

@@ -734,6 +734,12 @@ fn files_that_are_no_images_are_named() {
         let (line, _, _) = run(&["--json", &file]);
         let said: Value = serde_json::from_str(&line).unwrap();
         assert_eq!((&said["file_kind"], status), (&json!(kind), 1));
+        let (_, error, status) = run(&["digest", &file]);
+        assert!(
+            error.starts_with(&format!("pe: {file}: ")) && error.ends_with(&format!("; it is {kind}\n")),
+            "{error}"
+        );
+        assert_eq!(status, 1);
     }
 }
 
