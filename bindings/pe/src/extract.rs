@@ -1,9 +1,11 @@
 //! Parts of an image whose bytes are written to a file: the manifest, certificates, resources, and icons and cursors as the
 //! files that other programs open.
 
+use crate::escape::escaped;
 use crate::facts::resources::LEAVES;
-use crate::facts::Refusal;
+use crate::facts::{languages, Refusal};
 use crate::files::{self, Report};
+use crate::names::{name_of, RESOURCE_TYPES};
 use crate::Status;
 use clap::{Args, ValueEnum};
 use pe_c::{Error, Image, ResourceLeaf, ResourceName};
@@ -30,13 +32,13 @@ pub enum ExtractedPart {
 /// Which of several. Where more than one is left the first counts.
 #[derive(Args, Clone, Debug)]
 pub struct Which {
-    /// The type of the resource: a number of winuser.h, as 10 of raw data, or its name.
+    /// The type of the resource: a number of winuser.h, as 10 of raw data, or its name, as show has it.
     #[arg(long = "type", value_name = "TYPE")]
     kind: Option<String>,
     /// The name of the resource, or its number.
     #[arg(long)]
     name: Option<String>,
-    /// The language of the resource by its identifier, as 1033 or 0x409.
+    /// The language of the resource by its identifier, as 1033 or 0x409, or its name, as show has it.
     #[arg(long)]
     language: Option<String>,
     /// The certificate with this number in the table, from 1 on.
@@ -73,14 +75,26 @@ fn is_named(name: ResourceName<'_>, wanted: &Option<String>) -> bool {
     }
 }
 
+/// The same of a type or a language, whose identifier may have a name.
+fn is_called(name: ResourceName<'_>, wanted: &Option<String>, name_of: impl Fn(u16) -> Option<&'static str>) -> bool {
+    let called = match name {
+        ResourceName::Id(id) => name_of(id),
+        ResourceName::Name(_) => None,
+    };
+    is_named(name, wanted) || called.zip(wanted.as_ref()).is_some_and(|(it, wanted)| it.eq_ignore_ascii_case(wanted))
+}
+
 /// The resources of a type, by the name and the language that are asked for.
 fn leaves_of<'a>(image: &Image<'a>, which: &Which, kind: Option<u16>) -> Result<Vec<ResourceLeaf<'a>>, Error> {
     let mut found = Vec::new();
     for leaf in image.resource_leaves()?.into_iter().flatten().take(LEAVES) {
         let leaf = leaf?;
-        let is_of_type =
-            kind.map_or(is_named(leaf.resource_type, &which.kind), |it| leaf.resource_type == ResourceName::Id(it));
-        if is_of_type && is_named(leaf.name, &which.name) && is_named(leaf.language, &which.language) {
+        let is_of_type = match kind {
+            Some(id) => leaf.resource_type == ResourceName::Id(id),
+            None => is_called(leaf.resource_type, &which.kind, |id| name_of(id.into(), RESOURCE_TYPES)),
+        };
+        let is_in_language = is_called(leaf.language, &which.language, languages::name_of);
+        if is_of_type && is_named(leaf.name, &which.name) && is_in_language {
             found.push(leaf);
         }
     }
@@ -182,17 +196,15 @@ impl ExtractedPart {
     }
 
     /// Writes the part. The text is for standard output.
-    pub fn write_to(self, image: Result<Image<'_>, Error>, which: &Which, to: &Path) -> Report {
+    pub fn write_to(self, (path, image): (&Path, Result<Image<'_>, Error>), which: &Which, to: &Path) -> Report {
         match image.and_then(|image| self.bytes_of(&image, which)) {
             Ok(Some(bytes)) => files::deliver(&bytes, to, Status::Done),
             Ok(None) => {
-                eprintln!("pe: the image has no such part");
+                let part = self.to_possible_value().map_or(String::new(), |it| it.get_name().to_string());
+                eprintln!("pe: {}: the image has no such part: {part}", escaped(&path.to_string_lossy()));
                 Report::of("", Status::Refused)
             }
-            Err(error) => {
-                eprintln!("pe: {}", Refusal::from(error));
-                Report::of("", Status::Refused)
-            }
+            Err(error) => Report::refused(path, Refusal::from(error)),
         }
     }
 }

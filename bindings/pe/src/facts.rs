@@ -132,7 +132,7 @@ const TE_IMAGE: &str = "a TE image";
 const OBJECT_AS_IT_SEEMS: &str = "a COFF object, as it seems";
 
 /// What a file is that is no image, by its first bytes.
-fn kind_of(bytes: &[u8]) -> Option<&'static str> {
+pub fn kind_of(bytes: &[u8]) -> Option<&'static str> {
     match bytes {
         [] => Some("an empty file"),
         [b'V', b'Z', low, high, ..] if is_machine(*low, *high) => Some(TE_IMAGE),

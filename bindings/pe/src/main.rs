@@ -227,7 +227,7 @@ fn refuse_unknown_parts(files: &Files) {
 fn write_file(command: &Command, out: &mut dyn Write) -> io::Result<Status> {
     match command {
         Command::Extract { file, part, to, which, reading } => {
-            files::each(&Files::one(file), out, |_, bytes| part.write_to(parsed(bytes, reading), which, to))
+            files::each(&Files::one(file), out, |path, bytes| part.write_to((path, parsed(bytes, reading)), which, to))
         }
         Command::Attach { file, certificate, to, in_place, reading } => {
             refuse_mapped(reading, "a certificate");
@@ -404,7 +404,11 @@ fn is_no_image(error: Error) -> bool {
 fn of_image<'a>(bytes: &'a [u8], reading: &Reading, report: impl FnOnce(Result<Image<'a>, Error>) -> Report) -> Report {
     let image = parsed(bytes, reading);
     let is_image = image.as_ref().err().map_or(true, |error| !is_no_image(*error));
-    Report { is_image, ..report(image) }
+    let mut made = report(image);
+    if let (false, false, Some(kind)) = (is_image, made.complaints.is_empty(), facts::kind_of(bytes)) {
+        made.complaints = format!("{}; it is {kind}\n", made.complaints.trim_end());
+    }
+    Report { is_image, ..made }
 }
 
 /// A line of JSON.

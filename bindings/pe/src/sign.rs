@@ -43,14 +43,28 @@ pub fn attach(
     placement: Placement,
     to: &Path,
 ) -> Report {
-    let certificate = match files::whole(certificate) {
+    let given = match files::whole(certificate) {
         Ok(bytes) => bytes,
         Err(error) => {
             eprintln!("pe: {}: {error}", escaped(&certificate.to_string_lossy()));
             return Report::of("", Status::FileError);
         }
     };
-    deliver(image.and_then(|it| it.attach(&entry_of(&certificate), placement)), path, to)
+    match image.map(|it| (it.attach(&entry_of(&given), placement), has_its_certificates(&it))) {
+        // What is refused of a certificate is that of the image itself, or the one that is given.
+        Ok((Err(error), true)) if is_of_certificate(error) => Report::refused(certificate, Refusal::from(error)),
+        Ok((made, _)) => deliver(made, path, to),
+        Err(error) => Report::refused(path, Refusal::from(error)),
+    }
+}
+
+/// Whether none of an image's own certificates is refused.
+fn has_its_certificates(image: &Image<'_>) -> bool {
+    image.certificates().all(|it| it.is_ok())
+}
+
+fn is_of_certificate(error: Error) -> bool {
+    Refusal::from(error).name.starts_with("CERTIFICATE")
 }
 
 pub fn detach(path: &Path, image: Result<Image<'_>, Error>, to: &Path) -> Report {

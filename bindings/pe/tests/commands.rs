@@ -274,6 +274,10 @@ fn certificates_are_attached_and_detached() {
     assert_eq!(run(&["digest", &signed]).0[..64], run(&["digest", &bare]).0[..64]);
     assert_eq!(run(&["attach", &bare, &data, &signed]).2, 3, "the file exists");
     assert_eq!(run(&["attach", &bare, &path("none"), &path("other.exe")]).2, 3);
+    // What is no certificate is named, and not the image.
+    let text = folder.file("words.txt", b"no certificate");
+    let (_, error, status) = run(&["attach", &bare, &text, &path("other.exe")]);
+    assert_eq!((error.starts_with(&format!("pe: {text}: certificate")), status), (true, 1), "{error}");
     assert_eq!(run(&["detach", "--mapped", &bare, &path("other.exe")]).2, 2);
     assert!(!folder.0.join("other.exe").exists());
 }
@@ -510,6 +514,8 @@ fn resources_icons_and_cursors_are_extracted() {
     let cursor = [0, 0, 2, 0, 1, 0, 8, 4, 0, 0, 3, 0, 2, 0, 2, 0, 0, 0, 22, 0, 0, 0, 10, 11];
     assert_eq!(extracted(&["cursor"]), (cursor.to_vec(), 0));
     assert_eq!(extracted(&["resource", "--type", "10"]), (b"raw".to_vec(), 0));
+    assert_eq!(extracted(&["resource", "--type", "Raw data", "--language", "german"]), (b"raw".to_vec(), 0));
+    assert_eq!(extracted(&["resource", "--type", "raw data", "--language", "French"]), (Vec::new(), 1));
     assert_eq!(extracted(&["resource", "--type", "10", "--name", "6"]), (Vec::new(), 1));
     assert_eq!(extracted(&["icon", "--language", "1033"]), (Vec::new(), 1));
     assert_eq!(extracted(&["manifest"]), (Vec::new(), 1));
@@ -521,7 +527,10 @@ fn a_group_without_its_images_is_no_icon() {
     let group = [0, 0, 1, 0, 1, 0, 32, 16, 2, 0, 1, 0, 1, 0, 5, 0, 0, 0, 7, 0];
     let file = folder.file("a.exe", &with_leaves(&[(3, 8, b"icon."), (14, 1, &group)]));
     let (out, error, status) = run(&["extract", &file, "icon", "-"]);
-    assert_eq!((out.as_str(), error.as_str(), status), ("", "pe: the image has no such part\n", 1));
+    assert_eq!(
+        (out.as_str(), error.as_str(), status),
+        ("", format!("pe: {file}: the image has no such part: icon\n").as_str(), 1)
+    );
 }
 
 #[test]
@@ -725,6 +734,12 @@ fn files_that_are_no_images_are_named() {
         let (line, _, _) = run(&["--json", &file]);
         let said: Value = serde_json::from_str(&line).unwrap();
         assert_eq!((&said["file_kind"], status), (&json!(kind), 1));
+        let (_, error, status) = run(&["digest", &file]);
+        assert!(
+            error.starts_with(&format!("pe: {file}: ")) && error.ends_with(&format!("; it is {kind}\n")),
+            "{error}"
+        );
+        assert_eq!(status, 1);
     }
 }
 
