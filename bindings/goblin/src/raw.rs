@@ -66,10 +66,12 @@ pub(crate) fn slice(bytes: &[u8], range: Range) -> error::Result<&[u8]> {
     Ok(range.of(bytes).ok_or(Refusal::SHORT)?)
 }
 
-/// The text of a range that a call returned as UTF-8.
+/// The text of a range that a call returned as a name.
+#[inline]
 pub(crate) fn text(bytes: &[u8], range: Range) -> error::Result<&str> {
-    let text = slice(bytes, range)?;
-    core::str::from_utf8(text).map_err(|_| error::Error::Malformed("invalid UTF-8".to_owned()))
+    // SAFETY: a name that a call returns is UTF-8, by the contract of that call, which is proved: of exports, forwarders, libraries,
+    // imports, sections and symbols. To test it here again cost a seventh of `PE::parse`.
+    Ok(unsafe { core::str::from_utf8_unchecked(slice(bytes, range)?) })
 }
 
 /// All of the bytes, as a walk.
@@ -358,10 +360,12 @@ impl<'a, 's> View<'a, 's> {
 }
 
 impl<'a> View<'a, '_> {
+    #[inline]
     pub fn slice(&self, range: Range) -> error::Result<&'a [u8]> {
         slice(self.bytes, range)
     }
 
+    #[inline]
     pub fn text(&self, range: Range) -> error::Result<&'a str> {
         text(self.bytes, range)
     }
@@ -469,7 +473,6 @@ lists_of_an_image! {
     list_codes: pe_c_list_codes() over sys::Walk => sys::Code;
     list_arm64_codes: pe_c_list_arm64_codes() over sys::Arm64Walk => sys::Arm64Code;
     list_exports: pe_c_list_exports() over sys::Exports => sys::Export;
-    list_export_addresses: pe_c_list_export_addresses(table: &sys::AddressTable) over u64 => sys::Exported;
     list_libraries: pe_c_list_libraries() over sys::Libraries => sys::Library;
     list_imports: pe_c_list_imports() over sys::Imports => sys::Import;
 }
@@ -498,6 +501,7 @@ calls_of_an_image! {
     arm64_unwind_record: pe_c_arm64_unwind_record(function: &sys::Arm64Function) -> sys::Arm64Record;
     export_tables: pe_c_export_tables() -> sys::Exports;
     export_addresses: pe_c_export_addresses() -> sys::AddressTable;
+    export_at: pe_c_export_at(table: &sys::AddressTable, index: u64) -> sys::Exported;
     import_libraries: pe_c_import_libraries() -> sys::Libraries;
     version_content: pe_c_version_blocks() -> Range;
     manifest: pe_c_manifest() -> Range;

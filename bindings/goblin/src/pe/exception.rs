@@ -354,6 +354,8 @@ pub struct ExceptionData<'a> {
     offset: usize,
     size: usize,
     file_alignment: u32,
+    /// What calls on a record in a file take: made once for all functions.
+    in_a_file: sys::ImageInfo,
 }
 
 impl<'a> ExceptionData<'a> {
@@ -411,6 +413,7 @@ impl<'a> ExceptionData<'a> {
             offset: raw::narrow(table.offset)?,
             size: raw::narrow(table.length)?,
             file_alignment: view.info.file_alignment,
+            in_a_file: image_of_records(view.info.file_alignment, &ParseOptions::default()),
         }))
     }
 
@@ -470,7 +473,7 @@ impl<'a> ExceptionData<'a> {
         function: RuntimeFunction,
         sections: &[SectionTable],
     ) -> error::Result<UnwindInfo<'a>> {
-        self.get_unwind_info_with_opts(function, sections, &ParseOptions::default())
+        self.unwind_info(&self.in_a_file, function, sections)
     }
 
     /// The unwind record of an ARM64 function of a file, or `None` where it is packed.
@@ -490,9 +493,17 @@ impl<'a> ExceptionData<'a> {
         sections: &[SectionTable],
         opts: &ParseOptions,
     ) -> error::Result<UnwindInfo<'a>> {
-        let info = raw::image_with(Index::Exception, DataDirectory::default(), self.file_alignment, opts);
+        self.unwind_info(&image_of_records(self.file_alignment, opts), function, sections)
+    }
+
+    fn unwind_info(
+        &self,
+        info: &sys::ImageInfo,
+        function: RuntimeFunction,
+        sections: &[SectionTable],
+    ) -> error::Result<UnwindInfo<'a>> {
         let (table, unwind) = (self.table(), function.unwind_info_address);
-        let by = |sections: &[_]| View::of(self.bytes, &info, sections).unwind_record(&table, unwind);
+        let by = |sections: &[_]| View::of(self.bytes, info, sections).unwind_record(&table, unwind);
         let first = match unwind % 2 {
             0 => by(raw::first_around(sections, unwind).as_slice()),
             // A link leads to other RVAs.
@@ -520,6 +531,11 @@ impl<'a> ExceptionData<'a> {
         let offset = super::utils::find_offset(rva as usize, sections, self.file_alignment, opts);
         Some(offset.ok_or_else(|| unmapped("unwind", rva)).and_then(|at| Arm64UnwindInfo::parse(self.bytes, at)))
     }
+}
+
+/// An image whose records are read, by an RVA alone.
+fn image_of_records(file_alignment: u32, opts: &ParseOptions) -> sys::ImageInfo {
+    raw::image_with(Index::Exception, DataDirectory::default(), file_alignment, opts)
 }
 
 /// The error of a directory, in goblin's variant.

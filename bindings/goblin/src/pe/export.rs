@@ -2,8 +2,9 @@
 //! <https://learn.microsoft.com/windows/win32/debug/pe-format#the-edata-section-image-only>
 
 use super::data_directories;
-use super::options::{Limits, NamesLeft, ParseOptions};
+use super::options::{NamesLeft, ParseOptions};
 use super::section_table::SectionTable;
+use super::utils;
 use crate::error;
 use crate::raw::{self, Index, Refusal, View};
 use pe_c::sys;
@@ -82,10 +83,10 @@ pub struct ExportData<'a> {
     pub export_address_table: ExportAddressTable,
 }
 
-/// The tables of an image, as the library walks them, and the entries of the table of RVAs.
+/// The tables of an image, as the library walks them.
 pub(crate) struct Tables {
     walk: sys::Exports,
-    entries: Vec<sys::Exported>,
+    addresses: sys::AddressTable,
 }
 
 impl<'a> ExportData<'a> {
@@ -99,8 +100,8 @@ impl<'a> ExportData<'a> {
         Self::parse_with_opts(bytes, dd, sections, file_alignment, &ParseOptions::default())
     }
 
-    /// The exports of a directory. Errors: `Malformed` where the directory is absent, unmapped or truncated, or a table is, and
-    /// above the default of [`Limits::names`]; out of memory.
+    /// The exports of a directory. Errors: `Malformed` where the directory is absent, unmapped or truncated, or a table is; out of
+    /// memory.
     pub fn parse_with_opts(
         bytes: &'a [u8],
         dd: data_directories::DataDirectory,
@@ -110,20 +111,20 @@ impl<'a> ExportData<'a> {
     ) -> error::Result<ExportData<'a>> {
         let (info, sections) = (raw::image_with(Index::Export, dd, file_alignment, opts), raw::sections_of(sections)?);
         let view = View::of(bytes, &info, &sections);
-        match Self::of(view.with_index(&view.make_index()?), &mut NamesLeft::of(&Limits::default()))? {
+        match Self::of(view.with_index(&view.make_index()?))? {
             Some((data, _)) => Ok(data),
             None => Err(unmapped(dd)),
         }
     }
 
-    pub(crate) fn of(view: View<'a, '_>, names: &mut NamesLeft) -> error::Result<Option<(Self, Tables)>> {
+    pub(crate) fn of(view: View<'a, '_>) -> error::Result<Option<(Self, Tables)>> {
         let directory = view.directory(Index::Export);
         let Some(walk) = view.export_tables().map_err(|it| refused(view, it))? else { return Ok(None) };
         let Some(addresses) = view.export_addresses()? else { return Ok(None) };
         let at = view.offset(directory.virtual_address).ok_or_else(|| unmapped(directory))?;
-        let entries = entries_of(view, &addresses, names)?;
-        let mut export_address_table = raw::list(entries.len())?;
-        export_address_table.extend(entries.iter().map(entry_of));
+        let words = raw::words(view.bytes, walk.addresses)?;
+        let mut export_address_table = raw::list(words.len())?;
+        export_address_table.extend(words.into_iter().map(|rva| entry_of(directory, rva)));
         let name = if addresses.has_name != 0 { Some(view.text(addresses.name)?) } else { None };
         let data = ExportData {
             name,
@@ -132,31 +133,16 @@ impl<'a> ExportData<'a> {
             export_ordinal_table: raw::halves(view.bytes, walk.ordinals)?,
             export_address_table,
         };
-        Ok(Some((data, Tables { walk, entries })))
+        Ok(Some((data, Tables { walk, addresses })))
     }
-}
-
-/// All entries of the table of RVAs, whose forwarders' texts are taken from how many bytes are left.
-fn entries_of(
-    view: View<'_, '_>,
-    table: &sys::AddressTable,
-    names: &mut NamesLeft,
-) -> error::Result<Vec<sys::Exported>> {
-    let count = raw::narrow(table.addresses.length / SIZEOF_EXPORT_ADDRESS_TABLE_ENTRY as u64)?;
-    let mut entries = raw::list(count)?;
-    let mut batch = raw::Batch::<_, _, TAKEN>::new(0);
-    while let Some(entry) = batch.next(|next, room| view.list_export_addresses(table, next, room)).transpose()? {
-        names.take(raw::narrow(entry.forwarder.length)?)?;
-        raw::push(&mut entries, entry)?;
-    }
-    Ok(entries)
 }
 
 /// An entry of the table of RVAs: one inside the directory leads to a forwarder's text.
-fn entry_of(it: &sys::Exported) -> ExportAddressTableEntry {
-    match it.is_forwarder {
-        0 => ExportAddressTableEntry::ExportRVA(it.rva),
-        _ => ExportAddressTableEntry::ForwarderRVA(it.rva),
+fn entry_of(directory: data_directories::DataDirectory, rva: u32) -> ExportAddressTableEntry {
+    let start = directory.virtual_address as usize;
+    match utils::is_in_range(rva as usize, start, start + directory.size as usize) {
+        true => ExportAddressTableEntry::ForwarderRVA(rva),
+        false => ExportAddressTableEntry::ExportRVA(rva),
     }
 }
 
@@ -198,6 +184,18 @@ impl<'a> Reexport<'a> {
     /// Reads the forwarder's text at an offset. Errors: `Scroll` past the end, `Malformed` where it names nothing.
     pub fn parse(bytes: &'a [u8], offset: usize) -> error::Result<Reexport<'a>> {
         Self::of(raw::text_up_to(bytes, offset, 0)?)
+    }
+
+    /// Of an entry of the table of RVAs, or `None` where its text names nothing. The text is taken from how many bytes are left.
+    fn of_entry(
+        view: View<'a, '_>,
+        table: &sys::AddressTable,
+        index: u32,
+        names: &mut NamesLeft,
+    ) -> error::Result<Option<Self>> {
+        let Some(entry) = view.export_at(table, index.into())? else { return Ok(None) };
+        names.take(raw::narrow(entry.forwarder.length)?)?;
+        Ok(Self::of(view.text(entry.forwarder)?).ok())
     }
 
     /// A text is the DLL up to its first dot, and after that a name, or `#` and an ordinal.
@@ -243,25 +241,33 @@ pub struct Export<'a> {
 impl<'a> Export<'a> {
     /// Of the tables of an image. Those whose name or forwarder cannot be read are skipped, as in goblin. The names are taken from
     /// how many bytes are left.
-    pub(crate) fn of(view: View<'a, '_>, tables: Tables, names: &mut NamesLeft) -> error::Result<Vec<Self>> {
-        let count = raw::narrow(tables.walk.names.length / SIZEOF_EXPORT_ADDRESS_TABLE_ENTRY as u64)?;
-        let mut exports = raw::list(count)?;
-        let mut batch = raw::Batch::<_, _, TAKEN>::new(tables.walk);
-        while let Some(found) = batch.next(|walk, room| view.list_exports(walk, room)).transpose()? {
-            names.take(raw::narrow(found.name.length)?)?;
-            let Some(entry) = tables.entries.get(found.index as usize) else { continue };
-            let reexport = match entry.is_forwarder {
-                0 => None,
-                _ => match Reexport::of(view.text(entry.forwarder)?) {
-                    Ok(reexport) => Some(reexport),
-                    Err(_) => continue,
-                },
-            };
-            let offset = if found.has_offset != 0 { Some(raw::narrow(found.offset)?) } else { None };
-            let name = Some(view.text(found.name)?);
-            raw::push(&mut exports, Export { name, offset, rva: found.rva as usize, size: 0, reexport })?;
+    pub(crate) fn of(
+        view: View<'a, '_>,
+        mut tables: Tables,
+        data: &ExportData<'_>,
+        names: &mut NamesLeft,
+    ) -> error::Result<Vec<Self>> {
+        let mut exports = raw::list(data.export_name_pointer_table.len())?;
+        let mut room = [sys::Export::default(); TAKEN];
+        loop {
+            let written = view.list_exports(&mut tables.walk, &mut room)?;
+            if written == 0 {
+                return Ok(exports);
+            }
+            for found in room.iter().take(written) {
+                names.take(raw::narrow(found.name.length)?)?;
+                let reexport = match data.export_address_table.get(found.index as usize) {
+                    None | Some(ExportAddressTableEntry::ExportRVA(_)) => None,
+                    Some(_) => match Reexport::of_entry(view, &tables.addresses, found.index, names)? {
+                        Some(reexport) => Some(reexport),
+                        None => continue,
+                    },
+                };
+                let offset = if found.has_offset != 0 { Some(raw::narrow(found.offset)?) } else { None };
+                let name = Some(view.text(found.name)?);
+                raw::push(&mut exports, Export { name, offset, rva: found.rva as usize, size: 0, reexport })?;
+            }
         }
-        Ok(exports)
     }
 
     /// The exports of tables in a file.

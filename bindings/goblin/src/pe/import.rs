@@ -235,21 +235,26 @@ fn lookups_of<'a, T: Bitfield<'a>>(
     let count = size / T::size_of();
     left.take(count)?;
     let mut lookups = raw::list(count)?;
-    let mut batch = raw::Batch::<_, _, TAKEN>::new(library.imports);
-    while let Some(import) = batch.next(|walk, room| view.list_imports(walk, room)).transpose()? {
-        left.names.take(raw::narrow(import.name.length)?)?;
-        let hint = import.ordinal as u16;
-        let entry = match import.has_name {
-            0 => SyntheticImportLookupTableEntry::OrdinalNumber(hint),
-            _ => {
-                let rva = raw::hint_rva::<T>(view.bytes, start + lookups.len() * T::size_of())?;
-                let name = view.text(import.name)?;
-                SyntheticImportLookupTableEntry::HintNameTableRVA((rva, HintNameTableEntry { hint, name }))
-            }
-        };
-        raw::push(&mut lookups, entry)?;
+    let (mut walk, mut room) = (library.imports, [sys::Import::default(); TAKEN]);
+    loop {
+        let written = view.list_imports(&mut walk, &mut room)?;
+        if written == 0 {
+            return Ok(lookups);
+        }
+        for import in room.iter().take(written) {
+            left.names.take(raw::narrow(import.name.length)?)?;
+            let hint = import.ordinal as u16;
+            let entry = match import.has_name {
+                0 => SyntheticImportLookupTableEntry::OrdinalNumber(hint),
+                _ => {
+                    let rva = raw::hint_rva::<T>(view.bytes, start + lookups.len() * T::size_of())?;
+                    let name = view.text(import.name)?;
+                    SyntheticImportLookupTableEntry::HintNameTableRVA((rva, HintNameTableEntry { hint, name }))
+                }
+            };
+            raw::push(&mut lookups, entry)?;
+        }
     }
-    Ok(lookups)
 }
 
 /// An import of an image.

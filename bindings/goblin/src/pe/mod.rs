@@ -168,10 +168,9 @@ type Exports<'a> = (Option<export::ExportData<'a>>, Vec<export::Export<'a>>);
 
 /// A damaged export directory counts as absent in both modes, as in goblin.
 fn exports_of<'a>(view: View<'a, '_>, limits: &Limits) -> error::Result<Exports<'a>> {
-    let mut names = NamesLeft::of(limits);
-    let found = export::ExportData::of(view, &mut names);
-    let Some((data, tables)) = unless_damaged(found, !names.is_over())? else { return Ok((None, Vec::new())) };
-    let exports = export::Export::of(view, tables, &mut names)?;
+    let found = unless_damaged(export::ExportData::of(view), true)?;
+    let Some((data, tables)) = found else { return Ok((None, Vec::new())) };
+    let exports = export::Export::of(view, tables, &data, &mut NamesLeft::of(limits))?;
     Ok((Some(data), exports))
 }
 

@@ -83,30 +83,18 @@ impl Default for Limits {
 }
 
 /// How many bytes of names may still be taken.
-pub(crate) struct NamesLeft {
-    bytes: usize,
-    is_over: bool,
-}
+pub(crate) struct NamesLeft(usize);
 
 impl NamesLeft {
-    pub fn of(limits: &Limits) -> Self {
-        NamesLeft { bytes: limits.names, is_over: false }
+    pub(crate) fn of(limits: &Limits) -> Self {
+        NamesLeft(limits.names)
     }
 
     /// Takes a name. Error: `Malformed` above the limit.
-    pub fn take(&mut self, length: usize) -> error::Result<()> {
-        match self.bytes.checked_sub(length) {
-            Some(left) => self.bytes = left,
-            None => {
-                self.is_over = true;
-                return Err(error::Error::Malformed("image has longer names than the limit".to_owned()));
-            }
-        }
+    #[inline]
+    pub(crate) fn take(&mut self, length: usize) -> error::Result<()> {
+        let left = self.0.checked_sub(length);
+        self.0 = left.ok_or_else(|| error::Error::Malformed("image has longer names than the limit".to_owned()))?;
         Ok(())
-    }
-
-    /// Whether a name was above the limit.
-    pub fn is_over(&self) -> bool {
-        self.is_over
     }
 }
