@@ -360,7 +360,7 @@ fn records_are_written(rt: HostRuntime) -> Result<(), Fail> {
     Ok(())
 }
 
-/// Strings of 65,535 bytes in all are the most: what refuses is the sum, and a later name with a zero is refused before it.
+/// The sum of the strings of a table is refused, and an odd name after them before it.
 #[test]
 fn records_that_are_too_long(rt: HostRuntime) -> Result<(), Fail> {
     let texts = vec![in rt.alloc(); 1u8; 40_000]?;
@@ -371,7 +371,7 @@ fn records_that_are_too_long(rt: HostRuntime) -> Result<(), Fail> {
         },
         text: RecordRange {
             offset: 0,
-            length: 32_700,
+            length: 32_644,
         },
     };
     let table = TableRecord {
@@ -386,12 +386,12 @@ fn records_that_are_too_long(rt: HostRuntime) -> Result<(), Fail> {
         translations: &[],
         texts: &texts,
     };
-    // The table has 24 + 2 * (12 + 32,700) bytes; its parents 36, 64 and 92 more.
-    assert_eq!(rt; version_len(&value)?, 65_448 + 36 + 64 + 92);
+    // The table has 24 + 2 * (12 + 32,644) bytes; the other blocks 36, 64 and 92 more.
+    assert_eq!(rt; version_len(&value)?, 65_336 + 36 + 64 + 92);
     let longer = StringRecord {
         text: RecordRange {
             offset: 0,
-            length: 32_800,
+            length: 32_900,
         },
         ..long
     };
