@@ -1,6 +1,7 @@
 //! Blocks of version information that are written: their bytes, by Microsoft's page on VS_VERSIONINFO and its children, and
 //! refusals.
 
+use pe_core::Error;
 use pe_edit::RecordRange;
 use pe_resource::{Translation, VsFixedFileInfo};
 use pe_version::{
@@ -342,7 +343,8 @@ fn records_are_written(rt: HostRuntime) -> Result<(), Fail> {
             strings: &strings,
             ..value
         };
-        let Err(VersionError::Image(_)) = version_len(&value) else {
+        // shows: pe_version/src/record.rt require_records Short
+        let Err(VersionError::Image(Error::Short { .. })) = version_len(&value) else {
             return Err("a range is outside".into());
         };
     }
