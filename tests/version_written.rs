@@ -334,9 +334,9 @@ fn records_are_written(rt: HostRuntime) -> Result<(), Fail> {
     };
     assert_eq!(rt; small.iter().all(|byte| *byte == OLD), true);
     // A string that ends after the texts, and a table after the strings.
-    for (strings, tables) in [
-        ([string(41, 22, 8), strings[1], strings[2]], tables),
-        (strings, [tables[0], table(3, 1, LANGUAGES[1])]),
+    for (strings, tables, end) in [
+        ([string(41, 22, 8), strings[1], strings[2]], tables, 70),
+        (strings, [tables[0], table(3, 1, LANGUAGES[1])], 3),
     ] {
         let value = VersionRecords {
             tables: &tables,
@@ -344,9 +344,10 @@ fn records_are_written(rt: HostRuntime) -> Result<(), Fail> {
             ..value
         };
         // shows: pe_version/src/record.rt require_records Short
-        let Err(VersionError::Image(Error::Short { .. })) = version_len(&value) else {
+        let Err(VersionError::Image(Error::Short { at, needed: 1 })) = version_len(&value) else {
             return Err("a range is outside".into());
         };
+        assert_eq!(rt; at, end);
     }
     // Half a code unit as a text of the last table comes before the name with a zero, which no table has.
     let strings = [string(40, 22, 7), strings[1], string(62, 8, 0)];
