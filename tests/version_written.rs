@@ -1,6 +1,7 @@
 //! Blocks of version information that are written: their bytes, by Microsoft's page on VS_VERSIONINFO and its children, and
 //! refusals.
 
+use pe_core::Error;
 use pe_edit::RecordRange;
 use pe_resource::{Translation, VsFixedFileInfo};
 use pe_version::{
@@ -333,18 +334,20 @@ fn records_are_written(rt: HostRuntime) -> Result<(), Fail> {
     };
     assert_eq!(rt; small.iter().all(|byte| *byte == OLD), true);
     // A string that ends after the texts, and a table after the strings.
-    for (strings, tables) in [
-        ([string(41, 22, 8), strings[1], strings[2]], tables),
-        (strings, [tables[0], table(3, 1, LANGUAGES[1])]),
+    for (strings, tables, end) in [
+        ([string(41, 22, 8), strings[1], strings[2]], tables, 70),
+        (strings, [tables[0], table(3, 1, LANGUAGES[1])], 3),
     ] {
         let value = VersionRecords {
             tables: &tables,
             strings: &strings,
             ..value
         };
-        let Err(VersionError::Image(_)) = version_len(&value) else {
+        // shows: pe_version/src/record.rt require_records Short
+        let Err(VersionError::Image(Error::Short { at, needed: 1 })) = version_len(&value) else {
             return Err("a range is outside".into());
         };
+        assert_eq!(rt; at, end);
     }
     // Half a code unit as a text of the last table comes before the name with a zero, which no table has.
     let strings = [string(40, 22, 7), strings[1], string(62, 8, 0)];
@@ -360,7 +363,7 @@ fn records_are_written(rt: HostRuntime) -> Result<(), Fail> {
     Ok(())
 }
 
-/// Strings of 65,535 bytes in all are the most: what refuses is the sum, and a later name with a zero is refused before it.
+/// The sum of the strings of a table is refused, and an odd name after them before it.
 #[test]
 fn records_that_are_too_long(rt: HostRuntime) -> Result<(), Fail> {
     let texts = vec![in rt.alloc(); 1u8; 40_000]?;
@@ -371,7 +374,7 @@ fn records_that_are_too_long(rt: HostRuntime) -> Result<(), Fail> {
         },
         text: RecordRange {
             offset: 0,
-            length: 32_700,
+            length: 32_644,
         },
     };
     let table = TableRecord {
@@ -386,12 +389,12 @@ fn records_that_are_too_long(rt: HostRuntime) -> Result<(), Fail> {
         translations: &[],
         texts: &texts,
     };
-    // The table has 24 + 2 * (12 + 32,700) bytes; its parents 36, 64 and 92 more.
-    assert_eq!(rt; version_len(&value)?, 65_448 + 36 + 64 + 92);
+    // The table has 24 + 2 * (12 + 32,644) bytes; the other blocks 36, 64 and 92 more.
+    assert_eq!(rt; version_len(&value)?, 65_336 + 36 + 64 + 92);
     let longer = StringRecord {
         text: RecordRange {
             offset: 0,
-            length: 32_800,
+            length: 32_900,
         },
         ..long
     };

@@ -519,16 +519,15 @@ static void edits(const struct file *file)
         CALL(pe_c_block_length, length, key, sizeof key, is_text, text, sizeof text - is_text, key, 0, &length);
         CALL(pe_c_write_block, length, key, sizeof key, is_text, text, sizeof text, key, 0, block, sizeof block, &length);
     }
+    static const uint8_t texts[10] = {'k', 0, 'e', 0, 'o', 0, 'n', 0, 0, 0};
     static const pe_c_version fixed = {.signature = 0xFEEF04BD};
-    static const pe_c_version_string string = {{0, sizeof key}, {sizeof key, sizeof text}};
+    static const pe_c_version_string string = {{0, 4}, {4, 6}};
     static const pe_c_version_table tables[2] = {{0, 1, {0x409, 1200}}, {0, 1, {0x407, 1200}}};
-    uint8_t texts[sizeof key + sizeof text], version[512] = {0};
-    memcpy(texts, key, sizeof key);
-    memcpy(texts + sizeof key, text, sizeof text);
+    uint8_t version[512] = {0};
     for (size_t count = 0; count < 3; count++) {
         CALL(pe_c_version_length, length, &fixed, tables, count, &string, 1, &tables->language, 1, texts, sizeof texts - count, &length);
-        if (IS_DONE(pe_c_write_version, length, &fixed, tables, count, &string, 1, &tables->language, 1, texts, sizeof texts,
-                    version, sizeof version, &length))
+        if (IS_DONE(pe_c_write_version, length, &fixed, tables, count, &string, 1, &tables->language, 1, texts, sizeof texts, version,
+                    sizeof version, &length))
             add_bytes(version, length);
     }
     length = sizeof block;

@@ -9,6 +9,7 @@ fn main() -> std::io::Result<()> {
     for (name, bytes) in made::all().into_iter().chain(made::others()) {
         std::fs::write(format!("{folder}/{name}.bin"), bytes)?;
     }
+    std::fs::write(format!("{folder}/editable.exe"), made::editable())?;
     std::fs::write(format!("{folder}/te_image.te"), made::te_image())?;
     std::fs::write(format!("{folder}/x64.dmp"), made::full_dump(made::X64))?;
     std::fs::write(format!("{folder}/arm64.dmp"), made::full_dump(made::ARM64))?;

@@ -4,14 +4,17 @@
 
 use pe_c::{Error, Image, Mode, ResourceEditor, VersionInfo};
 
-/// The image with one string of its version information set in each language that it has, the name of the company. All other
-/// strings and resources stay as they are.
+/// The image with one string of its version information set in each language that it has, or in English where it has none: the name
+/// of the company. All other strings and resources stay as they are.
 pub fn with_company(bytes: &[u8], name: &str) -> Result<Vec<u8>, Error> {
     let image = Image::parse(bytes, Mode::Permissive)?;
     let mut editor = ResourceEditor::of(&image)?;
     // RT_VERSION, and the id that Windows looks for.
-    let (kind, id) = (16.into(), 1.into());
-    for language in editor.languages(&kind, &id) {
+    let mut languages = editor.languages(&16.into(), &1.into());
+    if languages.is_empty() {
+        languages.push(0x409);
+    }
+    for language in languages {
         let place = (16.into(), 1.into(), language);
         let content = editor.get(&place).map_or(&[][..], |it| &it.bytes);
         let mut version = VersionInfo::of(content)?.unwrap_or_else(|| VersionInfo::new(language));

@@ -11,7 +11,7 @@ use Rattle.pe_resource.specs.declared.version_block.VersionBlock.{VersionBlock}
 use Rattle.pe_resource.specs.declared.version_block_error.VersionBlockError.{VersionBlockError}
 use Rattle.pe_resource.proofs.BlockLists.{blocks_more, blocks_none}
 use Rattle.pe_version.specs.VersionReads as reads
-use Rattle.pe_version.specs.VersionReads.{NoFixedInfo, ReadRefusal, all_whole, of_blocks, or_refused, root_whole, table_of_block, table_texts_view, table_whole, text_whole, value_read, value_whole, whole_if_some}
+use Rattle.pe_version.specs.VersionReads.{HasFixed, NoFixedInfo, ReadRefusal, RootHasFixed, all_whole, of_blocks, or_refused, root_whole, table_of_block, table_texts_view, table_whole, text_whole, value_read, value_whole, whole_if_some}
 use Rattle.pe_version.specs.VersionValues.{NumbersFit, TableValue, TextValue, Value, VersionRead, as_read, read_root, read_table, read_text, table_as_read, version_of, version_read}
 use Rattle.pe_version.specs.VersionViews.{text_view}
 use Rattle.pe_version.specs.declared.read.TableTexts.{TableTexts}
@@ -150,6 +150,14 @@ root_then k t p e i = rw (e, i) refl
 pub root_none : (k : Block) (t p : List ℕ) → string_tables k ≡ Ok t → translations k ≡ Ok p → fixed_info_of_block k ≡ None → root_whole k ≡ Err NoFixedInfo
 root_none k t p e i none = root_then k t p e i ∙ ap (then_fixed t p) none
 
+pub root_has : (k : Block) (t p : List ℕ) (f : VsFixedFileInfo) → string_tables k ≡ Ok t → translations k ≡ Ok p → fixed_info_of_block k ≡ Some f → RootHasFixed k
+unfolding read_root
+root_has k t p f e i some = (record { fixed = fixed_info_of_block k; tables = map read_table (blocks t); translations = whole_entries translation_at 4 p }, f, rw (e, i) refl, some)
+
+pub with_fixed : (k : Block) (e : ReadRefusal) → RootHasFixed k → (e ≡ reads.Memory) ⊎ (root_whole k ≡ Err e) → ((e ≡ reads.Memory) × RootHasFixed k) ⊎ (root_whole k ≡ Err e)
+with_fixed k e h (inl m) = inl (m, h)
+with_fixed k e h (inr r) = inr r
+
 pub root_tables : (k : Block) (t p : List ℕ) (f : VsFixedFileInfo) (e : ReadRefusal) → string_tables k ≡ Ok t → translations k ≡ Ok p → fixed_info_of_block k ≡ Some f → (e ≡ reads.Memory) ⊎ (all_whole table_whole (map read_table (blocks t)) ≡ Err e) →
     (e ≡ reads.Memory) ⊎ (root_whole k ≡ Err e)
 root_tables k t p f e i j some why = ⊎_elim
@@ -188,9 +196,15 @@ some_at b o k e i = rw (e, i) (by_steps (read_root k))
 value_then : (b : List ℕ) (o : Option VersionBlock) (k : VersionBlock) → version_block b ≡ Ok (option_map block_view o) → o ≡ Some k → value_read b ≡ (root_whole (block_view k) >>= λ w. Ok (Some w))
 value_then b o k e i = some_at b (option_map block_view o) (block_view k) e (ap (option_map block_view) i)
 
-pub value_failed : (b : List ℕ) (o : Option VersionBlock) (k : VersionBlock) (e : ReadRefusal) → version_block b ≡ Ok (option_map block_view o) → o ≡ Some k → (e ≡ reads.Memory) ⊎ (root_whole (block_view k) ≡ Err e) → (e ≡ reads.Memory) ⊎ (value_read b ≡ Err e)
+value_has : (b : List ℕ) (o : Option VersionBlock) (k : VersionBlock) → version_block b ≡ Ok (option_map block_view o) → o ≡ Some k → RootHasFixed (block_view k) → HasFixed b
+unfolding version_read
+value_has b o k i j h =
+    let some : option_map block_view o ≡ Some (block_view k) = ap (option_map block_view) j in
+    (h.0, h.1, rw (i, some, h.2) refl, h.3)
+
+pub value_failed : (b : List ℕ) (o : Option VersionBlock) (k : VersionBlock) (e : ReadRefusal) → version_block b ≡ Ok (option_map block_view o) → o ≡ Some k → ((e ≡ reads.Memory) × RootHasFixed (block_view k)) ⊎ (root_whole (block_view k) ≡ Err e) → ((e ≡ reads.Memory) × HasFixed b) ⊎ (value_read b ≡ Err e)
 value_failed b o k e i j why = ⊎_elim
-    (λ (m : e ≡ reads.Memory). inl m)
+    (λ (m : (e ≡ reads.Memory) × RootHasFixed (block_view k)). inl (m.0, value_has b o k i j m.1))
     (λ (h : root_whole (block_view k) ≡ Err e). inr (value_then b o k i j ∙ ap (λ (r : Result Value ReadRefusal). r >>= λ w. Ok (Some w)) h))
     why
 

@@ -3,6 +3,7 @@
 use Rattle.std.specs.Prelude.{◌≡◌, ◌⊎◌, ℕ, List, [], ◌∷◌, map, Option, Some, None, Result, Ok, Err}
 use Rattle.pe_core.specs.Refusals.{◌>>=◌}
 use Rattle.pe_resource.specs.VersionBlocks.{Block as BlockRead, BlockRefusal, block_kind_of, blocks, translation_of_key}
+use Rattle.pe_resource.specs.declared.version.VsFixedFileInfo.{VsFixedFileInfo}
 use Rattle.pe_version.specs.VersionValues.{TableRead, TableValue, TextValue, Value, VersionRead, read_root, read_text, version_read, with_text}
 use Rattle.pe_version.specs.VersionViews.{text_view}
 use Rattle.pe_version.specs.declared.read.ReadError.{ReadError}
@@ -82,6 +83,21 @@ table_of_block k = table_whole (record { translation = translation_of_key k.key;
 -- the value of the content of a resource, if there is version information in it
 abbrev pub value_read : List ℕ → Result (Option Value) ReadRefusal
 value_read b = of_blocks (version_read b) >>= whole_if_some
+
+-- ---- where memory is asked for
+
+-- the blocks of the first level are read, and the fixed file information is there
+abbrev pub RootHasFixed : BlockRead → Type 0
+RootHasFixed k = (v : VersionRead) × (f : VsFixedFileInfo) × (read_root k ≡ Ok v) × (v.fixed ≡ Some f)
+
+-- the same of the content of a resource
+abbrev pub HasFixed : List ℕ → Type 0
+HasFixed b = (v : VersionRead) × (f : VsFixedFileInfo) × (version_read b ≡ Ok (Some v)) × (v.fixed ≡ Some f)
+
+-- as Reads, and memory runs out only where this holds
+abbrev pub ReadsAfter : {X Y : Type 0} → Type 0 → (X → Y) → Result X ReadError → Result Y ReadRefusal → Type 0
+ReadsAfter asked view (Ok x) defined = defined ≡ Ok (view x)
+ReadsAfter asked view (Err e) defined = ((read_kind_of e ≡ Memory) × asked) ⊎ (defined ≡ Err (read_kind_of e))
 
 -- ---- the value, independent of where it lies in memory
 

@@ -6,7 +6,7 @@ ghost use Rattle.std.specs.Option.{option_map};
 ghost use Rattle.pe_core.specs.EntriesLeft.{bytes_left};
 ghost use Rattle.pe_core.specs.Rows.{whole_entries};
 ghost use Rattle.pe_resource.specs.VersionBlocks.{block_view, blocks, rest_of, translation_at};
-ghost use Rattle.pe_version.specs.VersionReads.{Reads, all_whole, root_whole, table_of_block, table_texts_view, table_whole, text_whole, texts_view, value_read};
+ghost use Rattle.pe_version.specs.VersionReads.{HasFixed, Reads, ReadsAfter, RootHasFixed, all_whole, root_whole, table_of_block, table_texts_view, table_whole, text_whole, texts_view, value_read};
 ghost use Rattle.pe_version.specs.VersionValues.{read_table, read_text, version_of};
 ghost use Rattle.pe_version.specs.VersionViews.{Makes, table_view, text_view};
 ghost use Rattle.pe_version.specs.declared.read.ReadError.TheVariants.{Block, Memory};
@@ -155,7 +155,8 @@ fn read_root<'a, A: Allocator + Copy + Drop>(
     alloc: A,
     root: &VersionBlock<'a>,
 ) -> Result<VersionTexts<'a, A>, ReadError>
-    ensures { Reads texts_view result (root_whole (block_view root.now)) }
+    ensures { ReadsAfter (RootHasFixed (block_view root.now)) texts_view result
+        (root_whole (block_view root.now)) }
 {
     let tables = root.string_tables()?;
     let pairs = root.translations()?;
@@ -178,12 +179,13 @@ fn read_root<'a, A: Allocator + Copy + Drop>(
 ///
 /// Errors, in order: `Block` if the first block is not read, or one in it before `StringFileInfo` or `VarFileInfo` or before
 /// `Translation`; `NoFixedInfo`; of each table `Block` if it is not read, `TableKey`, and `Block` if a string is not read.
-/// `Memory` as memory runs out.
+/// `Memory` as memory runs out, which is asked for only once the fixed file information is read.
 pub fn read_version<'a, A: Allocator + Copy + Drop>(
     alloc: A,
     data: &'a [u8],
 ) -> Result<Option<VersionTexts<'a, A>>, ReadError>
-    ensures { Reads (option_map texts_view) result (value_read data.entry.now) }
+    ensures { ReadsAfter (HasFixed data.entry.now) (option_map texts_view) result
+        (value_read data.entry.now) }
 {
     match VersionBlock::parse(data)? {
         Some(root) => Ok(Some(read_root(alloc, &root)?)),

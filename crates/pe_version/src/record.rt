@@ -145,13 +145,22 @@ fn tables_fit(tables: &[TableRecord], strings: usize) -> bool
     true
 }
 
-/// `Image` with `Short` if a range of a record does not lie in its array.
+/// `Image` with `Short` if a range of a record does not lie in its array, at the end of that array.
 pub fn require_records(value: &VersionRecords<'_>) -> Result<(), VersionError>
     ensures { VersionReturns result (outcome (record_tests value.now) tt) }
 {
-    if strings_fit(value.strings, value.texts) && tables_fit(value.tables, value.strings.len()) {
-        Ok(())
-    } else {
-        Err(VersionError::Image(Error::Short { at: 0, needed: 0 }))
+    let (texts, strings) = (value.texts.len(), value.strings.len());
+    if !strings_fit(value.strings, value.texts) {
+        return Err(VersionError::Image(Error::Short {
+            at: texts,
+            needed: 1,
+        }));
     }
+    if !tables_fit(value.tables, strings) {
+        return Err(VersionError::Image(Error::Short {
+            at: strings,
+            needed: 1,
+        }));
+    }
+    Ok(())
 }

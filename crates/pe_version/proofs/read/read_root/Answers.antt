@@ -1,7 +1,7 @@
-use Rattle.std.proofs.Common.{inr, sym}
+use Rattle.std.proofs.Common.{inl, inr, refl, sym}
 use Rattle.std.proofs.lemmas.Result.{err_from_is_err_and}
 use Rattle.pe_resource.specs.VersionBlocks.{block_view}
-use Rattle.pe_version.proofs.ValuesRead.{root_done, root_first, root_none, root_second, root_tables}
+use Rattle.pe_version.proofs.ValuesRead.{root_done, root_first, root_has, root_none, root_second, root_tables, with_fixed}
 use Rattle.pe_version.proofs.read.read_root.Goals as goal
 
 pub returns-in_err-tables : goal.returns-in_err-tables
@@ -17,7 +17,13 @@ returns-in_err-pairs g c =
 pub returns-in_err-tables-in-Some : goal.returns-in_err-tables-in-Some
 returns-in_err-tables-in-Some g c =
     let p = err_from_is_err_and c.from_residual-in_err-tables-in-Some.result c.from_residual-in_err-tables-in-Some.ensures.1 in
-    rw (p.1, p.2) (root_tables (block_view c.args.root.now) _ _ c.in-Some.fixed _ c.in_ok-tables.ensures c.in_ok-pairs.ensures (sym c.in-Some.ensures) c.in_err-tables-in-Some.ensures)
+    let has = root_has (block_view c.args.root.now) _ _ c.in-Some.fixed c.in_ok-tables.ensures c.in_ok-pairs.ensures (sym c.in-Some.ensures) in
+    rw (p.1, p.2) (with_fixed (block_view c.args.root.now) _ has (root_tables (block_view c.args.root.now) _ _ c.in-Some.fixed _ c.in_ok-tables.ensures c.in_ok-pairs.ensures (sym c.in-Some.ensures) c.in_err-tables-in-Some.ensures))
+
+pub returns-in_err-translations-in-Some : goal.returns-in_err-translations-in-Some
+returns-in_err-translations-in-Some g c =
+    let p = err_from_is_err_and c.from_residual-in_err-translations-in-Some.result c.from_residual-in_err-translations-in-Some.ensures.1 in
+    rw (p.1, p.2) (inl (refl, root_has (block_view c.args.root.now) _ _ c.in-Some.fixed c.in_ok-tables.ensures c.in_ok-pairs.ensures (sym c.in-Some.ensures)))
 
 pub returns-in_ok-translations-in-Some : goal.returns-in_ok-translations-in-Some
 returns-in_ok-translations-in-Some g c =
