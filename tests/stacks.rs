@@ -12,8 +12,8 @@ use pe_core::{Error, Header, ParseOptions};
 use pe_frame::{Memory, MemoryPiece, StackFrame, WalkEnd, Way};
 use pe_minidump::{Dump, DumpError, FixedFileInfo, Location, MemoryDescriptor, Module, Thread};
 use pe_stacks::{
-    IndexedMemory, IndexedModules, MemoryRuns, ModuleImage, Stacks, ThreadFrames, is_image_of,
-    memory_pieces, thread_context_arm64, thread_context_x64,
+    IndexedMemory, IndexedModules, MemoryRuns, ModuleImage, RangeEntry, Stacks, ThreadFrames,
+    is_image_of, memory_pieces, put_memory_runs, thread_context_arm64, thread_context_x64,
 };
 use std::alloc::{AllocError, Global};
 use std::test::Fail;
@@ -250,6 +250,32 @@ fn pieces_are_runs(rt: HostRuntime) -> Result<(), Fail> {
         MemoryRuns::new(rt.alloc(), &bytes, &[])?
             .pieces()
             .is_empty()
+    );
+    Ok(())
+}
+
+/// In a room of the caller there are the same runs, and nothing changes where a room is too small.
+#[test]
+fn runs_are_written_to_a_room(rt: HostRuntime) -> Result<(), Fail> {
+    let pieces = [piece(0x106, 8, 4), piece(0x100, 0, 8)];
+    let (mut entries, mut runs) = ([RangeEntry::default(); 9], [piece(1, 2, 3); 5]);
+    assert_eq!(rt;
+        put_memory_runs(&pieces, &mut entries[..7], &mut runs),
+        None
+    );
+    assert_eq!(rt;
+        put_memory_runs(&pieces, &mut entries, &mut runs[..3]),
+        None
+    );
+    assert_eq!(rt; runs, [piece(1, 2, 3); 5]);
+    assert_eq!(rt; put_memory_runs(&pieces, &mut entries, &mut runs), Some(2));
+    assert_eq!(rt;
+        (runs[0], runs[1]),
+        (piece(0x100, 0, 6), piece(0x106, 8, 4))
+    );
+    assert_eq!(rt;
+        (runs[4], entries[8]),
+        (piece(1, 2, 3), RangeEntry::default())
     );
     Ok(())
 }

@@ -1075,7 +1075,10 @@ fn context_of_the_crash_counts_on_arm64(rt: HostRuntime) -> Result<(), Fail> {
 fn images_of_modules_match_by_stamp_and_size(rt: HostRuntime) -> Result<(), Fail> {
     let bytes = dump(rt.alloc())?;
     let mut module = NO_MODULE;
-    assert_eq!(rt; pe_c_dump_module_at(&bytes, &stream(1), 0, &mut module), DONE);
+    assert_eq!(rt;
+        pe_c_dump_module_at(&bytes, &stream(1), 0, &mut module),
+        DONE
+    );
     let own = Image {
         time_date_stamp: 7,
         size_of_image: 0x2_1000,
@@ -1096,6 +1099,9 @@ fn images_of_modules_match_by_stamp_and_size(rt: HostRuntime) -> Result<(), Fail
         assert_eq!(rt; pe_c_is_image_of(&other, &module), NOTHING);
     }
     // The checksum is not asked.
-    assert_eq!(rt; pe_c_is_image_of(&Image { checksum: 5, ..own }, &module), DONE);
+    assert_eq!(rt;
+        pe_c_is_image_of(&Image { checksum: 5, ..own }, &module),
+        DONE
+    );
     Ok(())
 }

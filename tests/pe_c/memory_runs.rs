@@ -61,7 +61,11 @@ fn runs_have_the_first_piece_of_an_address(rt: HostRuntime) -> Result<(), Fail> 
     assert_eq!(rt; (runs[10], entries[20]), (LEFT, LEFT_ENTRY));
     // Two that follow one another, in the file too, are one, up to the last address.
     let end = u64::MAX - 7;
-    let list = [piece(end + 4, 4, 4), piece(end, 0, 4), piece(end + 6, 16, 8)];
+    let list = [
+        piece(end + 4, 4, 4),
+        piece(end, 0, 4),
+        piece(end + 6, 16, 8),
+    ];
     assert_eq!(rt;
         pe_c_memory_runs(&list, &mut entries, &mut runs, &mut written),
         DONE

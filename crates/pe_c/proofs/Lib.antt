@@ -29,6 +29,7 @@ pub mod PogoRuns
 pub mod RecordRanges
 pub mod Rings
 pub mod Rooms
+pub mod RunWalks
 pub mod Runs
 pub mod Steps
 pub mod TableLinks

@@ -1,8 +1,11 @@
 //! Laws of minidumps: what the ranges that calls return have to do with the dump as pe_minidump reads it.
 
-ghost use Rattle.std.specs.Prelude.{◌≡◌, ℕ, List, Some, Ok};
+ghost use Rattle.std.specs.Prelude.{◌≡◌, ℕ, List, Some, Ok, true};
 ghost use Rattle.pe_core.specs.Bytes.{range};
 ghost use Rattle.pe_core.specs.Header.{HeaderView};
+ghost use Rattle.pe_frame.specs.Arm64Walks as arm64;
+ghost use Rattle.pe_frame.specs.MemoryLists.{are_inside};
+ghost use Rattle.pe_frame.specs.Walks.{Calls};
 ghost use Rattle.pe_frame.specs.declared.memory_list.MemoryPiece.{MemoryPiece};
 ghost use Rattle.pe_minidump.specs.Contexts.{context_arm64, context_x64};
 ghost use Rattle.pe_minidump.specs.Dumps.{DumpView, located};
@@ -13,8 +16,9 @@ ghost use Rattle.pe_minidump.specs.declared.exception.Exception.{Exception};
 ghost use Rattle.pe_minidump.specs.declared.module.Module.{Module};
 ghost use Rattle.pe_minidump.specs.declared.thread.Thread.{Thread};
 ghost use Rattle.pe_stacks.specs.Images.{is_image_of};
-ghost use Rattle.pe_stacks.specs.MemoryRuns.{bytes_at};
+ghost use Rattle.pe_stacks.specs.MemoryRuns.{AreRuns, bytes_at};
 ghost use Rattle.pe_stacks.specs.ThreadContexts.{thread_context};
+ghost use Rattle.pe_c.specs.Arm64StackWalks.{arm64_stack_walks};
 ghost use Rattle.pe_c.specs.DumpContexts.{arm64_reported, context_arm64_at, context_x64_at, thread_context_at, x64_reported};
 ghost use Rattle.pe_c.specs.DumpImages.{fits};
 ghost use Rattle.pe_c.specs.DumpLaws.{IsStreamOf, as_reported, memory_range};
@@ -22,9 +26,14 @@ ghost use Rattle.pe_c.specs.DumpMemory.{piece_reported};
 ghost use Rattle.pe_c.specs.DumpRecords.{exception_reported, module_reported};
 ghost use Rattle.pe_c.specs.DumpRuns.{range_in};
 ghost use Rattle.pe_c.specs.Dumps.{dump_stream_at};
+ghost use Rattle.pe_c.specs.FrameCalls.{HandsOutFrame};
 ghost use Rattle.pe_c.specs.Images.{image_info_of};
 ghost use Rattle.pe_c.specs.Ranges.{IsRange};
+ghost use Rattle.pe_c.specs.StackWalks.{stack_walks};
+ghost use Rattle.pe_c.specs.declared.arm64.stack_walk.Arm64StackWalk.{Arm64StackWalk};
 ghost use Rattle.pe_c.specs.declared.ranges.Range.{Range};
+ghost use Rattle.pe_c.specs.declared.stack_walk.ModuleView.{ModuleView};
+ghost use Rattle.pe_c.specs.declared.stack_walk.StackWalk.{StackWalk};
 
 /// The range that `pe_c_dump_stream` returns lies in the bytes, and these are the bytes of the stream of the kind, as `Dump::stream`
 /// returns it of a dump with this directory.
@@ -66,4 +75,18 @@ pub fn images_of_modules_are_those_of_stacks()
 pub fn memory_ranges_are_bytes()
     ensures { (memory : List ℕ) (pieces : List MemoryPiece) (r : Range) →
         range memory (range_in pieces r).offset (range_in pieces r).length ≡ bytes_at memory pieces r.offset r.length }
+{}
+
+/// What `pe_c_next_frame` returns over the runs of pieces that lie in the memory, as `pe_c_memory_runs` writes them, it returns over
+/// these pieces too: the walk over the memory of a dump in order is that over the memory as the dump lists it (`x64`). So does
+/// `pe_c_next_arm64_frame` (`arm64`).
+pub fn walks_over_runs_are_over_pieces()
+    ensures x64 { (views : List ModuleView) (memory : List ℕ) (pieces runs : List MemoryPiece) (number : ℕ) (old new : StackWalk) →
+        AreRuns pieces runs → are_inside memory pieces ≡ true →
+        HandsOutFrame Calls stack_walks views memory runs number old new →
+        HandsOutFrame Calls stack_walks views memory pieces number old new }
+    ensures arm64 { (views : List ModuleView) (memory : List ℕ) (pieces runs : List MemoryPiece) (number : ℕ) (old new : Arm64StackWalk) →
+        AreRuns pieces runs → are_inside memory pieces ≡ true →
+        HandsOutFrame arm64.Calls arm64_stack_walks views memory runs number old new →
+        HandsOutFrame arm64.Calls arm64_stack_walks views memory pieces number old new }
 {}
