@@ -351,11 +351,12 @@ static int show_key(image *it)
         printf("none\n");
         return FINE;
     }
-    if (result != PE_C_DONE)
-        return refused(it, result, "");
     uint8_t guid[33] = "";
     uint64_t written = 0;
-    pe_c_guid_text(key.guid, sizeof key.guid, PE_C_GUID_DIGITS, guid, sizeof guid, &written);
+    if (result == PE_C_DONE)
+        result = pe_c_guid_text(key.guid, sizeof key.guid, PE_C_GUID_DIGITS, guid, sizeof guid, &written);
+    if (result != PE_C_DONE)
+        return refused(it, result, "");
     printf("key %s%" PRIX32 " ", (const char *)guid, key.age);
     show_name(it->bytes + key.name.offset, key.name.length);
     putchar('\n');
