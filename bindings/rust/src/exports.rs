@@ -4,9 +4,9 @@
 //! a name, [`Image::export_addresses`] all of them. See
 //! [Microsoft's page](https://learn.microsoft.com/windows/win32/debug/pe-format#the-edata-section-image-only).
 
+use crate::coff::room_for;
 use crate::image::{bytes_of, Error, Image};
 use crate::sys;
-use crate::coff::room_for;
 use alloc::vec::Vec;
 use core::iter::FusedIterator;
 use core::ops::Range;
@@ -64,12 +64,24 @@ const SKIPPED: usize = 64;
 
 impl<'i, 'a> Exports<'i, 'a> {
     fn new(image: &'i Image<'a>, walk: sys::Exports) -> Self {
-        Exports { image, walk, few: [sys::Export::default(); ROOM], many: Vec::new(), left: 0..0, is_over: false, spent: 0 }
+        Exports {
+            image,
+            walk,
+            few: [sys::Export::default(); ROOM],
+            many: Vec::new(),
+            left: 0..0,
+            is_over: false,
+            spent: 0,
+        }
     }
 
     /// What the last call wrote.
     fn found(&self) -> &[sys::Export] {
-        if self.many.is_empty() { &self.few } else { &self.many }
+        if self.many.is_empty() {
+            &self.few
+        } else {
+            &self.many
+        }
     }
 
     /// Reads the exports of further entries of the name table, if it has any left: of some each name by itself, and once this has
@@ -83,7 +95,8 @@ impl<'i, 'a> Exports<'i, 'a> {
         let (bytes, mut count, mut runs) = (self.image.bytes().len(), rest.min(ROOM), Vec::new());
         self.many.clear();
         if self.spent > bytes {
-            if let (Ok(room), Ok(many)) = (room_for(rest, sys::Run::default()), room_for(rest, sys::Export::default())) {
+            if let (Ok(room), Ok(many)) = (room_for(rest, sys::Run::default()), room_for(rest, sys::Export::default()))
+            {
                 (count, runs, self.many) = (rest, room, many);
             }
         }
@@ -92,9 +105,8 @@ impl<'i, 'a> Exports<'i, 'a> {
         part.names.length = 4 * (part.next + count as u64);
         let room = runs.as_mut_ptr();
         // SAFETY: the view, the walk and `written` are lent for the call, the arrays have so many items, and none overlaps another.
-        let number = unsafe {
-            sys::pe_c_list_exports_together(&view, &mut part, room, runs.len(), found, count, &mut written)
-        };
+        let number =
+            unsafe { sys::pe_c_list_exports_together(&view, &mut part, room, runs.len(), found, count, &mut written) };
         Error::of(number)?;
         self.walk.next = part.next;
         self.left = 0..written as usize;

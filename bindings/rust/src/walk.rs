@@ -135,7 +135,8 @@ pub(crate) const MOST: usize = 1 << 16;
 pub(crate) type List<W, T> = unsafe extern "C" fn(*const View, *mut W, *mut T, usize, *mut u64) -> u32;
 
 /// The same of items whose names are read together, with runs for these.
-pub(crate) type Together<W, T> = unsafe extern "C" fn(*const View, *mut W, *mut Run, usize, *mut T, usize, *mut u64) -> u32;
+pub(crate) type Together<W, T> =
+    unsafe extern "C" fn(*const View, *mut W, *mut Run, usize, *mut T, usize, *mut u64) -> u32;
 
 /// A walk over an image that takes several items a call. Its items are those of the steps, one after the other.
 #[derive(Clone)]
@@ -167,7 +168,16 @@ impl<W: core::fmt::Debug, T> core::fmt::Debug for ImageList<'_, '_, W, T> {
 
 impl<'i, 'a, W, T: Copy + Default> ImageList<'i, 'a, W, T> {
     pub fn new(image: &'i Image<'a>, walk: W) -> Self {
-        ImageList { image, walk, items: [T::default(); ROOM], many: Vec::new(), left: 0..0, taken: 0, spent: 0, is_over: false }
+        ImageList {
+            image,
+            walk,
+            items: [T::default(); ROOM],
+            many: Vec::new(),
+            left: 0..0,
+            taken: 0,
+            spent: 0,
+            is_over: false,
+        }
     }
 
     /// Makes a call, and keeps how many items it wrote. Returns the error of the walk, if it is one.
