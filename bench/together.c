@@ -61,15 +61,18 @@ static uint64_t list_symbols(const uint8_t *bytes, size_t length, pe_c_run *runs
         pe_c_symbol_entry symbol = PE_C_EMPTY;
         pe_c_range name = PE_C_EMPTY;
         while (pe_c_next_symbol(bytes, length, &walk.symbols, &symbol) == PE_C_DONE) {
-            (void)pe_c_symbol_name(bytes, length, &walk.symbols.table, &walk.strings, symbol.index, &name);
+            const uint32_t result =
+                pe_c_symbol_name(bytes, length, &walk.symbols.table, &walk.strings, symbol.index, &name);
+            (void)result;
             count++;
         }
         return count;
     }
     const size_t room = (size_t)walk.symbols.table.length / 18 + 1;
     pe_c_named_symbol *entries = calloc(room, sizeof *entries);
-    if (entries != NULL)
-        (void)pe_c_list_symbols(bytes, length, &walk, runs, number_of_runs, entries, room, &count);
+    if (entries == NULL ||
+        pe_c_list_symbols(bytes, length, &walk, runs, number_of_runs, entries, room, &count) != PE_C_DONE)
+        count = 0;
     free(entries);
     return count;
 }

@@ -389,6 +389,10 @@ test('objects, their sections and their symbols', () => {
     [2n, 'longer_than_eight', 1, 1], [4n, '.text', 1, 0], [6n, '.data', 2, 0], [8n, '.bss', 3, 0], [10n, 'five', -1, 5],
     [11n, 'outside', 0, 0]]);
   assert.deepEqual([symbols.strings(), symbols.table], [{ offset: 0x17En, length: 22n }, { offset: 0xA6n, length: 216n }]);
+  const walk = { symbols: { table: symbols.table, next: 0n }, strings: symbols.strings() };
+  const named = listed(object, 'pe_c_list_symbols', { walk, runs: [{}] });
+  assert.deepEqual(named.map((it) => [it.symbol.index, object.utf8(it.name), it.name_result]),
+    [...symbols].map((it) => [it.index, symbols.name(it), 0]));
   assert.equal(object.utf8(symbols.at(0).auxiliary).replaceAll('\0', ''), 'b.s');
   assert.equal(symbols.at(12), null);
   const constant = (length, read) => refused(() => read(library.openObject(bytes.subarray(0, length)).symbols())).constant;

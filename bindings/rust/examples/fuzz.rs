@@ -583,7 +583,16 @@ fn read_by_lies(bytes: &[u8], random: &mut Random, seen: &mut Seen) {
     // SAFETY: as above.
     let answer = unsafe {
         let (room, most) = (runs.as_mut_ptr(), symbols.len());
-        sys::pe_c_list_symbols(bytes.as_ptr(), bytes.len(), &mut named, room, 3, symbols.as_mut_ptr(), most, &mut written)
+        sys::pe_c_list_symbols(
+            bytes.as_ptr(),
+            bytes.len(),
+            &mut named,
+            room,
+            3,
+            symbols.as_mut_ptr(),
+            most,
+            &mut written,
+        )
     };
     assert!(written <= 3 && (answer == 0 || written == 0) && named.strings == strings);
     call!(pe_c_te(), TeHeader);

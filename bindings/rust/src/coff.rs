@@ -187,7 +187,16 @@ impl<'a> Symbols<'a> {
         // SAFETY: the pointers and the lengths are those of a slice and of two vectors; the walk and `written` are lent for the call.
         Error::of(unsafe {
             let (lent, room) = (runs.as_mut_ptr(), entries.as_mut_ptr());
-            sys::pe_c_list_symbols(bytes.as_ptr(), bytes.len(), &mut walk, lent, runs.len(), room, entries.len(), &mut written)
+            sys::pe_c_list_symbols(
+                bytes.as_ptr(),
+                bytes.len(),
+                &mut walk,
+                lent,
+                runs.len(),
+                room,
+                entries.len(),
+                &mut written,
+            )
         })?;
         let mut found = Vec::new();
         found.try_reserve_exact(written as usize).map_err(|_| Error::MEMORY)?;

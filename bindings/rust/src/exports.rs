@@ -4,10 +4,12 @@
 //! a name, [`Image::export_addresses`] all of them. See
 //! [Microsoft's page](https://learn.microsoft.com/windows/win32/debug/pe-format#the-edata-section-image-only).
 
+use crate::coff::room_for;
 use crate::image::{bytes_of, Error, Image};
 use crate::sys;
-use crate::walk::ImageList;
+use alloc::vec::Vec;
 use core::iter::FusedIterator;
+use core::ops::Range;
 
 /// An export that has a name.
 #[derive(Clone, Copy, Debug, PartialEq, Eq)]
@@ -41,21 +43,99 @@ pub struct Export<'a> {
 /// assert_eq!(found, [(b"first".as_slice(), 0x9_0000), (b"second", 0x1004)]);
 /// # Ok::<(), pe_c::Error>(())
 /// ```
-#[derive(Clone, Debug)]
-pub struct Exports<'i, 'a>(ImageList<'i, 'a, sys::Exports, sys::Export>);
+#[derive(Clone)]
+pub struct Exports<'i, 'a> {
+    image: &'i Image<'a>,
+    walk: sys::Exports,
+    /// What the last call wrote: few, or many that were read together; and those of it that are not returned yet.
+    few: [sys::Export; ROOM],
+    many: Vec<sys::Export>,
+    left: Range<usize>,
+    is_over: bool,
+    /// The bytes that were read of names, each by itself. A name that is skipped counts as a part of the image.
+    spent: usize,
+}
+
+/// How many entries of the name table a call takes where each name is read by itself.
+const ROOM: usize = 16;
+
+/// How many names that are skipped count as the image.
+const SKIPPED: usize = 64;
+
+impl<'i, 'a> Exports<'i, 'a> {
+    fn new(image: &'i Image<'a>, walk: sys::Exports) -> Self {
+        Exports {
+            image,
+            walk,
+            few: [sys::Export::default(); ROOM],
+            many: Vec::new(),
+            left: 0..0,
+            is_over: false,
+            spent: 0,
+        }
+    }
+
+    /// What the last call wrote.
+    fn found(&self) -> &[sys::Export] {
+        if self.many.is_empty() {
+            &self.few
+        } else {
+            &self.many
+        }
+    }
+
+    /// Reads the exports of further entries of the name table, if it has any left: of some each name by itself, and once this has
+    /// cost as much as the image has bytes all others together, if there is memory for that.
+    fn fill(&mut self) -> Result<(), Error> {
+        let rest = (self.walk.names.length / 4).saturating_sub(self.walk.next) as usize;
+        self.is_over = rest == 0;
+        if self.is_over {
+            return Ok(());
+        }
+        let (bytes, mut count, mut runs) = (self.image.bytes().len(), rest.min(ROOM), Vec::new());
+        self.many.clear();
+        if self.spent > bytes {
+            if let (Ok(room), Ok(many)) = (room_for(rest, sys::Run::default()), room_for(rest, sys::Export::default()))
+            {
+                (count, runs, self.many) = (rest, room, many);
+            }
+        }
+        let found = if self.many.is_empty() { self.few.as_mut_ptr() } else { self.many.as_mut_ptr() };
+        let (view, mut part, mut written) = (self.image.view(), self.walk, 0);
+        part.names.length = 4 * (part.next + count as u64);
+        let room = runs.as_mut_ptr();
+        // SAFETY: the view, the walk and `written` are lent for the call, the arrays have so many items, and none overlaps another.
+        let number =
+            unsafe { sys::pe_c_list_exports_together(&view, &mut part, room, runs.len(), found, count, &mut written) };
+        Error::of(number)?;
+        self.walk.next = part.next;
+        self.left = 0..written as usize;
+        let names: u64 = self.found()[self.left.clone()].iter().map(|it| it.name.length).sum();
+        self.spent = self.spent.saturating_add(names as usize + (count - self.left.len()) * (bytes / SKIPPED));
+        Ok(())
+    }
+}
+
+impl core::fmt::Debug for Exports<'_, '_> {
+    fn fmt(&self, f: &mut core::fmt::Formatter<'_>) -> core::fmt::Result {
+        f.debug_struct("Exports").field("image", &self.image).field("walk", &self.walk).finish_non_exhaustive()
+    }
+}
 
 impl<'a> Iterator for Exports<'_, 'a> {
     type Item = Result<Export<'a>, Error>;
 
     fn next(&mut self) -> Option<Self::Item> {
-        // All at once: those that are skipped have runs too.
-        let most = |walk: &sys::Exports, _| (walk.names.length / 4).saturating_sub(walk.next) as usize;
-        let found = match self.0.step_together(sys::pe_c_list_exports, sys::pe_c_list_exports_together, 1, most)? {
-            Ok(found) => found,
-            Err(error) => return Some(Err(error)),
-        };
+        while self.left.is_empty() && !self.is_over {
+            if let Err(error) = self.fill() {
+                self.is_over = true;
+                return Some(Err(error));
+            }
+        }
+        let i = self.left.next()?;
+        let found = self.found()[i];
         let offset = (found.has_offset != 0).then_some(found.offset);
-        Some(bytes_of(found.name, self.0.image.bytes()).map(|name| {
+        Some(bytes_of(found.name, self.image.bytes()).map(|name| {
             let sys::Export { rva, index, .. } = found;
             Export { name, rva, offset, index }
         }))
@@ -157,6 +237,6 @@ impl<'a> Image<'a> {
     /// [`Error::UNMAPPED`], [`Error::SHORT`] of the directory, then of the table of RVAs, of names and of indices.
     pub fn exports(&self) -> Result<Option<Exports<'_, 'a>>, Error> {
         let tables = self.ask(sys::pe_c_export_tables)?;
-        Ok(tables.map(|tables| Exports(ImageList::new(self, tables))))
+        Ok(tables.map(|tables| Exports::new(self, tables)))
     }
 }

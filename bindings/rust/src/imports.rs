@@ -63,8 +63,10 @@ impl<'i, 'a> Iterator for Libraries<'i, 'a> {
         let image = self.0.image;
         // Nothing says how many are left: four times as many as there were.
         let most = |_: &sys::Libraries, taken: usize| (4 * taken).min(MOST);
-        let (call, together) = (sys::pe_c_list_libraries as List<_, _>, sys::pe_c_list_libraries_together as Together<_, _>);
-        let found: Result<sys::Library, Error> = self.0.step_together(call, together, 2, most)?;
+        let cost = |it: &sys::Library| it.name.length + it.imports.left.length;
+        let (call, together) =
+            (sys::pe_c_list_libraries as List<_, _>, sys::pe_c_list_libraries_together as Together<_, _>);
+        let found: Result<sys::Library, Error> = self.0.step_together(call, together, 2, most, cost)?;
         Some(found.and_then(|raw| {
             let name = bytes_of(raw.name, image.bytes())?;
             Ok(Library { image, name, raw })
@@ -98,7 +100,9 @@ impl<'a> Iterator for Imports<'_, 'a> {
     fn next(&mut self) -> Option<Self::Item> {
         let bytes = self.0.image.bytes();
         let most = |walk: &sys::Imports, _| (walk.left.length / 4).min(MOST as u64) as usize;
-        let found = self.0.step_together(sys::pe_c_list_imports, sys::pe_c_list_imports_together, 1, most)?;
+        let found = self
+            .0
+            .step_together(sys::pe_c_list_imports, sys::pe_c_list_imports_together, 1, most, |it| it.name.length)?;
         Some(found.and_then(|found| {
             let name = bytes_of(found.name, bytes)?;
             Ok(Import { name: (found.has_name != 0).then_some(name), ordinal: found.ordinal, rva: found.rva })

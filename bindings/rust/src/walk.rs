@@ -128,15 +128,15 @@ impl<'i, 'a, W> ImageWalk<'i, 'a, W> {
 /// How many items a walk takes a call.
 const ROOM: usize = 16;
 
-/// From so many names on these are read together, of which each call takes so many where all of them are returned.
-const MANY: usize = 256;
+/// How many names a call that reads them together takes, at most, where none are skipped.
 pub(crate) const MOST: usize = 1 << 16;
 
 /// A call that writes items to an array, and moves a walk past them.
 pub(crate) type List<W, T> = unsafe extern "C" fn(*const View, *mut W, *mut T, usize, *mut u64) -> u32;
 
 /// The same of items whose names are read together, with runs for these.
-pub(crate) type Together<W, T> = unsafe extern "C" fn(*const View, *mut W, *mut Run, usize, *mut T, usize, *mut u64) -> u32;
+pub(crate) type Together<W, T> =
+    unsafe extern "C" fn(*const View, *mut W, *mut Run, usize, *mut T, usize, *mut u64) -> u32;
 
 /// A walk over an image that takes several items a call. Its items are those of the steps, one after the other.
 #[derive(Clone)]
@@ -148,8 +148,9 @@ pub(crate) struct ImageList<'i, 'a, W, T> {
     many: Vec<T>,
     /// Of the items those that are not returned yet.
     left: core::ops::Range<usize>,
-    /// How many items were written by all calls.
+    /// How many items were written by all calls, and how many bytes were read of their names, each by itself.
     taken: usize,
+    spent: u64,
     is_over: bool,
 }
 
@@ -167,7 +168,16 @@ impl<W: core::fmt::Debug, T> core::fmt::Debug for ImageList<'_, '_, W, T> {
 
 impl<'i, 'a, W, T: Copy + Default> ImageList<'i, 'a, W, T> {
     pub fn new(image: &'i Image<'a>, walk: W) -> Self {
-        ImageList { image, walk, items: [T::default(); ROOM], many: Vec::new(), left: 0..0, taken: 0, is_over: false }
+        ImageList {
+            image,
+            walk,
+            items: [T::default(); ROOM],
+            many: Vec::new(),
+            left: 0..0,
+            taken: 0,
+            spent: 0,
+            is_over: false,
+        }
     }
 
     /// Makes a call, and keeps how many items it wrote. Returns the error of the walk, if it is one.
@@ -203,21 +213,26 @@ impl<'i, 'a, W, T: Copy + Default> ImageList<'i, 'a, W, T> {
         self.first_left()
     }
 
-    /// The next item of a walk that may have so many names left, by the walk and how many it returned. Many are read together, with
-    /// `runs` for each; where there is no memory for that each is read by itself.
+    /// The next item of a walk that may have so many names left, by the walk and how many it returned. Once those that were read
+    /// each by itself have as many bytes as the image, by what each cost, further ones are read together, with `runs` for each; where
+    /// there is no memory for that each is read by itself.
     pub fn step_together(
         &mut self,
         call: List<W, T>,
         together: Together<W, T>,
         runs: usize,
         most: impl FnOnce(&W, usize) -> usize,
+        cost: impl Fn(&T) -> u64,
     ) -> Option<Result<T, Error>> {
         if !self.left.is_empty() || self.is_over {
             return self.first_left();
         }
         let most = most(&self.walk, self.taken);
-        if most < MANY {
-            return self.step(call);
+        if most == 0 || self.spent <= self.image.bytes().len() as u64 {
+            let first = self.step(call);
+            let others = self.left.clone().map(|i| cost(&self.items[i])).sum::<u64>();
+            self.spent += others + first.as_ref().and_then(|it| it.as_ref().ok()).map_or(0, cost);
+            return first;
         }
         let (Ok(mut room), Ok(many)) = (room_for(runs * most, Run::default()), room_for(most, T::default())) else {
             return self.step(call);
