@@ -8,7 +8,7 @@ use Rattle.pe_core.specs.Bytes.{holds, record_at}
 use Rattle.pe_core.specs.Exports.{ExportDataView, export_data_at, table_at}
 use Rattle.pe_core.specs.Header.{OptionalHeaderView}
 use Rattle.pe_core.specs.Records.{export_directory as export_directory_at}
-use Rattle.pe_core.specs.Refusals.{Refusal, Short, ◌>>=◌}
+use Rattle.pe_core.specs.Refusals.{Refusal, ◌>>=◌}
 use Rattle.pe_core.specs.SectionMap.{mapped, section_map}
 use Rattle.pe_core.specs.Text.{text_at}
 use Rattle.pe_core.specs.declared.data_directories.DataDirectory.{DataDirectory}
@@ -22,6 +22,7 @@ use Rattle.pe_c.proofs.AddressEntries.{name_is, names_stand}
 use Rattle.pe_c.proofs.ExportParts.{tables_stand}
 use Rattle.pe_c.proofs.ExportRuns.{directory_in_turn}
 use Rattle.pe_c.proofs.ImageFields.{IsThere, Says, same_map, there}
+use Rattle.pe_c.proofs.ImportRuns.{there_by}
 use Rattle.pe_c.specs.ExportAddresses.{address_table, address_table_at, dll_name, text_range}
 use Rattle.pe_c.specs.Exports.{one_if_some, tables_at, walk_over}
 use Rattle.pe_c.specs.ImageParts.{AreExports, AreExportsBy}
@@ -49,10 +50,6 @@ has_name : (offset : ℕ → Option ℕ) (b : List ℕ) (rva : ℕ) (d : ExportD
 has_name offset b rva d e = named_unless offset b d.directory.name_rva (d.directory.name_rva == 0) ∙ ap (λ (n : Option (List ℕ)). one_if_some n) (name_is offset b rva d e)
 
 -- ---- the numbers
-
-there_by : {Y : Type 0} (inside : Bool) (y z : Y) → (if inside then Ok y else Err Short) ≡ Ok z → z ≡ y
-there_by true y z e = sym (same_inside y z e)
-there_by false y z e = absurd cc
 
 numbers_stand : (offset : ℕ → Option ℕ) (b : List ℕ) (rva : ℕ) (d : ExportDataView) → export_data_at offset b rva ≡ Ok d → (p : ℕ) × (offset rva ≡ Some p) × (d.directory ≡ export_directory_at b p)
 unfolding export_data_at

@@ -248,7 +248,7 @@ record_imports offset w b r left some small s low =
 some_inside : {X : Type 0} (x y : X) → ◌≡◌ {A = Result (Option X) Refusal} (Ok (Some x)) (Ok (Some y)) → x ≡ y
 some_inside x y e = cc
 
-there_by : {Y : Type 0} (here : Bool) (y z : Y) → if◌then◌else◌ {A = Result Y Refusal} here (Ok y) (Err Short) ≡ Ok z → z ≡ y
+pub there_by : {Y : Type 0} (here : Bool) (y z : Y) → if◌then◌else◌ {A = Result Y Refusal} here (Ok y) (Err Short) ≡ Ok z → z ≡ y
 there_by true y z e = sym (same_inside y z e)
 there_by false y z e = absurd cc
 

@@ -1,6 +1,7 @@
 -- What the calls return decides the image, or its first error: so an image is that of the calls exactly if it is that of the bytes.
 use Rattle.std.proofs.Common.{◌≡◌, ℕ, ◌≤◌, ◌^◌, List, length, Option, Result, Ok, Err, sym, ap, subst, ◌∙◌}
 use Rattle.std.specs.Prelude.{◌↔◌}
+use Rattle.pe_core.proofs.Steps.{one_ok}
 use Rattle.pe_core.specs.Bytes.{AreBytes}
 use Rattle.pe_core.specs.Exports.{ExportDataView, ExportView}
 use Rattle.pe_core.specs.Imports.{ImportRecordView, ImportView}
@@ -43,13 +44,10 @@ one_parts law b o image sections p q g h =
     ∙ ap (λ (v : Result (Option (List CertificateView)) Refusal). record p { export_data = q.export_data; exports = q.exports; imports = q.imports; debug_data = q.debug_data; exception_data = q.exception_data; relocation_data = q.relocation_data; certificates = v }) certificates
     ∙ ap (λ (v : Result (Option ResourceView) Refusal). record p { export_data = q.export_data; exports = q.exports; imports = q.imports; debug_data = q.debug_data; exception_data = q.exception_data; relocation_data = q.relocation_data; certificates = q.certificates; resource_data = v }) resource_data
 
-same_headers : (q : Result Headers Refusal) (x y : Headers) → q ≡ Ok x → q ≡ Ok y → x ≡ y
-same_headers q x y e f = cc
-
 one_with : OneContent → (b : List ℕ) (o : ParseOptions) (image : Image) (sections : Result (List SectionTable) Refusal) (r s : Result ImageView Refusal) → IsImageWith b o image sections r → IsImageWith b o image sections s → r ≡ s
 one_with law b o image (Err e) r s g h = g ∙ sym h
 one_with law b o image (Ok sections) r s g h =
-    let headers : g.0 ≡ h.0 = same_headers (headers_at b (mode_of o)) g.0 h.0 g.2 h.2 in
+    let headers : g.0 ≡ h.0 = one_ok (headers_at b (mode_of o)) g.0 h.0 g.2 h.2 in
     let parts : g.1 ≡ h.1 = one_parts law b o image sections g.1 h.1 g.3 h.3 in
     g.4
     ∙ ap (λ (x : Headers). image_of_parts o.parse_mode (header_of b x) image sections g.1) headers

@@ -1,5 +1,6 @@
 -- What the calls return decides the resources of an image.
 use Rattle.std.proofs.Common.{◌≡◌, ℕ, Bool, true, false, List, Option, Some, None, Result, Ok, Err, sym, ap, subst, ◌∙◌}
+use Rattle.pe_core.proofs.Steps.{one_ok}
 use Rattle.pe_core.specs.Refusals.{Refusal}
 use Rattle.pe_core.specs.declared.byte_range.ByteRange.{ByteRange}
 use Rattle.pe_core.specs.declared.data_directories.DataDirectory.{DataDirectory}
@@ -51,14 +52,11 @@ same_strings s t same =
     ∙ ap (λ (v : Option (List ℕ)). record s { comments = t.comments; company_name = t.company_name; file_description = t.file_description; file_version = t.file_version; internal_name = t.internal_name; legal_copyright = t.legal_copyright; legal_trademarks = t.legal_trademarks; original_filename = t.original_filename; private_build = t.private_build; product_name = t.product_name; product_version = v }) (same names.ProductVersion)
     ∙ ap (λ (v : Option (List ℕ)). record s { comments = t.comments; company_name = t.company_name; file_description = t.file_description; file_version = t.file_version; internal_name = t.internal_name; legal_copyright = t.legal_copyright; legal_trademarks = t.legal_trademarks; original_filename = t.original_filename; private_build = t.private_build; product_name = t.product_name; product_version = t.product_version; special_build = v }) (same names.SpecialBuild)
 
-same_ok : {X : Type 0} (q : Result X Refusal) (x y : X) → q ≡ Ok x → q ≡ Ok y → x ≡ y
-same_ok q x y e f = cc
-
 one_strings : (b : List ℕ) (content : Range) (s t : FileStrings) → AreStrings b content s → AreStrings b content t → s ≡ t
 one_strings b content s t g h = same_strings s t (λ name.
     let a = g name in
     let c = h name in
-    let same : a.0 ≡ c.0 = same_ok (text_in b content (Some name)) a.0 c.0 a.1 c.1 in
+    let same : a.0 ≡ c.0 = one_ok (text_in b content (Some name)) a.0 c.0 a.1 c.1 in
     one_option (IsRange b) (one_range b) a.0 (value_named name s) (value_named name t) a.2 (subst (λ (v : Option Range). HasOption (IsRange b) v (value_named name t)) (sym same) c.2))
 
 one_version_by : (b : List ℕ) (content : Range) (fixed : Result (Option VsFixedFileInfo) Refusal) (x y : Result (Option VersionView) Refusal) → IsVersionBy b content fixed x → IsVersionBy b content fixed y → x ≡ y

@@ -106,7 +106,7 @@ pub record IsExportData (b : List ℕ) (image : Image) (sections : List SectionT
   pub name : (t : AddressTable) × (address_table_at b image sections ≡ Ok (Some t)) × IsPart b t.name d.name × (t.has_name ≡ one_if_some d.name)
   pub numbers : (p : ℕ) × (map_of_image image sections (export_directory image).virtual_address ≡ Some p) × (d.directory ≡ export_directory_at b p)
 
--- by what `pe_c_export_tables` returns: its walk gives the list; without one there is no directory, and a refused one counts
+-- by what `pe_c_export_tables` returns: its walk returns the list; without one there is no directory, and a refused one counts
 -- as absent
 abbrev pub AreExportsBy : List ℕ → Image → List SectionTable → Result (Option Exports) Refusal → Option ExportDataView → List ExportView → Type 0
 AreExportsBy b image sections (Ok (Some w)) found list =
