@@ -138,7 +138,7 @@ impl<W: Copy, T: Copy + Default, const ROOM: usize> Batch<W, T, ROOM> {
         &mut self,
         call: impl FnOnce(&mut W, &mut [T]) -> Result<usize, Refusal>,
     ) -> Option<error::Result<T>> {
-        if self.next == self.end {
+        if self.next >= self.end {
             if let Err(refusal) = self.fill(call)? {
                 return Some(Err(refusal.into()));
             }
@@ -148,6 +148,8 @@ impl<W: Copy, T: Copy + Default, const ROOM: usize> Batch<W, T, ROOM> {
         Some(Ok(*item))
     }
 
+    // Out of line: most items are there already.
+    #[inline(never)]
     fn fill(
         &mut self,
         call: impl FnOnce(&mut W, &mut [T]) -> Result<usize, Refusal>,
