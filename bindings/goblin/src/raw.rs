@@ -134,10 +134,7 @@ impl<W: Copy, T: Copy + Default, const ROOM: usize> Batch<W, T, ROOM> {
 
     /// The next item. `call` fills an array and says how many items it wrote, 0 at the end.
     #[inline]
-    pub fn next(
-        &mut self,
-        call: impl FnOnce(&mut W, &mut [T]) -> Result<usize, Refusal>,
-    ) -> Option<error::Result<T>> {
+    pub fn next(&mut self, call: impl FnOnce(&mut W, &mut [T]) -> Result<usize, Refusal>) -> Option<error::Result<T>> {
         if self.next >= self.end {
             if let Err(refusal) = self.fill(call)? {
                 return Some(Err(refusal.into()));
@@ -150,10 +147,7 @@ impl<W: Copy, T: Copy + Default, const ROOM: usize> Batch<W, T, ROOM> {
 
     // Out of line: most items are there already.
     #[inline(never)]
-    fn fill(
-        &mut self,
-        call: impl FnOnce(&mut W, &mut [T]) -> Result<usize, Refusal>,
-    ) -> Option<Result<(), Refusal>> {
+    fn fill(&mut self, call: impl FnOnce(&mut W, &mut [T]) -> Result<usize, Refusal>) -> Option<Result<(), Refusal>> {
         let mut moved = self.walk.take()?;
         match call(&mut moved, &mut self.items) {
             Ok(0) => None,
