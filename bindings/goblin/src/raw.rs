@@ -134,11 +134,8 @@ impl<W: Copy, T: Copy + Default, const ROOM: usize> Batch<W, T, ROOM> {
 
     /// The next item. `call` fills an array and says how many items it wrote, 0 at the end.
     #[inline]
-    pub fn next(
-        &mut self,
-        call: impl FnOnce(&mut W, &mut [T]) -> Result<usize, Refusal>,
-    ) -> Option<error::Result<T>> {
-        if self.next == self.end {
+    pub fn next(&mut self, call: impl FnOnce(&mut W, &mut [T]) -> Result<usize, Refusal>) -> Option<error::Result<T>> {
+        if self.next >= self.end {
             if let Err(refusal) = self.fill(call)? {
                 return Some(Err(refusal.into()));
             }
@@ -148,10 +145,9 @@ impl<W: Copy, T: Copy + Default, const ROOM: usize> Batch<W, T, ROOM> {
         Some(Ok(*item))
     }
 
-    fn fill(
-        &mut self,
-        call: impl FnOnce(&mut W, &mut [T]) -> Result<usize, Refusal>,
-    ) -> Option<Result<(), Refusal>> {
+    // Out of line: most items are there already.
+    #[inline(never)]
+    fn fill(&mut self, call: impl FnOnce(&mut W, &mut [T]) -> Result<usize, Refusal>) -> Option<Result<(), Refusal>> {
         let mut moved = self.walk.take()?;
         match call(&mut moved, &mut self.items) {
             Ok(0) => None,
