@@ -69,9 +69,11 @@ pub(crate) fn slice(bytes: &[u8], range: Range) -> error::Result<&[u8]> {
 /// The text of a range that a call returned as a name.
 #[inline]
 pub(crate) fn text(bytes: &[u8], range: Range) -> error::Result<&str> {
+    let name = slice(bytes, range)?;
+    debug_assert!(core::str::from_utf8(name).is_ok(), "a name that a call returned is not UTF-8");
     // SAFETY: a name that a call returns is UTF-8, by the contract of that call, which is proved: of exports, forwarders, libraries,
     // imports, sections and symbols. To test it here again cost a seventh of `PE::parse`.
-    Ok(unsafe { core::str::from_utf8_unchecked(slice(bytes, range)?) })
+    Ok(unsafe { core::str::from_utf8_unchecked(name) })
 }
 
 /// All of the bytes, as a walk.

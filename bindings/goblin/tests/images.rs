@@ -7,6 +7,7 @@ use goblin::pe::header::{Header, COFF_MACHINE_X86_64, PE_MAGIC};
 use goblin::pe::import::{Import, ImportData};
 use goblin::pe::options::{Limits, ParseMode, ParseOptions};
 use goblin::pe::section_table::SectionTable;
+use goblin::pe::utils::find_offset;
 use goblin::pe::{Coff, PE};
 use scroll::{Pread, Pwrite};
 
@@ -64,6 +65,32 @@ fn errors_have_goblins_variants_and_numbers() {
     assert_eq!(refused(&with(size, &[13, 0, 0, 0])), text);
     let debug = with(directory_offset(6), &[0, 0, 0, 0x70, 28, 0, 0, 0]);
     assert_eq!(refused(&debug), r#"Malformed("Cannot map ImageDebugDirectory rva 0x70000000 into offset")"#);
+}
+
+/// Two sections, of which the first has data where the second starts, but is too short in memory to cover it.
+#[test]
+fn an_rva_is_mapped_by_the_first_section_that_covers_it() {
+    let section = |virtual_address, virtual_size, size_of_raw_data, pointer_to_raw_data| SectionTable {
+        virtual_address,
+        virtual_size,
+        size_of_raw_data,
+        pointer_to_raw_data,
+        ..Default::default()
+    };
+    let sections = [section(0x1000, 0x10, 0x3000, 0x400), section(0x2000, 0x1000, 0x1000, 0x4400)];
+    let offset = |rva| find_offset(rva, &sections, 0x200, &ParseOptions::default());
+    assert_eq!(
+        [0xfff, 0x1004, 0x1fff, 0x2004, 0x3000].map(offset),
+        [None, Some(0x404), Some(0x13ff), Some(0x4404), None]
+    );
+    // The record of IMAGE's first function, found by the second of two sections that may have it.
+    let pe = PE::parse(IMAGE).unwrap();
+    let data = pe.exception_data.as_ref().unwrap();
+    let function = data.get_function(0).unwrap();
+    let before = section((function.unwind_info_address & !0xfff) - 0x1000, 1, 0x2000, 0);
+    let with_one_more: Vec<_> = [before].into_iter().chain(pe.sections.iter().cloned()).collect();
+    let records = [&pe.sections, &with_one_more].map(|it| format!("{:?}", data.get_unwind_info(function, it).unwrap()));
+    assert_eq!(records[0], records[1]);
 }
 
 #[test]
