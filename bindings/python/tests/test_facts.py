@@ -79,9 +79,9 @@ class Lines(Room):
         with open(os.path.join(inner, "text.txt"), "w") as file:
             file.write("MZ is no image")
         names = [json.loads(it)["file"] for it in run("scan", "-j", "1", self.room)[0].decode().splitlines()]
+        made = [it for it in os.listdir(self.room) if it.endswith((".bin", ".exe"))]
         self.assertEqual([os.path.relpath(it, self.room) for it in names],
-                         sorted(it for it in [name for name in os.listdir(self.room) if name.endswith(".bin")] + ["inner/a\tb.dll"]
-                                if it not in ("te_image.bin", "object.bin", "short.bin")))
+                         sorted(it for it in [*made, "inner/a\tb.dll"] if it not in ("te_image.bin", "object.bin", "short.bin")))
         one = run("scan", "-j", "1", self.room)
         self.assertEqual(run("scan", "-j", "3", self.room), one)
         self.assertEqual(run("-r", self.room), one)
