@@ -3102,8 +3102,8 @@ uint32_t pe_c_memory_runs(const pe_c_memory_piece *pieces, size_t piece_count, p
                           size_t number_of_entries, pe_c_memory_piece *runs, size_t number_of_runs, uint64_t *written)
     PE_C_RESULT(7);
 
-/* Writes to `found`, for each of the ranges that are asked for, an address and how many bytes from it on at most, the range of
- * `memory` where these bytes are: those of the first piece that has the address, up to its end. Where no piece has it the range
+/* Writes to `found`, for each of the ranges that are asked for, whose offset is an address and whose length how many bytes from
+ * it on at most, the range of `memory` where these bytes are: those of the first piece that has the address, up to its end. Where no piece has it the range
  * has no bytes. `written` is how many ranges are asked for; the rest of `found` is unchanged. In what pe_c_memory_runs writes a
  * range ends at the first address that the dump has no byte of, or has elsewhere: so the images of modules are found that the
  * dump's own memory has, for pe_c_image with PE_C_MAPPED. The pieces are tested once a call.
