@@ -2299,8 +2299,8 @@ uint32_t pe_c_version_length(const pe_c_version *fixed, const pe_c_version_table
  * languages and code pages that the file supports, each in its order; `texts` has the names and the texts. The array overlaps none
  * of the others; each may be NULL if its length is 0.
  * Errors: PE_C_SHORT where a range of a string is not inside the texts, or the strings of a table are not all there;
- * PE_C_BLOCK_KEY where a name has an odd number of bytes, or a code unit of zero; PE_C_BLOCK_TEXT where a text has an odd number of
- * bytes; PE_C_BLOCK_TOO_LONG where a string, a table, or a block of these has more than 65,535 bytes: of the blocks the first
+ * PE_C_BLOCK_KEY where a name has an odd number of bytes, or a code unit of zero; PE_C_BLOCK_TEXT where a text has an odd number
+ * of bytes; PE_C_BLOCK_TOO_LONG where a string, a table, or a block of these has more than 65,535 bytes: of the blocks the first
  * refusal, each after those that are in it; PE_C_WRITE_FIT where it does not fit into the array. */
 uint32_t pe_c_write_version(const pe_c_version *fixed, const pe_c_version_table *tables, size_t table_count,
                             const pe_c_version_string *strings, size_t string_count,
@@ -3103,10 +3103,10 @@ uint32_t pe_c_memory_runs(const pe_c_memory_piece *pieces, size_t piece_count, p
     PE_C_RESULT(7);
 
 /* Writes to `found`, for each of the ranges that are asked for, whose offset is an address and whose length how many bytes from
- * it on at most, the range of `memory` where these bytes are: those of the first piece that has the address, up to its end. Where no piece has it the range
- * has no bytes. `written` is how many ranges are asked for; the rest of `found` is unchanged. In what pe_c_memory_runs writes a
- * range ends at the first address that the dump has no byte of, or has elsewhere: so the images of modules are found that the
- * dump's own memory has, for pe_c_image with PE_C_MAPPED. The pieces are tested once a call.
+ * it on at most, the range of `memory` where these bytes are: those of the first piece that has the address, up to its end. Where
+ * no piece has it the range has no bytes. `written` is how many ranges are asked for; the rest of `found` is unchanged. In what
+ * pe_c_memory_runs writes a range ends at the first address that the dump has no byte of, or has elsewhere: so the images of
+ * modules are found that the dump's own memory has, for pe_c_image with PE_C_MAPPED. The pieces are tested once a call.
  * Errors, which change nothing: PE_C_SHORT if a piece is not inside `memory`; PE_C_ROOM where there is room for fewer ranges
  * than are asked for. */
 uint32_t pe_c_memory_ranges(const uint8_t *memory, size_t memory_length, const pe_c_memory_piece *pieces, size_t piece_count,
