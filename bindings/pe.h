@@ -14,7 +14,8 @@
  *
  * Results. A call returns PE_C_DONE and fills `out`, or returns another number and leaves `out` unchanged, but for the
  * address in a frame, `failure` of the calls for signatures, and `written` of pe_c_index, pe_c_map, pe_c_guid_text and
- * pe_c_utf16_text. The comment of a call lists its errors in the order in which they are tested. PE_C_NOTHING means that there is nothing of the kind; it is no error.
+ * pe_c_utf16_text. The comment of a call lists its errors in the order in which they are tested. PE_C_NOTHING means that there
+ * is nothing of the kind; it is no error.
  *
  * Units. An `offset` is a number of bytes from the start of `bytes`: in a file a file offset, in an image as loaded an
  * RVA. A range that a call returns lies inside `bytes`.
