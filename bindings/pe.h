@@ -13,8 +13,9 @@
  * No call allocates, keeps state, prints, calls back, or needs initialisation. Any thread may call at any time.
  *
  * Results. A call returns PE_C_DONE and fills `out`, or returns another number and leaves `out` unchanged, but for the
- * address in a frame, `failure` of the calls for signatures, and `written` of pe_c_index and pe_c_map. The comment of a call
- * lists its errors in the order in which they are tested. PE_C_NOTHING means that there is nothing of the kind; it is no error.
+ * address in a frame, `failure` of the calls for signatures, and `written` of pe_c_index, pe_c_map, pe_c_guid_text and
+ * pe_c_utf16_text. The comment of a call lists its errors in the order in which they are tested. PE_C_NOTHING means that there
+ * is nothing of the kind; it is no error.
  *
  * Units. An `offset` is a number of bytes from the start of `bytes`: in a file a file offset, in an image as loaded an
  * RVA. A range that a call returns lies inside `bytes`.
@@ -2299,8 +2300,8 @@ uint32_t pe_c_version_length(const pe_c_version *fixed, const pe_c_version_table
  * languages and code pages that the file supports, each in its order; `texts` has the names and the texts. The array overlaps none
  * of the others; each may be NULL if its length is 0.
  * Errors: PE_C_SHORT where a range of a string is not inside the texts, or the strings of a table are not all there;
- * PE_C_BLOCK_KEY where a name has an odd number of bytes, or a code unit of zero; PE_C_BLOCK_TEXT where a text has an odd number of
- * bytes; PE_C_BLOCK_TOO_LONG where a string, a table, or a block of these has more than 65,535 bytes: of the blocks the first
+ * PE_C_BLOCK_KEY where a name has an odd number of bytes, or a code unit of zero; PE_C_BLOCK_TEXT where a text has an odd number
+ * of bytes; PE_C_BLOCK_TOO_LONG where a string, a table, or a block of these has more than 65,535 bytes: of the blocks the first
  * refusal, each after those that are in it; PE_C_WRITE_FIT where it does not fit into the array. */
 uint32_t pe_c_write_version(const pe_c_version *fixed, const pe_c_version_table *tables, size_t table_count,
                             const pe_c_version_string *strings, size_t string_count,
@@ -2400,7 +2401,7 @@ enum {
 
 /* A walk over the entries of a table. */
 typedef struct {
-    pe_c_range entries;             /* from the next entry to the end of the bytes */
+    pe_c_range entries;             /* from the next entry to the end of the bytes; of no bytes where the table starts past it */
     uint64_t count;                 /* how many entries are left */
     uint32_t flag_size;             /* bytes of flags that an entry has after its RVA; of handlers 0 */
     uint32_t spare;                 /* 0 */
@@ -2421,7 +2422,7 @@ PE_C_SIZE(pe_c_guard_entry, 24);
  * Errors: those of pe_c_load_config; PE_C_DIRECTORY_VA_BELOW_BASE, PE_C_UNMAPPED. */
 uint32_t pe_c_guard_table(const pe_c_view *view, uint32_t table, pe_c_guard_entries *out) PE_C_RESULT(1, 3);
 
-/* Returns the next entry of a table. Error: PE_C_SHORT where the bytes end before the table does. */
+/* Returns the next entry of a table. Error: PE_C_SHORT where the bytes end before the table does, or the walk is not inside them. */
 uint32_t pe_c_next_guard_entry(const uint8_t *bytes, size_t length, pe_c_guard_entries *walk, pe_c_guard_entry *out)
     PE_C_RESULT(3, 4);
 
@@ -2647,7 +2648,8 @@ uint32_t pe_c_list_exports_together(const pe_c_view *view, pe_c_exports *walk, p
                                     uint64_t *written) PE_C_RESULT(1, 2, 7);
 
 /* Lists what pe_c_list_libraries does, and reads the names together, and looks for the ends of the lists of imports together.
- * With two runs for each library that is left, or more, this takes as long as said above, however many share a text or a list.
+ * With two runs for each library that is left, or more, this takes about as long as to sort these and to read each byte a few
+ * times, at most ten, however many share a text or a list.
  * What is in `runs` after the call is left open. Errors: as pe_c_list_libraries. */
 uint32_t pe_c_list_libraries_together(const pe_c_view *view, pe_c_libraries *walk, pe_c_run *runs, size_t number_of_runs,
                                       pe_c_library *entries, size_t number_of_entries,
@@ -3092,20 +3094,22 @@ uint32_t pe_c_dump_thread_context_arm64(const uint8_t *bytes, size_t length, con
 uint32_t pe_c_is_image_of(const pe_c_image_info *image, const pe_c_dump_module *module) PE_C_RESULT(1, 2);
 
 /* Writes the memory of pieces in any order to `runs`, as pieces that ascend and do not overlap, and to `written` how many there
- * are: an address is that of the first of the pieces that has it. Two that follow one another in memory and in the file are one. In
- * such pieces pe_c_next_frame looks an address up by binary search. `entries` has to have four entries for each piece, and `runs`
- * two; what is in the entries then is left open.
+ * are: an address is that of the first of the pieces that has it. Two that follow one another in memory and in the file are one.
+ * In such pieces pe_c_next_frame looks an address up by binary search. `entries` has to have four entries for each piece, and
+ * `runs` two; what is in these entries then is left open, and so is what is in these runs after those that are written. The rest
+ * of both is unchanged.
  * Errors, which change nothing: PE_C_SHORT if a piece ends past offset 2^64 - 1; PE_C_ROOM. */
 uint32_t pe_c_memory_runs(const pe_c_memory_piece *pieces, size_t piece_count, pe_c_range_entry *entries,
                           size_t number_of_entries, pe_c_memory_piece *runs, size_t number_of_runs, uint64_t *written)
     PE_C_RESULT(7);
 
-/* Writes to `found`, for each of the ranges that are asked for, an address and how many bytes from it on at most, the range of
- * `memory` where these bytes are: those of the first piece that has the address, up to its end. Where no piece has it the range has
- * no bytes. `written` is how many. In what pe_c_memory_runs writes a range ends at the first address that the dump has no byte of, or
- * has elsewhere: so the images of modules are found that the dump's own memory has, for pe_c_image with PE_C_MAPPED. The pieces are
- * tested once a call.
- * Errors, which change nothing: PE_C_SHORT if a piece is not inside `memory`; PE_C_ROOM where there is room for fewer than are asked for. */
+/* Writes to `found`, for each of the ranges that are asked for, whose offset is an address and whose length how many bytes from
+ * it on at most, the range of `memory` where these bytes are: those of the first piece that has the address, up to its end. Where
+ * no piece has it the range has no bytes. `written` is how many ranges are asked for; the rest of `found` is unchanged. In what
+ * pe_c_memory_runs writes a range ends at the first address that the dump has no byte of, or has elsewhere: so the images of
+ * modules are found that the dump's own memory has, for pe_c_image with PE_C_MAPPED. The pieces are tested once a call.
+ * Errors, which change nothing: PE_C_SHORT if a piece is not inside `memory`; PE_C_ROOM where there is room for fewer ranges
+ * than are asked for. */
 uint32_t pe_c_memory_ranges(const uint8_t *memory, size_t memory_length, const pe_c_memory_piece *pieces, size_t piece_count,
                             const pe_c_range *asked, size_t asked_count, pe_c_range *found, size_t found_count,
                             uint64_t *written) PE_C_RESULT(9);

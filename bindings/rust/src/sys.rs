@@ -2023,7 +2023,8 @@ macro_rules! calls_of_bytes {
 extern "C" {
     /// Returns the number of the archive's ABI, which its name has too: a program does not link with an archive of another.
     pub fn pe_c_abi_4() -> u32;
-    /// Writes the text of a result to the start of the array, truncated at its end. Returns the length of the whole text.
+    /// Writes the text of a result to the start of the array, truncated to it, with a zero after it. Returns the length of the
+    /// whole text.
     pub fn pe_c_text(number: u32, room: *mut u8, length: usize) -> usize;
     /// Writes the text of a GUID, with a zero after it.
     pub fn pe_c_guid_text(
