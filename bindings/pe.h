@@ -18,7 +18,7 @@
  * is nothing of the kind; it is no error.
  *
  * Units. An `offset` is a number of bytes from the start of `bytes`: in a file a file offset, in an image as loaded an
- * RVA. A range that a call returns lies inside `bytes`.
+ * RVA. A range that a call returns lies inside `bytes`; one of length 0 may start past them.
  * RVAs, sizes and lengths are in bytes; an RVA counts from the start of the image in memory.
  *
  * Walks. A walk is a record that steps over a list: each call returns the next item and moves the walk. PE_C_NOTHING is

@@ -50,8 +50,10 @@ int main(int argc, char **argv)
 {
     uint8_t texts[1 << 12] = {'C', 0, 'o', 0, 'm', 0, 'p', 0, 'a', 0, 'n', 0, 'y', 0, 'N', 0, 'a', 0, 'm', 0, 'e', 0};
     size_t name_length = 22, length = argc == 4 ? strlen(argv[2]) : sizeof texts;
-    if (length > sizeof texts / 2 - name_length)
+    if (length > sizeof texts / 2 - name_length) {
+        fprintf(stderr, "set_company FILE NAME OUT\n");
         return 2;
+    }
     for (size_t i = 0; i < length; i++)
         texts[name_length + 2 * i] = (uint8_t)argv[2][i];
     pe_c_view view = PE_C_EMPTY;
@@ -63,8 +65,11 @@ int main(int argc, char **argv)
     }
     if (result == PE_C_DONE)
         result = with_version(&view, data, view.length + (size_t)version_length, written, sizeof written, &end);
-    if (result != PE_C_DONE)
-        return status_of(result);
+    if (result != PE_C_DONE) {
+        status_of(result);
+        fprintf(stderr, "%s is not changed\n", argv[1]);
+        return 1;
+    }
     FILE *out = fopen(argv[3], "wbx");
     int is_whole = out != NULL && fwrite(written, 1, (size_t)end, out) == end;
     if (out == NULL || fclose(out) != 0 || !is_whole) {

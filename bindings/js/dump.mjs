@@ -97,7 +97,12 @@ export class Dump extends File {
 
   /** The registers of a thread: those of the exception, if it names the thread and they can be read, else its own. */
   contextOf(thread) {
-    const raised = this.exception() ?? {};
+    let raised = {};
+    try {
+      raised = this.exception() ?? {};
+    } catch {
+      // A stream that is damaged names no thread.
+    }
     return this.call(this.#isArm64() ? 'pe_c_dump_thread_context_arm64' : 'pe_c_dump_thread_context', { thread, raised });
   }
 }

@@ -483,13 +483,28 @@ fn read_by_lies(bytes: &[u8], random: &mut Random, seen: &mut Seen) {
         assert!(written == 0 || written == needed && written <= size as u64);
         (needed, written) = (0, 0);
         let small = sys::Range { offset: 0, length: u64::from(few % 5) };
-        let strings = [sys::VersionString { name: small, text: small }, sys::VersionString { name: range, text: small }];
-        let tables = [sys::VersionTable { count: few % 3, ..Default::default() }, sys::VersionTable { first: few, count: 1, ..Default::default() }];
+        let strings =
+            [sys::VersionString { name: small, text: small }, sys::VersionString { name: range, text: small }];
+        let tables = [
+            sys::VersionTable { count: few % 3, ..Default::default() },
+            sys::VersionTable { first: few, count: 1, ..Default::default() },
+        ];
         let (fixed, pairs) = (sys::Version::default(), [sys::VersionLanguage::default(); 2]);
         let (tables, strings, pairs, few) = (tables.as_ptr(), strings.as_ptr(), pairs.as_ptr(), count);
         sys::pe_c_version_length(&fixed, tables, few, strings, few, pairs, few, start, length, &mut needed);
         sys::pe_c_write_version(
-            &fixed, tables, few, strings, few, pairs, few, start, length, first, size, &mut written,
+            &fixed,
+            tables,
+            few,
+            strings,
+            few,
+            pairs,
+            few,
+            start,
+            length,
+            first,
+            size,
+            &mut written,
         );
         assert!(written == 0 || written == needed && written <= size as u64);
     }

@@ -174,8 +174,8 @@ impl<'a> Symbols<'a> {
     ///
     /// # Errors
     ///
-    /// [`Error::MEMORY`] where 96 bytes for each entry that is left cannot be allocated. The error of a name is its own:
-    /// that of [`Symbol::name`].
+    /// [`Error::MEMORY`] where 96 bytes for each entry that is left, or the result, cannot be allocated. The error of a name is
+    /// its own: that of [`Symbol::name`].
     pub fn named(self) -> Result<Vec<NamedSymbol<'a>>, Error> {
         let Tables { bytes, strings, .. } = self.tables;
         let symbols = *self.walk.left();

@@ -128,8 +128,9 @@ fn language_of(number: u32) -> sys::VersionLanguage {
 /// The numbers of a value of 52 bytes.
 fn fixed_of(value: &[u8]) -> Option<sys::Version> {
     let numbers: Vec<u32> = numbers_of(value).collect();
-    let Ok([signature, struct_version, file_version_ms, file_version_ls, product_version_ms, product_version_ls, file_flags_mask, file_flags, file_os, file_type, file_subtype, file_date_ms, file_date_ls]) =
-        <[u32; SIZE_OF_FIXED / 4]>::try_from(numbers)
+    let Ok(
+        [signature, struct_version, file_version_ms, file_version_ls, product_version_ms, product_version_ls, file_flags_mask, file_flags, file_os, file_type, file_subtype, file_date_ms, file_date_ls],
+    ) = <[u32; SIZE_OF_FIXED / 4]>::try_from(numbers)
     else {
         return None;
     };

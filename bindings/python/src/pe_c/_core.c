@@ -934,46 +934,25 @@ static PyObject *edited(Image *self, PyObject *arguments)
     if (!PyArg_ParseTuple(arguments, "SS", &records, &data))
         return NULL;
     OPEN
-#define EDIT VIEW, (const pe_c_resource *)PyBytes_AsString(records), \
-             (size_t)PyBytes_Size(records) / sizeof(pe_c_resource), (const uint8_t *)PyBytes_AsString(data), (size_t)PyBytes_Size(data)
+#define RECORDS(of, type) (const type *)PyBytes_AsString(of), (size_t)PyBytes_Size(of) / sizeof(type)
+#define EDIT VIEW, RECORDS(records, pe_c_resource), RECORDS(data, uint8_t)
     rows.result = pe_c_edited_length(EDIT, &size);
     WRITTEN(pe_c_edit, EDIT)
 }
 
-/* write_block(key, is_text, value, children) returns a block of version information, or None, and the number of the error. */
-static PyObject *write_block(PyObject *Py_UNUSED(module), PyObject *arguments)
-{
-    const char *key, *value, *children;
-    Py_ssize_t lengths[3];
-    unsigned int is_text;
-    uint64_t size = 0;
-    if (!PyArg_ParseTuple(arguments, "y#Iy#y#", &key, &lengths[0], &is_text, &value, &lengths[1], &children, &lengths[2]))
-        return NULL;
-#define BLOCK (const uint8_t *)key, (size_t)lengths[0], is_text, (const uint8_t *)value, (size_t)lengths[1], \
-              (const uint8_t *)children, (size_t)lengths[2]
-    uint32_t result = pe_c_block_length(BLOCK, &size);
-    PyObject *block = result == PE_C_DONE ? PyBytes_FromStringAndSize(NULL, (Py_ssize_t)size) : Py_NewRef(Py_None);
-    if (block && result == PE_C_DONE)
-        result = pe_c_write_block(BLOCK, (uint8_t *)PyBytes_AsString(block), (size_t)size, &size);
-    return block ? Py_BuildValue("(Nk)", block, (unsigned long)result) : NULL;
-}
-
 /* write_version(fixed, tables, strings, translations, texts) returns version information, or None, and the number of the error.
- * All but the texts are records of pe.h. */
+ * All but the texts are records of pe.h, each in bytes, which stand at a multiple of eight. */
 static PyObject *write_version(PyObject *Py_UNUSED(module), PyObject *arguments)
 {
-    const char *fixed, *tables, *strings, *translations, *texts;
-    Py_ssize_t lengths[5];
-    uint64_t size = 0;
-    if (!PyArg_ParseTuple(arguments, "y#y#y#y#y#", &fixed, &lengths[0], &tables, &lengths[1], &strings, &lengths[2], &translations,
-                          &lengths[3], &texts, &lengths[4]))
-        return NULL;
+    PyObject *fixed, *tables, *strings, *translations, *texts;
     pe_c_version numbers = PE_C_EMPTY;
-    memcpy(&numbers, fixed, (size_t)lengths[0] < sizeof numbers ? (size_t)lengths[0] : sizeof numbers);
-#define VERSION &numbers, (const pe_c_version_table *)tables, (size_t)lengths[1] / sizeof(pe_c_version_table), \
-                (const pe_c_version_string *)strings, (size_t)lengths[2] / sizeof(pe_c_version_string), \
-                (const pe_c_version_language *)translations, (size_t)lengths[3] / sizeof(pe_c_version_language), \
-                (const uint8_t *)texts, (size_t)lengths[4]
+    uint64_t size = 0;
+    if (!PyArg_ParseTuple(arguments, "SSSSS", &fixed, &tables, &strings, &translations, &texts))
+        return NULL;
+    size_t length = (size_t)PyBytes_Size(fixed);
+    memcpy(&numbers, PyBytes_AsString(fixed), length < sizeof numbers ? length : sizeof numbers);
+#define VERSION &numbers, RECORDS(tables, pe_c_version_table), RECORDS(strings, pe_c_version_string), \
+                RECORDS(translations, pe_c_version_language), RECORDS(texts, uint8_t)
     uint32_t result = pe_c_version_length(VERSION, &size);
     PyObject *version = result == PE_C_DONE ? PyBytes_FromStringAndSize(NULL, (Py_ssize_t)size) : Py_NewRef(Py_None);
     if (version && result == PE_C_DONE)
@@ -1203,7 +1182,7 @@ static int clear_module(PyObject *module)
     return 0;
 }
 
-static PyMethodDef functions_of_module[] = {WITH_SOME(image), WITH_SOME(write_block), WITH_SOME(write_version), WITH_ONE(text_of), {NULL, NULL, 0, NULL}};
+static PyMethodDef functions_of_module[] = {WITH_SOME(image), WITH_SOME(write_version), WITH_ONE(text_of), {NULL, NULL, 0, NULL}};
 /* From 3.12 on a slot says that interpreters with locks of their own may have the module, as all that changes is in
  * its state. 3.11, whose headers do not name it, refuses a slot that it does not know. */
 enum { MULTIPLE_INTERPRETERS = 3 };
