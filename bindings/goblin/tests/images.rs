@@ -170,6 +170,24 @@ fn longer_names_than_the_limit_are_an_error() {
     }
 }
 
+/// The first library has an import past the end, the second perhaps a name that is no text.
+#[test]
+fn the_error_of_a_library_is_before_that_of_an_import() {
+    let mut bytes = with_many_imports();
+    bytes[60..80].fill(0);
+    bytes.pwrite_with(u64::from(u32::MAX >> 1), 0x4100, scroll::LE).unwrap();
+    let opts = ParseOptions { resolve_rva: false, ..Default::default() };
+    let directory = DataDirectory { virtual_address: 20, size: 20 };
+    let mut of = |name: u32, text: &[u8]| {
+        bytes.pwrite_with(name, 40 + 12, scroll::LE).unwrap();
+        bytes[0x4090..][..text.len()].copy_from_slice(text);
+        ImportData::parse_with_opts::<u64>(&bytes, directory, &[], 0, &opts).expect_err("damage").to_string()
+    };
+    let [import, library] = [of(0x4080, b""), of(0x4090, b"\xff\0")];
+    assert_eq!(import, "Malformed entity: truncated");
+    assert_eq!(library, "Malformed entity: import name not NUL-terminated or not UTF-8");
+}
+
 /// A file whose directory of imports names one list of ordinals and slots.
 #[test]
 fn names_ordinals() {

@@ -166,11 +166,11 @@ impl<'a> ImportData<'a> {
             other => other.into(),
         })?;
         let Some(walk) = found else { return Ok(None) };
-        let (mut import_data, mut left) = (Vec::new(), Left { imports: limits.imports, names: NamesLeft::of(limits) });
-        let mut batch = raw::Batch::<_, _, LIBRARIES_TAKEN>::new(walk);
-        while let Some(library) = batch.next(|walk, room| view.list_libraries(walk, room)).transpose()? {
-            let entry = SyntheticImportDirectoryEntry::of::<T>(view, &library, &mut left)?;
-            raw::push(&mut import_data, entry)?;
+        let mut left = Left { imports: limits.imports, names: NamesLeft::of(limits) };
+        let libraries = libraries_of::<T>(view, walk, &mut left)?;
+        let mut import_data = raw::list(libraries.len())?;
+        for library in &libraries {
+            import_data.push(SyntheticImportDirectoryEntry::of::<T>(view, library, &mut left)?);
         }
         Ok(Some(ImportData { import_data }))
     }
@@ -200,10 +200,25 @@ fn too_many() -> error::Error {
     error::Error::Malformed("image has more imports than the limit".to_owned())
 }
 
-impl<'a> SyntheticImportDirectoryEntry<'a> {
-    /// Of a library, whose imports, slots and names are taken from how many are left.
-    fn of<T: Bitfield<'a>>(view: View<'a, '_>, library: &sys::Library, left: &mut Left) -> error::Result<Self> {
+/// All libraries, before an import of any is read: of two errors that of the directory is the first. Their names and how many imports
+/// they have are taken from how many are left.
+fn libraries_of<'a, T: Bitfield<'a>>(
+    view: View<'a, '_>,
+    walk: sys::Libraries,
+    left: &mut Left,
+) -> error::Result<Vec<sys::Library>> {
+    let (mut libraries, mut batch) = (Vec::new(), raw::Batch::<_, _, LIBRARIES_TAKEN>::new(walk));
+    while let Some(library) = batch.next(|walk, room| view.list_libraries(walk, room)).transpose()? {
         left.names.take(raw::narrow(library.name.length)?)?;
+        left.take(raw::narrow::<_, usize>(library.imports.left.length)? / T::size_of())?;
+        raw::push(&mut libraries, library)?;
+    }
+    Ok(libraries)
+}
+
+impl<'a> SyntheticImportDirectoryEntry<'a> {
+    /// Of a library, whose slots and names of imports are taken from how many are left.
+    fn of<T: Bitfield<'a>>(view: View<'a, '_>, library: &sys::Library, left: &mut Left) -> error::Result<Self> {
         let lookups = lookups_of::<T>(view, library, left)?;
         let import_address_table = match view.offset(library.address_table_rva) {
             Some(at) => raw::address_table::<T>(view.bytes, at, left.imports)?.ok_or_else(too_many)?,
@@ -232,9 +247,7 @@ fn lookups_of<'a, T: Bitfield<'a>>(
 ) -> error::Result<ImportLookupTable<'a>> {
     let list = library.imports.left;
     let (start, size): (usize, usize) = (raw::narrow(list.offset)?, raw::narrow(list.length)?);
-    let count = size / T::size_of();
-    left.take(count)?;
-    let mut lookups = raw::list(count)?;
+    let mut lookups = raw::list(size / T::size_of())?;
     let (mut walk, mut room) = (library.imports, [sys::Import::default(); TAKEN]);
     loop {
         let written = view.list_imports(&mut walk, &mut room)?;
