@@ -168,6 +168,53 @@ impl<W: core::fmt::Debug, T, const ROOM: usize> core::fmt::Debug for Batch<W, T,
     }
 }
 
+/// How many libraries, or imports of one, are taken a call where their names are read together.
+const MOST_TOGETHER: usize = 1 << 16;
+
+/// How many names that are skipped count as the image.
+const SKIPPED: usize = 64;
+
+/// Room for a list of names. A call takes few, and reads each name by itself; once these have cost as much as the image has bytes a
+/// call takes many, and reads their names together, however many of them share a text.
+pub(crate) struct Names<T, const FEW: usize> {
+    few: [T; FEW],
+    many: Vec<T>,
+    runs: Vec<sys::Run>,
+    /// How many bytes names may still cost, each by itself.
+    left: usize,
+}
+
+impl<T: Copy + Default, const FEW: usize> Names<T, FEW> {
+    pub fn of(view: View<'_, '_>) -> Self {
+        Names { few: [T::default(); FEW], many: Vec::new(), runs: Vec::new(), left: view.bytes.len() }
+    }
+
+    /// Makes a call that fills room for a few items, or for `most` with so many runs each. Returns how many it wrote.
+    fn fill(
+        &mut self,
+        most: usize,
+        runs: usize,
+        call: impl FnOnce(&mut [sys::Run], &mut [T]) -> Result<usize, Refusal>,
+        cost: impl Fn(&T) -> u64,
+    ) -> error::Result<usize> {
+        let is_together = self.left == 0 && most > 0;
+        let (many, more) = if is_together { (most, runs * most) } else { (0, 0) };
+        resize(&mut self.many, many)?;
+        resize(&mut self.runs, more)?;
+        let room = if is_together { &mut self.many[..] } else { &mut self.few[..] };
+        let written = call(&mut self.runs, room)?;
+        let cost: u64 = room.iter().take(written).map(cost).sum();
+        self.left = self.left.saturating_sub(cost as usize);
+        Ok(written)
+    }
+
+    /// The first so many items that the last call wrote.
+    fn found(&self, count: usize) -> &[T] {
+        let room = if self.many.is_empty() { &self.few[..] } else { &self.many[..] };
+        room.get(..count).unwrap_or(room)
+    }
+}
+
 /// A number in fewer bits, which a call returns in more.
 pub(crate) fn narrow<T, U: TryFrom<T>>(value: T) -> error::Result<U> {
     U::try_from(value).map_err(|_| error::Error::Malformed("number has too many bits".to_owned()))
@@ -196,6 +243,13 @@ pub(crate) fn list<T>(count: usize) -> error::Result<Vec<T>> {
     let mut items = Vec::new();
     items.try_reserve_exact(count).map_err(out_of_memory)?;
     Ok(items)
+}
+
+/// Makes a list so long.
+fn resize<T: Clone + Default>(items: &mut Vec<T>, count: usize) -> error::Result<()> {
+    items.try_reserve_exact(count.saturating_sub(items.len())).map_err(out_of_memory)?;
+    items.resize(count, T::default());
+    Ok(())
 }
 
 /// Adds an item to a list.
@@ -470,9 +524,77 @@ lists_of_an_image! {
     list_functions: pe_c_list_functions(table: &Range) over u64 => sys::Function;
     list_codes: pe_c_list_codes() over sys::Walk => sys::Code;
     list_arm64_codes: pe_c_list_arm64_codes() over sys::Arm64Walk => sys::Arm64Code;
-    list_exports: pe_c_list_exports() over sys::Exports => sys::Export;
-    list_libraries: pe_c_list_libraries() over sys::Libraries => sys::Library;
-    list_imports: pe_c_list_imports() over sys::Imports => sys::Import;
+}
+
+/// The same of two calls that write the same: the first reads each name by itself, the second names together, with room for runs.
+macro_rules! lists_of_names {
+    ($($name:ident: $alone:ident, $together:ident over $walk:ty => $item:ty;)*) => { impl View<'_, '_> { $(
+        fn $name(&self, walk: &mut $walk, runs: &mut [sys::Run], room: &mut [$item]) -> Result<usize, Refusal> {
+            let (view, items, count, mut written) = (self.lent(), room.as_mut_ptr(), room.len(), 0);
+            // SAFETY: as below; each pointer and the length after it are those of one array, and the walk is lent for the call.
+            let number = unsafe {
+                match runs.len() {
+                    0 => sys::$alone(&view, walk, items, count, &mut written),
+                    more => sys::$together(&view, walk, runs.as_mut_ptr(), more, items, count, &mut written),
+                }
+            };
+            Ok(returned(number, written)?.unwrap_or(0) as usize)
+        }
+    )* } };
+}
+
+lists_of_names! {
+    list_exports: pe_c_list_exports, pe_c_list_exports_together over sys::Exports => sys::Export;
+    list_libraries: pe_c_list_libraries, pe_c_list_libraries_together over sys::Libraries => sys::Library;
+    list_imports: pe_c_list_imports, pe_c_list_imports_together over sys::Imports => sys::Import;
+}
+
+impl View<'_, '_> {
+    /// The next exports that have names, of so many entries of the name table as there is room for: perhaps none of these. `None`
+    /// after the last entry.
+    pub fn next_exports<'r, const FEW: usize>(
+        &self,
+        walk: &mut sys::Exports,
+        names: &'r mut Names<sys::Export, FEW>,
+    ) -> error::Result<Option<&'r [sys::Export]>> {
+        let rest: usize = narrow((walk.names.length / 4).saturating_sub(walk.next))?;
+        if rest == 0 {
+            return Ok(None);
+        }
+        let taken = if names.left > 0 { rest.min(FEW) } else { rest };
+        let (mut part, skipped) = (*walk, self.bytes.len() / SKIPPED);
+        part.names.length = 4 * (part.next + taken as u64);
+        let found = names.fill(taken, 1, |runs, room| self.list_exports(&mut part, runs, room), |it| it.name.length)?;
+        walk.next = part.next;
+        let (left, more) = (&mut names.left, (taken - found) * skipped);
+        *left = left.saturating_sub(more);
+        Ok(Some(names.found(found)))
+    }
+
+    /// The next libraries; none at the end.
+    pub fn next_libraries<'r, const FEW: usize>(
+        &self,
+        walk: &mut sys::Libraries,
+        taken: usize,
+        names: &'r mut Names<sys::Library, FEW>,
+    ) -> error::Result<&'r [sys::Library]> {
+        // Nothing says how many are left: four times as many as there were.
+        let most = (4 * taken).min(MOST_TOGETHER);
+        let cost = |it: &sys::Library| it.name.length + it.imports.left.length;
+        let found = names.fill(most, 2, |runs, room| self.list_libraries(walk, runs, room), cost)?;
+        Ok(names.found(found))
+    }
+
+    /// The next imports; none at the end.
+    pub fn next_imports<'r, const FEW: usize>(
+        &self,
+        walk: &mut sys::Imports,
+        names: &'r mut Names<sys::Import, FEW>,
+    ) -> error::Result<&'r [sys::Import]> {
+        let most = narrow::<_, usize>(walk.left.length / 4)?.min(MOST_TOGETHER);
+        let found = names.fill(most, 1, |runs, room| self.list_imports(walk, runs, room), |it| it.name.length)?;
+        Ok(names.found(found))
+    }
 }
 
 /// Makes methods of calls that take an image first.
