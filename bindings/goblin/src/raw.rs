@@ -4,11 +4,14 @@
 //! these is legal, and the contract of a call says what it returns for each. So a function of goblin that takes a directory
 //! alone is the call over a record with that directory.
 //!
-//! What no call returns is read in `plain`, and nowhere else; `objects` has what an offset comes with. `tools/try_goblin --check` looks for reads elsewhere.
+//! What no call returns is read in `plain`, and nowhere else; `objects` has what an offset comes with, `names` how lists of names are
+//! taken. `tools/try_goblin --check` looks for reads elsewhere.
 
+mod names;
 mod objects;
 mod plain;
 
+pub(crate) use names::*;
 pub(crate) use objects::*;
 pub(crate) use plain::*;
 
@@ -165,53 +168,6 @@ impl<W: Copy, T: Copy + Default, const ROOM: usize> Batch<W, T, ROOM> {
 impl<W: core::fmt::Debug, T, const ROOM: usize> core::fmt::Debug for Batch<W, T, ROOM> {
     fn fmt(&self, f: &mut core::fmt::Formatter<'_>) -> core::fmt::Result {
         f.debug_struct("Batch").field("walk", &self.walk).field("taken", &(self.end - self.next)).finish()
-    }
-}
-
-/// How many libraries, or imports of one, are taken a call where their names are read together.
-const MOST_TOGETHER: usize = 1 << 16;
-
-/// How many names that are skipped count as the image.
-const SKIPPED: usize = 64;
-
-/// Room for a list of names. A call takes few, and reads each name by itself; once these have cost as much as the image has bytes a
-/// call takes many, and reads their names together, however many of them share a text.
-pub(crate) struct Names<T, const FEW: usize> {
-    few: [T; FEW],
-    many: Vec<T>,
-    runs: Vec<sys::Run>,
-    /// How many bytes names may still cost, each by itself.
-    left: usize,
-}
-
-impl<T: Copy + Default, const FEW: usize> Names<T, FEW> {
-    pub fn of(view: View<'_, '_>) -> Self {
-        Names { few: [T::default(); FEW], many: Vec::new(), runs: Vec::new(), left: view.bytes.len() }
-    }
-
-    /// Makes a call that fills room for a few items, or for `most` with so many runs each. Returns how many it wrote.
-    fn fill(
-        &mut self,
-        most: usize,
-        runs: usize,
-        call: impl FnOnce(&mut [sys::Run], &mut [T]) -> Result<usize, Refusal>,
-        cost: impl Fn(&T) -> u64,
-    ) -> error::Result<usize> {
-        let is_together = self.left == 0 && most > 0;
-        let (many, more) = if is_together { (most, runs * most) } else { (0, 0) };
-        resize(&mut self.many, many)?;
-        resize(&mut self.runs, more)?;
-        let room = if is_together { &mut self.many[..] } else { &mut self.few[..] };
-        let written = call(&mut self.runs, room)?;
-        let cost: u64 = room.iter().take(written).map(cost).sum();
-        self.left = self.left.saturating_sub(cost as usize);
-        Ok(written)
-    }
-
-    /// The first so many items that the last call wrote.
-    fn found(&self, count: usize) -> &[T] {
-        let room = if self.many.is_empty() { &self.few[..] } else { &self.many[..] };
-        room.get(..count).unwrap_or(room)
     }
 }
 
@@ -547,54 +503,6 @@ lists_of_names! {
     list_exports: pe_c_list_exports, pe_c_list_exports_together over sys::Exports => sys::Export;
     list_libraries: pe_c_list_libraries, pe_c_list_libraries_together over sys::Libraries => sys::Library;
     list_imports: pe_c_list_imports, pe_c_list_imports_together over sys::Imports => sys::Import;
-}
-
-impl View<'_, '_> {
-    /// The next exports that have names, of so many entries of the name table as there is room for: perhaps none of these. `None`
-    /// after the last entry.
-    pub fn next_exports<'r, const FEW: usize>(
-        &self,
-        walk: &mut sys::Exports,
-        names: &'r mut Names<sys::Export, FEW>,
-    ) -> error::Result<Option<&'r [sys::Export]>> {
-        let rest: usize = narrow((walk.names.length / 4).saturating_sub(walk.next))?;
-        if rest == 0 {
-            return Ok(None);
-        }
-        let taken = if names.left > 0 { rest.min(FEW) } else { rest };
-        let (mut part, skipped) = (*walk, self.bytes.len() / SKIPPED);
-        part.names.length = 4 * (part.next + taken as u64);
-        let found = names.fill(taken, 1, |runs, room| self.list_exports(&mut part, runs, room), |it| it.name.length)?;
-        walk.next = part.next;
-        let (left, more) = (&mut names.left, (taken - found) * skipped);
-        *left = left.saturating_sub(more);
-        Ok(Some(names.found(found)))
-    }
-
-    /// The next libraries; none at the end.
-    pub fn next_libraries<'r, const FEW: usize>(
-        &self,
-        walk: &mut sys::Libraries,
-        taken: usize,
-        names: &'r mut Names<sys::Library, FEW>,
-    ) -> error::Result<&'r [sys::Library]> {
-        // Nothing says how many are left: four times as many as there were.
-        let most = (4 * taken).min(MOST_TOGETHER);
-        let cost = |it: &sys::Library| it.name.length + it.imports.left.length;
-        let found = names.fill(most, 2, |runs, room| self.list_libraries(walk, runs, room), cost)?;
-        Ok(names.found(found))
-    }
-
-    /// The next imports; none at the end.
-    pub fn next_imports<'r, const FEW: usize>(
-        &self,
-        walk: &mut sys::Imports,
-        names: &'r mut Names<sys::Import, FEW>,
-    ) -> error::Result<&'r [sys::Import]> {
-        let most = narrow::<_, usize>(walk.left.length / 4)?.min(MOST_TOGETHER);
-        let found = names.fill(most, 1, |runs, room| self.list_imports(walk, runs, room), |it| it.name.length)?;
-        Ok(names.found(found))
-    }
 }
 
 /// Makes methods of calls that take an image first.
