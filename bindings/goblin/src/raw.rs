@@ -4,11 +4,14 @@
 //! these is legal, and the contract of a call says what it returns for each. So a function of goblin that takes a directory
 //! alone is the call over a record with that directory.
 //!
-//! What no call returns is read in `plain`, and nowhere else; `objects` has what an offset comes with. `tools/try_goblin --check` looks for reads elsewhere.
+//! What no call returns is read in `plain`, and nowhere else; `objects` has what an offset comes with, `names` how lists of names are
+//! taken. `tools/try_goblin --check` looks for reads elsewhere.
 
+mod names;
 mod objects;
 mod plain;
 
+pub(crate) use names::*;
 pub(crate) use objects::*;
 pub(crate) use plain::*;
 
@@ -196,6 +199,13 @@ pub(crate) fn list<T>(count: usize) -> error::Result<Vec<T>> {
     let mut items = Vec::new();
     items.try_reserve_exact(count).map_err(out_of_memory)?;
     Ok(items)
+}
+
+/// Makes a list so long.
+fn resize<T: Clone + Default>(items: &mut Vec<T>, count: usize) -> error::Result<()> {
+    items.try_reserve_exact(count.saturating_sub(items.len())).map_err(out_of_memory)?;
+    items.resize(count, T::default());
+    Ok(())
 }
 
 /// Adds an item to a list.
@@ -470,9 +480,29 @@ lists_of_an_image! {
     list_functions: pe_c_list_functions(table: &Range) over u64 => sys::Function;
     list_codes: pe_c_list_codes() over sys::Walk => sys::Code;
     list_arm64_codes: pe_c_list_arm64_codes() over sys::Arm64Walk => sys::Arm64Code;
-    list_exports: pe_c_list_exports() over sys::Exports => sys::Export;
-    list_libraries: pe_c_list_libraries() over sys::Libraries => sys::Library;
-    list_imports: pe_c_list_imports() over sys::Imports => sys::Import;
+}
+
+/// The same of two calls that write the same: the first reads each name by itself, the second names together, with room for runs.
+macro_rules! lists_of_names {
+    ($($name:ident: $alone:ident, $together:ident over $walk:ty => $item:ty;)*) => { impl View<'_, '_> { $(
+        fn $name(&self, walk: &mut $walk, runs: &mut [sys::Run], room: &mut [$item]) -> Result<usize, Refusal> {
+            let (view, items, count, mut written) = (self.lent(), room.as_mut_ptr(), room.len(), 0);
+            // SAFETY: as below; each pointer and the length after it are those of one array, and the walk is lent for the call.
+            let number = unsafe {
+                match runs.len() {
+                    0 => sys::$alone(&view, walk, items, count, &mut written),
+                    more => sys::$together(&view, walk, runs.as_mut_ptr(), more, items, count, &mut written),
+                }
+            };
+            Ok(returned(number, written)?.unwrap_or(0) as usize)
+        }
+    )* } };
+}
+
+lists_of_names! {
+    list_exports: pe_c_list_exports, pe_c_list_exports_together over sys::Exports => sys::Export;
+    list_libraries: pe_c_list_libraries, pe_c_list_libraries_together over sys::Libraries => sys::Library;
+    list_imports: pe_c_list_imports, pe_c_list_imports_together over sys::Imports => sys::Import;
 }
 
 /// Makes methods of calls that take an image first.

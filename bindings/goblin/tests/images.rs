@@ -170,6 +170,73 @@ fn longer_names_than_the_limit_are_an_error() {
     }
 }
 
+/// The first library has an import past the end, the second perhaps a name that is no text.
+#[test]
+fn the_error_of_a_library_is_before_that_of_an_import() {
+    let mut bytes = with_many_imports();
+    bytes[60..80].fill(0);
+    bytes.pwrite_with(u64::from(u32::MAX >> 1), 0x4100, scroll::LE).unwrap();
+    let opts = ParseOptions { resolve_rva: false, ..Default::default() };
+    let directory = DataDirectory { virtual_address: 20, size: 20 };
+    let mut of = |name: u32, text: &[u8]| {
+        bytes.pwrite_with(name, 40 + 12, scroll::LE).unwrap();
+        bytes[0x4090..][..text.len()].copy_from_slice(text);
+        ImportData::parse_with_opts::<u64>(&bytes, directory, &[], 0, &opts).expect_err("damage").to_string()
+    };
+    let [import, library] = [of(0x4080, b""), of(0x4090, b"\xff\0")];
+    assert_eq!(import, "Malformed entity: truncated");
+    assert_eq!(library, "Malformed entity: import name not NUL-terminated or not UTF-8");
+}
+
+/// Names that are longer in sum than the image are those of names read one by one.
+#[test]
+fn exports_inside_one_text_have_their_names() {
+    let (count, length) = (300, 1000);
+    let mut image = with_one_text(count, length);
+    let (addresses, text) = (IMAGE.len() + 40, IMAGE.len() + 40 + 10 * count);
+    for index in 0..count {
+        image.pwrite_with(index as u32 + 1, addresses + 4 * index, scroll::LE).unwrap();
+    }
+    let opts = ParseOptions { resolve_rva: false, ..Default::default() };
+    let all: Vec<_> = (0..count).map(|index| ("a".repeat(length - index), index + 1)).collect();
+    let found = |image: &[u8]| {
+        let exports = PE::parse_with_opts(image, &opts).unwrap().exports;
+        exports.iter().map(|it| (it.name.unwrap().to_owned(), it.rva)).collect::<Vec<_>>()
+    };
+    assert_eq!(found(&image), all);
+    // Those that reach a byte that is no text are skipped, whether few or many of them are read a call.
+    for last in [5, 100, 250] {
+        image[text + last] = 0xff;
+        assert_eq!(found(&image), all[last + 1..]);
+    }
+}
+
+/// Libraries whose names start inside one text, the first with imports that do.
+#[test]
+fn imports_inside_one_text_have_their_names() {
+    let (libraries, count, length) = (200, 400, 1000);
+    let (list, text) = (20 + 20 * (libraries + 1), 20 + 20 * (libraries + 1) + 8 * (count + 1));
+    let mut bytes = vec![0; text + 2 + length + 1];
+    for index in 0..libraries {
+        let lookups = if index == 0 { list } else { list + 8 * count };
+        for (field, number) in [(0, lookups), (12, text + 2 + index), (16, list + 8 * count)] {
+            bytes.pwrite_with(number as u32, 20 + 20 * index + field, scroll::LE).unwrap();
+        }
+    }
+    for index in 0..count {
+        bytes.pwrite_with((text + index) as u64, list + 8 * index, scroll::LE).unwrap();
+    }
+    bytes[text + 2..text + 2 + length].fill(b'a');
+    let opts = ParseOptions { resolve_rva: false, ..Default::default() };
+    let directory = DataDirectory { virtual_address: 20, size: 20 };
+    let data = ImportData::parse_with_opts::<u64>(&bytes, directory, &[], 0, &opts).unwrap();
+    let names: Vec<_> = data.import_data.iter().map(|it| it.name.len()).collect();
+    assert_eq!(names, (0..libraries).map(|index| length - index).collect::<Vec<_>>());
+    let imports = Import::parse::<u64>(&bytes, &data, &[]).unwrap();
+    let names: Vec<_> = imports.iter().map(|it| (it.name.len(), it.dll.len(), it.rva)).collect();
+    assert_eq!(names, (0..count).map(|index| (length - index, length, text + index)).collect::<Vec<_>>());
+}
+
 /// A file whose directory of imports names one list of ordinals and slots.
 #[test]
 fn names_ordinals() {

@@ -42,7 +42,7 @@ pub struct ExportDirectoryTable {
 pub const SIZEOF_EXPORT_DIRECTORY_TABLE: usize = 40;
 /// Bytes of an RVA in the table of RVAs.
 pub const SIZEOF_EXPORT_ADDRESS_TABLE_ENTRY: usize = 4;
-/// How many exports are taken a call, each of which reads its name to the end.
+/// How many exports are taken a call that reads the name of each by itself.
 const TAKEN: usize = 16;
 
 impl ExportDirectoryTable {
@@ -248,26 +248,23 @@ impl<'a> Export<'a> {
         names: &mut NamesLeft,
     ) -> error::Result<Vec<Self>> {
         let mut exports = raw::list(data.export_name_pointer_table.len())?;
-        let mut room = [sys::Export::default(); TAKEN];
-        loop {
-            let written = view.list_exports(&mut tables.walk, &mut room)?;
-            if written == 0 {
-                return Ok(exports);
-            }
-            for found in room.iter().take(written) {
-                names.take(raw::narrow(found.name.length)?)?;
-                let reexport = match data.export_address_table.get(found.index as usize) {
+        let mut room = raw::Names::<_, TAKEN>::of(view);
+        while let Some(found) = view.next_exports(&mut tables.walk, &mut room)? {
+            for it in found {
+                names.take(raw::narrow(it.name.length)?)?;
+                let reexport = match data.export_address_table.get(it.index as usize) {
                     None | Some(ExportAddressTableEntry::ExportRVA(_)) => None,
-                    Some(_) => match Reexport::of_entry(view, &tables.addresses, found.index, names)? {
+                    Some(_) => match Reexport::of_entry(view, &tables.addresses, it.index, names)? {
                         Some(reexport) => Some(reexport),
                         None => continue,
                     },
                 };
-                let offset = if found.has_offset != 0 { Some(raw::narrow(found.offset)?) } else { None };
-                let name = Some(view.text(found.name)?);
-                raw::push(&mut exports, Export { name, offset, rva: found.rva as usize, size: 0, reexport })?;
+                let offset = if it.has_offset != 0 { Some(raw::narrow(it.offset)?) } else { None };
+                let name = Some(view.text(it.name)?);
+                raw::push(&mut exports, Export { name, offset, rva: it.rva as usize, size: 0, reexport })?;
             }
         }
+        Ok(exports)
     }
 
     /// The exports of tables in a file.

@@ -16,9 +16,10 @@ pub const IMPORT_BY_ORDINAL_64: u64 = 0x8000_0000_0000_0000;
 pub const IMPORT_RVA_MASK_32: u32 = 0x7fff_ffff;
 pub const IMPORT_RVA_MASK_64: u64 = 0x0000_0000_7fff_ffff;
 pub const SIZEOF_IMPORT_DIRECTORY_ENTRY: usize = 20;
-/// How many libraries are taken a call, and how many imports of one. Each call reads their names and lists to the end.
+/// How many libraries are taken a call, and how many imports of one, where a call reads their names and lists each by itself.
 const LIBRARIES_TAKEN: usize = 8;
 const TAKEN: usize = 16;
+type Room = raw::Names<sys::Import, TAKEN>;
 
 /// An entry of a list of imports, of 32 or 64 bits: an ordinal where its highest bit is set, else the RVA of a hint and a name.
 pub trait Bitfield<'a>:
@@ -166,11 +167,11 @@ impl<'a> ImportData<'a> {
             other => other.into(),
         })?;
         let Some(walk) = found else { return Ok(None) };
-        let (mut import_data, mut left) = (Vec::new(), Left { imports: limits.imports, names: NamesLeft::of(limits) });
-        let mut batch = raw::Batch::<_, _, LIBRARIES_TAKEN>::new(walk);
-        while let Some(library) = batch.next(|walk, room| view.list_libraries(walk, room)).transpose()? {
-            let entry = SyntheticImportDirectoryEntry::of::<T>(view, &library, &mut left)?;
-            raw::push(&mut import_data, entry)?;
+        let mut left = Left { imports: limits.imports, names: NamesLeft::of(limits) };
+        let libraries = libraries_of::<T>(view, walk, &mut left)?;
+        let (mut import_data, mut room) = (raw::list(libraries.len())?, Room::of(view));
+        for library in &libraries {
+            import_data.push(SyntheticImportDirectoryEntry::of::<T>(view, library, &mut left, &mut room)?);
         }
         Ok(Some(ImportData { import_data }))
     }
@@ -200,11 +201,36 @@ fn too_many() -> error::Error {
     error::Error::Malformed("image has more imports than the limit".to_owned())
 }
 
+/// All libraries, before an import of any is read: of two errors that of the directory is the first. Their names and how many imports
+/// they have are taken from how many are left.
+fn libraries_of<'a, T: Bitfield<'a>>(
+    view: View<'a, '_>,
+    mut walk: sys::Libraries,
+    left: &mut Left,
+) -> error::Result<Vec<sys::Library>> {
+    let (mut libraries, mut room) = (Vec::new(), raw::Names::<_, LIBRARIES_TAKEN>::of(view));
+    loop {
+        let found = view.next_libraries(&mut walk, libraries.len(), &mut room)?;
+        if found.is_empty() {
+            return Ok(libraries);
+        }
+        for library in found {
+            left.names.take(raw::narrow(library.name.length)?)?;
+            left.take(raw::narrow::<_, usize>(library.imports.left.length)? / T::size_of())?;
+            raw::push(&mut libraries, *library)?;
+        }
+    }
+}
+
 impl<'a> SyntheticImportDirectoryEntry<'a> {
-    /// Of a library, whose imports, slots and names are taken from how many are left.
-    fn of<T: Bitfield<'a>>(view: View<'a, '_>, library: &sys::Library, left: &mut Left) -> error::Result<Self> {
-        left.names.take(raw::narrow(library.name.length)?)?;
-        let lookups = lookups_of::<T>(view, library, left)?;
+    /// Of a library, whose slots and names of imports are taken from how many are left.
+    fn of<T: Bitfield<'a>>(
+        view: View<'a, '_>,
+        library: &sys::Library,
+        left: &mut Left,
+        room: &mut Room,
+    ) -> error::Result<Self> {
+        let lookups = lookups_of::<T>(view, library, left, room)?;
         let import_address_table = match view.offset(library.address_table_rva) {
             Some(at) => raw::address_table::<T>(view.bytes, at, left.imports)?.ok_or_else(too_many)?,
             None => Vec::new(),
@@ -229,19 +255,18 @@ fn lookups_of<'a, T: Bitfield<'a>>(
     view: View<'a, '_>,
     library: &sys::Library,
     left: &mut Left,
+    room: &mut Room,
 ) -> error::Result<ImportLookupTable<'a>> {
     let list = library.imports.left;
     let (start, size): (usize, usize) = (raw::narrow(list.offset)?, raw::narrow(list.length)?);
-    let count = size / T::size_of();
-    left.take(count)?;
-    let mut lookups = raw::list(count)?;
-    let (mut walk, mut room) = (library.imports, [sys::Import::default(); TAKEN]);
+    let mut lookups = raw::list(size / T::size_of())?;
+    let mut walk = library.imports;
     loop {
-        let written = view.list_imports(&mut walk, &mut room)?;
-        if written == 0 {
+        let found = view.next_imports(&mut walk, room)?;
+        if found.is_empty() {
             return Ok(lookups);
         }
-        for import in room.iter().take(written) {
+        for import in found {
             left.names.take(raw::narrow(import.name.length)?)?;
             let hint = import.ordinal as u16;
             let entry = match import.has_name {

@@ -95,11 +95,14 @@ impl<'a> PE<'a> {
     /// The same with other limits than the default. Error: also `Malformed` above a limit.
     pub fn parse_with_limits(bytes: &'a [u8], opts: &ParseOptions, limits: &Limits) -> error::Result<Self> {
         let (header, info) = header::Header::with_info(bytes, opts)?;
-        let raw_sections = raw::sections(bytes, &info)?;
-        let index = View::of(bytes, &info, &raw_sections).make_index()?;
-        let view = View::of(bytes, &info, &raw_sections).with_index(&index);
-        let is_permissive = opts.parse_mode.is_permissive();
+        let sections = raw::sections(bytes, &info)?;
+        let index = View::of(bytes, &info, &sections).make_index()?;
+        Self::of(View::of(bytes, &info, &sections).with_index(&index), header, opts, limits)
+    }
 
+    /// Of an image whose headers are read: the other parts in the order in which their errors are returned.
+    fn of(view: View<'a, '_>, header: header::Header<'a>, opts: &ParseOptions, limits: &Limits) -> error::Result<Self> {
+        let is_permissive = opts.parse_mode.is_permissive();
         let (export_data, exports) = exports_of(view, limits)?;
         let (import_data, imports) = match opts.parse_imports {
             true => imports_of(view, limits)?,
@@ -110,10 +113,10 @@ impl<'a> PE<'a> {
         Ok(PE {
             size: 0,
             name: export_data.as_ref().and_then(|it| it.name),
-            is_lib: characteristic::is_dll(info.characteristics),
-            is_64: info.width == 64,
-            entry: info.entry,
-            image_base: info.base,
+            is_lib: characteristic::is_dll(view.info.characteristics),
+            is_64: view.info.width == 64,
+            entry: view.info.entry,
+            image_base: view.info.base,
             // In the order in which strict mode returns their errors.
             debug_data: unless_damaged(debug::DebugData::of(view), is_permissive)?,
             tls_data: unless_damaged(tls::TlsData::of(view), is_permissive)?,
@@ -123,7 +126,7 @@ impl<'a> PE<'a> {
             clr_data: unless_damaged(clr::ClrData::of(view), is_permissive)?,
             certificates: unless_damaged(certificates_of(view, opts), is_permissive)?.unwrap_or_default(),
             resource_data: unless_damaged(resources_of(view, opts), is_permissive)?,
-            bytes,
+            bytes: view.bytes,
             header,
             sections,
             export_data,
@@ -131,7 +134,7 @@ impl<'a> PE<'a> {
             import_data,
             imports,
             libraries,
-            info,
+            info: *view.info,
         })
     }
 

@@ -1,0 +1,104 @@
+//! Lists of names of exports and imports, which a hostile file may let start in one long text: few are read each by itself, and once
+//! these have cost much the others are read together.
+
+use super::{narrow, resize, Refusal, View};
+use crate::error;
+use pe_c::sys;
+
+/// How many libraries, or imports of one, are taken a call where their names are read together.
+const MOST_TOGETHER: usize = 1 << 16;
+
+/// How many names that a call skips count as the image: nothing says how long each was.
+const SKIPPED: usize = 64;
+
+/// Room for a list of names. A call takes few, and reads each name by itself; once these have cost as much as the image has bytes a
+/// call takes many, and reads their names together, however many of them share a text.
+pub(crate) struct Names<T, const FEW: usize> {
+    few: [T; FEW],
+    many: Vec<T>,
+    runs: Vec<sys::Run>,
+    /// How many bytes names may still cost, each by itself.
+    left: usize,
+}
+
+impl<T: Copy + Default, const FEW: usize> Names<T, FEW> {
+    pub fn of(view: View<'_, '_>) -> Self {
+        Names { few: [T::default(); FEW], many: Vec::new(), runs: Vec::new(), left: view.bytes.len() }
+    }
+
+    /// Makes a call that fills room for a few items, or for `most` with so many runs each. Returns how many it wrote.
+    fn fill(
+        &mut self,
+        most: usize,
+        runs: usize,
+        call: impl FnOnce(&mut [sys::Run], &mut [T]) -> Result<usize, Refusal>,
+        cost: impl Fn(&T) -> u64,
+    ) -> error::Result<usize> {
+        let is_together = self.left == 0 && most > 0;
+        let (many, more) = if is_together { (most, runs * most) } else { (0, 0) };
+        resize(&mut self.many, many)?;
+        resize(&mut self.runs, more)?;
+        let room = if is_together { &mut self.many[..] } else { &mut self.few[..] };
+        let written = call(&mut self.runs, room)?;
+        let cost: u64 = room.iter().take(written).map(cost).sum();
+        self.spend(cost as usize);
+        Ok(written)
+    }
+
+    fn spend(&mut self, cost: usize) {
+        self.left = self.left.saturating_sub(cost);
+    }
+
+    /// The first so many items that the last call wrote.
+    fn found(&self, count: usize) -> &[T] {
+        let room = if self.many.is_empty() { &self.few[..] } else { &self.many[..] };
+        room.get(..count).unwrap_or(room)
+    }
+}
+
+impl View<'_, '_> {
+    /// The next exports that have names, of so many entries of the name table as there is room for: perhaps none of these. `None`
+    /// after the last entry.
+    pub fn next_exports<'r, const FEW: usize>(
+        &self,
+        walk: &mut sys::Exports,
+        names: &'r mut Names<sys::Export, FEW>,
+    ) -> error::Result<Option<&'r [sys::Export]>> {
+        let rest: usize = narrow((walk.names.length / 4).saturating_sub(walk.next))?;
+        if rest == 0 {
+            return Ok(None);
+        }
+        let taken = if names.left > 0 { rest.min(FEW) } else { rest };
+        let mut part = *walk;
+        part.names.length = 4 * (part.next + taken as u64);
+        let found = names.fill(taken, 1, |runs, room| self.list_exports(&mut part, runs, room), |it| it.name.length)?;
+        walk.next = part.next;
+        names.spend(taken.saturating_sub(found).saturating_mul(self.bytes.len() / SKIPPED));
+        Ok(Some(names.found(found)))
+    }
+
+    /// The next libraries; none at the end.
+    pub fn next_libraries<'r, const FEW: usize>(
+        &self,
+        walk: &mut sys::Libraries,
+        taken: usize,
+        names: &'r mut Names<sys::Library, FEW>,
+    ) -> error::Result<&'r [sys::Library]> {
+        // Nothing says how many are left: four times as many as there were.
+        let most = (4 * taken).min(MOST_TOGETHER);
+        let cost = |it: &sys::Library| it.name.length + it.imports.left.length;
+        let found = names.fill(most, 2, |runs, room| self.list_libraries(walk, runs, room), cost)?;
+        Ok(names.found(found))
+    }
+
+    /// The next imports; none at the end.
+    pub fn next_imports<'r, const FEW: usize>(
+        &self,
+        walk: &mut sys::Imports,
+        names: &'r mut Names<sys::Import, FEW>,
+    ) -> error::Result<&'r [sys::Import]> {
+        let most = narrow::<_, usize>(walk.left.length / 4)?.min(MOST_TOGETHER);
+        let found = names.fill(most, 1, |runs, room| self.list_imports(walk, runs, room), |it| it.name.length)?;
+        Ok(names.found(found))
+    }
+}
