@@ -518,6 +518,7 @@ fn read_by_lies(bytes: &[u8], random: &mut Random, seen: &mut Seen) {
         }
     }
     call_of_image!(pe_c_load_config(), LoadConfig);
+    call_of_image!(pe_c_load_config_field(few % 38), u64);
     let (mut text, mut written) = ([0; 64], 0);
     // SAFETY: as above; the room is an array of its own.
     unsafe {

@@ -216,7 +216,9 @@ fn later_fields(config: &Structure) -> [Option<u64>; 25]
         config.return_flow_guard.failure_routine_function_pointer,
         u32_as_u64(config.metadata.dynamic_value_reloc_table_offset),
         u16_as_u64(config.metadata.dynamic_value_reloc_table_section),
-        config.return_flow_guard.verify_stack_pointer_function_pointer,
+        config
+            .return_flow_guard
+            .verify_stack_pointer_function_pointer,
         u32_as_u64(config.metadata.hot_patch_table_offset),
         config.metadata.enclave_configuration_pointer,
         config.metadata.volatile_metadata_pointer,
