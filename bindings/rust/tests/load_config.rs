@@ -136,7 +136,8 @@ fn other_fields_are_read_by_their_names() {
     let with = |size| {
         let mut bytes = of_size(size);
         // by the offsets of `IMAGE_LOAD_CONFIG_DIRECTORY64`
-        for (offset, value) in [(12, &[1, 2, 3, 4][..]), (76, &[5, 6]), (150, &[7, 8]), (264, &[9; 8]), (312, &[10; 8])] {
+        let parts = [(12, &[1, 2, 3, 4][..]), (76, &[5, 6]), (150, &[7, 8]), (264, &[9; 8]), (312, &[10; 8])];
+        for (offset, value) in parts {
             bytes[OFFSET as usize + offset..][..value.len()].copy_from_slice(value);
         }
         bytes
