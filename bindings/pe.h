@@ -2383,6 +2383,53 @@ PE_C_SIZE(pe_c_load_config_directory, 88);
  * Errors: PE_C_UNMAPPED; PE_C_SHORT of the 4 bytes of its size. */
 uint32_t pe_c_load_config(const pe_c_view *view, pe_c_load_config_directory *out) PE_C_RESULT(1, 2);
 
+/* The fields that the record above does not have, by their numbers in the order of winnt.h. What is named a table or a pointer is a
+ * virtual address, but for offsets; pe_c_guard_table walks tables of code. */
+enum {
+    PE_C_CONFIG_GLOBAL_FLAGS_CLEAR = 0, /* GlobalFlagsClear: flags that are cleared in the process */
+    PE_C_CONFIG_GLOBAL_FLAGS_SET = 1, /* GlobalFlagsSet: flags that are set in it */
+    PE_C_CONFIG_CRITICAL_SECTION_DEFAULT_TIMEOUT = 2, /* CriticalSectionDefaultTimeout: in milliseconds */
+    PE_C_CONFIG_DE_COMMIT_FREE_BLOCK_THRESHOLD = 3, /* DeCommitFreeBlockThreshold: of a free block, in bytes */
+    PE_C_CONFIG_DE_COMMIT_TOTAL_FREE_THRESHOLD = 4, /* DeCommitTotalFreeThreshold: of the heap, in bytes */
+    PE_C_CONFIG_LOCK_PREFIX_TABLE = 5, /* LockPrefixTable: x86: where the addresses of lock prefixes are */
+    PE_C_CONFIG_MAXIMUM_ALLOCATION_SIZE = 6, /* MaximumAllocationSize: of the largest allocation, in bytes */
+    PE_C_CONFIG_VIRTUAL_MEMORY_THRESHOLD = 7, /* VirtualMemoryThreshold: in bytes */
+    PE_C_CONFIG_PROCESS_AFFINITY_MASK = 8, /* ProcessAffinityMask: the processors that the process runs on */
+    PE_C_CONFIG_PROCESS_HEAP_FLAGS = 9, /* ProcessHeapFlags: flags of HeapCreate */
+    PE_C_CONFIG_CSD_VERSION = 10, /* CSDVersion: the version of the service pack */
+    PE_C_CONFIG_EDIT_LIST = 11, /* EditList: reserved */
+    PE_C_CONFIG_CODE_INTEGRITY_FLAGS = 12, /* CodeIntegrity.Flags */
+    PE_C_CONFIG_CODE_INTEGRITY_CATALOG = 13, /* CodeIntegrity.Catalog: 0xFFFF for none */
+    PE_C_CONFIG_CODE_INTEGRITY_CATALOG_OFFSET = 14, /* CodeIntegrity.CatalogOffset */
+    PE_C_CONFIG_CODE_INTEGRITY_RESERVED = 15, /* CodeIntegrity.Reserved */
+    PE_C_CONFIG_GUARD_ADDRESS_TAKEN_IAT_ENTRY_TABLE = 16, /* GuardAddressTakenIatEntryTable */
+    PE_C_CONFIG_GUARD_ADDRESS_TAKEN_IAT_ENTRY_COUNT = 17, /* GuardAddressTakenIatEntryCount */
+    PE_C_CONFIG_GUARD_LONG_JUMP_TARGET_TABLE = 18, /* GuardLongJumpTargetTable */
+    PE_C_CONFIG_GUARD_LONG_JUMP_TARGET_COUNT = 19, /* GuardLongJumpTargetCount */
+    PE_C_CONFIG_DYNAMIC_VALUE_RELOC_TABLE = 20, /* DynamicValueRelocTable: where the dynamic value relocations are */
+    PE_C_CONFIG_CHPE_METADATA_POINTER = 21, /* CHPEMetadataPointer: where the metadata of x86 or x64 code on ARM64 is */
+    PE_C_CONFIG_GUARD_RF_FAILURE_ROUTINE = 22, /* GuardRFFailureRoutine */
+    PE_C_CONFIG_GUARD_RF_FAILURE_ROUTINE_FUNCTION_POINTER = 23, /* GuardRFFailureRoutineFunctionPointer */
+    PE_C_CONFIG_DYNAMIC_VALUE_RELOC_TABLE_OFFSET = 24, /* DynamicValueRelocTableOffset: their offset in a section */
+    PE_C_CONFIG_DYNAMIC_VALUE_RELOC_TABLE_SECTION = 25, /* DynamicValueRelocTableSection: its number, from 1 on */
+    PE_C_CONFIG_GUARD_RF_VERIFY_STACK_POINTER_FUNCTION_POINTER = 26, /* GuardRFVerifyStackPointerFunctionPointer */
+    PE_C_CONFIG_HOT_PATCH_TABLE_OFFSET = 27, /* HotPatchTableOffset: an RVA */
+    PE_C_CONFIG_ENCLAVE_CONFIGURATION_POINTER = 28, /* EnclaveConfigurationPointer */
+    PE_C_CONFIG_VOLATILE_METADATA_POINTER = 29, /* VolatileMetadataPointer */
+    PE_C_CONFIG_GUARD_EH_CONTINUATION_TABLE = 30, /* GuardEHContinuationTable */
+    PE_C_CONFIG_GUARD_EH_CONTINUATION_COUNT = 31, /* GuardEHContinuationCount */
+    PE_C_CONFIG_GUARD_XFG_CHECK_FUNCTION_POINTER = 32, /* GuardXFGCheckFunctionPointer */
+    PE_C_CONFIG_GUARD_XFG_DISPATCH_FUNCTION_POINTER = 33, /* GuardXFGDispatchFunctionPointer */
+    PE_C_CONFIG_GUARD_XFG_TABLE_DISPATCH_FUNCTION_POINTER = 34, /* GuardXFGTableDispatchFunctionPointer */
+    PE_C_CONFIG_CAST_GUARD_OS_DETERMINED_FAILURE_MODE = 35, /* CastGuardOsDeterminedFailureMode */
+    PE_C_CONFIG_GUARD_MEMCPY_FUNCTION_POINTER = 36 /* GuardMemcpyFunctionPointer */
+};
+
+/* Returns the field with a number, PE_C_CONFIG_. PE_C_NOTHING where the image has no load configuration or this is too short for
+ * the field, and for other numbers.
+ * Errors: those of pe_c_load_config. */
+uint32_t pe_c_load_config_field(const pe_c_view *view, uint32_t field, uint64_t *out) PE_C_RESULT(1, 3);
+
 /* ---- tables of a load configuration
  *
  * Of code to which control may go: exception handlers of x86, functions that may be called indirectly, entries of the import

@@ -824,6 +824,14 @@ test('tables of guarded functions that are the same bytes', () => {
   assert.equal(lists.reduce((sum, it) => sum + said[it].length, 0), Math.floor(whole.length / 2));
 });
 
+test('fields of a load configuration by their numbers', () => {
+  const image = library.open(patched('load_config', [[0, word(320)], [12, [1, 2, 3, 4]], [150, [5, 6]], [312, wide(0x1_8000_2000)]]));
+  const field = (name) => image.call('pe_c_load_config_field', { field: constants[name] });
+  const names = ['PE_C_CONFIG_GLOBAL_FLAGS_CLEAR', 'PE_C_CONFIG_CODE_INTEGRITY_CATALOG', 'PE_C_CONFIG_GUARD_MEMCPY_FUNCTION_POINTER'];
+  assert.deepEqual(names.map(field), [0x04030201n, 0x0605n, 0x180002000n]);
+  assert.equal(image.call('pe_c_load_config_field', { field: 37 }), null);
+});
+
 test('entries of guard tables, one a step and in one call', () => {
   const rows = [0x10, 0x20, 0, 0, 1, 0x30, 0x20, 0, 0, 8], va = wide(0x1_8000_1000 + 280);
   const image = library.open(patched('load_config', [[0, word(280)], [128, [...va, ...wide(2)]], [280, rows]]));

@@ -599,6 +599,7 @@ static void directories(const struct file *file)
     pe_c_range walk = PE_C_EMPTY;
     uint64_t callback = 0;
     pe_c_load_config_directory config = PE_C_EMPTY;
+    uint64_t number = 0;
     pe_c_relocation_block block = PE_C_EMPTY;
     pe_c_relocation relocation = PE_C_EMPTY;
     pe_c_cor20_header header = PE_C_EMPTY;
@@ -607,6 +608,8 @@ static void directories(const struct file *file)
     if (IS_DONE(pe_c_tls, tls, VIEW, &tls) && IS_DONE(pe_c_tls_callbacks, walk, VIEW, &tls, &walk))
         WALK(ITEMS, pe_c_next_tls_callback, callback, VIEW, &walk, &callback) {}
     CALL(pe_c_load_config, config, VIEW, &config);
+    for (uint32_t field = 0; field <= PE_C_CONFIG_GUARD_MEMCPY_FUNCTION_POINTER + 1; field++)
+        CALL(pe_c_load_config_field, number, VIEW, field, &number);
     guard_tables(file);
     texts_of_bytes(file);
     if (IS_DONE(pe_c_relocation_blocks, walk, VIEW, &walk))

@@ -2,7 +2,7 @@
 
 use super::made::{SHORT, UNMAPPED, X64, directory, having, image, in_mode, sections, view, words};
 use crate::image::Image;
-use crate::load_config::{LoadConfig, pe_c_load_config};
+use crate::load_config::{LoadConfig, pe_c_load_config, pe_c_load_config_field};
 use crate::results::{DONE, NOTHING};
 use std::alloc::{AllocError, Global};
 use std::test::Fail;
@@ -248,6 +248,138 @@ fn truncated_load_configurations(rt: HostRuntime) -> Result<(), Fail> {
         let (answer, config) = read(&bytes[..length], &image);
         let want = up_to(fields_64(u64::from(size)), count);
         assert_eq!(rt; (answer, fields(&config), config.spare), (DONE, want, 0));
+    }
+    Ok(())
+}
+
+/// The fields with a number, in order: the offset and the size of each in `IMAGE_LOAD_CONFIG_DIRECTORY32`, then those in
+/// `IMAGE_LOAD_CONFIG_DIRECTORY64`.
+const NUMBERED: [(usize, usize, usize, usize); 37] = [
+    (12, 4, 12, 4), // GlobalFlagsClear
+    (16, 4, 16, 4), // GlobalFlagsSet
+    (20, 4, 20, 4), // CriticalSectionDefaultTimeout
+    (24, 4, 24, 8), // DeCommitFreeBlockThreshold
+    (28, 4, 32, 8), // DeCommitTotalFreeThreshold
+    (32, 4, 40, 8), // LockPrefixTable
+    (36, 4, 48, 8), // MaximumAllocationSize
+    (40, 4, 56, 8), // VirtualMemoryThreshold
+    (48, 4, 64, 8), // ProcessAffinityMask
+    (44, 4, 72, 4), // ProcessHeapFlags
+    (52, 2, 76, 2), // CSDVersion
+    (56, 4, 80, 8), // EditList
+    (92, 2, 148, 2), // CodeIntegrity.Flags
+    (94, 2, 150, 2), // CodeIntegrity.Catalog
+    (96, 4, 152, 4), // CodeIntegrity.CatalogOffset
+    (100, 4, 156, 4), // CodeIntegrity.Reserved
+    (104, 4, 160, 8), // GuardAddressTakenIatEntryTable
+    (108, 4, 168, 8), // GuardAddressTakenIatEntryCount
+    (112, 4, 176, 8), // GuardLongJumpTargetTable
+    (116, 4, 184, 8), // GuardLongJumpTargetCount
+    (120, 4, 192, 8), // DynamicValueRelocTable
+    (124, 4, 200, 8), // CHPEMetadataPointer
+    (128, 4, 208, 8), // GuardRFFailureRoutine
+    (132, 4, 216, 8), // GuardRFFailureRoutineFunctionPointer
+    (136, 4, 224, 4), // DynamicValueRelocTableOffset
+    (140, 2, 228, 2), // DynamicValueRelocTableSection
+    (144, 4, 232, 8), // GuardRFVerifyStackPointerFunctionPointer
+    (148, 4, 240, 4), // HotPatchTableOffset
+    (156, 4, 248, 8), // EnclaveConfigurationPointer
+    (160, 4, 256, 8), // VolatileMetadataPointer
+    (164, 4, 264, 8), // GuardEHContinuationTable
+    (168, 4, 272, 8), // GuardEHContinuationCount
+    (172, 4, 280, 8), // GuardXFGCheckFunctionPointer
+    (176, 4, 288, 8), // GuardXFGDispatchFunctionPointer
+    (180, 4, 296, 8), // GuardXFGTableDispatchFunctionPointer
+    (184, 4, 304, 8), // CastGuardOsDeterminedFailureMode
+    (188, 4, 312, 8), // GuardMemcpyFunctionPointer
+];
+
+/// A structure of 320 bytes that says that it has `size`. Each half of each word is another number, and none is 0.
+fn whole_structure(alloc: Global, size: u32) -> Result<Vec<u8>, AllocError> {
+    let mut numbers = [0; 80];
+    for i in 0..80 {
+        numbers[i] = 0x0203_0001 * i as u32;
+    }
+    numbers[0] = size;
+    words(alloc, &numbers)
+}
+
+/// What this has at an offset, of 2, 4 or 8 bytes.
+fn number_at(offset: usize, size: usize) -> u64 {
+    let word = 0x0203_0001 * (offset as u64 / 4);
+    match size {
+        2 => word >> (8 * (offset as u64 % 4)) & 0xFFFF,
+        4 => word,
+        _ => word + ((word + 0x0203_0001) << 32),
+    }
+}
+
+fn read_field(bytes: &[u8], image: &Image, field: u32) -> (u32, u64) {
+    let mut out = 0x1234;
+    let answer = pe_c_load_config_field(&view(bytes, image, &sections()), field, &mut out);
+    (answer, out)
+}
+
+/// A field is there where the size, or the image, reaches its end, and a byte before it is not.
+#[test]
+fn fields_by_their_numbers(rt: HostRuntime) -> Result<(), Fail> {
+    let wide = of_config(image(X64));
+    let narrow = Image { width: 32, ..wide };
+    let bytes = whole_structure(rt.alloc(), 320)?;
+    for field in 0..37 {
+        let (offset_32, size_32, offset_64, size_64) = NUMBERED[field];
+        for (image, offset, size) in [(narrow, offset_32, size_32), (wide, offset_64, size_64)] {
+            let want = number_at(offset, size);
+            let end = offset + size;
+            assert_eq!(rt; read_field(&bytes, &image, field as u32), (DONE, want));
+            assert_eq!(rt;
+                read_field(&bytes[..end], &image, field as u32),
+                (DONE, want)
+            );
+            assert_eq!(rt;
+                read_field(&bytes[..end - 1], &image, field as u32),
+                (NOTHING, 0x1234)
+            );
+            let short = whole_structure(rt.alloc(), end as u32 - 1)?;
+            assert_eq!(rt; read_field(&short, &image, field as u32), (NOTHING, 0x1234));
+        }
+    }
+    Ok(())
+}
+
+#[test]
+fn refusals_of_numbered_fields(rt: HostRuntime) -> Result<(), Fail> {
+    let bytes = whole_structure(rt.alloc(), u32::MAX)?;
+    let there = of_config(image(X64));
+    for (length, image, field, want) in [
+        (320, there, 0, (DONE, 0x0609_0003)),
+        (320, there, 36, (DONE, 0x9EED_004F_9CEA_004E)),
+        (320, there, 37, (NOTHING, 0x1234)),
+        (320, there, u32::MAX, (NOTHING, 0x1234)),
+        (
+            320,
+            having(there, 10, directory(0, 0)),
+            0,
+            (NOTHING, 0x1234),
+        ),
+        (
+            320,
+            having(there, 10, directory(0x2000, 64)),
+            0,
+            (UNMAPPED, 0x1234),
+        ),
+        (
+            320,
+            in_mode(&having(there, 10, directory(0, 64)), 2),
+            0,
+            (DONE, 0x0609_0003),
+        ),
+        (320, in_mode(&there, 1), 0, (DONE, 0x0609_0003)),
+        (4, there, 0, (NOTHING, 0x1234)),
+        (3, there, 0, (SHORT, 0x1234)),
+        (3, there, 37, (SHORT, 0x1234)),
+    ] {
+        assert_eq!(rt; read_field(&bytes[..length], &image, field), want);
     }
     Ok(())
 }

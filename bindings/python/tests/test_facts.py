@@ -180,6 +180,13 @@ def patched(name, parts):
 
 
 class Guards(unittest.TestCase):
+    def test_fields_by_their_numbers(self):
+        image = pe_c.Image(patched("load_config.bin", {
+            0: struct.pack("<I", 320), 12: b"\1\2\3\4", 150: b"\5\6", 312: struct.pack("<Q", 0x180002000)}))
+        self.assertEqual([image.load_config_field(it) for it in (0, 13, 36)], [0x04030201, 0x0605, 0x180002000])
+        self.assertEqual([image.load_config_field(it) for it in (37, 1 << 32)], [None, None])
+        self.assertIsNone(pe_c.Image(patched("load_config.bin", {})).load_config_field(36))
+
     def test_tables_of_the_same_bytes(self):
         """All five tables are the rest of the file: all entries together have twice the bytes of the file, as in `pe`."""
         places = {it: struct.pack("<QQ", 0x180001118, (1 << 64) - 1) for it in (96, 128, 160, 176, 264)}

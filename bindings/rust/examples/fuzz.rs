@@ -268,6 +268,7 @@ fn read_by_lies(bytes: &[u8], random: &mut Random, seen: &mut Seen) {
         sys::pe_c_sections(start, length, &image, room.as_mut_ptr(), room.len());
         let mut offset = 0;
         sys::pe_c_offset(&view, few, &mut offset);
+        sys::pe_c_load_config_field(&view, few % 38, &mut offset);
         let mut fields = sys::Arm64Packed::default();
         sys::pe_c_arm64_packed_fields(&sys::Arm64Function { begin: few, unwind: few.rotate_left(7) }, &mut fields);
     }

@@ -22,7 +22,7 @@
 //! | bound imports | [`bound_imports`](Image::bound_imports) | |
 //! | section names, Rich header | [`long_section_name`](Image::long_section_name), [`rich_header`](Image::rich_header) | [section table], [Rich header] |
 //! | thread-local storage | [`tls`](Image::tls), [`tls_callbacks`](Image::tls_callbacks) | [.tls] |
-//! | load configuration | [`load_config`](Image::load_config), [`guard_table`](Image::guard_table) | [load config] |
+//! | load configuration | [`load_config`](Image::load_config), [`load_config_field`](Image::load_config_field), [`guard_table`](Image::guard_table) | [load config] |
 //! | base relocations | [`relocation_blocks`](Image::relocation_blocks) | [.reloc] |
 //! | .NET | [`clr`](Image::clr) | [ECMA-335], II.24 and II.25 |
 //! | resources | [`version`](Image::version), [`version_text`](Image::version_text), [`version_blocks`](Image::version_blocks), [`manifest`](Image::manifest) | [version information] |
@@ -136,7 +136,7 @@ pub use frames::{MemoryList, Stack, StepError};
 pub use guard_tables::{GuardEntries, GuardEntry, GuardTable};
 pub use image::{DirectoryIndex, Error, Image, Layout, Mode};
 pub use imports::{Import, Imports, Libraries, Library};
-pub use load_config::LoadConfig;
+pub use load_config::{LoadConfig, LoadConfigField};
 pub use relocations::{Relocation, RelocationBlock, RelocationBlocks, Relocations};
 pub use resource_edit::{ResourceContent, ResourceEditor, ResourceKey, ResourcePlace};
 pub use resources::{ResourceLeaf, ResourceLeaves, ResourceName};

@@ -53,6 +53,86 @@ pub struct LoadConfig {
     pub guard_flags: Option<u32>,
 }
 
+/// A field that [`LoadConfig`] does not have, in the order of winnt.h. What is named a table or a pointer is a virtual address, but for
+/// offsets.
+#[derive(Clone, Copy, Debug, PartialEq, Eq, Hash)]
+pub enum LoadConfigField {
+    /// `GlobalFlagsClear`: flags that are cleared in the process.
+    GlobalFlagsClear = 0,
+    /// `GlobalFlagsSet`: flags that are set in it.
+    GlobalFlagsSet = 1,
+    /// `CriticalSectionDefaultTimeout`: in milliseconds.
+    CriticalSectionDefaultTimeout = 2,
+    /// `DeCommitFreeBlockThreshold`: of a free block, in bytes.
+    DeCommitFreeBlockThreshold = 3,
+    /// `DeCommitTotalFreeThreshold`: of the heap, in bytes.
+    DeCommitTotalFreeThreshold = 4,
+    /// `LockPrefixTable`: x86: where the addresses of lock prefixes are.
+    LockPrefixTable = 5,
+    /// `MaximumAllocationSize`: of the largest allocation, in bytes.
+    MaximumAllocationSize = 6,
+    /// `VirtualMemoryThreshold`: in bytes.
+    VirtualMemoryThreshold = 7,
+    /// `ProcessAffinityMask`: the processors that the process runs on.
+    ProcessAffinityMask = 8,
+    /// `ProcessHeapFlags`: flags of HeapCreate.
+    ProcessHeapFlags = 9,
+    /// `CSDVersion`: the version of the service pack.
+    CsdVersion = 10,
+    /// `EditList`: reserved.
+    EditList = 11,
+    /// `CodeIntegrity.Flags`.
+    CodeIntegrityFlags = 12,
+    /// `CodeIntegrity.Catalog`: 0xFFFF for none.
+    CodeIntegrityCatalog = 13,
+    /// `CodeIntegrity.CatalogOffset`.
+    CodeIntegrityCatalogOffset = 14,
+    /// `CodeIntegrity.Reserved`.
+    CodeIntegrityReserved = 15,
+    /// `GuardAddressTakenIatEntryTable`.
+    GuardAddressTakenIatEntryTable = 16,
+    /// `GuardAddressTakenIatEntryCount`.
+    GuardAddressTakenIatEntryCount = 17,
+    /// `GuardLongJumpTargetTable`.
+    GuardLongJumpTargetTable = 18,
+    /// `GuardLongJumpTargetCount`.
+    GuardLongJumpTargetCount = 19,
+    /// `DynamicValueRelocTable`: where the dynamic value relocations are.
+    DynamicValueRelocTable = 20,
+    /// `CHPEMetadataPointer`: where the metadata of x86 or x64 code on ARM64 is.
+    ChpeMetadataPointer = 21,
+    /// `GuardRFFailureRoutine`.
+    GuardRfFailureRoutine = 22,
+    /// `GuardRFFailureRoutineFunctionPointer`.
+    GuardRfFailureRoutineFunctionPointer = 23,
+    /// `DynamicValueRelocTableOffset`: their offset in a section.
+    DynamicValueRelocTableOffset = 24,
+    /// `DynamicValueRelocTableSection`: its number, from 1 on.
+    DynamicValueRelocTableSection = 25,
+    /// `GuardRFVerifyStackPointerFunctionPointer`.
+    GuardRfVerifyStackPointerFunctionPointer = 26,
+    /// `HotPatchTableOffset`: an RVA.
+    HotPatchTableOffset = 27,
+    /// `EnclaveConfigurationPointer`.
+    EnclaveConfigurationPointer = 28,
+    /// `VolatileMetadataPointer`.
+    VolatileMetadataPointer = 29,
+    /// `GuardEHContinuationTable`.
+    GuardEhContinuationTable = 30,
+    /// `GuardEHContinuationCount`.
+    GuardEhContinuationCount = 31,
+    /// `GuardXFGCheckFunctionPointer`.
+    GuardXfgCheckFunctionPointer = 32,
+    /// `GuardXFGDispatchFunctionPointer`.
+    GuardXfgDispatchFunctionPointer = 33,
+    /// `GuardXFGTableDispatchFunctionPointer`.
+    GuardXfgTableDispatchFunctionPointer = 34,
+    /// `CastGuardOsDeterminedFailureMode`.
+    CastGuardOsDeterminedFailureMode = 35,
+    /// `GuardMemcpyFunctionPointer`.
+    GuardMemcpyFunctionPointer = 36,
+}
+
 /// A field, if it is there.
 fn field<T>(is_there: u8, value: T) -> Option<T> {
     (is_there != 0).then_some(value)
@@ -92,5 +172,15 @@ impl Image<'_> {
     /// [`Error::UNMAPPED`]; [`Error::SHORT`] of the 4 bytes of the structure's size.
     pub fn load_config(&self) -> Result<Option<LoadConfig>, Error> {
         Ok(self.ask(sys::pe_c_load_config)?.map(LoadConfig::from))
+    }
+
+    /// A field of the load configuration that [`LoadConfig`] does not have. `None` where the directory is absent, and where the
+    /// structure is too short for the field, or the image.
+    ///
+    /// # Errors
+    ///
+    /// Those of [`Image::load_config`].
+    pub fn load_config_field(&self, field: LoadConfigField) -> Result<Option<u64>, Error> {
+        self.ask_with(sys::pe_c_load_config_field, field as u32)
     }
 }

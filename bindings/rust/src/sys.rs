@@ -2706,6 +2706,8 @@ calls_of_an_image! {
     pe_c_next_tls_callback(walk: *mut Range) -> u64;
     /// Returns the load configuration.
     pe_c_load_config() -> LoadConfig;
+    /// Returns another field of it, by its number in the order of [`LoadConfigField`](crate::LoadConfigField).
+    pe_c_load_config_field(field: u32) -> u64;
     /// Returns a walk over a table of the load configuration, by its number.
     pe_c_guard_table(table: u32) -> GuardEntries;
     /// Returns the blocks of the base relocations, as a walk.

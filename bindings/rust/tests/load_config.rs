@@ -5,7 +5,7 @@ mod made;
 
 use facts::as_loaded;
 use made::*;
-use pe_c::{DirectoryIndex, Error, GuardTable, Image, Layout, LoadConfig, Mode};
+use pe_c::{DirectoryIndex, Error, GuardTable, Image, Layout, LoadConfig, LoadConfigField, Mode};
 
 fn strict(bytes: &[u8]) -> Image<'_> {
     Image::parse(bytes, Mode::Strict).unwrap()
@@ -129,6 +129,33 @@ fn load_configurations_of_pe32_are_read() {
         guard_flags: Some(0x500),
     };
     assert_eq!(config, wanted);
+}
+
+#[test]
+fn other_fields_are_read_by_their_names() {
+    let with = |size| {
+        let mut bytes = of_size(size);
+        // by the offsets of `IMAGE_LOAD_CONFIG_DIRECTORY64`
+        let parts = [(12, &[1, 2, 3, 4][..]), (76, &[5, 6]), (150, &[7, 8]), (264, &[9; 8]), (312, &[10; 8])];
+        for (offset, value) in parts {
+            bytes[OFFSET as usize + offset..][..value.len()].copy_from_slice(value);
+        }
+        bytes
+    };
+    let fields = [
+        LoadConfigField::GlobalFlagsClear,
+        LoadConfigField::CsdVersion,
+        LoadConfigField::CodeIntegrityCatalog,
+        LoadConfigField::GuardEhContinuationTable,
+        LoadConfigField::GuardMemcpyFunctionPointer,
+    ];
+    let read = |bytes: &[u8]| fields.map(|it| strict(bytes).load_config_field(it));
+    let [clear, version, catalog, table] = [0x0403_0201, 0x0605, 0x0807, 0x0909_0909_0909_0909].map(|it| Ok(Some(it)));
+    assert_eq!(read(&with(320)), [clear, version, catalog, table, Ok(Some(0x0A0A_0A0A_0A0A_0A0A))]);
+    assert_eq!(read(&with(319)), [clear, version, catalog, table, Ok(None)]);
+    assert_eq!(read(&with(151)), [clear, version, Ok(None), Ok(None), Ok(None)]);
+    assert_eq!(read(&with_debug()), [Ok(None); 5]);
+    assert_eq!(read(&with(320)[..OFFSET as usize + 3]), [Err(Error::SHORT); 5]);
 }
 
 fn table(image: &Image<'_>, table: GuardTable) -> Option<Vec<(u32, Vec<u8>)>> {

@@ -1,5 +1,6 @@
 -- What a call returns of the load configuration.
-use Rattle.std.specs.Prelude.{ℕ, List, Option, Result, Ok}
+use Rattle.std.specs.Prelude.{ℕ, ◌-◌, nat_lt, List, [], ◌∷◌, slice_get, Option, None, Result, Ok, if◌then◌else◌}
+use Rattle.std.specs.Option.{option_and_then}
 use Rattle.pe_core.specs.Refusals.{◌>>=◌}
 use Rattle.pe_core.specs.declared.section_table.SectionTable.{SectionTable}
 use Rattle.pe_directories.specs.DirectoryRefusals.{DirectoryRefusal}
@@ -7,7 +8,7 @@ use Rattle.pe_directories.specs.LoadConfig.{load_config}
 use Rattle.pe_directories.specs.declared.load_config.LoadConfig as structures
 use Rattle.pe_c.specs.Directories.{if_present, image_parts}
 use Rattle.pe_c.specs.Exports.{one_if_some, or_zero}
-use Rattle.pe_c.specs.Images.{directory}
+use Rattle.pe_c.specs.Images.{directory, is_absent}
 use Rattle.pe_c.specs.declared.image.Image as images
 use Rattle.pe_c.specs.declared.load_config.LoadConfig.{LoadConfig}
 
@@ -47,3 +48,60 @@ config_reported c = record {
 abbrev pub load_config_at : List ℕ → images.Image → List SectionTable → Result (Option LoadConfig) DirectoryRefusal
 load_config_at b image sections =
     if_present (directory image 10) (load_config (image_parts b image sections) (directory image 10) >>= λ c. Ok (config_reported c))
+
+-- the fields for a process, in the order of winnt.h
+unfoldable pub process_fields : structures.LoadConfig → List (Option ℕ)
+process_fields c =
+    c.process.global_flags_clear ∷
+    c.process.global_flags_set ∷
+    c.process.critical_section_default_timeout ∷
+    c.process.de_commit_free_block_threshold ∷
+    c.process.de_commit_total_free_threshold ∷
+    c.process.lock_prefix_table ∷
+    c.process.maximum_allocation_size ∷
+    c.process.virtual_memory_threshold ∷
+    c.process.process_affinity_mask ∷
+    c.process.process_heap_flags ∷
+    c.process.csd_version ∷
+    c.process.edit_list ∷ []
+
+-- the fields that follow the guard flags, in the same order
+unfoldable pub later_fields : structures.LoadConfig → List (Option ℕ)
+later_fields c =
+    c.code_integrity.flags ∷
+    c.code_integrity.catalog ∷
+    c.code_integrity.catalog_offset ∷
+    c.code_integrity.reserved ∷
+    c.guard_tables.address_taken_iat_entry_table ∷
+    c.guard_tables.address_taken_iat_entry_count ∷
+    c.guard_tables.long_jump_target_table ∷
+    c.guard_tables.long_jump_target_count ∷
+    c.metadata.dynamic_value_reloc_table ∷
+    c.metadata.chpe_metadata_pointer ∷
+    c.return_flow_guard.failure_routine ∷
+    c.return_flow_guard.failure_routine_function_pointer ∷
+    c.metadata.dynamic_value_reloc_table_offset ∷
+    c.metadata.dynamic_value_reloc_table_section ∷
+    c.return_flow_guard.verify_stack_pointer_function_pointer ∷
+    c.metadata.hot_patch_table_offset ∷
+    c.metadata.enclave_configuration_pointer ∷
+    c.metadata.volatile_metadata_pointer ∷
+    c.guard_tables.eh_continuation_table ∷
+    c.guard_tables.eh_continuation_count ∷
+    c.guard_functions.xfg_check_function_pointer ∷
+    c.guard_functions.xfg_dispatch_function_pointer ∷
+    c.guard_functions.xfg_table_dispatch_function_pointer ∷
+    c.guard_functions.cast_guard_os_determined_failure_mode ∷
+    c.guard_functions.guard_memcpy_function_pointer ∷ []
+
+-- the field with this number, if the structure has it: those for a process first, then those that follow the guard flags
+unfoldable pub numbered_field : ℕ → structures.LoadConfig → Option ℕ
+numbered_field n c =
+    if nat_lt n 12 then option_and_then (λ field. field) (slice_get (process_fields c) n)
+    else option_and_then (λ field. field) (slice_get (later_fields c) (n - 12))
+
+-- the same of an image, if it has a load configuration
+abbrev pub numbered_field_at : ℕ → List ℕ → images.Image → List SectionTable → Result (Option ℕ) DirectoryRefusal
+numbered_field_at n b image sections =
+    if is_absent (directory image 10) then Ok None
+    else (load_config (image_parts b image sections) (directory image 10) >>= λ c. Ok (numbered_field n c))

@@ -7,7 +7,7 @@ ghost use Rattle.std.specs.Prelude.{◌≡◌};
 ghost use Rattle.pe_directories.specs.DirectoryRefusals.{directory_answer};
 ghost use Rattle.pe_c.specs.Directories.{DirectoryHandsOut};
 ghost use Rattle.pe_c.specs.Exports.{one_if_some, or_zero};
-ghost use Rattle.pe_c.specs.LoadConfigs.{config_reported, load_config_at};
+ghost use Rattle.pe_c.specs.LoadConfigs.{config_reported, later_fields, load_config_at, numbered_field, numbered_field_at, process_fields};
 
 use crate::directories::{Result, image_bytes};
 use crate::image::{LOAD_CONFIG_TABLE, directory, is_absent};
@@ -153,4 +153,122 @@ pub extern "C" fn pe_c_load_config(view: &View, out: &mut LoadConfig) -> u32
         (load_config_at view.now.bytes.now view.now.image.now view.now.sections.now) }
 {
     hand_out_found(load_config_at(view), out)
+}
+
+/// A field of 2 bytes as a number of 8.
+fn u16_as_u64(field: Option<u16>) -> Option<u64>
+    ensures { result ≡ field }
+{
+    match field {
+        Some(number) => Some(u64::from(number)),
+        None => None,
+    }
+}
+
+/// The same of 4 bytes.
+fn u32_as_u64(field: Option<u32>) -> Option<u64>
+    ensures { result ≡ field }
+{
+    match field {
+        Some(number) => Some(u64::from(number)),
+        None => None,
+    }
+}
+
+/// The fields for a process, in the order of winnt.h.
+#[tactic(auto, unfolding(crate::specs::LoadConfigs::process_fields))]
+fn process_fields(config: &Structure) -> [Option<u64>; 12]
+    ensures { result ≡ process_fields config.now }
+{
+    [
+        u32_as_u64(config.process.global_flags_clear),
+        u32_as_u64(config.process.global_flags_set),
+        u32_as_u64(config.process.critical_section_default_timeout),
+        config.process.de_commit_free_block_threshold,
+        config.process.de_commit_total_free_threshold,
+        config.process.lock_prefix_table,
+        config.process.maximum_allocation_size,
+        config.process.virtual_memory_threshold,
+        config.process.process_affinity_mask,
+        u32_as_u64(config.process.process_heap_flags),
+        u16_as_u64(config.process.csd_version),
+        config.process.edit_list,
+    ]
+}
+
+/// The fields that follow the guard flags, in the same order.
+#[tactic(auto, unfolding(crate::specs::LoadConfigs::later_fields))]
+fn later_fields(config: &Structure) -> [Option<u64>; 25]
+    ensures { result ≡ later_fields config.now }
+{
+    [
+        u16_as_u64(config.code_integrity.flags),
+        u16_as_u64(config.code_integrity.catalog),
+        u32_as_u64(config.code_integrity.catalog_offset),
+        u32_as_u64(config.code_integrity.reserved),
+        config.guard_tables.address_taken_iat_entry_table,
+        config.guard_tables.address_taken_iat_entry_count,
+        config.guard_tables.long_jump_target_table,
+        config.guard_tables.long_jump_target_count,
+        config.metadata.dynamic_value_reloc_table,
+        config.metadata.chpe_metadata_pointer,
+        config.return_flow_guard.failure_routine,
+        config.return_flow_guard.failure_routine_function_pointer,
+        u32_as_u64(config.metadata.dynamic_value_reloc_table_offset),
+        u16_as_u64(config.metadata.dynamic_value_reloc_table_section),
+        config
+            .return_flow_guard
+            .verify_stack_pointer_function_pointer,
+        u32_as_u64(config.metadata.hot_patch_table_offset),
+        config.metadata.enclave_configuration_pointer,
+        config.metadata.volatile_metadata_pointer,
+        config.guard_tables.eh_continuation_table,
+        config.guard_tables.eh_continuation_count,
+        config.guard_functions.xfg_check_function_pointer,
+        config.guard_functions.xfg_dispatch_function_pointer,
+        config.guard_functions.xfg_table_dispatch_function_pointer,
+        config.guard_functions.cast_guard_os_determined_failure_mode,
+        config.guard_functions.guard_memcpy_function_pointer,
+    ]
+}
+
+/// The field with a number: 0 to 11 for a process, then those that follow the guard flags.
+#[tactic(auto, unfolding(crate::specs::LoadConfigs::numbered_field))]
+fn numbered_field(config: &Structure, number: u32) -> Option<u64>
+    ensures { result ≡ numbered_field number config.now }
+{
+    if number < 12 {
+        return process_fields(config)[number as usize];
+    }
+    let fields = later_fields(config);
+    match fields.get(number as usize - 12) {
+        Some(field) => *field,
+        None => None,
+    }
+}
+
+fn numbered_field_at(view: &View, number: u32) -> Result<Option<u64>>
+    ensures { directory_answer (λ n. n) result
+        ≡ numbered_field_at number view.now.bytes.now view.now.image.now view.now.sections.now }
+{
+    let directory = directory(view.image, LOAD_CONFIG_TABLE);
+    if is_absent(directory) {
+        return Ok(None);
+    }
+    let config = Structure::parse(&image_bytes(view), directory)?;
+    Ok(numbered_field(&config, number))
+}
+
+/// Returns a field of the load configuration that `LoadConfig` does not have, by its number in the order of winnt.h: 0 to 11 what
+/// is set for a process, from `GlobalFlagsClear` to `EditList`, and 12 to 36 what follows the guard flags, from
+/// `CodeIntegrity.Flags` to `GuardMemcpyFunctionPointer`. `NOTHING` where the image has no load configuration, where its
+/// structure is too short for the field, or the image, and for another number. Strict and permissive mode make no difference.
+///
+/// Errors: those of `pe_c_load_config`.
+#[unsafe(no_mangle)]
+pub extern "C" fn pe_c_load_config_field(view: &View, field: u32, out: &mut u64) -> u32
+    ensures { DirectoryHandsOut result out.old out.new
+        (numbered_field_at field view.now.bytes.now view.now.image.now view.now.sections.now) }
+{
+    hand_out_found(numbered_field_at(view, field), out)
 }

@@ -1,7 +1,7 @@
 //! The load configuration: what the loader has to know of the checks that were compiled into an image.
 //! <https://learn.microsoft.com/windows/win32/debug/pe-format#the-load-configuration-structure-image-only>
 //!
-//! goblin's names here are inferred. The fields are those that the library reads: the others of the structure are left out.
+//! goblin's names here are inferred. The fields are those of the library's record: the others of the structure are left out.
 
 use super::data_directories::DataDirectory;
 use super::options::ParseOptions;

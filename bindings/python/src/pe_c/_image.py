@@ -285,6 +285,11 @@ class Image(Reader):
         row: LoadConfig | None = self._one("load_config")
         return row
 
+    def load_config_field(self, number: int) -> int | None:
+        """A field of the load configuration that its record does not have, by its number, PE_C_CONFIG_ of pe.h; None without it."""
+        field: int | None = self._asked("load_config", "load_config_field", number)
+        return field
+
     @property
     def clr_header(self) -> ClrHeader | None:
         """The CLR header of an image for the .NET runtime."""

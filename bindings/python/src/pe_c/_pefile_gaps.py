@@ -7,7 +7,8 @@ from __future__ import annotations
 EXPORT = "the library for C has no call for the fields of the export directory"
 TREE = "the library for C lists resources, not their directories"
 LENGTHS = "the library for C returns version blocks without their lengths and offsets"
-CONFIG = "the library for C reads the load configuration up to GuardFlags, without this field"
+CONFIG = "pe_c.Image.load_config_field() has the fields of winnt.h that are not here"
+DYNAMIC = "the library for C does not read dynamic relocations"
 WRITER = "the library writes certificates and resources alone: Image.attach, Image.detach, ResourceEditor"
 LOADED = "the module does not make these calls yet: pe_c_map, pe_c_relocate"
 DUMP = "pe_c.Image.to_dict() has all values"
@@ -55,17 +56,17 @@ GAPS: dict[str, str] = {
                    "DynamicValueRelocTableOffset DynamicValueRelocTableSection Reserved2 "
                    "GuardRFVerifyStackPointerFunctionPointer HotPatchTableOffset Reserved3 EnclaveConfigurationPointer "
                    "GuardRFVerifyStackPointerFunctionPointerI", "IMAGE_LOAD_CONFIG_DIRECTORY."),
-    **_all(CONFIG, "dynamic_relocations", "LoadConfigData."),
-    **_all(CONFIG, "has_dynamic_relocs parse_dynamic_relocations", "PE."),
-    **_all(CONFIG, "PageRelativeOffset IndirectCall IATIndex", "IMAGE_IMPORT_CONTROL_TRANSFER_DYNAMIC_RELOCATION."),
-    **_all(CONFIG, "PageRelativeOffset IndirectCall RexWPrefix CfgCheck Reserved",
+    **_all(DYNAMIC, "dynamic_relocations", "LoadConfigData."),
+    **_all(DYNAMIC, "has_dynamic_relocs parse_dynamic_relocations", "PE."),
+    **_all(DYNAMIC, "PageRelativeOffset IndirectCall IATIndex", "IMAGE_IMPORT_CONTROL_TRANSFER_DYNAMIC_RELOCATION."),
+    **_all(DYNAMIC, "PageRelativeOffset IndirectCall RexWPrefix CfgCheck Reserved",
            "IMAGE_INDIR_CONTROL_TRANSFER_DYNAMIC_RELOCATION."),
-    **_all(CONFIG, "PageRelativeOffset RegisterNumber", "IMAGE_SWITCHTABLE_BRANCH_DYNAMIC_RELOCATION."),
-    **_all(CONFIG, "Version Size", "IMAGE_DYNAMIC_RELOCATION_TABLE."),
-    **_all(CONFIG, "Symbol BaseRelocSize", "IMAGE_DYNAMIC_RELOCATION."),
-    **_all(CONFIG, "Symbol BaseRelocSize", "IMAGE_DYNAMIC_RELOCATION64."),
-    **_all(CONFIG, "HeaderSize FixupInfoSize Symbol SymbolGroup Flags", "IMAGE_DYNAMIC_RELOCATION_V2."),
-    **_all(CONFIG, "HeaderSize FixupInfoSize Symbol SymbolGroup Flags", "IMAGE_DYNAMIC_RELOCATION64_V2."),
+    **_all(DYNAMIC, "PageRelativeOffset RegisterNumber", "IMAGE_SWITCHTABLE_BRANCH_DYNAMIC_RELOCATION."),
+    **_all(DYNAMIC, "Version Size", "IMAGE_DYNAMIC_RELOCATION_TABLE."),
+    **_all(DYNAMIC, "Symbol BaseRelocSize", "IMAGE_DYNAMIC_RELOCATION."),
+    **_all(DYNAMIC, "Symbol BaseRelocSize", "IMAGE_DYNAMIC_RELOCATION64."),
+    **_all(DYNAMIC, "HeaderSize FixupInfoSize Symbol SymbolGroup Flags", "IMAGE_DYNAMIC_RELOCATION_V2."),
+    **_all(DYNAMIC, "HeaderSize FixupInfoSize Symbol SymbolGroup Flags", "IMAGE_DYNAMIC_RELOCATION64_V2."),
     **_all(UNWIND, "unwindinfo", "ExceptionsDirEntryData."),
     **_all(UNWIND, "UnwindInfo PrologEpilogOp PrologEpilogOpPushReg PrologEpilogOpAllocLarge PrologEpilogOpAllocSmall "
                    "PrologEpilogOpSetFP PrologEpilogOpSaveReg PrologEpilogOpSaveRegFar PrologEpilogOpSaveXMM "
