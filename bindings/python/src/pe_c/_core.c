@@ -607,32 +607,20 @@ static int rva_of(PyObject *argument, uint32_t *rva, uint32_t *result)
     return 1;
 }
 
-static PyObject *offset_of(Image *self, PyObject *argument)
-{
-    uint64_t offset = 0;
-    uint32_t rva, result;
-    if (!rva_of(argument, &rva, &result))
-        return NULL;
-    OPEN
-    rows.result = result;
-    if (rows.result == PE_C_DONE)
-        rows.result = pe_c_offset(VIEW, rva, &offset);
-    return answer(rows.result == PE_C_DONE ? N(offset) : NULL, &rows);
-}
-
-/* A field of the load configuration, by its number, PE_C_CONFIG_. */
-static PyObject *load_config_field(Image *self, PyObject *argument)
-{
-    uint64_t value = 0;
-    uint32_t field, result;
-    if (!rva_of(argument, &field, &result))
-        return NULL;
-    OPEN
-    rows.result = result;
-    if (rows.result == PE_C_DONE)
-        rows.result = pe_c_load_config_field(VIEW, field, &value);
-    return answer(rows.result == PE_C_DONE ? N(value) : NULL, &rows);
-}
+/* A call that returns a number of an RVA, or of a field of the load configuration, PE_C_CONFIG_. */
+#define NUMBER_BY(name, call) \
+    static PyObject *name(Image *self, PyObject *argument) \
+    { \
+        uint64_t number = 0; \
+        uint32_t by, result; \
+        if (!rva_of(argument, &by, &result)) \
+            return NULL; \
+        OPEN \
+        rows.result = result == PE_C_DONE ? call(VIEW, by, &number) : result; \
+        return answer(rows.result == PE_C_DONE ? N(number) : NULL, &rows); \
+    }
+NUMBER_BY(offset_of, pe_c_offset)
+NUMBER_BY(load_config_field, pe_c_load_config_field)
 
 #define FIND(name, Item, start, call, row) \
     static PyObject *name(Image *self, PyObject *argument) \
@@ -1149,12 +1137,9 @@ static PyMethodDef methods[] = {
     WITHOUT(relocations), WITHOUT(certificates), WITHOUT(exports), WITHOUT(functions), WITHOUT(arm64_functions),
     WITHOUT(coff_header), WITHOUT(coff_strings), WITHOUT(symbols), WITHOUT(te_header), WITHOUT(te_symbol_key),
     WITHOUT(dump_memory64), WITHOUT(checksum), WITHOUT(digest_ranges), WITHOUT(detach), WITH_ONE(offset_of),
-    WITH_ONE(load_config_field),
-    WITH_ONE(find_function), WITH_ONE(find_arm64_function), WITH_ONE(unwind_records), WITH_SOME(arm64_unwind),
-    WITH_SOME(version_blocks), WITH_SOME(elements), WITH_SOME(name_attributes), WITH_SOME(attributes),
-    WITH_SOME(frames), WITH_SOME(arm64_frames), WITH_SOME(histogram), WITH_SOME(attach), WITH_SOME(edited),
-    {NULL, NULL, 0, NULL}};
-
+    WITH_ONE(load_config_field), WITH_ONE(find_function), WITH_ONE(find_arm64_function), WITH_ONE(unwind_records),
+    WITH_SOME(arm64_unwind), WITH_SOME(version_blocks), WITH_SOME(elements), WITH_SOME(name_attributes), WITH_SOME(attributes),
+    WITH_SOME(frames), WITH_SOME(arm64_frames), WITH_SOME(histogram), WITH_SOME(attach), WITH_SOME(edited), {NULL, NULL, 0, NULL}};
 static PyGetSetDef getters[] = {{"memory", (getter)get_memory, NULL, NULL, NULL},
                                 {"closed", (getter)get_closed, NULL, NULL, NULL}, {NULL, NULL, NULL, NULL, NULL}};
 static PyType_Slot slots[] = {{Py_tp_dealloc, finish}, {Py_tp_traverse, traverse}, {Py_tp_methods, methods},
