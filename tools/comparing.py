@@ -77,6 +77,16 @@ def run(words):
     return done.returncode, text, done.stderr.decode("utf-8", "replace")
 
 
+def built_lief(folder):
+    """The program of lief_rows.cpp, which is built in the folder, or None where Debian's g++ and liblief-dev are not there."""
+    program = f"{folder}/lief_rows"
+    try:
+        done = run(["g++", "-std=c++14", "-O1", "-o", program, f"{HERE}/lief_rows.cpp", "-lLIEF"])
+    except FileNotFoundError:
+        return None
+    return program if done and done[0] == 0 else None
+
+
 # Signatures.
 
 
