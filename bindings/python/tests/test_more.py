@@ -16,7 +16,7 @@ from unittest import mock
 
 import hostile
 import pe_c
-from pe_c import End, Kind, KnownOid, Way, _dump, _signature
+from pe_c import End, Kind, KnownOid, Way, _dump, _signature, pefile
 from pe_c._signature import dotted
 
 HERE = os.path.dirname(os.path.abspath(__file__))
@@ -417,6 +417,40 @@ class Edits(unittest.TestCase):
         editor.set(1 << 40, 1, 0, b"")
         with self.assertRaises(pe_c.Error):
             editor.write()
+
+
+class Loaded(unittest.TestCase):
+    """Images as a loader lays them out, by hand from hostile.image: headers of 0x400 bytes, a section at RVA 0x1000."""
+
+    def image(self, kind=10):
+        # A block of the page at 0x1000 with two entries: 8 bytes at 0x1020, and nothing.
+        body = struct.pack("<IIHH", hostile.RVA, 12, kind << 12 | 0x20, 0).ljust(0x20, b"\1") + struct.pack("<Q", hostile.BASE + 0x1020)
+        return hostile.image(body, {5: (hostile.RVA, 12)})
+
+    def test_an_image_is_laid_out(self):
+        data = self.image()
+        laid_out = data[:0x400] + bytes(0x1000 - 0x400) + data[0x400:]
+        self.assertEqual(pe_c.Image(data).map(), laid_out)
+        self.assertEqual(pe_c.Image(data).map(hostile.BASE), laid_out)
+
+    def test_at_another_base(self):
+        for base in (0x7FF600000000, 0x10000):
+            expected = bytearray(pe_c.Image(self.image()).map())
+            struct.pack_into("<Q", expected, 0x70, base)
+            struct.pack_into("<Q", expected, 0x1020, base + 0x1020)
+            self.assertEqual(pe_c.Image(self.image()).map(base), expected)
+            self.assertEqual(pefile.PE(data=self.image()).get_memory_mapped_image(ImageBase=base), expected)
+
+    def test_what_is_refused(self):
+        self.assertIsNone(pe_c.Image(hostile.image(b"", {})).map(0))
+        self.assertEqual(pefile.PE(data=hostile.image(b"", {})).get_memory_mapped_image(ImageBase=0)[:2], b"MZ")
+        with self.assertRaises(pe_c.Error) as caught:
+            pe_c.Image(self.image(4)).map(0)
+        self.assertEqual(caught.exception.kind, Kind.DIRECTORY_RELOCATION_KIND)
+        with self.assertRaises(TypeError):
+            pe_c.Image(self.image()).map("0")
+        with self.assertRaises(pefile.PEFormatError):
+            pefile.PE(data=self.image()).get_memory_mapped_image(0x1000)
 
 
 class Everything(unittest.TestCase):

@@ -897,50 +897,7 @@ METHOD(digest_ranges)
                                 (unsigned long long)item.zeros), &rows);
 }
 
-/* A file of so many bytes that a call writes, or none after an error. */
-#define WRITTEN(call, ...) \
-    PyObject *file = rows.result == PE_C_DONE ? PyBytes_FromStringAndSize(NULL, (Py_ssize_t)size) : NULL; \
-    if (file) \
-        rows.result = call(__VA_ARGS__, (uint8_t *)PyBytes_AsString(file), (size_t)size, &size); \
-    if (rows.result != PE_C_DONE) \
-        Py_CLEAR(file); \
-    return answer(file, &rows);
-
-static PyObject *attach(Image *self, PyObject *arguments)
-{
-    const char *certificate;
-    Py_ssize_t length;
-    unsigned int placement;
-    uint64_t size = 0;
-    if (!PyArg_ParseTuple(arguments, "y#I", &certificate, &length, &placement))
-        return NULL;
-    OPEN
-    const uint8_t *bytes = (const uint8_t *)certificate;
-    rows.result = pe_c_attached_length(VIEW, bytes, (size_t)length, placement, &size);
-    WRITTEN(pe_c_attach, VIEW, bytes, (size_t)length, placement)
-}
-
-METHOD(detach)
-{
-    uint64_t size = 0;
-    OPEN
-    rows.result = pe_c_detached_length(VIEW, &size);
-    WRITTEN(pe_c_detach, VIEW)
-}
-
-/* edited(records, data): the image with these resources. The records are pe.h's, in bytes. */
-static PyObject *edited(Image *self, PyObject *arguments)
-{
-    PyObject *records, *data;
-    uint64_t size = 0;
-    if (!PyArg_ParseTuple(arguments, "SS", &records, &data))
-        return NULL;
-    OPEN
-#define RECORDS(of, type) (const type *)PyBytes_AsString(of), (size_t)PyBytes_Size(of) / sizeof(type)
-#define EDIT VIEW, RECORDS(records, pe_c_resource), RECORDS(data, uint8_t)
-    rows.result = pe_c_edited_length(EDIT, &size);
-    WRITTEN(pe_c_edit, EDIT)
-}
+#include "_written.h"
 
 /* write_version(fixed, tables, strings, translations, texts) returns version information, or None, and the number of the error.
  * All but the texts are records of pe.h, each in bytes, which stand at a multiple of eight. */
@@ -1139,7 +1096,8 @@ static PyMethodDef methods[] = {
     WITHOUT(dump_memory64), WITHOUT(checksum), WITHOUT(digest_ranges), WITHOUT(detach), WITH_ONE(offset_of),
     WITH_ONE(load_config_field), WITH_ONE(find_function), WITH_ONE(find_arm64_function), WITH_ONE(unwind_records),
     WITH_SOME(arm64_unwind), WITH_SOME(version_blocks), WITH_SOME(elements), WITH_SOME(name_attributes), WITH_SOME(attributes),
-    WITH_SOME(frames), WITH_SOME(arm64_frames), WITH_SOME(histogram), WITH_SOME(attach), WITH_SOME(edited), {NULL, NULL, 0, NULL}};
+    WITH_SOME(frames), WITH_SOME(arm64_frames), WITH_SOME(histogram), WITH_SOME(attach), WITH_SOME(edited), WITH_ONE(mapped),
+    {NULL, NULL, 0, NULL}};
 static PyGetSetDef getters[] = {{"memory", (getter)get_memory, NULL, NULL, NULL},
                                 {"closed", (getter)get_closed, NULL, NULL, NULL}, {NULL, NULL, NULL, NULL, NULL}};
 static PyType_Slot slots[] = {{Py_tp_dealloc, finish}, {Py_tp_traverse, traverse}, {Py_tp_methods, methods},

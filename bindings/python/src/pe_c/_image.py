@@ -453,6 +453,14 @@ class Image(Reader):
 
     # ---- signing
 
+    def map(self, base: int | None = None) -> bytes | None:
+        """The image as a loader lays it out, as many bytes as size_of_image says, up to 4 GB of a short file: the headers, the data
+        of each section at its RVA, zeros elsewhere. With a base it is relocated to that: None where it is another than the image's
+        own and there are no base relocations. Raises Error, and MemoryError where it cannot be allocated."""
+        difference = 0 if base is None else base - self.headers.base
+        mapped: bytes | None = self._asked("map", "mapped", difference)
+        return mapped
+
     def attach(self, certificate: bytes, *, in_place: bool = False) -> bytes:
         """The file with an entry of a certificate table (WIN_CERTIFICATE) after its others, or in their place. Raises
         Error."""
