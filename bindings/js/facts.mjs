@@ -404,9 +404,15 @@ function loadConfig(image) {
       guard_cf_function_table_va: fieldOf(config, 'guard_cf_function_table'),
       guard_cf_function_count: fieldOf(config, 'guard_cf_function_count'),
       guard_flags: guardFlags === null ? null : flags(guardFlags, names.GUARD_FLAGS),
+      fields: Object.fromEntries(names.LOAD_CONFIG_FIELDS.map((it, field) => [it, fieldAt(image, field)])),
       ...guards(image, new Budget(image, 0)),
     };
   });
+}
+
+function fieldAt(image, field) {
+  const value = image.call('pe_c_load_config_field', { field });
+  return value === null ? null : number(value);
 }
 
 // The tables of a load configuration, by the names of the lists.

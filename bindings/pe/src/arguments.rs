@@ -169,8 +169,8 @@ pub enum Command {
         #[arg(long, conflicts_with = "json")]
         csv: bool,
         /// With --csv another table of the PART: dos-header or directories of headers, directory of exports, records or pogo of
-        /// debug, numbers of version, handlers, guarded, guarded-imports, long-jumps or continuations of load-config, directories,
-        /// streams or references of clr, key of rich.
+        /// debug, numbers of version, fields, handlers, guarded, guarded-imports, long-jumps or continuations of load-config,
+        /// directories, streams or references of clr, key of rich.
         #[arg(long, value_name = "TABLE", requires = "csv")]
         table: Option<String>,
         #[command(flatten)]

@@ -44,13 +44,14 @@ fn table_of(facts: &Facts, topic: Topic) -> Option<Table> {
 }
 
 /// The tables of parts that have another one, by their names.
-pub const OTHERS: [(Topic, &str); 15] = [
+pub const OTHERS: [(Topic, &str); 16] = [
     (Topic::Headers, "dos-header"),
     (Topic::Headers, "directories"),
     (Topic::Exports, "directory"),
     (Topic::Debug, "records"),
     (Topic::Debug, "pogo"),
     (Topic::Version, "numbers"),
+    (Topic::LoadConfig, "fields"),
     (Topic::LoadConfig, "handlers"),
     (Topic::LoadConfig, "guarded"),
     (Topic::LoadConfig, "guarded-imports"),
@@ -76,7 +77,7 @@ fn other_of(facts: &Facts, topic: Topic, name: &str) -> Option<Table> {
         (Topic::Version, _) => facts.version.as_ref().map(|it| of_rows(tables::versions(it))),
         (Topic::LoadConfig, _) => {
             let config = facts.load_config.as_ref()?.present()?;
-            tables::guards(&config.guards).into_iter().find(|it| it.0 == name).map(|it| it.2)
+            tables::load_config_tables(config).into_iter().find(|it| it.0 == name).map(|it| it.2)
         }
         (Topic::Clr, "directories") => of_part(&facts.clr, tables::clr_directories),
         (Topic::Clr, "streams") => of_part(&facts.clr, tables::clr_streams),

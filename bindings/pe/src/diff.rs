@@ -4,6 +4,7 @@
 use crate::escape::escaped;
 use crate::facts::resources::Label;
 use crate::facts::{Facts, Name, Part};
+use crate::page::Style;
 use crate::tables;
 use serde::Serialize;
 use std::collections::BTreeMap;
@@ -173,7 +174,7 @@ pub fn of(before: &Facts, after: &Facts) -> Differences {
 
 impl Differences {
     /// A line for each: `-` what went, `+` what came, `~` what changed.
-    pub fn text(&self) -> String {
+    pub fn text(&self, style: Style) -> String {
         let (mut text, mut part) = (String::new(), "");
         for it in &self.differences {
             if it.part != part {
@@ -189,6 +190,6 @@ impl Differences {
             };
             text += &format!("  {line}\n");
         }
-        text
+        style.fitted(text)
     }
 }

@@ -191,7 +191,7 @@ fn more_parts(facts: &Facts, html: &mut Html) {
     }
     if let Some(config) = facts.load_config.as_ref().and_then(Part::present) {
         list("config", "Load configuration", tables::load_config(config), html);
-        for (id, title, rows) in tables::guards(&config.guards) {
+        for (id, title, rows) in tables::load_config_tables(config) {
             table(id, title, &rows, html);
         }
     }

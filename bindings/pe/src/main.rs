@@ -122,14 +122,7 @@ fn run_command(command: &Command, out: &mut dyn Write) -> io::Result<Status> {
         Command::Diff { before, after, reading, hashing, output } => {
             compare([before.as_path(), after.as_path()], How::of(reading, hashing, output), out)
         }
-        Command::Key { files, reading, hashing, output } => {
-            let wanted = Wanted::parts(&[Topic::Headers, Topic::Debug], output.json && hashing.has_hashes());
-            let text = |facts: &Facts, style| match output.json {
-                true => json(facts).into(),
-                false => Said::apart(show::keys(facts, style), facts),
-            };
-            files::each(files, out, |path, bytes| shown(path, bytes, reading, &wanted, text))
-        }
+        Command::Key { files, reading, hashing, output } => show_keys(files, How::of(reading, hashing, output), out),
         Command::Digest { files, reading, output } => {
             refuse_mapped(reading, "a digest");
             files::each(files, out, |path, bytes| {
@@ -153,6 +146,16 @@ fn run_command(command: &Command, out: &mut dyn Write) -> io::Result<Status> {
         Command::Man => out.write_all(man::page().as_bytes()).map(|()| Status::Done),
         _ => write_file(command, out),
     }
+}
+
+/// `pe key`: the paths on a symbol server.
+fn show_keys(files: &Files, how: How, out: &mut dyn Write) -> io::Result<Status> {
+    let wanted = Wanted::parts(&[Topic::Headers, Topic::Debug], how.is_json && how.has_hashes);
+    let text = |facts: &Facts, style| match how.is_json {
+        true => json(facts).into(),
+        false => Said::apart(show::keys(facts, style), facts),
+    };
+    files::each(files, out, |path, bytes| shown(path, bytes, how.reading, &wanted, text))
 }
 
 /// `pe show`, of its words: as CSV where a table is named, or `Some(None)`, the one of the part.
@@ -226,19 +229,21 @@ fn refuse_unknown_parts(files: &Files) {
 /// The commands that write a new file.
 fn write_file(command: &Command, out: &mut dyn Write) -> io::Result<Status> {
     match command {
-        Command::Extract { file, part, to, which, reading } => {
-            files::each(&Files::one(file), out, |path, bytes| part.write_to((path, parsed(bytes, reading)), which, to))
-        }
+        Command::Extract { file, part, to, which, reading } => files::each(&Files::one(file), out, |path, bytes| {
+            of_image(bytes, reading, |image| part.write_to((path, image), which, to))
+        }),
         Command::Attach { file, certificate, to, in_place, reading } => {
             refuse_mapped(reading, "a certificate");
             let placement = if *in_place { Placement::InPlace } else { Placement::After };
             files::each(&Files::one(file), out, |path, bytes| {
-                sign::attach(path, parsed(bytes, reading), certificate, placement, to)
+                of_image(bytes, reading, |image| sign::attach(path, image, certificate, placement, to))
             })
         }
         Command::Detach { file, to, reading } => {
             refuse_mapped(reading, "a certificate");
-            files::each(&Files::one(file), out, |path, bytes| sign::detach(path, parsed(bytes, reading), to))
+            files::each(&Files::one(file), out, |path, bytes| {
+                of_image(bytes, reading, |image| sign::detach(path, image, to))
+            })
         }
         Command::Checksum { files, fix, reading, output } => {
             refuse_mapped(reading, "a checksum");
@@ -246,7 +251,7 @@ fn write_file(command: &Command, out: &mut dyn Write) -> io::Result<Status> {
                 misused("--fix takes one file, since it writes one");
             }
             files::each(files, out, |path, bytes| match fix {
-                Some(to) => sign::fix(path, parsed(bytes, reading), to),
+                Some(to) => of_image(bytes, reading, |image| sign::fix(path, image, to)),
                 None => of_image(bytes, reading, |image| sign::checksum(path, image, output.json)),
             })
         }
@@ -273,15 +278,15 @@ fn edit_file(command: &Command, out: &mut dyn Write) -> io::Result<Status> {
     };
     refuse_mapped(reading, "a change of resources");
     files::each(&Files::one(file), out, |path, bytes| {
-        let (paths, image) = ((path, to.as_path()), parsed(bytes, reading));
-        match command {
+        let paths = (path, to.as_path());
+        of_image(bytes, reading, |image| match command {
             Command::SetManifest { manifest, language, .. } => edit::set_manifest(paths, image, manifest, *language),
             Command::SetIcon { icon, language, .. } => edit::set_icon(paths, image, icon, *language),
             Command::SetResource { which, content, .. } => edit::set_resource(paths, image, which, content),
             Command::RemoveResource { which, .. } => edit::remove_resource(paths, image, which),
             Command::SetVersion { version, .. } => edit::set_version(paths, image, version),
             _ => files::Report::of("", Status::Done),
-        }
+        })
     })
 }
 
@@ -350,7 +355,7 @@ fn compare(paths: [&Path; 2], how: How, out: &mut dyn Write) -> io::Result<Statu
         return Ok(Status::Refused);
     }
     let found = diff::of(before, after);
-    out.write_all(if how.is_json { json(&found) } else { found.text() }.as_bytes())?;
+    out.write_all(if how.is_json { json(&found) } else { found.text(Style::of_stdout()) }.as_bytes())?;
     Ok(if found.differences.is_empty() { Status::Done } else { Status::Refused })
 }
 

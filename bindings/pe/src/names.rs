@@ -173,6 +173,47 @@ pub const CERTIFICATE_TYPES: &Names =
 pub const RELOCATION_TYPES: &Names =
     &[(0, "ABSOLUTE"), (1, "HIGH"), (2, "LOW"), (3, "HIGHLOW"), (4, "HIGHADJ"), (10, "DIR64")];
 
+/// The fields of a load configuration after the record of `Image::load_config`, in the order of winnt.h.
+pub const LOAD_CONFIG_FIELDS: [&str; 37] = [
+    "GlobalFlagsClear",
+    "GlobalFlagsSet",
+    "CriticalSectionDefaultTimeout",
+    "DeCommitFreeBlockThreshold",
+    "DeCommitTotalFreeThreshold",
+    "LockPrefixTable",
+    "MaximumAllocationSize",
+    "VirtualMemoryThreshold",
+    "ProcessAffinityMask",
+    "ProcessHeapFlags",
+    "CSDVersion",
+    "EditList",
+    "CodeIntegrity.Flags",
+    "CodeIntegrity.Catalog",
+    "CodeIntegrity.CatalogOffset",
+    "CodeIntegrity.Reserved",
+    "GuardAddressTakenIatEntryTable",
+    "GuardAddressTakenIatEntryCount",
+    "GuardLongJumpTargetTable",
+    "GuardLongJumpTargetCount",
+    "DynamicValueRelocTable",
+    "CHPEMetadataPointer",
+    "GuardRFFailureRoutine",
+    "GuardRFFailureRoutineFunctionPointer",
+    "DynamicValueRelocTableOffset",
+    "DynamicValueRelocTableSection",
+    "GuardRFVerifyStackPointerFunctionPointer",
+    "HotPatchTableOffset",
+    "EnclaveConfigurationPointer",
+    "VolatileMetadataPointer",
+    "GuardEHContinuationTable",
+    "GuardEHContinuationCount",
+    "GuardXFGCheckFunctionPointer",
+    "GuardXFGDispatchFunctionPointer",
+    "GuardXFGTableDispatchFunctionPointer",
+    "CastGuardOsDeterminedFailureMode",
+    "GuardMemcpyFunctionPointer",
+];
+
 /// `IMAGE_GUARD_`, without the bits 28 to 31, a number.
 pub const GUARD_FLAGS: &Names = &[
     (0x100, "CF_INSTRUMENTED"),

@@ -24,6 +24,19 @@ impl Style {
         Style { has_colours: is_terminal && !is_refused && has_colours(), width: width.unwrap_or(usize::MAX) }
     }
 
+    /// A text whose lines fit: a longer one goes on in the column of the cell that does not fit, or is too narrow a column.
+    pub fn fitted(self, text: String) -> String {
+        if self.width == usize::MAX {
+            return text;
+        }
+        let mut lines = String::with_capacity(text.len());
+        for line in text.lines() {
+            fold(line, self.width.max(NARROWEST), &mut lines);
+            lines.push('\n');
+        }
+        lines
+    }
+
     fn between(self, code: &str, text: &str) -> String {
         if self.has_colours {
             format!("\x1b[{code}m{text}\x1b[0m")
@@ -40,6 +53,13 @@ const LABEL: usize = 14;
 /// the longest, and a hostile image may have many rows and a name of a million characters.
 const WIDEST: usize = 256;
 
+/// Lines are no narrower than this, whatever `COLUMNS` says.
+const NARROWEST: usize = 20;
+
+/// With less room than this at the end of a line, a cell goes on in the next one, so far from its start.
+const ROOM: usize = 16;
+const INDENT: usize = 4;
+
 /// A page of text as it is written.
 pub struct Page {
     style: Style,
@@ -52,6 +72,11 @@ impl Page {
     }
 
     pub fn into_text(self) -> String {
+        self.style.fitted(self.text)
+    }
+
+    /// The same with paths that are whole, to be copied.
+    pub fn into_whole_text(self) -> String {
         self.text
     }
 
@@ -100,12 +125,13 @@ impl Page {
         self.text.push('\n');
     }
 
-    /// Rows of cells in columns as wide as the widest cell, up to `WIDEST`; the last column is as wide as its text.
+    /// Rows of cells in columns as wide as the widest cell, up to `WIDEST` and half of a line; the last column is as wide as its
+    /// text.
     pub fn table(&mut self, table: &Table) {
         let head = |column: usize| table.columns[column].head;
         let width = |column: usize| {
             let cells = table.rows.iter().map(|row| row[column].chars().count());
-            cells.chain([head(column).chars().count()]).max().unwrap_or(0).min(WIDEST)
+            cells.chain([head(column).chars().count()]).max().unwrap_or(0).min(WIDEST).min(self.style.width / 2)
         };
         let widths: Vec<usize> = (0..table.columns.len()).map(width).collect();
         let lay = |cells: &mut dyn Iterator<Item = &str>| {
@@ -142,9 +168,84 @@ fn wrapped(text: &str, width: usize) -> Vec<String> {
     lines
 }
 
+/// How many columns of a terminal a character takes: those of East Asia and pictures take two.
+fn columns_of(letter: char) -> usize {
+    let is_wide = matches!(letter as u32, 0x1100..=0x115F | 0x2E80..=0xA4CF | 0xAC00..=0xD7A3 | 0xF900..=0xFAFF | 0xFE30..=0xFE6F
+        | 0xFF00..=0xFF60 | 0xFFE0..=0xFFE6 | 0x1F300..=0x1FAFF | 0x20000..=0x3FFFD);
+    1 + usize::from(is_wide)
+}
+
+/// Writes a line as lines of at most so many columns, which go on below the cell that they break. Cells are two spaces apart. A
+/// cell ends at a space where it has one, and else where the line is full.
+fn fold(line: &str, width: usize, to: &mut String) {
+    let (mut start, mut indent) = (0, 0);
+    while let Some((end, next)) = end_of(&line[start..], indent, width) {
+        to.push_str(line[start..start + end].trim_end_matches(' '));
+        to.push('\n');
+        to.extend(std::iter::repeat(' ').take(next));
+        (start, indent) = (start + end, next);
+    }
+    to.push_str(&line[start..]);
+}
+
+/// Where a line has to end that starts in a column, in bytes, and in which column the next one starts. None where it fits.
+fn end_of(line: &str, indent: usize, width: usize) -> Option<(usize, usize)> {
+    let (mut column, mut spaces, mut is_in_colour) = (indent, 2, false);
+    let (mut first, mut cell, mut word) = (None, (0, indent), None);
+    for (at, letter) in line.char_indices() {
+        if is_in_colour || letter == '\x1b' {
+            is_in_colour = letter != 'm';
+            continue;
+        }
+        if letter == ' ' {
+            (column, spaces) = (column + 1, spaces + 1);
+            continue;
+        }
+        match spaces {
+            0 => (),
+            1 => word = Some(at),
+            _ => (cell, word) = ((at, column), None),
+        }
+        let first = *first.get_or_insert(cell.0);
+        spaces = 0;
+        if column + columns_of(letter) > width && at > 0 {
+            let has_room = cell.1 + ROOM <= width;
+            // A cell that starts the line is broken all the same, since the next line has no more room.
+            return Some(match has_room || cell.0 == first {
+                true => (word.unwrap_or(at), cell.1.min(width - ROOM)),
+                false => (cell.0, INDENT),
+            });
+        }
+        column += columns_of(letter);
+    }
+    None
+}
+
 #[cfg(test)]
 mod tests {
     use super::*;
+
+    fn folded(line: &str, width: usize) -> String {
+        let mut text = String::new();
+        fold(line, width, &mut text);
+        text
+    }
+
+    #[test]
+    fn lines_go_on_below_the_cell_that_is_broken() {
+        assert_eq!(folded("  a   bb", 8), "  a   bb");
+        // A text ends at a space, a hash where the line is full.
+        assert_eq!(folded("  one two three four five six", 20), "  one two three four\n  five six");
+        assert_eq!(
+            folded("  hash  0123456789abcdef0123456789abcdef", 26),
+            "  hash  0123456789abcdef01\n        23456789abcdef"
+        );
+        // A cell without room stands by itself.
+        assert_eq!(folded("  a name of twenty  0123456789abcdef", 24), "  a name of twenty\n    0123456789abcdef");
+        // Colours take no room, and wide letters take two columns.
+        assert_eq!(folded("\x1b[36m0123456789\x1b[0m0123456789", 20), "\x1b[36m0123456789\x1b[0m0123456789");
+        assert_eq!(folded(&"\u{4e00}".repeat(11), 20), format!("{}\n\u{4e00}", "\u{4e00}".repeat(10)));
+    }
 
     #[test]
     fn lines_end_at_spaces() {

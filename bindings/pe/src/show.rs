@@ -216,7 +216,7 @@ fn bound_imports_of(bound: &List<Bound>, page: &mut Page) {
 fn load_config_of(config: &LoadConfig, page: &mut Page) {
     page.heading("Load configuration");
     rows(tables::load_config(config), page);
-    for (_, title, table) in tables::guards(&config.guards) {
+    for (_, title, table) in tables::load_config_tables(config) {
         page.heading(title);
         page.table(&table);
         more(table.is_limited, page);
@@ -257,7 +257,9 @@ fn symbols_of(symbols: &List<Symbol>, page: &mut Page) {
 /// What is refused, as lines for standard error.
 pub fn complaints(facts: &Facts) -> String {
     let file = escaped(&facts.file);
-    facts.refusals().iter().map(|(part, refusal)| format!("pe: {file}: {part}: {refusal}\n")).collect()
+    let kind =
+        facts.file_kind.filter(|_| facts.error.is_some()).map_or(String::new(), |kind| format!("; it is {kind}"));
+    facts.refusals().iter().map(|(part, refusal)| format!("pe: {file}: {part}: {refusal}{kind}\n")).collect()
 }
 
 /// Where a symbol server has the PDB of an image, and the image.
@@ -274,5 +276,5 @@ pub fn keys(facts: &Facts, style: Style) -> String {
     };
     page.row("PDB", pdb);
     page.row("image", headers.symbol_server_path.as_deref().map_or("none".into(), escaped));
-    page.into_text()
+    page.into_whole_text()
 }

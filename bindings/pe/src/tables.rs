@@ -402,8 +402,16 @@ pub fn load_config(config: &LoadConfig) -> Vec<Row> {
     rows.into_iter().filter_map(|(label, value)| Some((label, value?))).collect()
 }
 
-/// The lists of code that a load configuration leads to, but for those that are absent.
-pub fn guards(guards: &Guards) -> Vec<(&'static str, &'static str, Table)> {
+/// The further fields of a load configuration that are not 0, and the lists of code that it leads to, but for what is absent.
+pub fn load_config_tables(config: &LoadConfig) -> Vec<(&'static str, &'static str, Table)> {
+    let fields = config.fields.0.iter().filter_map(|&(name, value)| Some((name, value.filter(|it| *it != 0)?)));
+    let rows = fields.map(|(name, value)| vec![name.to_owned(), format!("{value:#x}")]);
+    let fields = Table::new(&[text("field"), number("value")], rows);
+    let fields = (!fields.rows.is_empty()).then_some(("fields", "Further fields of the load configuration", fields));
+    fields.into_iter().chain(guards(&config.guards)).collect()
+}
+
+fn guards(guards: &Guards) -> Vec<(&'static str, &'static str, Table)> {
     let handlers = guards.handlers.present().map(|list| {
         let rows = list.entries.iter().map(|it| vec![format!("{:#x}", it.0)]);
         ("handlers", "Exception handlers", Table::new(&[number("RVA")], rows).limited(list.is_limited))

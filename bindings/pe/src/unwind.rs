@@ -7,6 +7,7 @@ mod arm64;
 use crate::escape::escaped;
 use crate::facts::{Budget, List, Origin, Refusal, ENTRY};
 use crate::files::Report;
+use crate::page::Style;
 use crate::Status;
 use pe_c::{Code, Error, Function, Functions, Handler, Image, Offset, Operation, Register, UnwindRecord};
 use serde::Serialize;
@@ -270,10 +271,10 @@ pub fn report(path: &Path, image: Result<Image<'_>, Error>, asked: Asked) -> Rep
         answer = Answer { error: Some(error.into()), ..Answer::of(path, asked.rva) };
     }
     let status = if answer.is_refused() { Status::Refused } else { Status::Done };
+    let named = if asked.is_named { format!("{}\n", escaped(&answer.origin.file)) } else { String::new() };
     match &answer.error {
         _ if asked.is_json => Report::of(crate::json(&answer), status),
         Some(refusal) => Report::refused(path, refusal),
-        None if asked.is_named => Report::of(format!("{}\n{}", escaped(&answer.origin.file), answer.text()), status),
-        None => Report::of(answer.text(), status),
+        None => Report::of(Style::of_stdout().fitted(named + &answer.text()), status),
     }
 }

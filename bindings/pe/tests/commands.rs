@@ -815,9 +815,90 @@ fn lines_fit_the_columns() {
         // What is said of the sections stands in columns, also where one of them has less to say.
         let starts: Vec<_> = said.lines().filter(|it| it.contains(" at 0x")).map(|it| it.find(" at 0x")).collect();
         assert!(starts.len() > 1 && starts.iter().all(|it| *it == starts[0]), "{columns}: {starts:?}\n{said}");
-        let widest = said.lines().filter(|it| !it.contains("SHA-256")).map(|it| it.chars().count()).max().unwrap();
-        assert!(widest <= columns.parse().unwrap(), "{columns}: {widest}\n{said}");
     }
+}
+
+/// How many columns of a terminal a line takes: two of each letter of East Asia.
+fn columns_of(line: &str) -> usize {
+    line.chars().map(|it| 1 + usize::from(it >= '\u{2E80}')).sum()
+}
+
+/// What a command says with this variable COLUMNS, or without one.
+fn said_in(columns: Option<usize>, words: &[&str]) -> String {
+    let mut command = Command::new(env!("CARGO_BIN_EXE_pe"));
+    match columns {
+        Some(columns) => command.env("COLUMNS", columns.to_string()),
+        None => command.env_remove("COLUMNS"),
+    };
+    String::from_utf8(command.args(words).output().unwrap().stdout).unwrap()
+}
+
+/// Whether what is said fits, and has what stands there without COLUMNS but for where its lines end.
+fn assert_fits(words: &[&str]) {
+    let letters = |text: &str| text.split_whitespace().collect::<String>();
+    let whole = said_in(None, words);
+    for columns in [40, 60, 80, 120] {
+        let said = said_in(Some(columns), words);
+        let widest = said.lines().map(columns_of).max().unwrap_or_default();
+        assert!(widest <= columns, "{words:?}: {widest} columns of {columns}\n{said}");
+        // A summary says less of sections in a narrow room.
+        let is_summary = words.len() == 1;
+        assert!(is_summary || letters(&said) == letters(&whole), "{words:?}, {columns} columns\n{said}\n{whole}");
+    }
+}
+
+/// Real images, where their packages are installed.
+const REAL: [&str; 3] = [
+    "/usr/lib/python3/dist-packages/distlib/w64.exe",
+    "/usr/lib/python3/dist-packages/distlib/t64-arm.exe",
+    "/usr/lib/gcc/x86_64-w64-mingw32/12-posix/libgcc_s_seh-1.dll",
+];
+
+#[test]
+fn the_lines_of_each_command_fit_the_columns() {
+    let folder = Folder::new("fitting");
+    let made = made::all().into_iter();
+    let mut files: Vec<_> = made.map(|(name, bytes)| folder.file(&format!("{name} \u{6f22}.bin"), &bytes)).collect();
+    files.extend(REAL.iter().filter(|it| std::path::Path::new(it).exists()).map(|it| it.to_string()));
+    for file in &files {
+        assert_fits(&[file]);
+        assert_fits(&["show", file]);
+        assert_fits(&["unwind", "--all", file]);
+        assert_fits(&["verify", file]);
+        assert_fits(&["diff", &files[0], file]);
+    }
+    assert_fits(&["stack", &folder.file("a.dmp", &made::full_dump(0x8664))]);
+    // In a pipe nothing is broken without COLUMNS, nor what is there to be copied.
+    let [plain, key] = [said_in(None, &["show", &files[0]]), said_in(Some(40), &["key", &files[0]])];
+    assert!(
+        plain.starts_with(&format!("{}\n", files[0])) && key.starts_with(&format!("{}\n", files[0])),
+        "{plain}{key}"
+    );
+}
+
+#[test]
+fn what_is_no_image_is_named_by_every_command() {
+    let folder = Folder::new("named-kinds");
+    let elf = folder.file("a", b"\x7fELF\x02\x01\x01");
+    let image = folder.file("a.exe", &made::SMALL);
+    let out = folder.0.join("out").to_str().unwrap().to_string();
+    let commands: [&[&str]; 9] = [
+        &["extract", &elf, "manifest", &out],
+        &["attach", &elf, &image, &out],
+        &["detach", &elf, &out],
+        &["checksum", &elf, "--fix", &out],
+        &["set-manifest", &elf, &out, &image],
+        &["diff", &elf, &image],
+        &["diff", &image, &elf],
+        &["key", &elf],
+        &["find", "a", &elf],
+    ];
+    for words in commands {
+        let (said, error, status) = run(words);
+        assert!(error.ends_with("; it is an ELF file\n"), "{words:?}: {error}");
+        assert_eq!((said.as_str(), status), ("", 1), "{words:?}");
+    }
+    assert!(!std::path::Path::new(&out).exists());
 }
 
 #[test]

@@ -275,6 +275,9 @@ const MADE: &[(&str, &[&str])] = &[
     (
         "guards",
         &[
+            "  GuardLongJumpTargetTable        0x1\n  GuardLongJumpTargetCount        0x1\n",
+            "  GuardEHContinuationTable        0x180009000\n",
+            "\"GuardAddressTakenIatEntryTable\":6442455330,\"GuardAddressTakenIatEntryCount\":1,",
             "Functions that may be called indirectly\n  RVA     flags\n  0x2010  0x1: FID_SUPPRESSED\n  0x2030  0x8: FID_XFG\n",
             "\"guarded_functions\":[{\"rva\":8208,\"flags\":{\"number\":1,\"flags\":{\"FID_SUPPRESSED\":true,",
             "\"guarded_iat_entries\":[{\"rva\":8256,\"flags\":{\"number\":0,",

@@ -65,7 +65,7 @@ STRUCTURES = {
     "CV_INFO_PDB20": ("old_debug", lambda pe: pe.DIRECTORY_ENTRY_DEBUG[0].entry),
     "IMAGE_BASE_RELOCATION": ("relocations", lambda pe: pe.DIRECTORY_ENTRY_BASERELOC[0].struct),
     "IMAGE_TLS_DIRECTORY": ("tls", lambda pe: pe.DIRECTORY_ENTRY_TLS.struct),
-    "IMAGE_LOAD_CONFIG_DIRECTORY": ("load_config", lambda pe: pe.DIRECTORY_ENTRY_LOAD_CONFIG.struct),
+    "IMAGE_LOAD_CONFIG_DIRECTORY": ("guards", lambda pe: pe.DIRECTORY_ENTRY_LOAD_CONFIG.struct),
     "IMAGE_BOUND_IMPORT_DESCRIPTOR": ("bound_imports", lambda pe: pe.DIRECTORY_ENTRY_BOUND_IMPORT[0].struct),
     "IMAGE_BOUND_FORWARDER_REF": ("bound_imports", lambda pe: pe.DIRECTORY_ENTRY_BOUND_IMPORT[0].entries[0].struct),
     "RUNTIME_FUNCTION": ("functions", lambda pe: pe.DIRECTORY_ENTRY_EXCEPTION[0].struct),

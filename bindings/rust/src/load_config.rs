@@ -133,6 +133,49 @@ pub enum LoadConfigField {
     GuardMemcpyFunctionPointer = 36,
 }
 
+impl LoadConfigField {
+    /// All of them, in the order of winnt.h.
+    pub const ALL: [LoadConfigField; 37] = [
+        LoadConfigField::GlobalFlagsClear,
+        LoadConfigField::GlobalFlagsSet,
+        LoadConfigField::CriticalSectionDefaultTimeout,
+        LoadConfigField::DeCommitFreeBlockThreshold,
+        LoadConfigField::DeCommitTotalFreeThreshold,
+        LoadConfigField::LockPrefixTable,
+        LoadConfigField::MaximumAllocationSize,
+        LoadConfigField::VirtualMemoryThreshold,
+        LoadConfigField::ProcessAffinityMask,
+        LoadConfigField::ProcessHeapFlags,
+        LoadConfigField::CsdVersion,
+        LoadConfigField::EditList,
+        LoadConfigField::CodeIntegrityFlags,
+        LoadConfigField::CodeIntegrityCatalog,
+        LoadConfigField::CodeIntegrityCatalogOffset,
+        LoadConfigField::CodeIntegrityReserved,
+        LoadConfigField::GuardAddressTakenIatEntryTable,
+        LoadConfigField::GuardAddressTakenIatEntryCount,
+        LoadConfigField::GuardLongJumpTargetTable,
+        LoadConfigField::GuardLongJumpTargetCount,
+        LoadConfigField::DynamicValueRelocTable,
+        LoadConfigField::ChpeMetadataPointer,
+        LoadConfigField::GuardRfFailureRoutine,
+        LoadConfigField::GuardRfFailureRoutineFunctionPointer,
+        LoadConfigField::DynamicValueRelocTableOffset,
+        LoadConfigField::DynamicValueRelocTableSection,
+        LoadConfigField::GuardRfVerifyStackPointerFunctionPointer,
+        LoadConfigField::HotPatchTableOffset,
+        LoadConfigField::EnclaveConfigurationPointer,
+        LoadConfigField::VolatileMetadataPointer,
+        LoadConfigField::GuardEhContinuationTable,
+        LoadConfigField::GuardEhContinuationCount,
+        LoadConfigField::GuardXfgCheckFunctionPointer,
+        LoadConfigField::GuardXfgDispatchFunctionPointer,
+        LoadConfigField::GuardXfgTableDispatchFunctionPointer,
+        LoadConfigField::CastGuardOsDeterminedFailureMode,
+        LoadConfigField::GuardMemcpyFunctionPointer,
+    ];
+}
+
 /// A field, if it is there.
 fn field<T>(is_there: u8, value: T) -> Option<T> {
     (is_there != 0).then_some(value)

@@ -1,11 +1,11 @@
-//! The load configuration: what guards an image against attacks, by its structure up to the guard flags, and by
-//! the lists of code that it leads to.
+//! The load configuration: what guards an image against attacks, by the fields of its structure, and by the lists of
+//! code that it leads to.
 
 use super::guards::{self, Guards};
 use super::{field, Flags, Part, Stamp};
-use crate::names::GUARD_FLAGS;
-use pe_c::Image;
-use serde::Serialize;
+use crate::names::{GUARD_FLAGS, LOAD_CONFIG_FIELDS};
+use pe_c::{Image, LoadConfigField};
+use serde::{Serialize, Serializer};
 
 /// A field is null where the structure, or the file, is too short for it.
 #[derive(Clone, Debug, Serialize)]
@@ -30,11 +30,29 @@ pub struct LoadConfig {
     pub guard_cf_function_count: Option<u64>,
     /// `IMAGE_GUARD_`
     pub guard_flags: Option<Flags>,
+    /// Those that are none of the above.
+    pub fields: Fields,
     #[serde(flatten)]
     pub guards: Guards,
 }
 
 field!(LoadConfig, "load_config");
+
+/// Fields by their names in winnt.h, in its order.
+#[derive(Clone, Debug)]
+pub struct Fields(pub Vec<(&'static str, Option<u64>)>);
+
+impl Serialize for Fields {
+    fn serialize<S: Serializer>(&self, serializer: S) -> Result<S::Ok, S::Error> {
+        serializer.collect_map(self.0.iter().copied())
+    }
+}
+
+/// A field has no error of its own: they are those of the structure.
+fn fields(image: &Image<'_>) -> Fields {
+    let value = |field| image.load_config_field(field).ok().flatten();
+    Fields(LOAD_CONFIG_FIELDS.into_iter().zip(LoadConfigField::ALL.into_iter().map(value)).collect())
+}
 
 pub fn of(image: &Image<'_>) -> Part<LoadConfig> {
     let found = image.load_config().map(|found| {
@@ -53,8 +71,22 @@ pub fn of(image: &Image<'_>) -> Part<LoadConfig> {
             guard_cf_function_table_va: config.guard_cf_function_table,
             guard_cf_function_count: config.guard_cf_function_count,
             guard_flags: config.guard_flags.map(|flags| Flags::of(flags, GUARD_FLAGS)),
+            fields: fields(image),
             guards: guards::of(image),
         })
     });
     found.into()
+}
+
+#[cfg(test)]
+mod tests {
+    use super::*;
+
+    #[test]
+    fn the_names_of_fields_are_theirs() {
+        for (name, field) in LOAD_CONFIG_FIELDS.into_iter().zip(LoadConfigField::ALL) {
+            assert!(format!("{field:?}").eq_ignore_ascii_case(&name.replace('.', "")), "{name}, {field:?}");
+        }
+        assert!(LoadConfigField::ALL.iter().enumerate().all(|(index, it)| index == *it as usize));
+    }
 }

@@ -616,7 +616,9 @@ def load_config(image: Exact) -> Facts:
             "se_handler_count": it.se_handler_count, "guard_cf_check_function_pointer_va": it.guard_cf_check_function_pointer,
             "guard_cf_dispatch_function_pointer_va": it.guard_cf_dispatch_function_pointer,
             "guard_cf_function_table_va": it.guard_cf_function_table, "guard_cf_function_count": it.guard_cf_function_count,
-            "guard_flags": None if it.guard_flags is None else flags(it.guard_flags, names.GUARD_FLAGS), **guards(image, it)}
+            "guard_flags": None if it.guard_flags is None else flags(it.guard_flags, names.GUARD_FLAGS),
+            "fields": {name: image.core.load_config_field(i)[0] for i, name in enumerate(names.LOAD_CONFIG_FIELDS)},
+            **guards(image, it)}
     return part("load_config", image.read("load_config"), of)
 
 

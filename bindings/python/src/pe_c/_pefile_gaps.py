@@ -7,10 +7,11 @@ from __future__ import annotations
 EXPORT = "the library for C has no call for the fields of the export directory"
 TREE = "the library for C lists resources, not their directories"
 LENGTHS = "the library for C returns version blocks without their lengths and offsets"
-CONFIG = "pe_c.Image.load_config_field() has the fields of winnt.h that are not here"
+CONFIG = "pefile joins the names of two fields of PE32; each has its own here"
+RESERVED = "the library for C does not return what is reserved"
 DYNAMIC = "the library for C does not read dynamic relocations"
 WRITER = "the library writes certificates and resources alone: Image.attach, Image.detach, ResourceEditor"
-LOADED = "the module does not make these calls yet: pe_c_map, pe_c_relocate"
+LOADED = "get_memory_mapped_image() returns the image at another base; the file's bytes stay as they are"
 DUMP = "pe_c.Image.to_dict() has all values"
 PARTS = "each directory is read when its attribute is asked for"
 UNWIND = "pe_c.Image.unwind() has the records and codes"
@@ -47,15 +48,8 @@ GAPS: dict[str, str] = {
     **_all(NAMES, "OffsetModuleName Reserved", "IMAGE_BOUND_FORWARDER_REF."),
     **_all(INSIDE, "Data", "IMAGE_BASE_RELOCATION_ENTRY."),
     **_all(INSIDE, "struct", "RelocationData."),
-    **_all(CONFIG, "GlobalFlagsClear GlobalFlagsSet CriticalSectionDefaultTimeout DeCommitFreeBlockThreshold "
-                   "DeCommitTotalFreeThreshold LockPrefixTable MaximumAllocationSize VirtualMemoryThreshold ProcessHeapFlags "
-                   "ProcessAffinityMask CSDVersion Reserved1 EditList CodeIntegrityFlags CodeIntegrityCatalog "
-                   "CodeIntegrityCatalogOffset CodeIntegrityReserved GuardAddressTakenIatEntryTable "
-                   "GuardAddressTakenIatEntryCount GuardLongJumpTargetTable GuardLongJumpTargetCount DynamicValueRelocTable "
-                   "CHPEMetadataPointer GuardRFFailureRoutine GuardRFFailureRoutineFunctionPointer "
-                   "DynamicValueRelocTableOffset DynamicValueRelocTableSection Reserved2 "
-                   "GuardRFVerifyStackPointerFunctionPointer HotPatchTableOffset Reserved3 EnclaveConfigurationPointer "
-                   "GuardRFVerifyStackPointerFunctionPointerI", "IMAGE_LOAD_CONFIG_DIRECTORY."),
+    **_all(RESERVED, "Reserved2 Reserved3", "IMAGE_LOAD_CONFIG_DIRECTORY."),
+    **_all(CONFIG, "GuardRFVerifyStackPointerFunctionPointerI", "IMAGE_LOAD_CONFIG_DIRECTORY."),
     **_all(DYNAMIC, "dynamic_relocations", "LoadConfigData."),
     **_all(DYNAMIC, "has_dynamic_relocs parse_dynamic_relocations", "PE."),
     **_all(DYNAMIC, "PageRelativeOffset IndirectCall IATIndex", "IMAGE_IMPORT_CONTROL_TRANSFER_DYNAMIC_RELOCATION."),
@@ -76,7 +70,7 @@ GAPS: dict[str, str] = {
                    "set_qword_at_offset set_bytes_at_rva set_bytes_at_offset set_data_bytes merge_modified_section_data", "PE."),
     **_all(WRITER, "set_file_offset", "Structure."),
     **_all(WRITER, "AddressSet set_flags set_format set_bitfields_format"),
-    **_all(LOADED, "get_memory_mapped_image relocate_image", "PE."),
+    **_all(LOADED, "relocate_image", "PE."),
     **_all(DUMP, "print_info dump_info dump_dict", "PE."),
     **_all(DUMP, "dump dump_dict", "Structure."),
     **_all(DUMP, "dump dump_dict", "StructureWithBitfields."),

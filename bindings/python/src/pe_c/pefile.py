@@ -18,6 +18,7 @@ from typing import Any
 
 from . import _image, _pefile_tables as _tables, _row_names as _rows
 from ._kinds import Kind
+from ._names import LOAD_CONFIG_FIELDS
 from ._ordinals import ORDINALS
 from ._part import Error, Part, entropy_of
 from ._pefile_gaps import NotInPeC as NotInPeC, missing as _missing
@@ -527,7 +528,9 @@ _CONFIG = {"Size": "size", "TimeDateStamp": "time_date_stamp", "MajorVersion": "
            "GuardCFCheckFunctionPointer": "guard_cf_check_function_pointer",
            "GuardCFDispatchFunctionPointer": "guard_cf_dispatch_function_pointer",
            "GuardCFFunctionTable": "guard_cf_function_table", "GuardCFFunctionCount": "guard_cf_function_count",
-           "GuardFlags": "guard_flags"}
+           "GuardFlags": "guard_flags", "Reserved1": "dependent_load_flags"}
+# Those of the other fields that pefile has, by their numbers; it reads none that Windows added later.
+_CONFIG_FIELDS = [it.replace(".", "") for it in LOAD_CONFIG_FIELDS[:LOAD_CONFIG_FIELDS.index("VolatileMetadataPointer")]]
 
 
 def _read_load_config(pe: PE) -> LoadConfigData | None:
@@ -535,8 +538,10 @@ def _read_load_config(pe: PE) -> LoadConfigData | None:
     it = pe._value("load_config")
     if it is None:
         return None
-    fields = {name: getattr(it, own) for name, own in _CONFIG.items() if getattr(it, own) is not None}
-    return LoadConfigData(struct=Structure("IMAGE_LOAD_CONFIG_DIRECTORY", None, **fields))
+    fields = {name: getattr(it, own) for name, own in _CONFIG.items()}
+    fields.update((name, pe._image.load_config_field(i)) for i, name in enumerate(_CONFIG_FIELDS))
+    there = {name: value for name, value in fields.items() if value is not None}
+    return LoadConfigData(struct=Structure("IMAGE_LOAD_CONFIG_DIRECTORY", None, **there))
 
 
 def _read_bound_imports(pe: PE) -> list[BoundImportDescData]:
@@ -880,6 +885,17 @@ class PE:
     def trim(self) -> bytes:
         """The file without its overlay."""
         return self.__data__[:self.get_overlay_data_start_offset()]
+
+    def get_memory_mapped_image(self, max_virtual_address: int = 0x10000000, ImageBase: int | None = None) -> bytes:
+        """The image as a loader lays it out, as many bytes as SizeOfImage says, at another base where one is named and there are base
+        relocations. The file's bytes stay as they are. Raises PEFormatError where SizeOfImage is more than max_virtual_address."""
+        if self.OPTIONAL_HEADER.SizeOfImage > max_virtual_address:
+            raise PEFormatError(f"SizeOfImage is {self.OPTIONAL_HEADER.SizeOfImage:#x}, more than max_virtual_address")
+        try:
+            mapped = self._image.map(ImageBase)
+        except Error as error:
+            raise PEFormatError(str(error)) from None
+        return self._image.map() or b"" if mapped is None else mapped
 
     def has_relocs(self) -> bool:
         return hasattr(self, "DIRECTORY_ENTRY_BASERELOC")
