@@ -2,27 +2,13 @@
  *
  * Of the exports that have a name MOST are read, by pe_c_list_exports or pe_c_next_export, or MOST RVAs are mapped by pe_c_offset. How
  * many there are is printed. The text `index` makes the index alone where MOST is 0. */
-#include "pe.h"
+#include "reading.h"
 
 #include <stdio.h>
 #include <stdlib.h>
 #include <string.h>
 
 enum { ENTRIES = 64 };
-
-static uint8_t *read_all(const char *name, size_t *length)
-{
-    FILE *file = fopen(name, "rb");
-    if (file == NULL || fseek(file, 0, SEEK_END) != 0)
-        return NULL;
-    *length = (size_t)ftell(file);
-    rewind(file);
-    uint8_t *bytes = malloc(*length + 1);
-    if (bytes != NULL && fread(bytes, 1, *length, file) != *length)
-        return NULL;
-    fclose(file);
-    return bytes;
-}
 
 /* The exports of a view that have a name, MOST at most, several in a call. */
 static uint64_t list_exports(const pe_c_view *view, uint64_t most)
@@ -70,17 +56,11 @@ int main(int argc, char **argv)
     pe_c_view view = PE_C_EMPTY;
     pe_c_image_info image = PE_C_EMPTY;
     uint8_t *bytes = read_all(argv[1], &view.length);
-    if (bytes == NULL || pe_c_image(bytes, view.length, PE_C_PERMISSIVE, &image) != PE_C_DONE)
+    if (bytes == NULL || !read_view(bytes, &image, &view))
         return 1;
-    pe_c_section *sections = calloc(image.number_of_sections, sizeof *sections);
-    pe_c_index_entry *index = calloc(4 * (size_t)image.number_of_sections, sizeof *index);
-    if (sections == NULL || index == NULL ||
-        pe_c_sections(bytes, view.length, &image, sections, image.number_of_sections) != PE_C_DONE)
+    pe_c_index_entry *index = calloc(4 * view.count, sizeof *index);
+    if (index == NULL)
         return 1;
-    view.bytes = bytes;
-    view.image = &image;
-    view.sections = sections;
-    view.count = image.number_of_sections;
     if (strcmp(argv[2], "index") == 0) {
         uint64_t entries = 0;
         if (pe_c_index(&view, index, 4 * view.count, &entries) != PE_C_DONE)
@@ -93,7 +73,7 @@ int main(int argc, char **argv)
                                           : strcmp(argv[3], "step") == 0 ? step_exports(&view, most)
                                                                          : map_offsets(&view, most)));
     free(bytes);
-    free(sections);
+    free((void *)view.sections);
     free(index);
     return 0;
 }

@@ -16,7 +16,7 @@ KINDS = {
     "imports-one-place": "all import records and entries naming one long text",
     "imports-one-text": "all import records and entries at places inside one long text",
     "imports-ordinary": "libraries of 30 imports with names of 20 bytes, side by side",
-    "sections": "export names behind 65,535 sections, of which the last covers them",
+    "sections": "export names under 65,535 sections, of which the last covers them",
     "libraries-falling": "libraries in falling order",
     "libraries-equal": "libraries all equal, at one place",
     "libraries-same": "libraries all equal, each at a place of its own",
@@ -108,10 +108,10 @@ def imports(kind, out, size):
     elif kind == "imports-ordinary":
         texts = b"".join(b"library%06d.dll\0\0\0" % i for i in range(count))
         names = [text + 20 * i for i in range(count)]
-        behind = text + len(texts)
+        following = text + len(texts)
         texts += b"".join(b"\1\0name_of_%08x\0\0" % i for i in range(per_record * count))
         for i in range(count):
-            entries += [BASE + behind + 20 * (per_record * i + k) for k in range(per_record)] + [0]
+            entries += [BASE + following + 20 * (per_record * i + k) for k in range(per_record)] + [0]
     else:
         step = length // (2 * count + 2)
         texts = b"a" * length + b"\0"

@@ -3,7 +3,7 @@
  * `together` lists them by one call with room for all, which reads the names together, `alone` by calls of 64 entries, or of symbols
  * by a call for each. Of imports those of one library are listed, the first. How many there are is printed, and the milliseconds of
  * the processor that the calls took. */
-#include "pe.h"
+#include "reading.h"
 
 #include <stdio.h>
 #include <stdlib.h>
@@ -11,20 +11,6 @@
 #include <time.h>
 
 enum { ENTRIES = 64 };
-
-static uint8_t *read_all(const char *name, size_t *length)
-{
-    FILE *file = fopen(name, "rb");
-    if (file == NULL || fseek(file, 0, SEEK_END) != 0)
-        return NULL;
-    *length = (size_t)ftell(file);
-    rewind(file);
-    uint8_t *bytes = malloc(*length + 1);
-    if (bytes != NULL && fread(bytes, 1, *length, file) != *length)
-        return NULL;
-    fclose(file);
-    return bytes;
-}
 
 /* A function that lists all that a walk has left: with these runs by one call, else some a call. */
 #define LISTS(name, walk_type, entry_type, alone, together) \
@@ -111,19 +97,11 @@ int main(int argc, char **argv)
     if (strcmp(argv[2], "symbols") == 0) {
         count = list_symbols(bytes, view.length, runs, most);
     } else {
-        if (pe_c_image(bytes, view.length, PE_C_PERMISSIVE, &image) != PE_C_DONE)
+        if (!read_view(bytes, &image, &view))
             return 1;
-        pe_c_section *sections = calloc(image.number_of_sections, sizeof *sections);
-        if (sections == NULL ||
-            pe_c_sections(bytes, view.length, &image, sections, image.number_of_sections) != PE_C_DONE)
-            return 1;
-        view.bytes = bytes;
-        view.image = &image;
-        view.sections = sections;
-        view.count = image.number_of_sections;
         start = clock();
         count = list(&view, argv[2], runs, most);
-        free(sections);
+        free((void *)view.sections);
     }
     printf("%llu entries, %.0f ms\n", (unsigned long long)count, 1000.0 * (double)(clock() - start) / CLOCKS_PER_SEC);
     free(bytes);

@@ -36,11 +36,5 @@ int main(int argc, char **argv)
         result = pe_c_attach(&view, certificate, entry, PE_C_IN_PLACE, written, sizeof written, &end);
     if (result != PE_C_DONE)
         return status_of(result);
-    FILE *out = fopen(argv[3], "wbx");
-    int is_whole = out != NULL && fwrite(written, 1, (size_t)end, out) == end;
-    if (out == NULL || fclose(out) != 0 || !is_whole) {
-        perror(argv[3]);
-        return 3;
-    }
-    return 0;
+    return write_file(argv[3], written, (size_t)end);
 }

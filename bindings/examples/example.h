@@ -27,6 +27,18 @@ static size_t read_file(const char *name, uint8_t *room, size_t size)
     return length;
 }
 
+/* Writes a new file of these bytes. Returns the status by which a program ends: 0, or 3 with the reason on standard error. */
+static inline int write_file(const char *name, const uint8_t *bytes, size_t length)
+{
+    FILE *out = fopen(name, "wbx");
+    int is_whole = out != NULL && fwrite(bytes, 1, length, out) == length;
+    if (out == NULL || fclose(out) != 0 || !is_whole) {
+        perror(name);
+        return 3;
+    }
+    return 0;
+}
+
 enum { MOST_SECTIONS = 96 };    /* of the Windows loader */
 
 /* Reads an image: its file, its headers and its section headers. The view is of these, and stays until the next call. */

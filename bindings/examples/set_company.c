@@ -70,11 +70,5 @@ int main(int argc, char **argv)
         fprintf(stderr, "%s is not changed\n", argv[1]);
         return 1;
     }
-    FILE *out = fopen(argv[3], "wbx");
-    int is_whole = out != NULL && fwrite(written, 1, (size_t)end, out) == end;
-    if (out == NULL || fclose(out) != 0 || !is_whole) {
-        perror(argv[3]);
-        return 3;
-    }
-    return 0;
+    return write_file(argv[3], written, (size_t)end);
 }

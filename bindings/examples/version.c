@@ -8,25 +8,13 @@
 #include <stdio.h>
 
 static pe_c_view view;
+/* Three bytes of UTF-8 for each code unit of the longest text. */
+static uint8_t name[3 << 15];
 
 /* A version is four numbers of 16 bits in two of 32. */
 static void show_numbers(const char *what, uint32_t ms, uint32_t ls)
 {
     printf("%s %" PRIu32 ".%" PRIu32 ".%" PRIu32 ".%" PRIu32 "\n", what, ms >> 16, ms & 0xFFFF, ls >> 16, ls & 0xFFFF);
-}
-
-/* The units of a text, little-endian, up to the first zero. What is no printable ASCII is shown as \uXXXX. */
-static void show_units(const pe_c_range *text)
-{
-    for (uint64_t i = 0; i + 1 < text->length; i += 2) {
-        unsigned unit = view.bytes[text->offset + i] | (unsigned)view.bytes[text->offset + i + 1] << 8;
-        if (unit == 0)
-            return;
-        if (unit >= ' ' && unit <= '~')
-            putchar((int)unit);
-        else
-            printf("\\u%04X", unit);
-    }
 }
 
 static uint32_t show_version(void)
@@ -40,9 +28,13 @@ static uint32_t show_version(void)
     }
     if (result == PE_C_DONE || result == PE_C_NOTHING)
         result = pe_c_version_text(&view, PE_C_PRODUCT_NAME, &text);
+    uint64_t length = 0;
+    if (result == PE_C_DONE)
+        result = pe_c_utf16_text(view.bytes, view.length, &text, name, sizeof name, &length);
     if (result == PE_C_DONE) {
+        pe_c_range shown = {0, length};
         printf("name ");
-        show_units(&text);
+        show_name(name, &shown);
         printf("\n");
     }
     return result;

@@ -434,7 +434,7 @@ function guardList(image, key, table, budget) {
   if (walk === null) return { ...said, [`${key}_is_limited`]: false };
   const flagsOf = (it) => (walk.flag_size ? flags(it.flags, names.GUARDED_FLAGS) : null);
   const of = (it) => (key === 'se_handlers' ? it.rva : { rva: it.rva, flags: flagsOf(it) });
-  // Each byte of an entry counts for an entry, so tables that share no bytes are shown whole: they can not use the budget up.
+  // Each byte of an entry counts for an entry, so tables that share no bytes are shown whole: they cannot use the budget up.
   const takes = budget.takes.bind(budget, ENTRY * (SIZE_OF_RVA + walk.flag_size));
   return list(key, image.items('pe_c_next_guard_entry', walk), (it) => (takes() ? of(it) : null));
 }

@@ -733,6 +733,14 @@ test('the memory of a minidump in order, and what in it is an image', () => {
   assert.equal(x64.call('pe_c_is_image_of', { image: { ...image, size_of_image: 0x6001 }, module }), null);
 });
 
+/** A minidump whose exception's stream has 4 bytes. */
+function withoutException(bytes) {
+  const damaged = Uint8Array.from(bytes), view = new DataView(damaged.buffer), directory = view.getUint32(12, true);
+  const rows = Array.from({ length: view.getUint32(8, true) }, (_, row) => directory + 12 * row);
+  view.setUint32(rows.find((row) => view.getUint32(row, true) === constants.PE_C_EXCEPTION_STREAM) + 4, 4, true);
+  return damaged;
+}
+
 // On ARM64 the record's last code takes the stack pointer from the frame pointer, which is 0 on this stack.
 test('the stacks of minidumps, on x64 and on ARM64', () => {
   for (const [name, image, rip, end, error] of [['x64', 'functions', 0x5000n, 'BOTTOM', undefined],
@@ -743,6 +751,11 @@ test('the stacks of minidumps, on x64 and on ARM64', () => {
     const [thread] = found.list('threads'), none = { ...thread, thread_context: {} };
     assert.deepEqual([found.contextOf(thread).registers, found.contextOf(none).registers], [registers, registers]);
     assert.equal(refused(() => found.contextOf({ ...none, thread_id: 1 })).constant, 'PE_C_DUMP_CONTEXT_SIZE');
+    // An exception that is damaged names no thread, so that each has its own registers alone.
+    const damaged = library.openDump(withoutException(bytes));
+    assert.ok(refused(() => damaged.exception()));
+    assert.deepEqual(damaged.contextOf(thread), damaged.context(thread.thread_context));
+    assert.equal(refused(() => damaged.contextOf(none)).constant, 'PE_C_DUMP_CONTEXT_SIZE');
     const process = library.process({ modules: [{ bytes: file(image), base: BASE }], memory: bytes, pieces });
     const walk = () => ({ registers, remaining: 9n }), one = walk(), several = walk(), frames = Array.from({ length: 4 }, () => ({}));
     const each = [...name === 'x64' ? process.frames(one) : process.arm64Frames(one)];

@@ -73,7 +73,7 @@ struct Tables<'i, 'a> {
 
 impl Tables<'_, '_> {
     /// The entries of a table up to the end of the file, as many as the budget has left. Each byte of an entry counts for an entry,
-    /// so tables that share no bytes are shown whole: they can not use the budget up.
+    /// so tables that share no bytes are shown whole: they cannot use the budget up.
     fn list<T: Entry>(&mut self, table: GuardTable, of: impl Fn(GuardEntry<'_>) -> T) -> Part<List<T>> {
         let found = self.image.guard_table(table).map(|entries| {
             entries.map(|entries| {
