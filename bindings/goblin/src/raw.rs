@@ -49,12 +49,14 @@ impl Refusal {
 }
 
 impl From<Refusal> for error::Error {
+    #[cold]
     fn from(it: Refusal) -> Self {
         error::Error::Malformed(it.text())
     }
 }
 
 /// What a call returned.
+#[inline(always)]
 fn returned<T>(number: u32, value: T) -> Result<Option<T>, Refusal> {
     match number {
         sys::DONE => Ok(Some(value)),
@@ -115,21 +117,23 @@ pub(crate) fn step<W, T>(
 /// an error.
 #[derive(Clone, Copy)]
 pub(crate) struct Batch<W, T, const ROOM: usize> {
-    walk: Option<W>,
+    walk: W,
+    is_over: bool,
     items: [T; ROOM],
     /// Of the items those that are not returned yet: the index of the first, and the index after the last.
     next: usize,
     end: usize,
 }
 
-impl<W: Copy, T: Copy + Default, const ROOM: usize> Batch<W, T, ROOM> {
+impl<W, T: Copy + Default, const ROOM: usize> Batch<W, T, ROOM> {
+    #[inline]
     pub fn new(walk: W) -> Self {
-        Batch { walk: Some(walk), items: [T::default(); ROOM], next: 0, end: 0 }
+        Batch { walk, is_over: false, items: [T::default(); ROOM], next: 0, end: 0 }
     }
 
     /// The walk after the items that were taken, or `None` where it is over.
-    pub fn walk(&self) -> Option<W> {
-        self.walk
+    pub fn walk(&self) -> Option<&W> {
+        (!self.is_over).then_some(&self.walk)
     }
 
     /// How many items were taken and are not returned yet.
@@ -137,37 +141,42 @@ impl<W: Copy, T: Copy + Default, const ROOM: usize> Batch<W, T, ROOM> {
         self.end - self.next
     }
 
-    /// The next item. `call` fills an array and says how many items it wrote, 0 at the end.
-    #[inline]
-    pub fn next(&mut self, call: impl FnOnce(&mut W, &mut [T]) -> Result<usize, Refusal>) -> Option<error::Result<T>> {
-        if self.next >= self.end {
-            if let Err(refusal) = self.fill(call)? {
-                return Some(Err(refusal.into()));
-            }
+    /// The next of the items that were taken.
+    #[inline(always)]
+    pub fn next(&mut self) -> Option<&T> {
+        if self.next == self.end {
+            return None;
         }
-        let item = self.items.get(self.next)?;
+        let item = self.items.get(self.next);
         self.next += 1;
-        Some(Ok(*item))
+        item
     }
 
-    // Out of line: most items are there already.
-    #[inline(never)]
-    fn fill(&mut self, call: impl FnOnce(&mut W, &mut [T]) -> Result<usize, Refusal>) -> Option<Result<(), Refusal>> {
-        let mut moved = self.walk.take()?;
-        match call(&mut moved, &mut self.items) {
-            Ok(0) => None,
-            Ok(written) => {
-                (self.walk, self.next, self.end) = (Some(moved), 0, written);
-                Some(Ok(()))
-            }
-            Err(refusal) => Some(Err(refusal)),
+    /// All items that were taken and are not returned yet.
+    #[inline(always)]
+    pub fn rest(&mut self) -> &[T] {
+        let items = self.items.get(self.next..self.end).unwrap_or_default();
+        self.next = self.end;
+        items
+    }
+
+    /// Takes more once all are returned, and returns them: `call` fills an array and says how many items it wrote, 0 at the end.
+    #[inline(always)]
+    pub fn fill(&mut self, call: impl FnOnce(&mut W, &mut [T]) -> Result<usize, Refusal>) -> Result<&[T], Refusal> {
+        if self.is_over {
+            return Ok(&[]);
         }
+        let written = call(&mut self.walk, &mut self.items);
+        (self.next, self.end) = (0, *written.as_ref().unwrap_or(&0));
+        self.is_over = self.end == 0;
+        Ok(self.items.get(..written?).unwrap_or(&self.items))
     }
 }
 
 impl<W: core::fmt::Debug, T, const ROOM: usize> core::fmt::Debug for Batch<W, T, ROOM> {
     fn fmt(&self, f: &mut core::fmt::Formatter<'_>) -> core::fmt::Result {
-        f.debug_struct("Batch").field("walk", &self.walk).field("taken", &(self.end - self.next)).finish()
+        let walk = (!self.is_over).then_some(&self.walk);
+        f.debug_struct("Batch").field("walk", &walk).field("taken", &(self.end - self.next)).finish()
     }
 }
 
@@ -236,8 +245,25 @@ pub(crate) fn sections_of(sections: &[SectionTable]) -> error::Result<Vec<Sectio
 /// and need no copy.
 #[inline]
 pub(crate) fn first_around(sections: &[SectionTable], rva: u32) -> Option<Section> {
-    let may_cover = |it: &&SectionTable| rva.wrapping_sub(it.virtual_address) & !0xfff < it.size_of_raw_data;
-    sections.iter().find(may_cover).map(section_of)
+    let may_cover = |it: &SectionTable| rva.wrapping_sub(it.virtual_address) & !0xfff < it.size_of_raw_data;
+    let (mut rest, mut found) = (sections, None);
+    // Four at a time: the more sections come first, the more of a record's time is this.
+    while let [a, b, c, d, more @ ..] = rest {
+        found = if may_cover(a) {
+            Some(a)
+        } else if may_cover(b) {
+            Some(b)
+        } else if may_cover(c) {
+            Some(c)
+        } else if may_cover(d) {
+            Some(d)
+        } else {
+            rest = more;
+            continue;
+        };
+        break;
+    }
+    found.or_else(|| rest.iter().find(|it| may_cover(it))).map(section_of)
 }
 
 pub(crate) fn section_of(it: &SectionTable) -> Section {
@@ -384,8 +410,20 @@ impl<'a> View<'a, '_> {
     }
 
     /// The image as the library takes it, for a call that ends before what it borrows.
+    #[inline]
     fn lent(&self) -> sys::View {
         sys::View::of(self.bytes, self.info, self.sections, self.index)
+    }
+
+    /// The unwind record of an unwind RVA, which is written to `out`: as the other calls of an image, but that nothing is moved.
+    #[inline]
+    pub fn unwind_record(&self, table: &Range, unwind: u32, out: &mut sys::Record) -> Result<(), Refusal> {
+        // SAFETY: the view is of what is borrowed for the call; the table and `out` are lent for it, and the library requires
+        // nothing else.
+        match unsafe { sys::pe_c_unwind_record(&self.lent(), table, unwind, out) } {
+            sys::DONE => Ok(()),
+            number => Err(Refusal(number)),
+        }
     }
 
     /// The file offset of an RVA; in an image as loaded the RVA itself.
@@ -413,6 +451,7 @@ pub(crate) fn sections(bytes: &[u8], info: &ImageInfo) -> error::Result<Vec<Sect
 /// Makes functions of calls that take the bytes first.
 macro_rules! calls_of_bytes {
     ($($name:ident: $call:ident($($more:ident: $kind:ty),*) -> $out:ty;)*) => { $(
+        #[inline]
         pub(crate) fn $name(bytes: &[u8], $($more: $kind),*) -> Result<Option<$out>, Refusal> {
             let mut out = <$out>::default();
             // SAFETY: the pointer and the length are those of one slice; the other arguments and `out` are lent for the
@@ -466,6 +505,7 @@ calls_of_bytes! {
 /// Makes methods of calls that write the next items of a walk to an array. They return how many they wrote, 0 at the end.
 macro_rules! lists_of_an_image {
     ($($name:ident: $call:ident($($more:ident: $kind:ty),*) over $walk:ty => $item:ty;)*) => { impl View<'_, '_> { $(
+        #[inline]
         pub fn $name(&self, $($more: $kind,)* walk: &mut $walk, room: &mut [$item]) -> Result<usize, Refusal> {
             let (view, mut written) = (self.lent(), 0);
             // SAFETY: as below; the pointer and the length are those of one array, and the walk is lent for the call.
@@ -508,6 +548,7 @@ lists_of_names! {
 /// Makes methods of calls that take an image first.
 macro_rules! calls_of_an_image {
     ($($name:ident: $call:ident($($more:ident: $kind:ty),*) -> $out:ty;)*) => { impl View<'_, '_> { $(
+        #[inline]
         pub fn $name(&self, $($more: $kind),*) -> Result<Option<$out>, Refusal> {
             let (view, mut out) = (self.lent(), <$out>::default());
             // SAFETY: the view is of what is borrowed for the call; the other arguments and `out` are lent for it, and the
@@ -524,7 +565,6 @@ calls_of_an_image! {
     digest_ranges: pe_c_digest_ranges() -> sys::Digest;
     debug_entries: pe_c_debug_entries() -> Range;
     function_table: pe_c_function_table() -> Range;
-    unwind_record: pe_c_unwind_record(table: &Range, unwind: u32) -> sys::Record;
     arm64_table: pe_c_arm64_table() -> Range;
     arm64_unwind_record: pe_c_arm64_unwind_record(function: &sys::Arm64Function) -> sys::Arm64Record;
     export_tables: pe_c_export_tables() -> sys::Exports;
