@@ -4,8 +4,8 @@
 //! these is legal, and the contract of a call says what it returns for each. So a function of goblin that takes a directory
 //! alone is the call over a record with that directory.
 //!
-//! What no call returns is read in `plain`, and nowhere else; `objects` has what an offset comes with, `names` how lists of names are
-//! taken. `tools/try_goblin --check` looks for reads elsewhere.
+//! What no call returns is read in `plain`, and nowhere else: its head lists each read. `objects` has what an offset comes with, `names`
+//! how lists of names are taken. `tools/try_goblin --check` refuses reads elsewhere, and one that its own list does not have.
 
 mod names;
 mod objects;
@@ -42,19 +42,21 @@ impl Refusal {
     /// The library's text.
     pub fn text(self) -> String {
         let mut room = [0; 128];
-        // SAFETY: the pointer and the length are those of one array.
+        // SAFETY: the pointer and the length are those of one array, and the library requires nothing else.
         let length = unsafe { sys::pe_c_text(self.0, room.as_mut_ptr(), room.len()) };
         String::from_utf8_lossy(room.get(..length).unwrap_or(&room)).into_owned()
     }
 }
 
 impl From<Refusal> for error::Error {
+    #[cold]
     fn from(it: Refusal) -> Self {
         error::Error::Malformed(it.text())
     }
 }
 
 /// What a call returned.
+#[inline(always)]
 fn returned<T>(number: u32, value: T) -> Result<Option<T>, Refusal> {
     match number {
         sys::DONE => Ok(Some(value)),
@@ -69,14 +71,39 @@ pub(crate) fn slice(bytes: &[u8], range: Range) -> error::Result<&[u8]> {
     Ok(range.of(bytes).ok_or(Refusal::SHORT)?)
 }
 
-/// The text of a range that a call returned as a name.
+/// The text of a range that a call returned as a name, in the bytes that the call read.
 #[inline]
 pub(crate) fn text(bytes: &[u8], range: Range) -> error::Result<&str> {
     let name = slice(bytes, range)?;
     debug_assert!(core::str::from_utf8(name).is_ok(), "a name that a call returned is not UTF-8");
-    // SAFETY: a name that a call returns is UTF-8, by the contract of that call, which is proved: of exports, forwarders, libraries,
-    // imports, sections and symbols. To test it here again cost a seventh of `PE::parse`.
+    // SAFETY: all who call this pass a name that a call returned, which is UTF-8 by the contract of that call: of a DLL and of
+    // forwarders by pe_c_export_addresses and pe_c_export_at, of exports, libraries and imports by their lists, of sections by
+    // pe_c_long_section_name, and of symbols by pe_c_symbol_name. To test it again cost a seventh of `PE::parse`.
     Ok(unsafe { core::str::from_utf8_unchecked(name) })
+}
+
+/// The bytes at an offset that a caller names up to a zero or the end, and whether a zero follows them.
+fn up_to_zero(bytes: &[u8], at: usize) -> error::Result<(&[u8], bool)> {
+    let found = text_in(bytes, &rest(bytes, at)).ok().flatten().ok_or(scroll::Error::BadOffset(at))?;
+    Ok((slice(bytes, found.text)?, found.is_terminated != 0))
+}
+
+/// The text at an offset that a caller names, up to a zero or the end.
+pub(crate) fn text_up_to_zero(bytes: &[u8], at: usize) -> error::Result<&str> {
+    let (text, _) = up_to_zero(bytes, at)?;
+    core::str::from_utf8(text).map_err(|_| not_utf8(text))
+}
+
+/// The NUL-terminated text at an offset that a caller names.
+pub(crate) fn text_at(bytes: &[u8], at: usize) -> Option<&str> {
+    match up_to_zero(bytes, at) {
+        Ok((text, true)) => core::str::from_utf8(text).ok(),
+        _ => None,
+    }
+}
+
+fn not_utf8(text: &[u8]) -> error::Error {
+    scroll::Error::BadInput { size: text.len(), msg: "invalid utf8" }.into()
 }
 
 /// All of the bytes, as a walk.
@@ -115,21 +142,23 @@ pub(crate) fn step<W, T>(
 /// an error.
 #[derive(Clone, Copy)]
 pub(crate) struct Batch<W, T, const ROOM: usize> {
-    walk: Option<W>,
+    walk: W,
+    is_over: bool,
     items: [T; ROOM],
     /// Of the items those that are not returned yet: the index of the first, and the index after the last.
     next: usize,
     end: usize,
 }
 
-impl<W: Copy, T: Copy + Default, const ROOM: usize> Batch<W, T, ROOM> {
+impl<W, T: Copy + Default, const ROOM: usize> Batch<W, T, ROOM> {
+    #[inline]
     pub fn new(walk: W) -> Self {
-        Batch { walk: Some(walk), items: [T::default(); ROOM], next: 0, end: 0 }
+        Batch { walk, is_over: false, items: [T::default(); ROOM], next: 0, end: 0 }
     }
 
     /// The walk after the items that were taken, or `None` where it is over.
-    pub fn walk(&self) -> Option<W> {
-        self.walk
+    pub fn walk(&self) -> Option<&W> {
+        (!self.is_over).then_some(&self.walk)
     }
 
     /// How many items were taken and are not returned yet.
@@ -137,37 +166,42 @@ impl<W: Copy, T: Copy + Default, const ROOM: usize> Batch<W, T, ROOM> {
         self.end - self.next
     }
 
-    /// The next item. `call` fills an array and says how many items it wrote, 0 at the end.
-    #[inline]
-    pub fn next(&mut self, call: impl FnOnce(&mut W, &mut [T]) -> Result<usize, Refusal>) -> Option<error::Result<T>> {
-        if self.next >= self.end {
-            if let Err(refusal) = self.fill(call)? {
-                return Some(Err(refusal.into()));
-            }
+    /// The next of the items that were taken.
+    #[inline(always)]
+    pub fn next(&mut self) -> Option<&T> {
+        if self.next == self.end {
+            return None;
         }
-        let item = self.items.get(self.next)?;
+        let item = self.items.get(self.next);
         self.next += 1;
-        Some(Ok(*item))
+        item
     }
 
-    // Out of line: most items are there already.
-    #[inline(never)]
-    fn fill(&mut self, call: impl FnOnce(&mut W, &mut [T]) -> Result<usize, Refusal>) -> Option<Result<(), Refusal>> {
-        let mut moved = self.walk.take()?;
-        match call(&mut moved, &mut self.items) {
-            Ok(0) => None,
-            Ok(written) => {
-                (self.walk, self.next, self.end) = (Some(moved), 0, written);
-                Some(Ok(()))
-            }
-            Err(refusal) => Some(Err(refusal)),
+    /// All items that were taken and are not returned yet.
+    #[inline(always)]
+    pub fn rest(&mut self) -> &[T] {
+        let items = self.items.get(self.next..self.end).unwrap_or_default();
+        self.next = self.end;
+        items
+    }
+
+    /// Takes more once all are returned, and returns them: `call` fills an array and says how many items it wrote, 0 at the end.
+    #[inline(always)]
+    pub fn fill(&mut self, call: impl FnOnce(&mut W, &mut [T]) -> Result<usize, Refusal>) -> Result<&[T], Refusal> {
+        if self.is_over {
+            return Ok(&[]);
         }
+        let written = call(&mut self.walk, &mut self.items);
+        (self.next, self.end) = (0, *written.as_ref().unwrap_or(&0));
+        self.is_over = self.end == 0;
+        Ok(self.items.get(..written?).unwrap_or(&self.items))
     }
 }
 
 impl<W: core::fmt::Debug, T, const ROOM: usize> core::fmt::Debug for Batch<W, T, ROOM> {
     fn fmt(&self, f: &mut core::fmt::Formatter<'_>) -> core::fmt::Result {
-        f.debug_struct("Batch").field("walk", &self.walk).field("taken", &(self.end - self.next)).finish()
+        let walk = (!self.is_over).then_some(&self.walk);
+        f.debug_struct("Batch").field("walk", &walk).field("taken", &(self.end - self.next)).finish()
     }
 }
 
@@ -236,8 +270,25 @@ pub(crate) fn sections_of(sections: &[SectionTable]) -> error::Result<Vec<Sectio
 /// and need no copy.
 #[inline]
 pub(crate) fn first_around(sections: &[SectionTable], rva: u32) -> Option<Section> {
-    let may_cover = |it: &&SectionTable| rva.wrapping_sub(it.virtual_address) & !0xfff < it.size_of_raw_data;
-    sections.iter().find(may_cover).map(section_of)
+    let may_cover = |it: &SectionTable| rva.wrapping_sub(it.virtual_address) & !0xfff < it.size_of_raw_data;
+    let (mut rest, mut found) = (sections, None);
+    // Four at a time: the more sections come first, the more of a record's time is this.
+    while let [a, b, c, d, more @ ..] = rest {
+        found = if may_cover(a) {
+            Some(a)
+        } else if may_cover(b) {
+            Some(b)
+        } else if may_cover(c) {
+            Some(c)
+        } else if may_cover(d) {
+            Some(d)
+        } else {
+            rest = more;
+            continue;
+        };
+        break;
+    }
+    found.or_else(|| rest.iter().find(|it| may_cover(it))).map(section_of)
 }
 
 pub(crate) fn section_of(it: &SectionTable) -> Section {
@@ -310,7 +361,7 @@ pub(crate) fn image_with(
 
 /// Of bytes that a list reads without an image.
 static NO_IMAGE: ImageInfo =
-    // SAFETY: all fields are numbers, of which 0 is one.
+    // SAFETY: all fields are numbers or arrays of them, which may be zeros.
     unsafe { MaybeUninit::zeroed().assume_init() };
 
 /// An image as loaded, of whatever bytes: its RVAs are their offsets.
@@ -354,7 +405,8 @@ impl<'a, 's> View<'a, 's> {
         let count = 4 * self.sections.len();
         let (mut room, mut written) = (list(count)?, 0);
         room.resize(count, sys::IndexEntry::default());
-        // SAFETY: the view is of what is borrowed for the call, and the pointer and the length are those of one array.
+        // SAFETY: the view is of what is borrowed for the call; the pointer and the length are those of one array, and the library
+        // requires nothing else.
         let number = unsafe { sys::pe_c_index(&self.lent(), room.as_mut_ptr(), count, &mut written) };
         returned(number, ())?;
         room.truncate(written as usize);
@@ -384,8 +436,20 @@ impl<'a> View<'a, '_> {
     }
 
     /// The image as the library takes it, for a call that ends before what it borrows.
+    #[inline]
     fn lent(&self) -> sys::View {
         sys::View::of(self.bytes, self.info, self.sections, self.index)
+    }
+
+    /// The unwind record of an unwind RVA, which is written to `out`: as the other calls of an image, but that nothing is moved.
+    #[inline]
+    pub fn unwind_record(&self, table: &Range, unwind: u32, out: &mut sys::Record) -> Result<(), Refusal> {
+        // SAFETY: the view is of what is borrowed for the call; the table and `out` are lent for it, and the library requires
+        // nothing else.
+        match unsafe { sys::pe_c_unwind_record(&self.lent(), table, unwind, out) } {
+            sys::DONE => Ok(()),
+            number => Err(Refusal(number)),
+        }
     }
 
     /// The file offset of an RVA; in an image as loaded the RVA itself.
@@ -404,7 +468,8 @@ pub(crate) fn sections(bytes: &[u8], info: &ImageInfo) -> error::Result<Vec<Sect
     let count = usize::from(info.number_of_sections);
     let mut room = list(count)?;
     room.resize(count, Section::default());
-    // SAFETY: the pointers and lengths are those of one slice and of one array, the record is lent for the call.
+    // SAFETY: the first pointer and length are those of one slice, the others those of one array; the record is lent for the call, and
+    // the library requires nothing else.
     let number = unsafe { sys::pe_c_sections(bytes.as_ptr(), bytes.len(), info, room.as_mut_ptr(), room.len()) };
     returned(number, ())?;
     Ok(room)
@@ -413,6 +478,7 @@ pub(crate) fn sections(bytes: &[u8], info: &ImageInfo) -> error::Result<Vec<Sect
 /// Makes functions of calls that take the bytes first.
 macro_rules! calls_of_bytes {
     ($($name:ident: $call:ident($($more:ident: $kind:ty),*) -> $out:ty;)*) => { $(
+        #[inline]
         pub(crate) fn $name(bytes: &[u8], $($more: $kind),*) -> Result<Option<$out>, Refusal> {
             let mut out = <$out>::default();
             // SAFETY: the pointer and the length are those of one slice; the other arguments and `out` are lent for the
@@ -455,6 +521,7 @@ calls_of_bytes! {
     fixed_version_in: pe_c_fixed_version_in(content: &Range) -> sys::Version;
     version_text_in: pe_c_version_text_in(content: &Range, name: u32) -> Range;
     next_relocation_block: pe_c_next_relocation_block(walk: &mut Range) -> sys::RelocationBlock;
+    text_in: pe_c_text_in(range: &Range) -> sys::TextInBytes;
 }
 
 #[cfg(feature = "te")]
@@ -466,9 +533,11 @@ calls_of_bytes! {
 /// Makes methods of calls that write the next items of a walk to an array. They return how many they wrote, 0 at the end.
 macro_rules! lists_of_an_image {
     ($($name:ident: $call:ident($($more:ident: $kind:ty),*) over $walk:ty => $item:ty;)*) => { impl View<'_, '_> { $(
+        #[inline]
         pub fn $name(&self, $($more: $kind,)* walk: &mut $walk, room: &mut [$item]) -> Result<usize, Refusal> {
             let (view, mut written) = (self.lent(), 0);
-            // SAFETY: as below; the pointer and the length are those of one array, and the walk is lent for the call.
+            // SAFETY: the view is of what is borrowed for the call; the pointer and the length are those of one array; the walk and
+            // the other arguments are lent for it, and the library requires nothing else.
             let number =
                 unsafe { sys::$call(&view, $($more,)* walk, room.as_mut_ptr(), room.len(), &mut written) };
             Ok(returned(number, written)?.unwrap_or(0) as usize)
@@ -479,6 +548,8 @@ macro_rules! lists_of_an_image {
 lists_of_an_image! {
     list_functions: pe_c_list_functions(table: &Range) over u64 => sys::Function;
     list_codes: pe_c_list_codes() over sys::Walk => sys::Code;
+    list_export_addresses: pe_c_list_export_addresses(table: &sys::AddressTable) over u64 => sys::Exported;
+    list_relocations: pe_c_list_relocations(page_rva: u32) over Range => sys::Relocation;
     list_arm64_codes: pe_c_list_arm64_codes() over sys::Arm64Walk => sys::Arm64Code;
 }
 
@@ -487,7 +558,8 @@ macro_rules! lists_of_names {
     ($($name:ident: $alone:ident, $together:ident over $walk:ty => $item:ty;)*) => { impl View<'_, '_> { $(
         fn $name(&self, walk: &mut $walk, runs: &mut [sys::Run], room: &mut [$item]) -> Result<usize, Refusal> {
             let (view, items, count, mut written) = (self.lent(), room.as_mut_ptr(), room.len(), 0);
-            // SAFETY: as below; each pointer and the length after it are those of one array, and the walk is lent for the call.
+            // SAFETY: the view is of what is borrowed for the call; each pointer and the length after it are those of one array; the
+            // walk is lent for it, and the library requires nothing else.
             let number = unsafe {
                 match runs.len() {
                     0 => sys::$alone(&view, walk, items, count, &mut written),
@@ -508,6 +580,7 @@ lists_of_names! {
 /// Makes methods of calls that take an image first.
 macro_rules! calls_of_an_image {
     ($($name:ident: $call:ident($($more:ident: $kind:ty),*) -> $out:ty;)*) => { impl View<'_, '_> { $(
+        #[inline]
         pub fn $name(&self, $($more: $kind),*) -> Result<Option<$out>, Refusal> {
             let (view, mut out) = (self.lent(), <$out>::default());
             // SAFETY: the view is of what is borrowed for the call; the other arguments and `out` are lent for it, and the
@@ -524,7 +597,6 @@ calls_of_an_image! {
     digest_ranges: pe_c_digest_ranges() -> sys::Digest;
     debug_entries: pe_c_debug_entries() -> Range;
     function_table: pe_c_function_table() -> Range;
-    unwind_record: pe_c_unwind_record(table: &Range, unwind: u32) -> sys::Record;
     arm64_table: pe_c_arm64_table() -> Range;
     arm64_unwind_record: pe_c_arm64_unwind_record(function: &sys::Arm64Function) -> sys::Arm64Record;
     export_tables: pe_c_export_tables() -> sys::Exports;
@@ -538,6 +610,7 @@ calls_of_an_image! {
     tls_callbacks: pe_c_tls_callbacks(tls: &sys::TlsDirectory) -> Range;
     next_tls_callback: pe_c_next_tls_callback(walk: &mut Range) -> u64;
     load_config: pe_c_load_config() -> sys::LoadConfig;
+    load_config_field: pe_c_load_config_field(field: u32) -> u64;
     relocation_blocks: pe_c_relocation_blocks() -> Range;
     clr_header: pe_c_clr_header() -> sys::ClrHeader;
     clr_metadata: pe_c_clr_metadata(header: &sys::ClrHeader) -> sys::Metadata;

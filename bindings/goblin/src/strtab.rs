@@ -48,7 +48,10 @@ impl<'a> Strtab<'a> {
 
     /// The text at an offset, or `None` past the end. Error: `Malformed` where it is not UTF-8.
     pub fn get(&self, offset: usize) -> Option<error::Result<&'a str>> {
-        (offset < self.bytes.len()).then(|| raw::text_up_to(self.bytes, offset, self.delim))
+        (offset < self.bytes.len()).then(|| match self.delim {
+            0 => raw::text_up_to_zero(self.bytes, offset),
+            end => raw::text_up_to(self.bytes, offset, end),
+        })
     }
 
     /// The same, and `None` also where it is not UTF-8.

@@ -3,12 +3,19 @@
 
 use goblin::error::Error;
 use goblin::pe::data_directories::DataDirectory;
+use goblin::pe::exception::{
+    ExceptionData, Register, RuntimeFunctionIterator, UnwindCode, UnwindInfo, UnwindOperation,
+};
+use goblin::pe::export::ExportData;
 use goblin::pe::header::{Header, COFF_MACHINE_X86_64, PE_MAGIC};
 use goblin::pe::import::{Import, ImportData};
+use goblin::pe::load_config::LoadConfigData;
 use goblin::pe::options::{Limits, ParseMode, ParseOptions};
+use goblin::pe::relocation::RelocationData;
 use goblin::pe::section_table::SectionTable;
 use goblin::pe::utils::find_offset;
 use goblin::pe::{Coff, PE};
+use goblin::strtab::Strtab;
 use scroll::{Pread, Pwrite};
 
 /// An x64 image of a DLL: some code, exception data, a debug record.
@@ -321,4 +328,129 @@ fn headers_stand_alone() {
     let found = header.optional_header.unwrap();
     assert_eq!((alone.standard_fields, alone.windows_fields), (found.standard_fields, found.windows_fields));
     assert!(Coff::parse(&IMAGE[pe_offset() + 4..]).is_ok());
+}
+
+/// Of an image as loaded, whose RVAs are offsets.
+fn as_loaded() -> ParseOptions {
+    ParseOptions { resolve_rva: false, ..ParseOptions::default() }
+}
+
+/// So many zeros with parts at their offsets.
+fn made(length: usize, parts: &[(usize, &[u8])]) -> Vec<u8> {
+    let mut bytes = vec![0; length];
+    for (at, part) in parts {
+        bytes[*at..][..part.len()].copy_from_slice(part);
+    }
+    bytes
+}
+
+#[test]
+fn an_export_directory_has_its_numbers_and_its_table() {
+    let words = |words: &[u32]| words.iter().flat_map(|it| it.to_le_bytes()).collect::<Vec<_>>();
+    // Flags, time, version 4.3, no name, the ordinal base, three RVAs, no names, where the RVAs are.
+    let directory = words(&[1, 2, 0x3_0004, 0, 5, 3, 0, 0x80, 0, 0]);
+    // The second RVA is inside the directory, the third stands for an ordinal that is not used.
+    let bytes = made(0x100, &[(0x40, &directory), (0x80, &words(&[0x1000, 0x90, 0])), (0x90, b"A.B\0")]);
+    let place = DataDirectory { virtual_address: 0x40, size: 0x60 };
+    let data = ExportData::parse_with_opts(&bytes, place, &[], 0x200, &as_loaded()).unwrap();
+    let found = data.export_directory_table;
+    assert_eq!((found.export_flags, found.time_date_stamp), (1, 2));
+    assert_eq!((found.major_version, found.minor_version), (4, 3));
+    assert_eq!((found.ordinal_base, found.address_table_entries, found.number_of_name_pointers), (5, 3, 0));
+    assert_eq!((found.name_rva, found.export_address_table_rva), (0, 0x80));
+    use goblin::pe::export::ExportAddressTableEntry::{ExportRVA, ForwarderRVA};
+    assert_eq!(data.export_address_table, [ExportRVA(0x1000), ForwarderRVA(0x90), ExportRVA(0)]);
+}
+
+#[test]
+fn forwarders_in_one_text_without_an_end_are_read_in_time() {
+    // 65,536 RVAs of a text that goes to the end of a megabyte: 47 GB of bytes, were each end looked for.
+    let count = 1 << 16;
+    let mut directory = vec![0; 40];
+    directory[20..24].copy_from_slice(&u32::to_le_bytes(count));
+    directory[28..32].copy_from_slice(&u32::to_le_bytes(0x40));
+    let table: Vec<u8> = (0..count).flat_map(|_| 0x50_000u32.to_le_bytes()).collect();
+    let text = vec![b'.'; 0xb0_000];
+    let bytes = made(0x100_000, &[(4, &directory), (0x40, &table), (0x50_000, &text)]);
+    let place = DataDirectory { virtual_address: 4, size: 0xff_000 };
+    let start = std::time::Instant::now();
+    let data = ExportData::parse_with_opts(&bytes, place, &[], 0x200, &as_loaded()).unwrap();
+    assert_eq!(data.export_address_table.len(), 65_536);
+    assert!(start.elapsed().as_secs() < 10, "{:?}", start.elapsed());
+}
+
+#[test]
+fn base_relocations_are_the_words_of_their_block() {
+    // A block of the page 0x3000: one of type 3, one of type 4 and its argument, one of type 0.
+    let block = [0, 0x30, 0, 0, 16, 0, 0, 0, 0x10, 0x30, 0x20, 0x40, 0x34, 0x12, 0, 0];
+    let bytes = made(20, &[(4, &block)]);
+    let place = DataDirectory { virtual_address: 4, size: 16 };
+    let data = RelocationData::parse_with_opts(&bytes, place, &[], 0x200, &as_loaded()).unwrap();
+    let blocks = data.blocks().collect::<Result<Vec<_>, _>>().unwrap();
+    assert_eq!((blocks.len(), blocks[0].rva, blocks[0].size), (1, 0x3000, 16));
+    let words = blocks[0].words().map(|it| it.unwrap().value).collect::<Vec<_>>();
+    assert_eq!(words, [0x3010, 0x4020, 0x1234, 0]);
+}
+
+#[test]
+fn a_load_configuration_has_the_fields_of_its_size() {
+    let parts: [(usize, &[u8]); 8] = [
+        (4, &176u32.to_le_bytes()),
+        (4 + 12, &0x11u32.to_le_bytes()),
+        (4 + 16, &0x22u32.to_le_bytes()),
+        (4 + 76, &0x33u16.to_le_bytes()),
+        (4 + 80, &0x44u64.to_le_bytes()),
+        (4 + 150, &0xffffu16.to_le_bytes()),
+        (4 + 160, &0x1_8000_5000u64.to_le_bytes()),
+        (4 + 168, &7u64.to_le_bytes()),
+    ];
+    let bytes = made(0x200, &parts);
+    let place = DataDirectory { virtual_address: 4, size: 176 };
+    let found = LoadConfigData::parse_with_opts(&bytes, place, &[], 0x200, &as_loaded(), true).unwrap().directory;
+    assert_eq!((found.size, found.guard_flags), (176, Some(0)));
+    assert_eq!((found.global_flags_clear, found.global_flags_set), (Some(0x11), Some(0x22)));
+    assert_eq!((found.csd_version, found.edit_list), (Some(0x33), Some(0x44)));
+    assert_eq!(found.code_integrity_catalog, Some(0xffff));
+    assert_eq!(found.guard_address_taken_iat_entry_table, Some(0x1_8000_5000));
+    assert_eq!(found.guard_address_taken_iat_entry_count, Some(7));
+    assert_eq!((found.guard_long_jump_target_table, found.guard_memcpy_function_pointer), (None, None));
+}
+
+#[test]
+fn iterators_go_on_by_folding_where_they_were() {
+    // Five functions more than an iterator takes a call, the last with the start 69.
+    let functions = (1..=69u32).flat_map(|it| [it, it + 1, 0]).flat_map(u32::to_le_bytes).collect::<Vec<_>>();
+    let bytes = made(4 + functions.len(), &[(4, &functions)]);
+    let place = DataDirectory { virtual_address: 4, size: functions.len() as u32 };
+    let data = ExceptionData::parse_with_opts(&bytes, place, &[], 0x200, &as_loaded()).unwrap();
+    let starts = |it: RuntimeFunctionIterator<'_>| it.map(|it| it.unwrap().begin_address).collect::<Vec<_>>();
+    assert_eq!(starts(data.functions()), (1..=69).collect::<Vec<_>>());
+    let mut some = data.functions();
+    assert_eq!(some.by_ref().take(66).count(), 66);
+    assert_eq!((some.len(), some.fold(0, |sum, it| sum + it.unwrap().begin_address)), (3, 67 + 68 + 69));
+}
+
+#[test]
+fn codes_of_a_record_end_at_the_first_that_is_none() {
+    // Version 1, a prolog of 6 bytes, three slots: pushes of rbx and rdi, and an operation of version 2.
+    let record = [1, 6, 3, 0, 6, 0x30, 2, 0x70, 1, 0x0b, 0, 0];
+    let info = UnwindInfo::parse(&record, 0).unwrap();
+    let push = |code_offset, it| UnwindCode { code_offset, operation: UnwindOperation::PushNonVolatile(Register(it)) };
+    let mut codes = info.unwind_codes();
+    assert_eq!(codes.next().unwrap().unwrap(), push(6, 3));
+    assert_eq!(codes.next().unwrap().unwrap(), push(2, 7));
+    assert!(codes.next().unwrap().is_err());
+    assert!(codes.next().is_none());
+    let kinds = info.unwind_codes().fold(Vec::new(), |mut all, it| {
+        all.push(it.is_ok());
+        all
+    });
+    assert_eq!(kinds, [true, true, false]);
+}
+
+#[test]
+fn string_tables_end_their_texts_by_any_byte() {
+    assert_eq!(Strtab::new(b"ab|c", b'|').to_vec().unwrap(), ["ab", "c"]);
+    assert_eq!(Strtab::new(b"ab\0c", 0).to_vec().unwrap(), ["ab", "c"]);
+    assert_eq!(Strtab::new(b"ab\0\xff\0", 0).get_at(3), None);
 }

@@ -84,6 +84,7 @@ impl fmt::Debug for RuntimeFunction {
 }
 
 impl From<sys::Function> for RuntimeFunction {
+    #[inline]
     fn from(it: sys::Function) -> Self {
         RuntimeFunction { begin_address: it.begin, end_address: it.end, unwind_info_address: it.unwind }
     }
@@ -91,12 +92,13 @@ impl From<sys::Function> for RuntimeFunction {
 
 /// How many functions or codes an iterator takes a call.
 const TAKEN: usize = 16;
+const FUNCTIONS_TAKEN: usize = 64;
 
 /// The x64 functions of an image, one after the other.
 #[derive(Debug)]
 pub struct RuntimeFunctionIterator<'a> {
     data: &'a [u8],
-    batch: raw::Batch<u64, sys::Function, TAKEN>,
+    batch: raw::Batch<u64, sys::Function, FUNCTIONS_TAKEN>,
 }
 
 impl Iterator for RuntimeFunctionIterator<'_> {
@@ -104,16 +106,47 @@ impl Iterator for RuntimeFunctionIterator<'_> {
 
     #[inline]
     fn next(&mut self) -> Option<Self::Item> {
-        let data = self.data;
-        let list = |next: &mut _, room: &mut [_]| View::of_bytes(data).list_functions(&raw::whole(data), next, room);
-        Some(self.batch.next(list)?.map(RuntimeFunction::from))
+        match self.batch.next() {
+            Some(it) => Some(Ok((*it).into())),
+            None => self.after_more(),
+        }
+    }
+
+    fn fold<B, F: FnMut(B, Self::Item) -> B>(mut self, mut all: B, mut add: F) -> B {
+        let mut part = self.batch.rest();
+        loop {
+            for it in part {
+                all = add(all, Ok((*it).into()));
+            }
+            part = match self.more() {
+                Ok([]) => return all,
+                Ok(more) => more,
+                Err(refusal) => return add(all, Err(refusal.into())),
+            };
+        }
     }
 
     fn size_hint(&self) -> (usize, Option<usize>) {
         let count = self.data.len() / RUNTIME_FUNCTION_SIZE;
-        let next = self.batch.walk().map_or(count, |it| it as usize);
+        let next = self.batch.walk().map_or(count, |it| *it as usize);
         let left = self.batch.taken() + count.saturating_sub(next);
         (left, Some(left))
+    }
+}
+
+impl RuntimeFunctionIterator<'_> {
+    /// The next functions, once all that were taken are returned.
+    fn more(&mut self) -> Result<&[sys::Function], Refusal> {
+        let data = self.data;
+        self.batch.fill(|next, room| View::of_bytes(data).list_functions(&raw::whole(data), next, room))
+    }
+
+    #[cold]
+    fn after_more(&mut self) -> Option<error::Result<RuntimeFunction>> {
+        if let Err(refusal) = self.more() {
+            return Some(Err(refusal.into()));
+        }
+        Some(Ok((*self.batch.next()?).into()))
     }
 }
 
@@ -190,6 +223,8 @@ pub struct UnwindCode {
 }
 
 impl UnwindCode {
+    // Out of line it writes each operation where the result goes, and in line it puts it together of pieces.
+    #[inline(never)]
     fn of(it: &sys::Code) -> error::Result<Self> {
         let register = Register(it.operand);
         let offset = match it.from_frame {
@@ -225,19 +260,51 @@ impl Iterator for UnwindCodeIterator<'_> {
 
     #[inline]
     fn next(&mut self) -> Option<Self::Item> {
-        let bytes = self.bytes;
-        let found = self.batch.next(|walk, room| match walk.left.length {
-            // Most records have fewer codes than an iterator takes: the call that says so is spared.
-            0 => Ok(0),
-            _ => View::of_bytes(bytes).list_codes(walk, room),
-        })?;
-        Some(found.and_then(|it| UnwindCode::of(&it)))
+        match self.batch.next() {
+            Some(it) => Some(UnwindCode::of(it)),
+            None => self.after_more(),
+        }
+    }
+
+    fn fold<B, F: FnMut(B, Self::Item) -> B>(mut self, mut all: B, mut add: F) -> B {
+        let mut part = self.batch.rest();
+        loop {
+            for it in part {
+                all = add(all, UnwindCode::of(it));
+            }
+            part = match self.more() {
+                Ok([]) => return all,
+                Ok(more) => more,
+                Err(refusal) => return add(all, Err(refusal.into())),
+            };
+        }
     }
 
     fn size_hint(&self) -> (usize, Option<usize>) {
         let left = raw::left(self.bytes, self.batch.walk().map(|it| it.left));
         let (slots, taken) = (raw::items_left(left, UNWIND_CODE_SIZE).0, self.batch.taken());
         (taken + slots.min(1), Some(taken + slots))
+    }
+}
+
+impl UnwindCodeIterator<'_> {
+    /// The next codes, once all that were taken are returned.
+    #[inline(always)]
+    fn more(&mut self) -> Result<&[sys::Code], Refusal> {
+        let bytes = self.bytes;
+        self.batch.fill(|walk, room| match walk.left.length {
+            // Most records have fewer codes than an iterator takes: the call that says so is spared.
+            0 => Ok(0),
+            _ => View::of_bytes(bytes).list_codes(walk, room),
+        })
+    }
+
+    #[inline(never)]
+    fn after_more(&mut self) -> Option<error::Result<UnwindCode>> {
+        if let Err(refusal) = self.more() {
+            return Some(Err(refusal.into()));
+        }
+        Some(UnwindCode::of(self.batch.next()?))
     }
 }
 
@@ -276,32 +343,39 @@ impl<'a> UnwindInfo<'a> {
         // Of the bytes from there on, as an image as loaded, the record with the RVA 0: an odd RVA would be a link.
         let bytes = raw::from(bytes, offset)?;
         let info = raw::image_as_loaded(COFF_MACHINE_X86_64);
-        Self::of(bytes, View::of(bytes, &info, &[]).unwind_record(&sys::Range::default(), 0), 0)
+        Self::by(View::of(bytes, &info, &[]), &sys::Range::default(), 0)
     }
 
-    fn of(bytes: &'a [u8], found: Result<Option<sys::Record>, Refusal>, unwind: u32) -> error::Result<Self> {
-        let found = found.map_err(|it| match it {
-            Refusal::UNMAPPED => unmapped("unwind", unwind),
-            other => other.into(),
-        })?;
-        let it = found.ok_or(Refusal::SHORT)?;
-        let data = || raw::slice(bytes, it.handler_data);
+    /// The record of an unwind RVA.
+    fn by(view: View<'a, '_>, table: &sys::Range, unwind: u32) -> error::Result<Self> {
+        let mut found = sys::Record::default();
+        match view.unwind_record(table, unwind, &mut found) {
+            Ok(()) => Self::of(view.bytes, &found),
+            Err(Refusal::UNMAPPED) => Err(unmapped("unwind", unwind)),
+            Err(other) => Err(other.into()),
+        }
+    }
+
+    #[inline(always)]
+    fn of(bytes: &'a [u8], it: &sys::Record) -> error::Result<Self> {
+        let handler = match it.handler_kind {
+            1 => Some(UnwindHandler::ExceptionHandler(it.handler, raw::slice(bytes, it.handler_data)?)),
+            2 => Some(UnwindHandler::TerminationHandler(it.handler, raw::slice(bytes, it.handler_data)?)),
+            _ => None,
+        };
         Ok(UnwindInfo {
             version: it.codes.version,
             size_of_prolog: it.size_of_prolog,
             frame_register: Register(it.codes.frame_register),
             frame_register_offset: it.frame_register_offset,
             chained_info: (it.is_chained != 0).then(|| it.chained.into()),
-            handler: match it.handler_kind {
-                1 => Some(UnwindHandler::ExceptionHandler(it.handler, data()?)),
-                2 => Some(UnwindHandler::TerminationHandler(it.handler, data()?)),
-                _ => None,
-            },
+            handler,
             code_bytes: raw::slice(bytes, it.codes.left)?,
         })
     }
 
     /// The codes, in the order in which they are undone.
+    #[inline]
     pub fn unwind_codes(&self) -> UnwindCodeIterator<'a> {
         let walk = sys::Walk {
             left: raw::whole(self.code_bytes),
@@ -417,6 +491,7 @@ impl<'a> ExceptionData<'a> {
         }))
     }
 
+    #[inline]
     fn table(&self) -> sys::Range {
         sys::Range { offset: self.offset as u64, length: self.size as u64 }
     }
@@ -464,7 +539,10 @@ impl<'a> ExceptionData<'a> {
 
     /// The x64 function that covers an RVA.
     pub fn find_function(&self, rva: u32) -> error::Result<Option<RuntimeFunction>> {
-        Ok(raw::find_function(self.bytes, &self.table(), rva)?.map(RuntimeFunction::from))
+        match raw::find_function(self.bytes, &self.table(), rva) {
+            Ok(found) => Ok(found.map(RuntimeFunction::from)),
+            Err(refusal) => Err(refusal.into()),
+        }
     }
 
     /// The unwind record of an x64 function of a file.
@@ -496,24 +574,36 @@ impl<'a> ExceptionData<'a> {
         self.unwind_info(&image_of_records(self.file_alignment, opts), function, sections)
     }
 
+    #[inline(always)]
     fn unwind_info(
         &self,
         info: &sys::ImageInfo,
         function: RuntimeFunction,
         sections: &[SectionTable],
     ) -> error::Result<UnwindInfo<'a>> {
-        let (table, unwind) = (self.table(), function.unwind_info_address);
-        let by = |sections: &[_]| View::of(self.bytes, info, sections).unwind_record(&table, unwind);
-        let first = match unwind % 2 {
-            0 => by(raw::first_around(sections, unwind).as_slice()),
-            // A link leads to other RVAs.
-            _ => Err(Refusal::UNMAPPED),
-        };
-        let found = match first {
-            Err(Refusal::UNMAPPED) => by(&raw::sections_of(sections)?),
-            found => found,
-        };
-        UnwindInfo::of(self.bytes, found, unwind)
+        let unwind = function.unwind_info_address;
+        // A link leads to other RVAs.
+        let first = if unwind % 2 == 0 { raw::first_around(sections, unwind) } else { None };
+        if let Some(section) = first {
+            let view = View::of(self.bytes, info, core::slice::from_ref(&section));
+            let mut found = sys::Record::default();
+            if view.unwind_record(&self.table(), unwind, &mut found).is_ok() {
+                return UnwindInfo::of(self.bytes, &found);
+            }
+        }
+        self.unwind_info_by_all(info, unwind, sections)
+    }
+
+    /// The same by all sections, where the first that may cover the record does not lead to one.
+    #[cold]
+    fn unwind_info_by_all(
+        &self,
+        info: &sys::ImageInfo,
+        unwind: u32,
+        sections: &[SectionTable],
+    ) -> error::Result<UnwindInfo<'a>> {
+        let sections = raw::sections_of(sections)?;
+        UnwindInfo::by(View::of(self.bytes, info, &sections), &self.table(), unwind)
     }
 
     /// The unwind record of an ARM64 function, or `None` where it is packed. Errors: `Malformed` where the record is unmapped,
@@ -1023,13 +1113,28 @@ impl<'a> Arm64UnwindCodeIterator<'a> {
 impl Iterator for Arm64UnwindCodeIterator<'_> {
     type Item = error::Result<Arm64UnwindCodeData>;
 
+    #[inline]
     fn next(&mut self) -> Option<Self::Item> {
+        match self.batch.next() {
+            Some(it) => Some(Arm64UnwindCodeData::of(it)),
+            None => self.after_more(),
+        }
+    }
+}
+
+impl Arm64UnwindCodeIterator<'_> {
+    /// The next code, once all that were taken are returned.
+    #[inline(never)]
+    fn after_more(&mut self) -> Option<error::Result<Arm64UnwindCodeData>> {
         let bytes = self.bytes;
-        let found = self.batch.next(|walk, room| match walk.left.length {
+        let filled = self.batch.fill(|walk, room| match walk.left.length {
             0 => Ok(0),
             _ => View::of_bytes(bytes).list_arm64_codes(walk, room),
-        })?;
-        Some(found.and_then(|it| Arm64UnwindCodeData::of(&it)))
+        });
+        if let Err(refusal) = filled {
+            return Some(Err(refusal.into()));
+        }
+        Some(Arm64UnwindCodeData::of(self.batch.next()?))
     }
 }
 

@@ -4,7 +4,6 @@
 use super::data_directories;
 use super::options::{NamesLeft, ParseOptions};
 use super::section_table::SectionTable;
-use super::utils;
 use crate::error;
 use crate::raw::{self, Index, Refusal, View};
 use pe_c::sys;
@@ -42,7 +41,8 @@ pub struct ExportDirectoryTable {
 pub const SIZEOF_EXPORT_DIRECTORY_TABLE: usize = 40;
 /// Bytes of an RVA in the table of RVAs.
 pub const SIZEOF_EXPORT_ADDRESS_TABLE_ENTRY: usize = 4;
-/// How many exports are taken a call that reads the name of each by itself.
+const RVA_SIZE: u64 = SIZEOF_EXPORT_ADDRESS_TABLE_ENTRY as u64;
+/// How many exports are taken a call, where each name is read by itself.
 const TAKEN: usize = 16;
 
 impl ExportDirectoryTable {
@@ -122,13 +122,16 @@ impl<'a> ExportData<'a> {
         let Some(walk) = view.export_tables().map_err(|it| refused(view, it))? else { return Ok(None) };
         let Some(addresses) = view.export_addresses()? else { return Ok(None) };
         let at = view.offset(directory.virtual_address).ok_or_else(|| unmapped(directory))?;
-        let words = raw::words(view.bytes, walk.addresses)?;
-        let mut export_address_table = raw::list(words.len())?;
-        export_address_table.extend(words.into_iter().map(|rva| entry_of(directory, rva)));
         let name = if addresses.has_name != 0 { Some(view.text(addresses.name)?) } else { None };
+        let export_address_table = entries_of(view.bytes, &addresses)?;
         let data = ExportData {
             name,
-            export_directory_table: raw::export_directory(view.bytes, at)?,
+            export_directory_table: ExportDirectoryTable {
+                ordinal_base: addresses.ordinal_base,
+                address_table_entries: raw::narrow(export_address_table.len())?,
+                number_of_name_pointers: raw::narrow(walk.names.length / RVA_SIZE)?,
+                ..raw::export_directory(view.bytes, at)?
+            },
             export_name_pointer_table: raw::words(view.bytes, walk.names)?,
             export_ordinal_table: raw::halves(view.bytes, walk.ordinals)?,
             export_address_table,
@@ -137,12 +140,25 @@ impl<'a> ExportData<'a> {
     }
 }
 
+/// The entries of the table of RVAs. The call is made without sections, by which no forwarder's text is looked for: all of them may
+/// lie in one long text.
+fn entries_of(bytes: &[u8], table: &sys::AddressTable) -> error::Result<ExportAddressTable> {
+    let mut entries = raw::list(raw::narrow(table.addresses.length / RVA_SIZE)?)?;
+    let (mut next, mut room) = (0, [sys::Exported::default(); TAKEN]);
+    loop {
+        let written = View::of_bytes(bytes).list_export_addresses(table, &mut next, &mut room)?;
+        if written == 0 {
+            return Ok(entries);
+        }
+        entries.extend(room.iter().take(written).map(entry_of));
+    }
+}
+
 /// An entry of the table of RVAs: one inside the directory leads to a forwarder's text.
-fn entry_of(directory: data_directories::DataDirectory, rva: u32) -> ExportAddressTableEntry {
-    let start = directory.virtual_address as usize;
-    match utils::is_in_range(rva as usize, start, start + directory.size as usize) {
-        true => ExportAddressTableEntry::ForwarderRVA(rva),
-        false => ExportAddressTableEntry::ExportRVA(rva),
+fn entry_of(it: &sys::Exported) -> ExportAddressTableEntry {
+    match it.is_forwarder {
+        0 => ExportAddressTableEntry::ExportRVA(it.rva),
+        _ => ExportAddressTableEntry::ForwarderRVA(it.rva),
     }
 }
 
@@ -183,7 +199,7 @@ pub enum Reexport<'a> {
 impl<'a> Reexport<'a> {
     /// Reads the forwarder's text at an offset. Errors: `Scroll` past the end, `Malformed` where it names nothing.
     pub fn parse(bytes: &'a [u8], offset: usize) -> error::Result<Reexport<'a>> {
-        Self::of(raw::text_up_to(bytes, offset, 0)?)
+        Self::of(raw::text_up_to_zero(bytes, offset)?)
     }
 
     /// Of an entry of the table of RVAs, or `None` where its text names nothing. The text is taken from how many bytes are left.
@@ -218,7 +234,7 @@ impl<'a> ctx::TryFromCtx<'a, scroll::Endian> for Reexport<'a> {
     type Error = error::Error;
 
     fn try_from_ctx(bytes: &'a [u8], _: scroll::Endian) -> error::Result<(Self, usize)> {
-        let text = raw::text_up_to(bytes, 0, 0)?;
+        let text = raw::text_up_to_zero(bytes, 0)?;
         Ok((Self::of(text)?, text.len() + 1))
     }
 }

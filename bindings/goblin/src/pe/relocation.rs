@@ -116,9 +116,12 @@ impl RelocationWord {
     }
 }
 
-/// Bytes of a block's header and of a [`RelocationWord`].
+/// Bytes of a block's header.
 const BLOCK_HEADER_SIZE: u64 = 8;
-const WORD_SIZE: usize = 2;
+/// `IMAGE_REL_BASED_HIGHADJ`, the type that has an argument.
+const HIGHADJ: u32 = 4;
+/// How many are taken a call.
+const TAKEN: usize = 16;
 
 impl<'a> RelocationData<'a> {
     /// The base relocations of a directory in a file.
@@ -185,27 +188,41 @@ impl FusedIterator for RelocationBlockIterator<'_> {}
 impl<'a> RelocationBlock<'a> {
     /// The base relocations of the block.
     pub fn words(&self) -> RelocationWordIterator<'a> {
-        RelocationWordIterator { bytes: self.bytes, offset: 0 }
+        let batch = raw::Batch::new(raw::whole(self.bytes));
+        RelocationWordIterator { bytes: self.bytes, batch, argument: None }
     }
 }
 
-/// Base relocations, one after the other.
+/// Base relocations, one after the other. That after one of type `IMAGE_REL_BASED_HIGHADJ` is its argument.
 #[derive(Debug, Copy, Clone)]
 pub struct RelocationWordIterator<'a> {
     bytes: &'a [u8],
-    offset: usize,
+    batch: raw::Batch<sys::Range, sys::Relocation, TAKEN>,
+    argument: Option<u16>,
+}
+
+impl RelocationWordIterator<'_> {
+    /// The next word, which the library has as a relocation whose page is at 0.
+    fn next_of_list(&mut self) -> error::Result<Option<u16>> {
+        if self.batch.taken() == 0 {
+            let bytes = self.bytes;
+            self.batch.fill(|walk, room| View::of_bytes(bytes).list_relocations(0, walk, room))?;
+        }
+        let Some(it) = self.batch.next() else { return Ok(None) };
+        self.argument = if it.kind == HIGHADJ { Some(raw::narrow(it.argument)?) } else { None };
+        Ok(Some(raw::narrow(u64::from(it.kind) << 12 | it.rva)?))
+    }
 }
 
 impl Iterator for RelocationWordIterator<'_> {
     type Item = error::Result<RelocationWord>;
 
     fn next(&mut self) -> Option<Self::Item> {
-        if self.offset >= self.bytes.len() {
-            return None;
-        }
-        let word = raw::relocation_word(self.bytes, self.offset);
-        self.offset += WORD_SIZE;
-        Some(word.map(|value| RelocationWord { value }))
+        let word = match self.argument.take() {
+            Some(argument) => Ok(Some(argument)),
+            None => self.next_of_list(),
+        };
+        Some(word.transpose()?.map(|value| RelocationWord { value }))
     }
 }
 

@@ -92,7 +92,7 @@ impl SectionTable {
         let mut section = found.first().map(|it| Self::with_name(it, None)).unwrap_or_default();
         if let Some(index) = section.name_offset()? {
             let at = string_table_offset.saturating_add(index);
-            section.real_name = Some(raw::text_up_to(bytes, at, 0)?.to_owned());
+            section.real_name = Some(raw::text_up_to_zero(bytes, at)?.to_owned());
         }
         *offset += SIZEOF_SECTION_TABLE;
         Ok(section)
@@ -131,7 +131,7 @@ impl SectionTable {
     pub fn name(&self) -> error::Result<&str> {
         match &self.real_name {
             Some(it) => Ok(it),
-            None => raw::text_up_to(&self.name, 0, 0),
+            None => raw::text_up_to_zero(&self.name, 0),
         }
     }
 

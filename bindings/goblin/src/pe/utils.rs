@@ -45,7 +45,7 @@ pub fn try_name<'a>(
     opts: &ParseOptions,
 ) -> error::Result<&'a str> {
     match find_offset(rva, sections, file_alignment, opts) {
-        Some(offset) => raw::text_up_to(bytes, offset, 0),
+        Some(offset) => raw::text_up_to_zero(bytes, offset),
         None => Err(error::Error::Malformed(format!("Cannot find name from rva {rva:#x} in sections: {sections:?}"))),
     }
 }

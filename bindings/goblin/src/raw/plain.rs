@@ -1,6 +1,30 @@
-//! Reads that this crate makes itself, since no call of the library returns what they read. Each function names what is missing.
+//! Reads that this crate makes itself, since no call of the library returns what they read, and why none does. Where a call returns a
+//! range and not its numbers, the range is the call's and the numbers are read here. `tools/try_goblin --check` has the same list, and
+//! refuses a function that it does not name.
 //!
-//! Where a call returns a range and not its numbers, the range is the call's and the numbers are read here.
+//! At an offset that a caller names, of bytes that need not be an image:
+//!
+//! - `bytes_at`, `part_at`, `from`: the bytes alone; `record`: a record of a type that the caller chooses, by scroll;
+//! - `text_up_to`: a text that another byte than zero ends, in a [`Strtab`](crate::strtab::Strtab) of a caller;
+//! - `fields_32`, `fields_64`, `dos_header`, `data_directory`: a header that stands alone; `pe_c_headers` reads those of an image;
+//! - `export_directory`: a directory that stands alone. Of an image its flags, its time, its version and its RVAs, which are in no record
+//!   of a call: the ordinal base and both counts are those of the calls.
+//!
+//! Of an image or an object:
+//!
+//! - `words`, `halves`: the RVAs of names and the indices of names as they stand, of which the list of exports leaves out those that
+//!   lead to no export;
+//! - `hint_rva`: the RVA of a hint, where `pe_c_next_import` returns what is there and the RVA of the slot;
+//! - `address_table`: the slots of imports as they stand, which are addresses of another run, or the list of imports again;
+//! - `tls_slot`: what the loader wrote to the slot whose address `pe_c_tls` returns;
+//! - `word_at`: the words of an ARM64 record, whose fields `pe_c_arm64_unwind_record` returns, but not their reserved bits;
+//! - `resource_directory`, `resource_entry`, `resource_data_entry`: the nodes of the tree, of which the calls return the leaves;
+//! - `version_string`: a version string with its length and the length of its value, which `pe_c_next_version_block` uses and does not
+//!   return;
+//! - `code_units`: UTF-16 that must be a text, where `pe_c_utf16_text` writes one of what is none too;
+//! - `coff_relocation`, `auxiliary`: relocations and auxiliary records of objects, which no call reads;
+//! - `long_name_offset`: the offset that the name of a symbol is, where `pe_c_symbol_name` returns the text there;
+//! - `short`, `pogo_error`, `string_table_size`: the numbers of an error, where a call returns its kind alone.
 
 use super::{slice, Range, Refusal};
 use crate::error;
@@ -42,18 +66,11 @@ where
     Ok(bytes.pread_with(at, scroll::LE)?)
 }
 
-/// The text at an offset that a caller names, up to a byte or the end.
+/// The text at an offset that a caller names, up to a byte other than zero, or the end.
 pub(crate) fn text_up_to(bytes: &[u8], at: usize, end: u8) -> error::Result<&str> {
     let rest = bytes.get(at..).ok_or(scroll::Error::BadOffset(at))?;
     let text = rest.split(|it| *it == end).next().ok_or(scroll::Error::BadOffset(at))?;
-    core::str::from_utf8(text).map_err(|_| scroll::Error::BadInput { size: text.len(), msg: "invalid utf8" }.into())
-}
-
-/// The NUL-terminated text at an offset that a caller names.
-pub(crate) fn text_at(bytes: &[u8], at: usize) -> Option<&str> {
-    let rest = bytes.get(at..)?;
-    let end = rest.iter().position(|it| *it == 0)?;
-    core::str::from_utf8(&rest[..end]).ok()
+    core::str::from_utf8(text).map_err(|_| super::not_utf8(text))
 }
 
 /// The little-endian numbers of a table.
@@ -89,7 +106,6 @@ pub(crate) fn data_directory(bytes: &[u8], at: usize) -> error::Result<DataDirec
 
 // ---- exports and imports
 
-/// No call returns the directory's numbers as they stand.
 pub(crate) fn export_directory(bytes: &[u8], at: usize) -> error::Result<ExportDirectoryTable> {
     record(bytes, at)
 }
@@ -224,11 +240,6 @@ pub(crate) fn code_units(bytes: &[u8]) -> Option<Vec<u16>> {
 /// What the loader wrote to a TLS slot: pe_c_tls returns its address.
 pub(crate) fn tls_slot(bytes: &[u8], at: usize) -> Option<u32> {
     record(bytes, at).ok()
-}
-
-/// A base relocation as it stands: pe_c_next_relocation returns its fields, and may take the next one with it.
-pub(crate) fn relocation_word(bytes: &[u8], at: usize) -> error::Result<u16> {
-    record(bytes, at)
 }
 
 // ---- objects: no call reads relocations and auxiliary records of symbols
