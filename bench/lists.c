@@ -1,0 +1,218 @@
+/* Reads lists of an image by the calls of the library for C, a number of times: lists WHAT WAY TIMES FILE
+ *
+ * WHAT is functions, records (of all functions), codes (the records with their codes), lookups (of an RVA in each function),
+ * exports, imports (the libraries and their imports), symbols (with their names) or key (of a symbol server). WAY is steps, a call
+ * for each item; lists, by calls with room for 1,024 items; or together, which reads names together, by one call with room for all.
+ * It prints how many items there are. The table of functions is read once, so that what one of the times costs is the items alone. */
+#include "pe.h"
+
+#include <stdio.h>
+#include <stdlib.h>
+#include <string.h>
+
+enum { ROOM = 1024, STEPS, LISTS, TOGETHER };
+
+static const char *const WAYS[] = {"steps", "lists", "together"};
+
+/* The image, how it is read, and room for runs where names are read together. */
+static pe_c_view view;
+static int way;
+static pe_c_run *runs;
+static size_t number_of_runs;
+
+/* The functions of the image. */
+static pe_c_range table;
+static pe_c_function *functions;
+static uint64_t number_of_functions;
+
+static void *room_for(size_t entries, size_t size)
+{
+    void *room = calloc(entries + 1, size);
+    if (room == NULL)
+        exit(2);
+    return room;
+}
+
+static void read_image(const char *name)
+{
+    static pe_c_image_info image;
+    FILE *file = fopen(name, "rb");
+    if (file == NULL || fseek(file, 0, SEEK_END) != 0)
+        exit(2);
+    size_t length = (size_t)ftell(file);
+    rewind(file);
+    uint8_t *bytes = room_for(length, 1);
+    if (fread(bytes, 1, length, file) != length || pe_c_image(bytes, length, PE_C_STRICT, &image) != PE_C_DONE)
+        exit(2);
+    pe_c_section *sections = room_for(image.number_of_sections, sizeof *sections);
+    if (pe_c_sections(bytes, length, &image, sections, image.number_of_sections) != PE_C_DONE)
+        exit(2);
+    view = (pe_c_view){bytes, length, &image, sections, image.number_of_sections, NULL, 0};
+    fclose(file);
+    if (pe_c_function_table(&view, &table) != PE_C_DONE)
+        table.length = 0;
+    functions = room_for((size_t)table.length / 12, sizeof *functions);
+    /* As many as there can be of any names. */
+    number_of_runs = way == TOGETHER ? length / 4 + 1 : 0;
+    runs = room_for(number_of_runs, sizeof *runs);
+}
+
+static uint64_t read_functions(void)
+{
+    uint64_t next = 0, written = 1;
+    if (way == STEPS) {
+        while (pe_c_function_at(view.bytes, view.length, &table, next, &functions[next]) == PE_C_DONE)
+            next++;
+        return next;
+    }
+    while (written > 0) {
+        size_t room = (size_t)(table.length / 12 - next) + 1;
+        if (pe_c_list_functions(&view, &table, &next, functions + next, way == LISTS && room > ROOM ? ROOM : room,
+                                &written) != PE_C_DONE)
+            break;
+    }
+    return next;
+}
+
+static uint64_t read_records(void)
+{
+    pe_c_record record = PE_C_EMPTY;
+    uint64_t count = 0;
+    for (uint64_t i = 0; i < number_of_functions; i++)
+        count += pe_c_unwind_record(&view, &table, functions[i].unwind, &record) == PE_C_DONE;
+    return count;
+}
+
+static uint64_t read_codes(void)
+{
+    static pe_c_code codes[255];
+    pe_c_record record = PE_C_EMPTY;
+    uint64_t count = 0;
+    for (uint64_t i = 0; i < number_of_functions; i++) {
+        uint64_t written = 0;
+        if (way != STEPS) {
+            if (pe_c_record_codes(&view, &table, functions[i].unwind, &record, codes, 255, &written) == PE_C_DONE)
+                count += written;
+        } else if (pe_c_unwind_record(&view, &table, functions[i].unwind, &record) == PE_C_DONE) {
+            while (pe_c_next_code(view.bytes, view.length, &record.codes, &codes[written]) == PE_C_DONE)
+                written++;
+            count += written;
+        }
+    }
+    return count;
+}
+
+static uint64_t read_lookups(void)
+{
+    pe_c_function found = PE_C_EMPTY;
+    uint64_t count = 0;
+    for (uint64_t i = 0; i < number_of_functions; i++) {
+        uint32_t rva = functions[i].begin + (functions[i].end - functions[i].begin) / 2;
+        count += pe_c_find_function(view.bytes, view.length, &table, rva, &found) == PE_C_DONE;
+    }
+    return count;
+}
+
+/* A function that reads all of a walk. */
+#define READS(name, walk_type, item_type, step, list, together) \
+    static uint64_t name(walk_type *walk, item_type *items, size_t room) \
+    { \
+        uint64_t count = 0, written = 1; \
+        while (way == STEPS && step(&view, walk, &items[count]) == PE_C_DONE) \
+            count++; \
+        while (way != STEPS && written > 0 && \
+               (way == LISTS ? list(&view, walk, items + count, room - count < ROOM ? room - count : ROOM, &written) \
+                             : together(&view, walk, runs, number_of_runs, items + count, room - count, &written)) == \
+                   PE_C_DONE) \
+            count += written; \
+        return count; \
+    }
+
+READS(exports_of, pe_c_exports, pe_c_export, pe_c_next_export, pe_c_list_exports, pe_c_list_exports_together)
+READS(libraries_of, pe_c_libraries, pe_c_library, pe_c_next_library, pe_c_list_libraries, pe_c_list_libraries_together)
+READS(imports_of, pe_c_imports, pe_c_import, pe_c_next_import, pe_c_list_imports, pe_c_list_imports_together)
+
+static uint64_t read_exports(void)
+{
+    static pe_c_export *exports;
+    pe_c_exports walk = PE_C_EMPTY;
+    if (pe_c_export_tables(&view, &walk) != PE_C_DONE)
+        return 0;
+    size_t most = (size_t)walk.names.length / 4 + 1;
+    if (exports == NULL)
+        exports = room_for(most, sizeof *exports);
+    return exports_of(&walk, exports, most);
+}
+
+static uint64_t read_imports(void)
+{
+    static pe_c_library libraries[ROOM];
+    static pe_c_import imports[1 << 16];
+    pe_c_libraries walk = PE_C_EMPTY;
+    uint64_t count = 0;
+    if (pe_c_import_libraries(&view, &walk) != PE_C_DONE)
+        return 0;
+    uint64_t number = libraries_of(&walk, libraries, ROOM);
+    for (uint64_t i = 0; i < number; i++)
+        count += imports_of(&libraries[i].imports, imports, 1 << 16);
+    return count;
+}
+
+static uint64_t read_symbols(void)
+{
+    static pe_c_named_symbol *symbols;
+    pe_c_headers_info headers = PE_C_EMPTY;
+    pe_c_named_symbol_walk walk = PE_C_EMPTY;
+    const uint8_t *bytes = view.bytes;
+    uint64_t count = 0;
+    if (pe_c_headers(bytes, view.length, PE_C_STRICT, &headers) != PE_C_DONE ||
+        pe_c_coff_symbols(bytes, view.length, &headers.coff, &walk.symbols) != PE_C_DONE ||
+        pe_c_coff_strings(bytes, view.length, &headers.coff, &walk.strings) != PE_C_DONE)
+        return 0;
+    size_t most = (size_t)walk.symbols.table.length / 18 + 1;
+    if (symbols == NULL)
+        symbols = room_for(most, sizeof *symbols);
+    if (way != STEPS) {
+        uint64_t written = 1;
+        while (written > 0 && pe_c_list_symbols(bytes, view.length, &walk, runs, number_of_runs, symbols + count,
+                                                way == LISTS && most - count > ROOM ? ROOM : most - count,
+                                                &written) == PE_C_DONE)
+            count += written;
+        return count;
+    }
+    while (pe_c_next_symbol(bytes, view.length, &walk.symbols, &symbols[count].symbol) == PE_C_DONE) {
+        symbols[count].name_result = pe_c_symbol_name(bytes, view.length, &walk.symbols.table, &walk.strings,
+                                                      symbols[count].symbol.index, &symbols[count].name);
+        count++;
+    }
+    return count;
+}
+
+static uint64_t read_key(void)
+{
+    pe_c_key key = PE_C_EMPTY;
+    return pe_c_symbol_key(&view, &key) == PE_C_DONE;
+}
+
+static const struct {
+    const char *name;
+    uint64_t (*read)(void);
+} PARTS[] = {{"functions", read_functions}, {"records", read_records}, {"codes", read_codes}, {"lookups", read_lookups},
+             {"exports", read_exports},     {"imports", read_imports}, {"symbols", read_symbols}, {"key", read_key}};
+
+int main(int argc, char **argv)
+{
+    if (argc != 5)
+        return 2;
+    for (int i = 0; i < 3; i++)
+        if (strcmp(argv[2], WAYS[i]) == 0)
+            way = STEPS + i;
+    read_image(argv[4]);
+    number_of_functions = read_functions();
+    uint64_t count = 0;
+    for (int i = 0; i < 8; i++)
+        for (int times = atoi(argv[3]); strcmp(argv[1], PARTS[i].name) == 0 && times > 0; times--)
+            count = PARTS[i].read();
+    printf("%llu\n", (unsigned long long)count);
+    return 0;
+}
