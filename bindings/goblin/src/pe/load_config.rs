@@ -77,7 +77,8 @@ impl LoadConfigData {
     }
 
     pub(crate) fn of(view: View<'_, '_>) -> error::Result<Option<Self>> {
-        Ok(view.load_config()?.map(|it| LoadConfigData { directory: directory_of(&it) }))
+        let found = view.load_config().map_err(|it| view.refused(Index::LoadConfig, it))?;
+        Ok(found.map(|it| LoadConfigData { directory: directory_of(&it) }))
     }
 }
 

@@ -4,7 +4,7 @@
 use super::guards::{self, Guards};
 use super::{field, Flags, Part, Stamp};
 use crate::names::GUARD_FLAGS;
-use pe_c::Image;
+use pe_c::{DirectoryIndex, Image};
 use serde::Serialize;
 
 /// A field is null where the structure, or the file, is too short for it.
@@ -56,5 +56,5 @@ pub fn of(image: &Image<'_>) -> Part<LoadConfig> {
             guards: guards::of(image),
         })
     });
-    found.into()
+    Part::of_directory(found, image, DirectoryIndex::LoadConfig)
 }
