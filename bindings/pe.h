@@ -852,22 +852,37 @@ uint32_t pe_c_te_first_debug_entry(const uint8_t *bytes, size_t length, const pe
  *
  * A result is one number. These calls return with it where the error is, and the number that stands there. */
 
-/* What is wrong with headers. */
+/* What is wrong with headers or with a directory. A number that the error does not have is 0. */
 typedef struct {
-    uint64_t offset;                /* of the bytes that are truncated, or of the number that is refused */
-    uint64_t needed;                /* bytes that are needed there */
-    uint64_t value;                 /* the number that is refused; 0 where the bytes are truncated */
-    uint32_t result;                /* PE_C_SHORT, _BAD_MAGIC, _HEADER_POINTER, _TE_SIZE */
+    uint64_t offset;                /* of what is truncated or refused, or where it ends after the bytes that hold it */
+    uint64_t needed;                /* bytes that are needed */
+    uint64_t value;                 /* the number that is refused: a magic number, an RVA, a size */
+    uint32_t result;                /* the error */
     uint32_t spare;                 /* 0 */
 } pe_c_failure;
 
 PE_C_SIZE(pe_c_failure, 32);
 
-/* Returns why pe_c_image refuses the bytes in this mode. PE_C_NOTHING where it does not. It never returns an error. */
+/* Returns why pe_c_image refuses the bytes in this mode. PE_C_NOTHING where it does not. It never returns an error.
+ *
+ * A number that is refused has its offset, and `needed` is how many bytes it has. PE_C_SHORT has `offset` and `needed`. */
 uint32_t pe_c_image_failure(const uint8_t *bytes, size_t length, uint32_t mode, pe_c_failure *out) PE_C_RESULT(4);
 
 /* Returns why pe_c_te refuses the bytes. PE_C_NOTHING where it does not. It never returns an error. */
 uint32_t pe_c_te_failure(const uint8_t *bytes, size_t length, pe_c_failure *out) PE_C_RESULT(3);
+
+/* Returns what is wrong with a directory, PE_C_DIRECTORY_EXPORT and so on: the result of the call that reads it, and the numbers
+ * of that error. PE_C_NOTHING where that call returns no error, and of a directory that no call reads. It never returns an error.
+ *
+ * The calls: pe_c_export_tables, pe_c_import_libraries, pe_c_resource_leaves; pe_c_function_table, of ARM64 pe_c_arm64_table;
+ * pe_c_next_certificate of the first certificate; pe_c_relocation_blocks, pe_c_debug_entries, pe_c_tls, pe_c_load_config,
+ * pe_c_bound_imports, pe_c_delay_imports, pe_c_clr_header.
+ *
+ * The numbers: of PE_C_SHORT `offset` and `needed`; of PE_C_CERTIFICATE_SIZE `needed`; of PE_C_UNMAPPED `value`, the RVA; of
+ * PE_C_EXCEPTION_SIZE, PE_C_CERTIFICATE_REVISION, PE_C_CERTIFICATE_TYPE and PE_C_DIRECTORY_CLR_HEADER_SIZE `value`; of
+ * PE_C_EXCEPTION_OFFSET `offset`; of PE_C_EXCEPTION_BOUNDS, PE_C_DEBUG_BOUNDS, PE_C_RESOURCE_BOUNDS and PE_C_CERTIFICATE_TABLE
+ * `offset`, where the table ends. */
+uint32_t pe_c_directory_failure(const pe_c_view *view, uint32_t index, pe_c_failure *out) PE_C_RESULT(1, 3);
 
 /* ---- certificates
  *

@@ -436,6 +436,14 @@ test('why headers are refused', () => {
   assert.deepEqual([failure.offset, failure.value, results[failure.result]], [6n, 39n, 'PE_C_TE_SIZE']);
 });
 
+test('why a directory is refused', () => {
+  const index = constants.PE_C_DIRECTORY_IMPORT, bytes = Uint8Array.from(file('imports'));
+  assert.equal(library.open(bytes).call('pe_c_directory_failure', { index }), null);
+  new DataView(bytes.buffer).setUint32(0xC8 + 8 * index, 0x7654321, true);
+  const { offset, needed, value, result } = library.open(bytes).call('pe_c_directory_failure', { index });
+  assert.deepEqual([offset, needed, value, results[result]], [0n, 0n, 0x7654321n, 'PE_C_UNMAPPED']);
+});
+
 test('calls that take no file', () => {
   assert.deepEqual(library.call('pe_c_plan_from', { unwind: 7 }), { unwind: 7, is_over: 0, saved: 7, spare: 0, steps: 0n, limit: 1n });
 });

@@ -787,6 +787,8 @@ static void in_mode(struct file *file, uint32_t mode)
         return;
     file->view = (pe_c_view){BYTES, &file->image, sections, count, NULL, 0};
     headers(file);
+    for (uint32_t index = 0; index < 17; index++)
+        CALL(pe_c_directory_failure, failure, VIEW, index, &failure);
     debug_data(file);
     certificates(file);
     walk_x64(file);

@@ -13,6 +13,7 @@ mod coff;
 mod debug;
 mod debug_walks;
 mod delay_imports;
+mod directory_failure;
 mod dump;
 mod ended_texts;
 mod exports;

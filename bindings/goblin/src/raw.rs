@@ -35,6 +35,9 @@ impl Refusal {
     pub const EXCEPTION_SIZE: Refusal = Refusal(pe_c::Error::EXCEPTION_SIZE.number());
     pub const EXCEPTION_OFFSET: Refusal = Refusal(pe_c::Error::EXCEPTION_OFFSET.number());
     pub const CERTIFICATE_TABLE: Refusal = Refusal(pe_c::Error::CERTIFICATE_TABLE.number());
+    pub const CERTIFICATE_SIZE: Refusal = Refusal(pe_c::Error::CERTIFICATE_SIZE.number());
+    pub const CERTIFICATE_REVISION: Refusal = Refusal(pe_c::Error::CERTIFICATE_REVISION.number());
+    pub const CERTIFICATE_TYPE: Refusal = Refusal(pe_c::Error::CERTIFICATE_TYPE.number());
     pub const DEBUG_SIZE: Refusal = Refusal(pe_c::Error::DEBUG_SIZE.number());
     pub const POGO_SIZE: Refusal = Refusal(pe_c::Error::POGO_SIZE.number());
     pub const DEBUG_DATA: Refusal = Refusal(pe_c::Error::DEBUG_DATA.number());
@@ -595,6 +598,7 @@ calls_of_an_image! {
     offset_of_rva: pe_c_offset(rva: u32) -> u64;
     string_table: pe_c_string_table() -> Range;
     digest_ranges: pe_c_digest_ranges() -> sys::Digest;
+    directory_failure: pe_c_directory_failure(index: u32) -> sys::Failure;
     debug_entries: pe_c_debug_entries() -> Range;
     function_table: pe_c_function_table() -> Range;
     arm64_table: pe_c_arm64_table() -> Range;
@@ -614,4 +618,26 @@ calls_of_an_image! {
     relocation_blocks: pe_c_relocation_blocks() -> Range;
     clr_header: pe_c_clr_header() -> sys::ClrHeader;
     clr_metadata: pe_c_clr_metadata(header: &sys::ClrHeader) -> sys::Metadata;
+}
+
+// ---- the numbers of a refusal
+
+impl View<'_, '_> {
+    /// The error of a directory that a call refuses: bytes that are not there are scroll's error, and any other has the library's
+    /// text with its numbers.
+    pub(crate) fn refused(self, index: Index, refusal: Refusal) -> error::Error {
+        match self.directory_failure(index as u32) {
+            Ok(Some(it)) if refusal == Refusal::SHORT => short(self.bytes, it.offset as usize, &[it.needed as usize]),
+            Ok(Some(it)) => error::Error::Malformed(pe_c::Failure::from(it).to_string()),
+            _ => refusal.into(),
+        }
+    }
+}
+
+/// How many bytes the certificate needs that is first in a walk: it is the table of an image that has no other.
+pub(crate) fn needed_by_certificate(bytes: &[u8], walk: Range) -> u64 {
+    let directory = DataDirectory { virtual_address: walk.offset as u32, size: walk.length as u32 };
+    let info = image_with(Index::Certificate, directory, 0, &ParseOptions::default());
+    let failure = View::of(bytes, &info, &[]).directory_failure(Index::Certificate as u32);
+    failure.ok().flatten().map_or(0, |it| it.needed)
 }

@@ -74,6 +74,44 @@ fn errors_have_goblins_variants_and_numbers() {
     assert_eq!(refused(&debug), r#"Malformed("Cannot map ImageDebugDirectory rva 0x70000000 into offset")"#);
 }
 
+/// The image without its certificate, 0x400 bytes: those of its one section are at 0x200, for the RVAs from 0x1000 on. One of its
+/// directories has this address and this size, and bytes follow it.
+fn with_directory(index: usize, address: u32, size: u32, after: &[u8]) -> Vec<u8> {
+    let mut image = with(directory_offset(4), &[0; 8]);
+    image.truncate(0x400);
+    image.pwrite_with(address, directory_offset(index), scroll::LE).unwrap();
+    image.pwrite_with(size, directory_offset(index) + 4, scroll::LE).unwrap();
+    [&image, after].concat()
+}
+
+/// The last three bytes are at the RVA 0x11fd.
+#[test]
+fn errors_of_directories_have_their_numbers() {
+    let error_of = |index, rva, size| refused(&with_directory(index, rva, size, &[]));
+    for (index, size, needed) in [(5, 119, 119), (9, 1, 40), (10, 1, 4), (14, 1, 72)] {
+        assert_eq!(error_of(index, 0x11fd, size), format!("Scroll(TooBig {{ size: {needed}, len: 3 }})"));
+    }
+    for index in [9, 10, 14] {
+        let said = error_of(index, 0x0765_4321, 64);
+        assert!(said.starts_with(r#"Malformed("RVA 0x7654321 maps to no file offset"#), "{said}");
+    }
+    let text = r#"Malformed("exception directory ends at file offset 0x414, past the end of the file")"#;
+    assert_eq!(error_of(3, 0x11fc, 24), text);
+    let text = r#"Malformed("resource data ends at file offset 0x41d, past the bytes that hold it")"#;
+    assert_eq!(error_of(2, 0x11ed, 0x30), text);
+}
+
+/// goblin's texts of what is wrong with a certificate, and scroll's error of a header that is truncated.
+#[test]
+fn errors_of_certificates_have_goblins_texts() {
+    let error_of = |bytes: &[u8]| refused(&with_directory(4, 0x400, bytes.len() as u32, bytes));
+    assert_eq!(error_of(&[16, 0, 0, 0, 0, 2]), "Scroll(BadOffset(1030))");
+    let size = r#"Malformed("Unable to extract certificate. Probably cert_size:65536 is malformed")"#;
+    assert_eq!(error_of(&[8, 0, 1, 0, 0, 2, 2, 0]), size);
+    assert_eq!(error_of(&[8, 0, 0, 0, 0, 3, 2, 0]), r#"Malformed("Invalid certificate attribute revision")"#);
+    assert_eq!(error_of(&[8, 0, 0, 0, 0, 2, 9, 0]), r#"Malformed("Invalid attribute certificate type")"#);
+}
+
 /// Two sections, of which the first has data where the second starts, but is too short in memory to cover it.
 #[test]
 fn an_rva_is_mapped_by_the_first_section_that_covers_it() {

@@ -36,7 +36,7 @@ use crate::names::{name_of, MACHINES};
 use chrono::{TimeZone, Utc};
 use clap::ValueEnum;
 use others::Other;
-use pe_c::{Error, Image};
+use pe_c::{DirectoryIndex, Error, Failure, Image};
 use serde::ser::SerializeMap;
 use serde::{Serialize, Serializer};
 use std::fmt;
@@ -178,17 +178,32 @@ pub struct Refusal {
     pub number: u32,
     pub name: &'static str,
     pub text: String,
+    /// What is wrong with a directory, with its numbers, for text.
+    #[serde(skip)]
+    failure: Option<Failure>,
+}
+
+impl Refusal {
+    /// The error of a directory, with its numbers where the directory itself is refused, and not an entry in it.
+    fn of_directory(error: Error, image: &Image<'_>, index: DirectoryIndex) -> Refusal {
+        let failure = image.directory_failure(index).filter(|it| it.error == error);
+        Refusal { failure, ..error.into() }
+    }
 }
 
 impl From<Error> for Refusal {
     fn from(error: Error) -> Refusal {
-        Refusal { number: error.number(), name: error.name().unwrap_or("UNKNOWN"), text: error.to_string() }
+        let name = error.name().unwrap_or("UNKNOWN");
+        Refusal { number: error.number(), name, text: error.to_string(), failure: None }
     }
 }
 
 impl fmt::Display for Refusal {
     fn fmt(&self, f: &mut fmt::Formatter<'_>) -> fmt::Result {
-        write!(f, "{} ({})", self.text, self.name)
+        match &self.failure {
+            Some(failure) => write!(f, "{failure} ({})", self.name),
+            None => write!(f, "{} ({})", self.text, self.name),
+        }
     }
 }
 
@@ -290,6 +305,16 @@ impl<T> Part<List<T>> {
     /// Why the list is refused, or the entry at which it ends.
     pub fn list_refusal(&self) -> Option<&Refusal> {
         self.refusal().or(self.present().and_then(|it| it.error.as_ref()))
+    }
+}
+
+impl<T> Part<T> {
+    /// What a call found of a directory.
+    pub fn of_directory(found: Result<Option<T>, Error>, image: &Image<'_>, index: DirectoryIndex) -> Part<T> {
+        match found {
+            Err(error) => Part::Refused(Refusal::of_directory(error, image, index)),
+            found => found.into(),
+        }
     }
 }
 

@@ -267,6 +267,20 @@ fn damaged_parts_are_warnings_and_cost_themselves() {
     assert_eq!(status, 1);
 }
 
+/// The directory of the imports at an RVA that no section maps. JSON has the text of the error alone.
+#[test]
+fn a_directory_that_is_refused_is_a_warning_with_its_numbers() {
+    let folder = Folder::new("refused");
+    let mut bytes = made::with_refused_import();
+    bytes[0xC8 + 8..][..4].copy_from_slice(&0x0765_4321_u32.to_le_bytes());
+    let file = folder.file("a.exe", &bytes);
+    let (out, _, status) = run(&[&file]);
+    assert!(out.contains("  warning       imports: RVA 0x7654321 maps to no file offset"), "{out}");
+    assert!(out.ends_with(" (UNMAPPED)\n") && status == 1, "{out}");
+    let all: Value = serde_json::from_str(&run(&["--json", &file]).0).unwrap();
+    assert_eq!(all["imports_error"], json!({"number": 11, "name": "UNMAPPED", "text": "RVA maps to no file offset"}));
+}
+
 /// Placeholder DLLs of Wine have a block of zeros there.
 #[test]
 fn zeros_in_place_of_base_relocations_are_no_damage() {

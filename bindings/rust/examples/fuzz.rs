@@ -272,6 +272,7 @@ fn read_by_lies(bytes: &[u8], random: &mut Random, seen: &mut Seen) {
         let mut fields = sys::Arm64Packed::default();
         sys::pe_c_arm64_packed_fields(&sys::Arm64Function { begin: few, unwind: few.rotate_left(7) }, &mut fields);
     }
+    call_of_image!(pe_c_directory_failure(few % 16), Failure);
     let entry = call_of_image!(pe_c_first_debug_entry(few % 24), DebugEntry);
     // SAFETY: as above.
     unsafe {

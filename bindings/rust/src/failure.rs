@@ -1,12 +1,12 @@
-//! Why headers are refused: where, and by which number. An [`Error`] is one number, so that a caller can store it; this reads the
-//! headers again, and says the rest.
+//! Why headers and directories are refused: where, and by which number. An [`Error`] is one number, so that a caller can store
+//! it; this reads them again, and says the rest.
 
-use crate::image::{number_of, returned, Error, Image, Layout, Mode};
+use crate::image::{number_of, returned, DirectoryIndex, Error, Image, Layout, Mode};
 use crate::sys;
 use crate::te::Te;
 use core::fmt;
 
-/// What is wrong with the headers of an image.
+/// What is wrong with the headers of an image, or with a directory.
 ///
 /// ```
 /// use pe_c::{Error, Image, Layout, Mode};
@@ -21,19 +21,24 @@ use core::fmt;
 pub struct Failure {
     /// The error.
     pub error: Error,
-    /// File offset of the bytes that are truncated, or of the number that is refused.
+    /// Offset of what is truncated or refused, or where it ends after the bytes that hold it; 0 where the error has none.
     pub offset: u64,
-    /// How many bytes are needed there.
+    /// How many bytes are needed; 0 where the error has no such number.
     pub needed: u64,
-    /// The number that is refused. `None` where the bytes are truncated.
+    /// The number that is refused: a magic number, an RVA, a size. `None` where the error has none, as [`Error::SHORT`].
     pub value: Option<u64>,
 }
 
+impl From<sys::Failure> for Failure {
+    fn from(it: sys::Failure) -> Failure {
+        let error = Error::with_number(it.result);
+        Failure { error, offset: it.offset, needed: it.needed, value: has_value(error).then_some(it.value) }
+    }
+}
+
 /// What a call found, which returns no error.
-fn found(number: u32, failure: sys::Failure) -> Option<Failure> {
-    let sys::Failure { offset, needed, value, result, .. } = returned(number, failure).ok().flatten()?;
-    let error = Error::with_number(result);
-    Some(Failure { error, offset, needed, value: (error != Error::SHORT).then_some(value) })
+fn found(failure: Result<Option<sys::Failure>, Error>) -> Option<Failure> {
+    failure.ok().flatten().map(Failure::from)
 }
 
 impl Image<'_> {
@@ -41,7 +46,37 @@ impl Image<'_> {
     pub fn failure(bytes: &[u8], mode: Mode, layout: Layout) -> Option<Failure> {
         let (way, mut out) = (number_of(mode, layout), sys::Failure::default());
         // SAFETY: the pointer and the length are those of one slice; the record is lent for the call.
-        found(unsafe { sys::pe_c_image_failure(bytes.as_ptr(), bytes.len(), way, &mut out) }, out)
+        let number = unsafe { sys::pe_c_image_failure(bytes.as_ptr(), bytes.len(), way, &mut out) };
+        found(returned(number, out))
+    }
+
+    /// What is wrong with a directory: the error of the method that reads it, with its numbers. `None` where that method returns no
+    /// error, and of a directory that none reads.
+    ///
+    /// The methods are [`Image::exports`], [`Image::libraries`], [`Image::resource_leaves`], [`Image::functions`] or
+    /// [`Image::arm64_functions`], [`Image::certificates`] with its first item, [`Image::relocation_blocks`],
+    /// [`Image::debug_entries`], [`Image::tls`], [`Image::load_config`], [`Image::bound_imports`], [`Image::delay_imports`] and
+    /// [`Image::clr`] with its header.
+    ///
+    /// ```
+    /// # let bytes: &[u8] = include_bytes!(concat!(env!("CARGO_MANIFEST_DIR"), "/../../crates/peinfo/data/i.bin"));
+    /// use pe_c::{DirectoryIndex, Error, Image, Mode};
+    ///
+    /// let mut bytes = bytes.to_vec();
+    /// let image = Image::parse(&bytes, Mode::Strict)?;
+    /// assert_eq!(image.directory_failure(DirectoryIndex::Exception), None);
+    /// // The RVA of the fourth directory: the directories follow the other 112 bytes of the optional header of PE32+.
+    /// let optional = u32::from_le_bytes(bytes[60..64].try_into().unwrap()) as usize + 24;
+    /// bytes[optional + 112 + 3 * 8..][..4].copy_from_slice(&0x0123_4567_u32.to_le_bytes());
+    /// let image = Image::parse(&bytes, Mode::Strict)?;
+    /// assert_eq!(image.functions().unwrap_err(), Error::UNMAPPED);
+    /// let failure = image.directory_failure(DirectoryIndex::Exception).unwrap();
+    /// assert_eq!((failure.error, failure.value), (Error::UNMAPPED, Some(0x0123_4567)));
+    /// assert!(failure.to_string().starts_with("RVA 0x1234567 maps to no file offset"));
+    /// # Ok::<(), pe_c::Error>(())
+    /// ```
+    pub fn directory_failure(&self, index: DirectoryIndex) -> Option<Failure> {
+        found(self.ask_with(sys::pe_c_directory_failure, index as u32))
     }
 }
 
@@ -50,16 +85,93 @@ impl Te<'_> {
     pub fn failure(bytes: &[u8]) -> Option<Failure> {
         let mut out = sys::Failure::default();
         // SAFETY: as above.
-        found(unsafe { sys::pe_c_te_failure(bytes.as_ptr(), bytes.len(), &mut out) }, out)
+        let number = unsafe { sys::pe_c_te_failure(bytes.as_ptr(), bytes.len(), &mut out) };
+        found(returned(number, out))
     }
 }
 
+/// Whether an error has a number that is refused. `tools/make_errors` writes which.
+#[rustfmt::skip]
+fn has_value(error: Error) -> bool {
+    matches!(
+        error,
+        Error::BAD_MAGIC
+        | Error::HEADER_POINTER
+        | Error::IMPORT_NAME
+        | Error::CERTIFICATE_REVISION
+        | Error::CERTIFICATE_TYPE
+        | Error::UNMAPPED
+        | Error::DEBUG_SIZE
+        | Error::POGO_SIZE
+        | Error::POGO_NAME
+        | Error::EXCEPTION_SIZE
+        | Error::FUNCTION_INDEX
+        | Error::FUNCTION_LINK
+        | Error::FUNCTION_CYCLE
+        | Error::UNWIND_VERSION
+        | Error::UNWIND_CODE
+        | Error::ARM64_VERSION
+        | Error::ARM64_STREAM
+        | Error::TE_SIZE
+        | Error::WRITE_FIT
+        | Error::DIRECTORY_BLOCK_SIZE
+        | Error::DIRECTORY_BLOCK_TRUNCATED
+        | Error::DIRECTORY_NO_ARGUMENT
+        | Error::DIRECTORY_VA_BELOW_BASE
+        | Error::DIRECTORY_CLR_HEADER_SIZE
+        | Error::DIRECTORY_RELOCATION_KIND
+        | Error::DIRECTORY_RELOCATION_OUTSIDE
+    )
+}
+
 impl fmt::Display for Failure {
+    /// The text of the error with its numbers. `tools/make_errors` writes most arms.
+    #[rustfmt::skip]
     fn fmt(&self, f: &mut fmt::Formatter<'_>) -> fmt::Result {
-        let Failure { error, offset, needed, value } = self;
-        match value {
-            Some(value) => write!(f, "{error}: {value:#x} at offset {offset:#x}"),
-            None => write!(f, "{error}: {needed} bytes needed at offset {offset:#x}"),
+        let Failure { error, offset, needed, value } = *self;
+        let value = value.unwrap_or(0);
+        match error {
+            Error::SHORT => write!(f, "{error}: {needed} bytes needed at offset {offset:#x}"),
+            Error::BAD_MAGIC => write!(f, "{error}: {value:#x} at offset {offset:#x}"),
+            Error::HEADER_POINTER => write!(f, "PE header offset {value:#x} lies inside the DOS header's 64 bytes"),
+            Error::IMPORT_NAME => write!(f, "import name at RVA {value:#x} is not NUL-terminated or not UTF-8"),
+            Error::STRING_TABLE => write!(f, "string not NUL-terminated, not UTF-8 or truncated (at offset {offset:#x} of the string table, unless it is an inline name)"),
+            Error::CERTIFICATE_REVISION => write!(f, "invalid certificate revision {value:#x}"),
+            Error::CERTIFICATE_TYPE => write!(f, "invalid certificate type {value:#x}"),
+            Error::CERTIFICATE_SIZE => write!(f, "certificate truncated: {needed} bytes needed"),
+            Error::CERTIFICATE_TABLE => write!(f, "certificate table ends at file offset {offset:#x}, past the end of the file"),
+            Error::UNMAPPED => write!(f, "RVA {value:#x} maps to no file offset: no section covers it, or the file alignment is not a power of two"),
+            Error::DEBUG_BOUNDS => write!(f, "debug directory ends at file offset {offset:#x}, past the end of the file"),
+            Error::DEBUG_SIZE => write!(f, "debug record of {value} bytes is too small for its type"),
+            Error::DEBUG_DATA => write!(f, "debug record truncated: {needed} bytes needed"),
+            Error::POGO_SIZE => write!(f, "POGO record of {value} bytes has no entries"),
+            Error::POGO_NAME => write!(f, "POGO entry truncated: {needed} bytes needed up to the end of its padded name, {value} left"),
+            Error::EXCEPTION_SIZE => write!(f, "exception directory size of {value} bytes is not a multiple of the entry size"),
+            Error::EXCEPTION_OFFSET => write!(f, "exception directory at file offset {offset:#x} is not aligned to 4 bytes"),
+            Error::EXCEPTION_BOUNDS => write!(f, "exception directory ends at file offset {offset:#x}, past the end of the file"),
+            Error::FUNCTION_INDEX => write!(f, "function index {value} is out of range"),
+            Error::FUNCTION_LINK => write!(f, "link to RVA {value:#x} leads to no function entry"),
+            Error::FUNCTION_CYCLE => write!(f, "loop in unwind links or chained records, found after {value} steps"),
+            Error::UNWIND_VERSION => write!(f, "unknown unwind record version {value}"),
+            Error::UNWIND_CODE => write!(f, "invalid unwind code {value:#x}"),
+            Error::ARM64_VERSION => write!(f, "unknown ARM64 unwind record version {value}"),
+            Error::ARM64_STREAM => write!(f, "no ARM64 unwind code stream in {value} bytes from offset {offset:#x}"),
+            Error::ARM64_CUT => write!(f, "ARM64 unwind code truncated at offset {offset:#x} of its stream"),
+            Error::RESOURCE_BOUNDS => write!(f, "resource data ends at file offset {offset:#x}, past the bytes that hold it"),
+            Error::RESOURCE_CYCLE => write!(f, "loop in the resource tree through the directory at offset {offset:#x}"),
+            Error::RESOURCE_STRING => write!(f, "version string at offset {offset:#x}: value missing, or its length above 32,767"),
+            Error::TE_SIZE => write!(f, "stripped size of {value} bytes is smaller than the 40 bytes of a TE header"),
+            Error::WRITE_FIT => write!(f, "write ends at offset {offset:#x}, past a buffer of {value} bytes"),
+            Error::DIRECTORY_BLOCK_SIZE => write!(f, "base relocation block of {value} bytes: the size is below 8 or odd"),
+            Error::DIRECTORY_BLOCK_TRUNCATED => write!(f, "base relocation block truncated: {needed} bytes needed, {value} left"),
+            Error::DIRECTORY_NO_ARGUMENT => write!(f, "base relocation at RVA {value:#x} has no argument"),
+            Error::DIRECTORY_VA_BELOW_BASE => write!(f, "virtual address {value:#x} is below the image base"),
+            Error::DIRECTORY_CLR_HEADER_SIZE => write!(f, "CLR header of {value} bytes, smaller than 72"),
+            Error::DIRECTORY_DELAY_IMPORT_NAME => write!(f, "name of a delay import at offset {offset:#x} is not NUL-terminated or not UTF-8"),
+            Error::DIRECTORY_BOUND_IMPORT_NAME => write!(f, "name of a bound import at offset {offset:#x} is not NUL-terminated or not UTF-8"),
+            Error::DIRECTORY_RELOCATION_KIND => write!(f, "base relocation of type {value} at RVA {offset:#x} is not applied"),
+            Error::DIRECTORY_RELOCATION_OUTSIDE => write!(f, "base relocation at RVA {value:#x} is outside of the image"),
+            _ => write!(f, "{error}"),
         }
     }
 }

@@ -1661,13 +1661,13 @@ TeHeader, 48 {
     spare: u32,
 });
 record!(
-/// What is wrong with headers.
+/// What is wrong with headers or with a directory. A number that the error does not have is 0.
 Failure, 32 {
-    /// File offset of the bytes that are truncated, or of the number that is refused.
+    /// Offset of what is truncated or refused, or where it ends after the bytes that hold it.
     offset: u64,
-    /// Bytes that are needed there.
+    /// Bytes that are needed.
     needed: u64,
-    /// The number that is refused; 0 where the bytes are truncated.
+    /// The number that is refused.
     value: u64,
     /// The number of the error.
     result: u32,
@@ -2622,6 +2622,8 @@ calls_of_an_image! {
     pe_c_range_at(rva: u32) -> Range;
     /// Returns the RVA that leads to a file offset.
     pe_c_rva(offset: u64) -> u32;
+    /// Returns why the directory with an index is refused.
+    pe_c_directory_failure(index: u32) -> Failure;
     /// Returns the entries of the debug directory, as a walk.
     pe_c_debug_entries() -> Range;
     /// Returns the first entry of a type in the debug directory.

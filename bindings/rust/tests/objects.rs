@@ -110,7 +110,7 @@ fn refusals_have_numbers() {
     assert_eq!(Te::parse(&bytes).unwrap_err(), Error::TE_SIZE);
     let failure = Te::failure(&bytes).unwrap();
     assert_eq!((failure.error, failure.offset, failure.value), (Error::TE_SIZE, 6, Some(39)));
-    assert_eq!(failure.to_string(), "stripped size smaller than the TE header: 0x27 at offset 0x6");
+    assert_eq!(failure.to_string(), "stripped size of 39 bytes is smaller than the 40 bytes of a TE header");
 }
 
 /// Each object and TE image truncated everywhere.

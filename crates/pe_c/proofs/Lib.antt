@@ -4,6 +4,7 @@ pub mod Arm64CodeRuns
 pub mod CertificateRuns
 pub mod CodeRuns
 pub mod DigestParts
+pub mod DirectoryFailures
 pub mod DirectoryParts
 pub mod DirectoryRuns
 pub mod DirectoryLists

@@ -46,6 +46,8 @@ pub mod Maps
 pub mod Coff
 pub mod Te
 pub mod Failures
+pub mod FailureNumbers
+pub mod DirectoryFailures
 pub mod ResourceEdits
 pub mod VersionWrites
 pub mod Dumps

@@ -45,7 +45,7 @@ pub struct BoundForwarder {
     pub spare: u32,
 }
 
-fn bound_imports_at(view: &View) -> Result<Option<Range>>
+pub fn bound_imports_at(view: &View) -> Result<Option<Range>>
     ensures { directory_answer (λ r. r) result ≡ bound_imports_at view.now.bytes.now
         view.now.image.now }
 {

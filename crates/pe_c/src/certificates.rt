@@ -62,7 +62,7 @@ fn walk_from(walk: Range, next: u64) -> Range
 
 /// One step: its result, and the walk after it.
 #[tactic(auto, unfolding(crate::specs::Certificates::certificate_step))]
-fn step(bytes: &[u8], walk: Range) -> (Result<Option<Certificate>>, Range)
+pub fn step(bytes: &[u8], walk: Range) -> (Result<Option<Certificate>>, Range)
     ensures { (answer_of result.0, result.1) ≡ certificate_step bytes.now walk }
 {
     // This test comes first: an empty walk outside of the bytes is an error too.

@@ -84,7 +84,7 @@ const NO_STREAMS: MetadataStreams = MetadataStreams {
     spare_too: 0,
 };
 
-fn clr_header_at(view: &View) -> Result<Option<ClrHeader>>
+pub fn clr_header_at(view: &View) -> Result<Option<ClrHeader>>
     ensures { directory_answer (λ h. h) result
         ≡ clr_header_at view.now.bytes.now view.now.image.now view.now.sections.now }
 {

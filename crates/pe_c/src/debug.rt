@@ -27,7 +27,7 @@ use pe_records::{
 };
 
 #[tactic(auto, unfolding(crate::specs::Debug::debug_entries_range))]
-fn table_of(view: &View) -> Result<Option<Range>>
+pub fn table_of(view: &View) -> Result<Option<Range>>
     ensures { answer_of result
         ≡ debug_entries_range view.now.bytes.now view.now.image.now view.now.sections.now
         view.now.image.now.mode }

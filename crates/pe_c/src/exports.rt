@@ -89,7 +89,7 @@ pub fn export_data<'a>(view: &View<'a>, directory: DataDirectory) -> Result<Expo
 }
 
 #[tactic(auto, unfolding(crate::specs::Exports::tables_at))]
-fn tables_at(view: &View) -> Result<Option<Exports>>
+pub fn tables_at(view: &View) -> Result<Option<Exports>>
     ensures { answer_of result ≡ tables_at view.now.bytes.now view.now.image.now
         view.now.sections.now }
 {

@@ -16,15 +16,15 @@ use pe_core::{
     read_u32, require_bytes,
 };
 
-/// What is wrong with headers.
+/// What is wrong with headers or with a directory. A number that the error does not have is 0.
 #[repr(C)]
 #[derive(Clone, Copy)]
 pub struct Failure {
-    /// File offset of the bytes that are truncated, or of the number that is refused.
+    /// Offset of what is truncated or refused, or where it ends after the bytes that hold it.
     pub offset: u64,
-    /// How many bytes are needed there.
+    /// How many bytes are needed.
     pub needed: u64,
-    /// The number that is refused; 0 where the bytes are truncated.
+    /// The number that is refused: a magic number, an RVA, a size.
     pub value: u64,
     /// The number of the error.
     pub result: u32,
@@ -152,7 +152,7 @@ fn image_failure(bytes: &[u8], mode: u32) -> Option<Failure>
 }
 
 /// Writes a failure to `out` and returns `DONE`, or returns `NOTHING` without one.
-fn hand_out_failure(found: Option<Failure>, out: &mut Failure) -> u32
+pub fn hand_out_failure(found: Option<Failure>, out: &mut Failure) -> u32
     ensures { HandsOutIf result out.old out.new (Ok found) }
 {
     match found {

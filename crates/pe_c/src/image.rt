@@ -77,6 +77,8 @@ pub const RESOURCE_TABLE: usize = 2;
 
 pub const EXCEPTION_TABLE: usize = 3;
 
+pub const CERTIFICATE_TABLE: usize = 4;
+
 pub const BASE_RELOCATION_TABLE: usize = 5;
 
 pub const DEBUG_TABLE: usize = 6;

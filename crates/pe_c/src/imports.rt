@@ -123,7 +123,7 @@ fn name_at<'a>(names: &NamedView<'a>, offset: usize, rva: u32) -> Result<&'a str
     }
 }
 
-fn libraries_at(view: &View) -> Result<Option<Libraries>>
+pub fn libraries_at(view: &View) -> Result<Option<Libraries>>
     ensures { answer_of result ≡ libraries_at view.now.image.now view.now.sections.now }
 {
     let directory = directory(view.image, IMPORT_TABLE);

@@ -131,7 +131,7 @@ fn config_reported(config: &Structure) -> LoadConfig
     }
 }
 
-fn load_config_at(view: &View) -> Result<Option<LoadConfig>>
+pub fn load_config_at(view: &View) -> Result<Option<LoadConfig>>
     ensures { directory_answer (λ c. c) result
         ≡ load_config_at view.now.bytes.now view.now.image.now view.now.sections.now }
 {

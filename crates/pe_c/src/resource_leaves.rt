@@ -2,10 +2,16 @@
 //! a position in the tree, in numbers; callers may copy it, and store it.
 //! https://learn.microsoft.com/windows/win32/debug/pe-format#the-rsrc-section
 
-ghost use Rattle.std.specs.Prelude.{◌≡◌, ◌≤◌, ◌^◌};
-ghost use Rattle.pe_core.specs.Refusals.{answer_of};
+ghost use Rattle.std.specs.Prelude.{◌≡◌, ◌≤◌, ◌^◌, IfOk, IfSome, Ok};
+ghost use Rattle.std.specs.Option.{option_map};
+ghost use Rattle.pe_core.specs.Offsets.{IsWithin};
+ghost use Rattle.pe_core.specs.Refusals.{Returns, ReturnsAs, answer_of};
+ghost use Rattle.pe_resource.specs.Contents.{file_range};
+ghost use Rattle.pe_resource.specs.LeafPositions.{leaf_start, tree_at, tree_view};
 ghost use Rattle.pe_resource.specs.Leaves.{tree_answer};
 ghost use Rattle.pe_c.specs.HandsOut.{HandsOutIf};
+ghost use Rattle.pe_c.specs.Images.{map_of_image};
+ghost use Rattle.pe_c.specs.Modes.{options_of};
 ghost use Rattle.pe_c.specs.Views.{map_of};
 ghost use Rattle.pe_c.specs.ResourceLeaves.{StartsLeaves, TreeHandsOut, after_item, content_of, first_item, image_tree, items_left, leaf_reported, leaves_start, leaves_walk, name_in, position_of, walk_at};
 
@@ -14,7 +20,7 @@ use crate::ranges::{NO_BYTES, Range, range_of, slice_of};
 use crate::results::{DONE, NOTHING, hand_out_leaf, number_of, options};
 use crate::section_index::sections_by;
 use crate::view::View;
-use pe_core::{ByteRange, Result};
+use pe_core::{ByteRange, DataDirectory, Result};
 use pe_resource::{LeafPosition, ResourceData, ResourceEntry, ResourceTreeError};
 
 /// What names a type, a resource or a language: an id, or a name.
@@ -184,6 +190,26 @@ const NO_ENTRY: ResourceEntry = ResourceEntry {
     offset_to_data_or_directory: 0,
 };
 
+/// Where the data of a resource directory are, and the position before the first leaf.
+pub fn leaf_position(
+    view: &View,
+    directory: DataDirectory,
+) -> Result<Option<(ByteRange, LeafPosition)>>
+    ensures tree { ReturnsAs (option_map (tree_view view.now.bytes.now)) result
+        (tree_at (options_of view.now.image.now.mode) view.now.bytes.now directory view.now.sections.now
+        view.now.image.now.file_alignment) }
+    ensures place { IfOk result (λ x. IfSome x (λ x. file_range view.now.bytes.now directory.size
+        (map_of_image view.now.image.now view.now.sections.now directory.virtual_address) ≡ Ok x.0)) }
+    ensures within { IfOk result (λ x. IfSome x (λ x. IsWithin view.now.bytes.now x.0)) }
+    ensures value { Returns result
+        (leaf_start (options_of view.now.image.now.mode) view.now.bytes.now directory view.now.sections.now
+        view.now.image.now.file_alignment) }
+{
+    let alignment = view.image.file_alignment;
+    let opts = options(view.image.mode);
+    ResourceData::leaf_position(view.bytes, directory, view.sections, alignment, &opts)
+}
+
 /// Returns a walk over the leaves of the resource tree: `NOTHING` where the directory is absent, and in permissive mode where
 /// its data are shorter than a directory.
 ///
@@ -201,9 +227,7 @@ pub extern "C" fn pe_c_resource_leaves(view: &View, out: &mut ResourceLeaves) ->
     if is_absent(directory) {
         return NOTHING;
     }
-    let alignment = view.image.file_alignment;
-    let opts = options(view.image.mode);
-    match ResourceData::leaf_position(view.bytes, directory, view.sections, alignment, &opts) {
+    match leaf_position(view, directory) {
         Ok(Some((data, position))) => {
             *out = walk_at(range_of(data), &position);
             DONE

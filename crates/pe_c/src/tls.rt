@@ -12,7 +12,7 @@ use crate::results::hand_out_found;
 use crate::view::View;
 use pe_directories::{TlsDirectory, VaTable};
 
-fn tls_at(view: &View) -> Result<Option<TlsDirectory>>
+pub fn tls_at(view: &View) -> Result<Option<TlsDirectory>>
     ensures { directory_answer (λ t. t) result ≡ tls_at view.now.bytes.now view.now.image.now
         view.now.sections.now }
 {

@@ -96,7 +96,7 @@ pub struct Code {
 }
 
 #[tactic(auto, unfolding(crate::specs::Unwinding::exception_table_at))]
-fn table_of(view: &View) -> Result<Option<Range>>
+pub fn table_of(view: &View) -> Result<Option<Range>>
     ensures { answer_of result
         ≡ exception_table_at COFF_MACHINE_X86_64 12 view.now.bytes.now view.now.image.now
         view.now.sections.now view.now.image.now.mode }

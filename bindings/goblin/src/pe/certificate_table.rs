@@ -3,7 +3,8 @@
 
 use super::utils;
 use crate::error;
-use crate::raw;
+use crate::raw::{self, Refusal};
+use pe_c::sys::Range;
 use scroll::{ctx, Pwrite};
 
 /// The version of a certificate's header.
@@ -80,7 +81,7 @@ impl<'a> AttributeCertificate<'a> {
     /// unchanged: `Scroll` past the end; `Malformed` where it is truncated, and for a revision or a type that is none.
     pub fn parse(bytes: &'a [u8], current_offset: &mut usize) -> error::Result<AttributeCertificate<'a>> {
         let mut walk = raw::rest(bytes, *current_offset);
-        let found = raw::next_certificate(bytes, &mut walk)?;
+        let found = next(bytes, &mut walk)?;
         let found = found.ok_or(scroll::Error::BadOffset(*current_offset))?;
         let certificate = Self::of(bytes, &found)?;
         // The walk ends with the bytes; goblin's offset may be past them by the padding.
@@ -130,20 +131,32 @@ pub(crate) fn enumerate_certificates(
     table_offset: u32,
     table_size: u32,
 ) -> error::Result<CertificateDirectoryTable<'_>> {
-    let mut walk = pe_c::sys::Range { offset: table_offset.into(), length: table_size.into() };
+    let mut walk = Range { offset: table_offset.into(), length: table_size.into() };
     let mut found = Vec::new();
-    while let Some(certificate) = raw::next_certificate(bytes, &mut walk).map_err(table_error)? {
+    while let Some(certificate) = next(bytes, &mut walk)? {
         raw::push(&mut found, AttributeCertificate::of(bytes, &certificate)?)?;
     }
     Ok(found)
 }
 
-/// An error of a table, with goblin's text.
-fn table_error(refusal: raw::Refusal) -> error::Error {
-    match refusal {
-        raw::Refusal::CERTIFICATE_TABLE => {
-            error::Error::Malformed("End of attribute certificates table is after the end of the PE binary".to_owned())
+/// The next certificate of a walk, or why there is none, with goblin's text.
+fn next(bytes: &[u8], walk: &mut Range) -> error::Result<Option<pe_c::sys::Certificate>> {
+    let before = *walk;
+    raw::next_certificate(bytes, walk).map_err(|it| refused(bytes, before, it))
+}
+
+fn refused(bytes: &[u8], walk: Range, refusal: Refusal) -> error::Error {
+    error::Error::Malformed(match refusal {
+        Refusal::SHORT => return raw::short(bytes, walk.offset as usize, &[4, 2, 2]),
+        Refusal::CERTIFICATE_TABLE => {
+            "End of attribute certificates table is after the end of the PE binary".to_owned()
         }
-        other => other.into(),
-    }
+        Refusal::CERTIFICATE_SIZE => {
+            let size = raw::needed_by_certificate(bytes, walk).saturating_sub(HEADER_SIZE as u64);
+            format!("Unable to extract certificate. Probably cert_size:{size} is malformed")
+        }
+        Refusal::CERTIFICATE_REVISION => "Invalid certificate attribute revision".to_owned(),
+        Refusal::CERTIFICATE_TYPE => "Invalid attribute certificate type".to_owned(),
+        other => return other.into(),
+    })
 }

@@ -91,7 +91,8 @@ impl<'a> ClrData<'a> {
     }
 
     pub(crate) fn of(view: View<'a, '_>) -> error::Result<Option<Self>> {
-        let Some(header) = view.clr_header()? else { return Ok(None) };
+        let header = view.clr_header().map_err(|it| view.refused(Index::Clr, it))?;
+        let Some(header) = header else { return Ok(None) };
         let root = view.clr_metadata(&header)?;
         let metadata_root = root.map(|it| {
             Ok::<_, error::Error>(MetadataRoot {

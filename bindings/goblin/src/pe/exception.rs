@@ -639,7 +639,7 @@ fn directory_error(view: View<'_, '_>, refusal: Refusal) -> error::Error {
             error::Error::Malformed(format!("cannot map exception_rva ({virtual_address:#x}) into offset"))
         }
         (Refusal::EXCEPTION_OFFSET, Some(at)) => scroll::Error::BadOffset(at).into(),
-        (other, _) => other.into(),
+        (other, _) => view.refused(Index::Exception, other),
     }
 }
 

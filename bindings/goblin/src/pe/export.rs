@@ -173,7 +173,7 @@ fn refused(view: View<'_, '_>, refusal: Refusal) -> error::Error {
         (Refusal::SHORT, Some(at)) => {
             error::Error::Malformed(format!("cannot parse export_directory_table (offset {at:#x})"))
         }
-        (other, _) => other.into(),
+        (other, _) => view.refused(Index::Export, other),
     }
 }
 

@@ -171,7 +171,8 @@ impl LoadConfigData {
     }
 
     pub(crate) fn of(view: View<'_, '_>) -> error::Result<Option<Self>> {
-        let Some(it) = view.load_config()? else { return Ok(None) };
+        let found = view.load_config().map_err(|it| view.refused(Index::LoadConfig, it))?;
+        let Some(it) = found else { return Ok(None) };
         Ok(Some(LoadConfigData { directory: with_further(record_of(&it), view)? }))
     }
 }

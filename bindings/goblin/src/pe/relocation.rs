@@ -153,7 +153,7 @@ impl<'a> RelocationData<'a> {
                 "Cannot map base reloc rva {:#x} into offset",
                 view.directory(Index::BaseRelocation).virtual_address
             )),
-            other => other.into(),
+            other => view.refused(Index::BaseRelocation, other),
         })?;
         found.map(|it| Ok(RelocationData { bytes: view.slice(it)? })).transpose()
     }

@@ -370,7 +370,7 @@ impl<'a> ResourceData<'a> {
         let directory = view.directory(Index::Resource);
         let leaves = view.resource_leaves().map_err(|it| match it {
             Refusal::UNMAPPED => unmapped("ImageResourceDirectory", directory.virtual_address),
-            other => other.into(),
+            other => view.refused(Index::Resource, other),
         })?;
         let Some(leaves) = leaves else {
             // In permissive mode data too short for a directory are an empty one, and without a directory there is nothing.

@@ -71,7 +71,7 @@ impl<'a> TlsData<'a> {
     }
 
     pub(crate) fn of(view: View<'a, '_>) -> error::Result<Option<Self>> {
-        let Some(tls) = view.tls()? else { return Ok(None) };
+        let Some(tls) = view.tls().map_err(|it| view.refused(Index::Tls, it))? else { return Ok(None) };
         let length = tls.end_address_of_raw_data.checked_sub(tls.start_address_of_raw_data);
         let place = view.offset_of_va(tls.start_address_of_raw_data);
         let place = place.zip(length.and_then(|it| usize::try_from(it).ok()));

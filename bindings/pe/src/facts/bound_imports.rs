@@ -1,7 +1,7 @@
 //! The bound imports: DLLs whose addresses stand in the image already, for as long as they have the same time stamps.
 
 use super::{entry, Budget, List, Name, Part, Stamp, ENTRY};
-use pe_c::{BoundForwarder, BoundImport, Image};
+use pe_c::{BoundForwarder, BoundImport, DirectoryIndex, Image};
 use serde::Serialize;
 
 #[derive(Clone, Debug, Serialize)]
@@ -50,5 +50,6 @@ pub fn is_limited(bound: &List<Bound>) -> bool {
 pub fn of<'a>(image: &'a Image<'_>) -> Part<List<Bound<'a>>> {
     let mut budget = Budget::of(image);
     let bound_imports_of = |bound| List::limited(bound, |found| bound_of(found, &mut budget));
-    image.bound_imports().map(|found| found.map(bound_imports_of)).into()
+    let found = image.bound_imports().map(|found| found.map(bound_imports_of));
+    Part::of_directory(found, image, DirectoryIndex::BoundImport)
 }

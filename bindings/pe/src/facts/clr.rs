@@ -3,7 +3,7 @@
 use super::assembly::{self, Tables};
 use super::{entry, field, Flags, List, Name, Part};
 use crate::names::CLR_FLAGS;
-use pe_c::{Image, Metadata as FoundMetadata, MetadataStream};
+use pe_c::{DirectoryIndex, Image, Metadata as FoundMetadata, MetadataStream};
 use serde::Serialize;
 
 #[derive(Clone, Debug, Serialize)]
@@ -95,7 +95,8 @@ fn clr_of<'a>(clr: pe_c::Clr<'_, 'a>) -> Clr<'a> {
 }
 
 pub fn of<'a>(image: &'a Image<'_>) -> Part<Clr<'a>> {
-    image.clr().map(|found| found.map(clr_of)).into()
+    let found = image.clr().map(|found| found.map(clr_of));
+    Part::of_directory(found, image, DirectoryIndex::ComDescriptor)
 }
 
 /// Whether more assemblies are referred to than stand here.

@@ -2,7 +2,7 @@
 
 use super::{entry, field, hex_of, Flags, List, Name, Named, Part, Refusal, Stamp};
 use crate::names::{DEBUG_TYPES, EXTENDED_DLL_CHARACTERISTICS};
-use pe_c::{DebugEntry, Error, Image, Repro, SymbolKey, Te};
+use pe_c::{DebugEntry, DirectoryIndex, Error, Image, Repro, SymbolKey, Te};
 use serde::Serialize;
 
 #[derive(Clone, Debug, Serialize)]
@@ -212,7 +212,7 @@ fn entries_of(image: &Image<'_>) -> Part<List<Entry>> {
     // The stamps of a reproducible build are a hash.
     let is_hash = matches!(image.repro(), Ok(Some(_)));
     let entries = image.debug_entries().map(|found| found.map(|it| List::of(it, |entry| entry_of(entry, is_hash))));
-    entries.into()
+    Part::of_directory(entries, image, DirectoryIndex::Debug)
 }
 
 fn entry_of(entry: DebugEntry, is_hash: bool) -> Entry {

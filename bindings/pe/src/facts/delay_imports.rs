@@ -2,7 +2,7 @@
 
 use super::imports::hint_or_ordinal;
 use super::{entry, Budget, List, Name, Part, Stamp, ENTRY};
-use pe_c::{DelayImport, DelayedFunction, Image};
+use pe_c::{DelayImport, DelayedFunction, DirectoryIndex, Image};
 use serde::Serialize;
 
 #[derive(Clone, Debug, Serialize)]
@@ -53,5 +53,6 @@ pub fn is_limited(libraries: &List<Library>) -> bool {
 pub fn of<'a>(image: &'a Image<'_>) -> Part<List<Library<'a>>> {
     let mut budget = Budget::of(image);
     let libraries_of = |libraries| List::limited(libraries, |found| library_of(found, &mut budget));
-    image.delay_imports().map(|found| found.map(libraries_of)).into()
+    let found = image.delay_imports().map(|found| found.map(libraries_of));
+    Part::of_directory(found, image, DirectoryIndex::DelayImport)
 }

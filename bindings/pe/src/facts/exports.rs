@@ -1,7 +1,7 @@
 //! The exports: all entries of the address table, each with its ordinal and its names.
 
 use super::{field, Budget, Name, Part, ENTRY};
-use pe_c::{Error, Image};
+use pe_c::{DirectoryIndex, Error, Image};
 use serde::Serialize;
 use std::iter;
 
@@ -35,7 +35,7 @@ impl Exports<'_> {
 }
 
 pub fn of<'a>(image: &'a Image<'_>) -> Part<Exports<'a>> {
-    exports_of(image).into()
+    Part::of_directory(exports_of(image), image, DirectoryIndex::Export)
 }
 
 fn exports_of<'a>(image: &'a Image<'_>) -> Result<Option<Exports<'a>>, Error> {

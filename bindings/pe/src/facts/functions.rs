@@ -1,7 +1,7 @@
 //! The function table: x64's or ARM64's entries.
 
 use super::{field, Part};
-use pe_c::{Error, Image};
+use pe_c::{DirectoryIndex, Error, Image};
 use serde::Serialize;
 
 #[derive(Clone, Debug, Serialize)]
@@ -23,7 +23,8 @@ pub struct Function {
 }
 
 pub fn of(image: &Image<'_>) -> Part<Functions> {
-    functions_of(image).map(|found| found.map(|entries| Functions { entries })).into()
+    let found = functions_of(image).map(|found| found.map(|entries| Functions { entries }));
+    Part::of_directory(found, image, DirectoryIndex::Exception)
 }
 
 fn functions_of(image: &Image<'_>) -> Result<Option<Vec<Function>>, Error> {

@@ -1,7 +1,7 @@
 //! The imports: DLLs, and what is taken of each by name or by ordinal.
 
 use super::{entry, Budget, List, Name, Part, ENTRY};
-use pe_c::Image;
+use pe_c::{DirectoryIndex, Image};
 use serde::Serialize;
 
 #[derive(Clone, Debug, Serialize)]
@@ -57,5 +57,6 @@ pub fn of<'a>(image: &'a Image<'_>) -> Part<List<Library<'a>>> {
             functions: Part::Present(List::limited(library.imports(), |it| import_of(it, library.name, &mut budget))),
         })
     };
-    image.libraries().map(|found| found.map(|libraries| List::limited(libraries, library_of))).into()
+    let found = image.libraries().map(|found| found.map(|libraries| List::limited(libraries, library_of)));
+    Part::of_directory(found, image, DirectoryIndex::Import)
 }

@@ -4,7 +4,7 @@
 use super::guards::{self, Guards};
 use super::{field, Flags, Part, Stamp};
 use crate::names::{GUARD_FLAGS, LOAD_CONFIG_FIELDS};
-use pe_c::{Image, LoadConfigField};
+use pe_c::{DirectoryIndex, Image, LoadConfigField};
 use serde::{Serialize, Serializer};
 
 /// A field is null where the structure, or the file, is too short for it.
@@ -75,7 +75,7 @@ pub fn of(image: &Image<'_>) -> Part<LoadConfig> {
             guards: guards::of(image),
         })
     });
-    found.into()
+    Part::of_directory(found, image, DirectoryIndex::LoadConfig)
 }
 
 #[cfg(test)]

@@ -2,7 +2,7 @@
 
 use super::{entry, List, Named, Part, Refusal};
 use crate::names::RELOCATION_TYPES;
-use pe_c::{Image, RelocationBlock};
+use pe_c::{DirectoryIndex, Image, RelocationBlock};
 use serde::Serialize;
 use std::collections::BTreeMap;
 
@@ -45,5 +45,6 @@ fn page_of(block: RelocationBlock<'_>) -> Page {
 }
 
 pub fn of(image: &Image<'_>) -> Part<List<Page>> {
-    image.relocation_blocks().map(|found| found.map(|blocks| List::of(blocks, page_of))).into()
+    let found = image.relocation_blocks().map(|found| found.map(|blocks| List::of(blocks, page_of)));
+    Part::of_directory(found, image, DirectoryIndex::BaseRelocation)
 }

@@ -4,7 +4,7 @@ use super::hashes::sha256_of;
 use super::version::{fixed_of, Fixed};
 use super::{languages, Budget, Field, Part, Refusal};
 use crate::names::{name_of, RESOURCE_TYPES};
-use pe_c::{Image, ResourceLeaf, ResourceLeaves, ResourceName};
+use pe_c::{DirectoryIndex, Image, ResourceLeaf, ResourceLeaves, ResourceName};
 use serde::{Serialize, Serializer};
 use std::collections::BTreeSet;
 
@@ -164,6 +164,7 @@ fn resources_of<'a>(leaves: ResourceLeaves<'_, 'a>, mut budget: Budget, mut left
 
 pub fn of<'a>(image: &'a Image<'_>, has_hashes: bool) -> Part<Resources<'a>> {
     let left = if has_hashes { image.bytes().len() } else { 0 };
-    let found = image.resource_leaves();
-    found.map(|found| found.map(|leaves| resources_of(leaves, Budget::of(image), left))).into()
+    let leaves = image.resource_leaves();
+    let found = leaves.map(|found| found.map(|leaves| resources_of(leaves, Budget::of(image), left)));
+    Part::of_directory(found, image, DirectoryIndex::Resource)
 }

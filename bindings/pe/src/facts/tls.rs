@@ -1,7 +1,7 @@
 //! Thread-local storage: the data that each thread gets a copy of, and the callbacks, which run before the entry point.
 
 use super::{entry, field, List, Part};
-use pe_c::Image;
+use pe_c::{DirectoryIndex, Image};
 use serde::Serialize;
 
 #[derive(Clone, Debug, Serialize)]
@@ -42,5 +42,5 @@ pub fn of(image: &Image<'_>) -> Part<Tls> {
             callbacks: callbacks_of(image),
         })
     });
-    found.into()
+    Part::of_directory(found, image, DirectoryIndex::Tls)
 }

@@ -39,7 +39,7 @@ pub struct Arm64Packed {
 }
 
 #[tactic(auto, unfolding(crate::specs::Unwinding::exception_table_at))]
-fn table_of(view: &View) -> Result<Option<Range>>
+pub fn table_of(view: &View) -> Result<Option<Range>>
     ensures { answer_of result
         ≡ exception_table_at COFF_MACHINE_ARM64 8 view.now.bytes.now view.now.image.now
         view.now.sections.now view.now.image.now.mode }

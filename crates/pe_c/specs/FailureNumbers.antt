@@ -1,0 +1,106 @@
+-- The numbers of an error, and the failure that it is. An offset, a start or an end is the offset of the failure, bytes that are
+-- needed are its needed bytes, and any other number is its value. The lists are written by tools/make_errors.
+use Rattle.std.specs.Prelude.{◌≡◌, ℕ, Option, Some, None, Result, Ok, Err}
+use Rattle.pe_core.specs.Refusals.{Refusal, kind_of}
+use Rattle.pe_core.specs.declared.error.Error.{Error}
+use Rattle.pe_core.specs.declared.error.Error.TheVariants as errors
+use Rattle.pe_core.specs.declared.error.Reason.{Reason}
+use Rattle.pe_core.specs.declared.error.Reason.TheVariants as reasons
+use Rattle.pe_directories.specs.DirectoryRefusals.{DirectoryRefusal}
+use Rattle.pe_directories.specs.declared.error.DirectoryError.{DirectoryError}
+use Rattle.pe_directories.specs.declared.error.DirectoryError.TheVariants as directories
+use Rattle.pe_c.specs.Directories.{directory_number}
+use Rattle.pe_c.specs.HandsOut.{result_number}
+use Rattle.pe_c.specs.declared.failure.Failure.{Failure}
+use Rattle.pe_c.specs.declared.failure_numbers.ErrorNumbers.{ErrorNumbers}
+
+-- ---- the numbers of errors
+
+abbrev pub numbers : ℕ → ℕ → ℕ → ErrorNumbers
+numbers offset needed value = record { offset = offset; needed = needed; value = value }
+
+-- those of a reason
+abbrev pub reason_numbers : Reason → ErrorNumbers
+reason_numbers (reasons.HeaderPointer pointer) = numbers 0 0 pointer
+reason_numbers (reasons.ImportName rva) = numbers 0 0 rva
+reason_numbers (reasons.StringTable offset) = numbers offset 0 0
+reason_numbers (reasons.CertificateRevision revision) = numbers 0 0 revision
+reason_numbers (reasons.CertificateType kind) = numbers 0 0 kind
+reason_numbers (reasons.CertificateSize length) = numbers 0 length 0
+reason_numbers (reasons.CertificateTable end) = numbers end 0 0
+reason_numbers (reasons.Unmapped rva) = numbers 0 0 rva
+reason_numbers (reasons.DebugBounds end) = numbers end 0 0
+reason_numbers (reasons.DebugSize size) = numbers 0 0 size
+reason_numbers (reasons.DebugData size) = numbers 0 size 0
+reason_numbers (reasons.PogoSize size) = numbers 0 0 size
+reason_numbers (reasons.PogoName needed length) = numbers 0 needed length
+reason_numbers (reasons.ExceptionSize size) = numbers 0 0 size
+reason_numbers (reasons.ExceptionOffset offset) = numbers offset 0 0
+reason_numbers (reasons.ExceptionBounds end) = numbers end 0 0
+reason_numbers (reasons.FunctionIndex index) = numbers 0 0 index
+reason_numbers (reasons.FunctionLink rva) = numbers 0 0 rva
+reason_numbers (reasons.FunctionCycle steps) = numbers 0 0 steps
+reason_numbers (reasons.UnwindVersion version) = numbers 0 0 version
+reason_numbers (reasons.UnwindCode code) = numbers 0 0 code
+reason_numbers (reasons.Arm64Version version) = numbers 0 0 version
+reason_numbers (reasons.Arm64Stream length start) = numbers start 0 length
+reason_numbers (reasons.Arm64Cut offset) = numbers offset 0 0
+reason_numbers (reasons.ResourceBounds end) = numbers end 0 0
+reason_numbers (reasons.ResourceCycle offset) = numbers offset 0 0
+reason_numbers (reasons.ResourceString offset) = numbers offset 0 0
+reason_numbers (reasons.TeSize size) = numbers 0 0 size
+reason_numbers reasons.NoOptionalHeader = numbers 0 0 0
+reason_numbers (reasons.WriteAlignment alignment) = numbers 0 0 0
+reason_numbers (reasons.WriteSymbols offset) = numbers 0 0 0
+reason_numbers (reasons.WriteOverlap first second) = numbers 0 0 0
+reason_numbers (reasons.WriteSection index) = numbers 0 0 0
+reason_numbers (reasons.WriteFit end length) = numbers end 0 length
+reason_numbers (reasons.ImportsLimit count limit) = numbers 0 0 0
+
+-- those of an error
+abbrev pub error_numbers : Error → ErrorNumbers
+error_numbers (errors.Memory e) = numbers 0 0 0
+error_numbers (errors.Short at needed) = numbers at needed 0
+error_numbers (errors.BadMagic magic) = numbers 0 0 magic
+error_numbers (errors.Malformed reason) = reason_numbers reason
+
+-- those of an error of a directory
+abbrev pub directory_numbers : DirectoryError → ErrorNumbers
+directory_numbers (directories.Image error) = error_numbers error
+directory_numbers (directories.BlockSize size) = numbers 0 0 size
+directory_numbers (directories.BlockTruncated size length) = numbers 0 size length
+directory_numbers (directories.NoArgument rva) = numbers 0 0 rva
+directory_numbers (directories.VaBelowBase va) = numbers 0 0 va
+directory_numbers (directories.ClrHeaderSize size) = numbers 0 0 size
+directory_numbers directories.StreamName = numbers 0 0 0
+directory_numbers (directories.DelayImportName offset) = numbers offset 0 0
+directory_numbers (directories.BoundImportName offset) = numbers offset 0 0
+directory_numbers (directories.RelocationKind kind rva) = numbers rva 0 kind
+directory_numbers (directories.RelocationOutside rva) = numbers 0 0 rva
+
+-- ---- failures
+
+-- the failure with a number, of the numbers of its error
+abbrev pub failure_with : ℕ → ErrorNumbers → Failure
+failure_with number n = record { offset = n.offset; needed = n.needed; value = n.value; result = number; spare = 0 }
+
+-- the failure that an error is
+abbrev pub failure_of : Error → Failure
+failure_of e = failure_with (result_number (kind_of e)) (error_numbers e)
+
+-- ---- the number that a call returns where it refuses what it reads
+
+abbrev pub refused : {X : Type 0} → Result X Refusal → Option ℕ
+refused (Ok x) = None
+refused (Err refusal) = Some (result_number refusal)
+
+abbrev pub directory_refused : {X : Type 0} → Result X DirectoryRefusal → Option ℕ
+directory_refused (Ok x) = None
+directory_refused (Err refusal) = Some (directory_number refusal)
+
+-- there is a failure exactly where a call refuses, and it has the number of the refusal
+abbrev pub IsWhy : Option Failure → Option ℕ → Type 0
+IsWhy None None = Unit {0}
+IsWhy None (Some number) = ⊥
+IsWhy (Some f) None = ⊥
+IsWhy (Some f) (Some number) = f.result ≡ number

@@ -1,0 +1,97 @@
+//! Why a directory of an image is refused, with the numbers of the error: where it is, how many bytes are needed, which RVA is
+//! unmapped. The result of a call is one number. This call reads the directory again, and says the rest.
+
+ghost use Rattle.std.specs.Prelude.{◌≡◌};
+ghost use Rattle.pe_c.specs.DirectoryFailures.{SaysWhy, certificate_table, directory_refusal};
+ghost use Rattle.pe_c.specs.FailureNumbers.{IsWhy, refused};
+ghost use Rattle.pe_c.specs.ImageParts.{function_table};
+ghost use Rattle.pe_c.specs.ResourceLeaves.{leaves_start};
+
+use crate::arm64::functions;
+use crate::directories::table_at;
+use crate::failure::{Failure, hand_out_failure};
+use crate::failure_numbers::{why, why_of_directory};
+use crate::image::{
+    BASE_RELOCATION_TABLE, CERTIFICATE_TABLE, DELAY_IMPORT_DESCRIPTOR, Image, RESOURCE_TABLE,
+    directory, is_absent,
+};
+use crate::ranges::Range;
+use crate::resource_leaves::leaf_position;
+use crate::view::View;
+use crate::{
+    bound_imports, certificates, clr, debug, exports, imports, load_config, tls, unwinding,
+};
+use pe_core::COFF_MACHINE_X86_64;
+
+/// The certificate table as a walk at its start.
+fn certificate_table(image: &Image) -> Range
+    ensures { result ≡ certificate_table image.now }
+{
+    let directory = directory(image, CERTIFICATE_TABLE);
+    Range {
+        offset: u64::from(directory.virtual_address),
+        length: u64::from(directory.size),
+    }
+}
+
+/// The failure of the first directory of resources.
+fn resource_failure(view: &View) -> Option<Failure>
+    ensures { IsWhy result (refused (leaves_start view.now.bytes.now view.now.image.now
+        view.now.sections.now)) }
+{
+    let directory = directory(view.image, RESOURCE_TABLE);
+    if is_absent(directory) {
+        return None;
+    }
+    why(leaf_position(view, directory))
+}
+
+/// The failure of the function table of an image for x64 or ARM64.
+fn function_failure(view: &View) -> Option<Failure>
+    ensures { IsWhy result (refused (function_table view.now.bytes.now view.now.image.now
+        view.now.sections.now)) }
+{
+    if view.image.machine == COFF_MACHINE_X86_64 {
+        why(unwinding::table_of(view))
+    } else {
+        why(functions::table_of(view))
+    }
+}
+
+/// The failure of the directory with an index.
+#[tactic(auto, unfolding(crate::specs::DirectoryFailures::directory_refusal))]
+fn directory_failure(view: &View, index: u32) -> Option<Failure>
+    ensures { IsWhy result
+        (directory_refusal index view.now.bytes.now view.now.image.now view.now.sections.now) }
+{
+    match index {
+        0 => why(exports::tables_at(view)),
+        1 => why(imports::libraries_at(view)),
+        2 => resource_failure(view),
+        3 => function_failure(view),
+        4 => why(certificates::step(view.bytes, certificate_table(view.image)).0),
+        5 => why_of_directory(table_at(view, BASE_RELOCATION_TABLE)),
+        6 => why(debug::table_of(view)),
+        9 => why_of_directory(tls::tls_at(view)),
+        10 => why_of_directory(load_config::load_config_at(view)),
+        11 => why_of_directory(bound_imports::bound_imports_at(view)),
+        13 => why_of_directory(table_at(view, DELAY_IMPORT_DESCRIPTOR)),
+        14 => why_of_directory(clr::clr_header_at(view)),
+        _ => None,
+    }
+}
+
+/// Returns what is wrong with a directory, by its index, `IMAGE_DIRECTORY_ENTRY_*` of winnt.h: the result of the call that reads
+/// it, and the numbers of that error. `NOTHING` where that call returns no error, and of a directory that no call reads: those with
+/// the indices 7, 8, 12 and 15.
+///
+/// The calls are `pe_c_export_tables`, `pe_c_import_libraries`, `pe_c_resource_leaves`, `pe_c_function_table` or
+/// `pe_c_arm64_table`, `pe_c_next_certificate` of the first certificate, `pe_c_relocation_blocks`, `pe_c_debug_entries`, `pe_c_tls`,
+/// `pe_c_load_config`, `pe_c_bound_imports`, `pe_c_delay_imports` and `pe_c_clr_header`.
+#[unsafe(no_mangle)]
+pub extern "C" fn pe_c_directory_failure(view: &View, index: u32, out: &mut Failure) -> u32
+    ensures { SaysWhy result out.old out.new
+        (directory_refusal index view.now.bytes.now view.now.image.now view.now.sections.now) }
+{
+    hand_out_failure(directory_failure(view, index), out)
+}

@@ -1,0 +1,146 @@
+//! The numbers of an error, as a failure has them: an offset, a start or an end is its `offset`, bytes that are needed are its
+//! `needed`, and any other number is its `value`; `tools/make_errors` writes which. A number that an error does not have is 0.
+
+ghost use Rattle.std.specs.Prelude.{◌≡◌};
+ghost use Rattle.pe_core.specs.Refusals.{answer_of};
+ghost use Rattle.pe_directories.specs.DirectoryRefusals.{directory_answer};
+ghost use Rattle.pe_c.specs.FailureNumbers.{IsWhy, directory_numbers, directory_refused, error_numbers, failure_of, failure_with, numbers, reason_numbers, refused};
+
+use crate::failure::Failure;
+use crate::results::{number_of, number_of_directory};
+use pe_core::{Error, Reason, Result};
+use pe_directories::DirectoryError;
+
+/// The numbers of an error.
+#[derive(Clone, Copy)]
+pub struct ErrorNumbers {
+    pub offset: u64,
+    pub needed: u64,
+    pub value: u64,
+}
+
+fn numbers(offset: u64, needed: u64, value: u64) -> ErrorNumbers
+    ensures { result ≡ numbers offset needed value }
+{
+    ErrorNumbers {
+        offset,
+        needed,
+        value,
+    }
+}
+
+/// The numbers of a reason. `tools/make_errors` writes the arms.
+fn reason_numbers(reason: Reason) -> ErrorNumbers
+    ensures { result ≡ reason_numbers reason }
+{
+    match reason {
+        Reason::HeaderPointer(pointer) => numbers(0, 0, u64::from(pointer)),
+        Reason::ImportName(rva) => numbers(0, 0, u64::from(rva)),
+        Reason::StringTable(offset) => numbers(u64::from(offset), 0, 0),
+        Reason::CertificateRevision(revision) => numbers(0, 0, u64::from(revision)),
+        Reason::CertificateType(kind) => numbers(0, 0, u64::from(kind)),
+        Reason::CertificateSize(length) => numbers(0, u64::from(length), 0),
+        Reason::CertificateTable(end) => numbers(end, 0, 0),
+        Reason::Unmapped(rva) => numbers(0, 0, rva),
+        Reason::DebugBounds(end) => numbers(end, 0, 0),
+        Reason::DebugSize(size) => numbers(0, 0, u64::from(size)),
+        Reason::DebugData(size) => numbers(0, u64::from(size), 0),
+        Reason::PogoSize(size) => numbers(0, 0, u64::from(size)),
+        Reason::PogoName { needed, length } => numbers(0, needed as u64, length as u64),
+        Reason::ExceptionSize(size) => numbers(0, 0, u64::from(size)),
+        Reason::ExceptionOffset(offset) => numbers(offset, 0, 0),
+        Reason::ExceptionBounds(end) => numbers(end, 0, 0),
+        Reason::FunctionIndex(index) => numbers(0, 0, index as u64),
+        Reason::FunctionLink(rva) => numbers(0, 0, u64::from(rva)),
+        Reason::FunctionCycle(steps) => numbers(0, 0, steps as u64),
+        Reason::UnwindVersion(version) => numbers(0, 0, u64::from(version)),
+        Reason::UnwindCode(code) => numbers(0, 0, u64::from(code)),
+        Reason::Arm64Version(version) => numbers(0, 0, u64::from(version)),
+        Reason::Arm64Stream { length, start } => numbers(start as u64, 0, length as u64),
+        Reason::Arm64Cut(offset) => numbers(offset as u64, 0, 0),
+        Reason::ResourceBounds(end) => numbers(end, 0, 0),
+        Reason::ResourceCycle(offset) => numbers(u64::from(offset), 0, 0),
+        Reason::ResourceString(offset) => numbers(u64::from(offset), 0, 0),
+        Reason::TeSize(size) => numbers(0, 0, u64::from(size)),
+        Reason::NoOptionalHeader => numbers(0, 0, 0),
+        Reason::WriteAlignment(_) => numbers(0, 0, 0),
+        Reason::WriteSymbols(_) => numbers(0, 0, 0),
+        Reason::WriteOverlap(..) => numbers(0, 0, 0),
+        Reason::WriteSection(_) => numbers(0, 0, 0),
+        Reason::WriteFit { end, length } => numbers(end, 0, length as u64),
+        Reason::ImportsLimit { .. } => numbers(0, 0, 0),
+    }
+}
+
+fn error_numbers(error: &Error) -> ErrorNumbers
+    ensures { result ≡ error_numbers error.now }
+{
+    match error {
+        Error::Memory(_) => numbers(0, 0, 0),
+        Error::Short { at, needed } => numbers(*at as u64, *needed as u64, 0),
+        Error::BadMagic(magic) => numbers(0, 0, *magic),
+        Error::Malformed(reason) => reason_numbers(*reason),
+    }
+}
+
+/// The numbers of an error of a directory. `tools/make_errors` writes the arms.
+fn directory_numbers(error: &DirectoryError) -> ErrorNumbers
+    ensures { result ≡ directory_numbers error.now }
+{
+    match error {
+        DirectoryError::Image(error) => error_numbers(error),
+        DirectoryError::BlockSize(size) => numbers(0, 0, u64::from(*size)),
+        DirectoryError::BlockTruncated { size, length } => numbers(
+            0,
+            u64::from(*size),
+            *length as u64,
+        ),
+        DirectoryError::NoArgument(rva) => numbers(0, 0, *rva as u64),
+        DirectoryError::VaBelowBase(va) => numbers(0, 0, *va),
+        DirectoryError::ClrHeaderSize(size) => numbers(0, 0, u64::from(*size)),
+        DirectoryError::StreamName => numbers(0, 0, 0),
+        DirectoryError::DelayImportName(offset) => numbers(*offset as u64, 0, 0),
+        DirectoryError::BoundImportName(offset) => numbers(u64::from(*offset), 0, 0),
+        DirectoryError::RelocationKind { kind, rva } => numbers(*rva as u64, 0, u64::from(*kind)),
+        DirectoryError::RelocationOutside(rva) => numbers(0, 0, *rva as u64),
+    }
+}
+
+fn failure_with(number: u32, numbers: ErrorNumbers) -> Failure
+    ensures { result ≡ failure_with number numbers }
+{
+    Failure {
+        offset: numbers.offset,
+        needed: numbers.needed,
+        value: numbers.value,
+        result: number,
+        spare: 0,
+    }
+}
+
+/// The failure that an error is.
+pub fn failure_of(error: &Error) -> Failure
+    ensures { result ≡ failure_of error.now }
+{
+    failure_with(number_of(error), error_numbers(error))
+}
+
+/// The failure of what was read, if it was refused.
+pub fn why<T: Copy>(given: Result<T>) -> Option<Failure>
+    ensures { IsWhy result (refused (answer_of given)) }
+{
+    match given {
+        Ok(_) => None,
+        Err(error) => Some(failure_of(&error)),
+    }
+}
+
+/// The same of a directory.
+pub fn why_of_directory<T: Copy>(given: std::result::Result<T, DirectoryError>) -> Option<Failure>
+    ensures { IsWhy result (directory_refused (directory_answer (λ x. x) given)) }
+{
+    match given {
+        Ok(_) => None,
+        Err(error) => Some(failure_with(number_of_directory(&error), directory_numbers(&error))),
+    }
+}

@@ -1,0 +1,209 @@
+//! Why the directories of an image are refused: the result of the call that reads each, and the numbers of its error. Of 160 bytes
+//! the RVAs from 0x1000 on are the offsets from 0 on; every number is worked out by hand.
+
+use super::made::{
+    ARM64, CERTIFICATE_REVISION, CERTIFICATE_SIZE, CERTIFICATE_TABLE, CERTIFICATE_TYPE,
+    DEBUG_BOUNDS, DIRECTORY_CLR_HEADER_SIZE, EXCEPTION_BOUNDS, EXCEPTION_OFFSET, EXCEPTION_SIZE,
+    PERMISSIVE, RESOURCE_BOUNDS, SHORT, UNMAPPED, X64, directory, having, image, in_mode, sections,
+    view,
+};
+use crate::directory_failure::pe_c_directory_failure;
+use crate::failure::Failure;
+use crate::image::Image;
+use crate::results::{DONE, NOTHING};
+use pe_images::{image as bytes_of, put};
+use std::test::Fail;
+
+/// What `out` is before each call.
+const UNTOUCHED: Failure = Failure {
+    offset: 91,
+    needed: 92,
+    value: 93,
+    result: 94,
+    spare: 95,
+};
+
+/// The answer; the error, its offset, needed bytes and value; and the last field.
+type Said = (u32, (u32, [u64; 3]), u32);
+
+/// What is said where nothing is wrong.
+const NONE: Said = (NOTHING, (94, [91, 92, 93]), 95);
+
+fn said(bytes: &[u8], image: &Image, index: u32) -> Said {
+    let mut out = UNTOUCHED;
+    let answer = pe_c_directory_failure(&view(bytes, image, &sections()), index, &mut out);
+    let Failure {
+        offset,
+        needed,
+        value,
+        result,
+        spare,
+    } = out;
+    (answer, (result, [offset, needed, value]), spare)
+}
+
+/// An image for x64 with a directory.
+fn with(index: usize, rva: u32, size: u32) -> Image {
+    having(image(X64), index, directory(rva, size))
+}
+
+/// Each directory at an unmapped RVA, and where the bytes end before its record or its table does.
+#[test]
+fn unmapped_and_truncated(rt: HostRuntime) -> Result<(), Fail> {
+    let bytes = bytes_of(rt.alloc(), 160, &[])?;
+    for index in [0, 1, 2, 3, 5, 6, 9, 10, 13, 14] {
+        let found = said(&bytes, &with(index, 0x4568, 24), index as u32);
+        assert_eq!(rt; found, (DONE, (UNMAPPED, [0, 0, 0x4568]), 0));
+    }
+    // The export directory has 40 bytes, the one of TLS 40 in PE32+, a CLR header 72, and the load configuration its size.
+    for (index, rva, size, wanted) in [
+        (0, 0x1079, 1, (SHORT, [0x79, 40, 0])),
+        (9, 0x107A, 1, (SHORT, [0x7A, 40, 0])),
+        (10, 0x109D, 1, (SHORT, [0x9D, 4, 0])),
+        (14, 0x1060, 1, (SHORT, [0x60, 72, 0])),
+        (5, 0x1010, 0x91, (SHORT, [0x10, 0x91, 0])),
+        (13, 0x1020, 0x81, (SHORT, [0x20, 0x81, 0])),
+        // Bound imports stand at a file offset.
+        (11, 0x30, 0x71, (SHORT, [0x30, 0x71, 0])),
+        (11, 0x1030, 8, (SHORT, [0x1030, 8, 0])),
+        // Tables of functions and of debug entries are refused by their ends.
+        (3, 0x1004, 156 + 12, (EXCEPTION_BOUNDS, [4 + 168, 0, 0])),
+        (6, 0x1011, 0x90, (DEBUG_BOUNDS, [0xA1, 0, 0])),
+        (2, 0x1020, 0x85, (RESOURCE_BOUNDS, [0xA5, 0, 0])),
+    ] {
+        let image = with(index, rva, size);
+        assert_eq!(rt; said(&bytes, &image, index as u32), (DONE, wanted, 0));
+    }
+    let whole = [
+        (5, 0x1010, 0x90),
+        (13, 0x1020, 0x80),
+        (11, 0x30, 0x70),
+        (6, 0x1010, 0x90),
+    ];
+    for (index, rva, size) in whole {
+        assert_eq!(rt; said(&bytes, &with(index, rva, size), index as u32), NONE);
+    }
+    let pe32 = Image {
+        width: 32,
+        ..with(9, 0x1089, 1)
+    };
+    assert_eq!(rt; said(&bytes, &pe32, 9), (DONE, (SHORT, [0x89, 24, 0]), 0));
+    let permissive = in_mode(&with(6, 0x1011, 0x90), PERMISSIVE);
+    assert_eq!(rt; said(&bytes, &permissive, 6), NONE);
+    Ok(())
+}
+
+/// The tables of exports, each at an unmapped RVA and truncated: addresses, names, ordinals.
+#[test]
+fn tables_of_exports(rt: HostRuntime) -> Result<(), Fail> {
+    let image = with(0, 0x1010, 40);
+    let mut bytes = bytes_of(
+        rt.alloc(),
+        160,
+        &[
+            (0x24, &[2, 0, 0, 0, 3]),
+            (0x2C, &[0x40, 0x10, 0, 0, 0x50, 0x10, 0, 0, 0x60, 0x10]),
+        ],
+    )?;
+    assert_eq!(rt; said(&bytes, &image, 0), NONE);
+    for (field, needed) in [(0x34, 6), (0x30, 12), (0x2C, 8)] {
+        put(&mut bytes, &[(field, &[0x9B, 0x10])]);
+        let wanted = (DONE, (SHORT, [0x9B, needed, 0]), 0);
+        assert_eq!(rt; said(&bytes, &image, 0), wanted);
+        put(&mut bytes, &[(field, &[0x34, 0x72])]);
+        let wanted = (DONE, (UNMAPPED, [0, 0, 0x7234]), 0);
+        assert_eq!(rt; said(&bytes, &image, 0), wanted);
+    }
+    Ok(())
+}
+
+#[test]
+fn function_tables(rt: HostRuntime) -> Result<(), Fail> {
+    let bytes = bytes_of(rt.alloc(), 160, &[])?;
+    let arm64 = |rva, size| having(image(ARM64), 3, directory(rva, size));
+    for (image, wanted) in [
+        (with(3, 0x1010, 25), (EXCEPTION_SIZE, [0, 0, 25])),
+        (with(3, 0x1012, 24), (EXCEPTION_OFFSET, [0x12, 0, 0])),
+        (arm64(0x1010, 12), (EXCEPTION_SIZE, [0, 0, 12])),
+        (arm64(0x1016, 16), (EXCEPTION_OFFSET, [0x16, 0, 0])),
+        (arm64(0x1098, 24), (EXCEPTION_BOUNDS, [0xB0, 0, 0])),
+        (arm64(0x3098, 24), (UNMAPPED, [0, 0, 0x3098])),
+    ] {
+        assert_eq!(rt; said(&bytes, &image, 3), (DONE, wanted, 0));
+    }
+    // The table of another machine is not read.
+    let x86 = having(image(0x14C), 3, directory(0x3000, 13));
+    for image in [with(3, 0x1010, 24), arm64(0x1010, 24), x86] {
+        assert_eq!(rt; said(&bytes, &image, 3), NONE);
+    }
+    Ok(())
+}
+
+/// The first certificate of the table, which stands at a file offset, and no other.
+#[test]
+fn certificates(rt: HostRuntime) -> Result<(), Fail> {
+    let mut bytes = bytes_of(
+        rt.alloc(),
+        160,
+        &[
+            (0x40, &[16, 0, 0, 0, 0, 2, 2, 0]),
+            (0x50, &[7, 0, 0, 0, 5, 6, 7, 8]),
+        ],
+    )?;
+    let image = with(4, 0x40, 0x20);
+    assert_eq!(rt; said(&bytes, &image, 4), NONE);
+    for (table, wanted) in [
+        (with(4, 0x90, 0x20), (CERTIFICATE_TABLE, [0xB0, 0, 0])),
+        (with(4, 0x9B, 5), (SHORT, [0x9B, 8, 0])),
+    ] {
+        assert_eq!(rt; said(&bytes, &table, 4), (DONE, wanted, 0));
+    }
+    for (field, value, wanted) in [
+        (0x46, 9, (CERTIFICATE_TYPE, [0, 0, 9])),
+        (0x44, 3, (CERTIFICATE_REVISION, [0, 0, 0x203])),
+        (0x42, 1, (CERTIFICATE_SIZE, [0, 0x1_0010, 0])),
+    ] {
+        put(&mut bytes, &[(field, &[value])]);
+        assert_eq!(rt; said(&bytes, &image, 4), (DONE, wanted, 0));
+    }
+    Ok(())
+}
+
+/// The first directory of resources, its entries, and a CLR header that says it is too small.
+#[test]
+fn records_that_are_read(rt: HostRuntime) -> Result<(), Fail> {
+    let mut bytes = bytes_of(rt.alloc(), 160, &[(0x20, &[71]), (0x4E, &[4])])?;
+    let clr = with(14, 0x1020, 72);
+    let wanted = (DONE, (DIRECTORY_CLR_HEADER_SIZE, [0, 0, 71]), 0);
+    assert_eq!(rt; said(&bytes, &clr, 14), wanted);
+    // Four entries of 8 bytes follow the 16 bytes of the directory: they end at 0x70.
+    let resources = |size| with(2, 0x1040, size);
+    assert_eq!(rt; said(&bytes, &resources(0x30), 2), NONE);
+    for size in [0x2F, 0x10, 0xF] {
+        let image = resources(size);
+        let wanted = (DONE, (RESOURCE_BOUNDS, [0x70, 0, 0]), 0);
+        assert_eq!(rt; said(&bytes, &image, 2), wanted);
+        let permissive = in_mode(&image, PERMISSIVE);
+        assert_eq!(rt; said(&bytes, &permissive, 2), NONE);
+    }
+    put(&mut bytes, &[(0x20, &[72])]);
+    assert_eq!(rt; said(&bytes, &clr, 14), NONE);
+    Ok(())
+}
+
+/// A directory that is absent, and those that no call reads.
+#[test]
+fn nothing_is_wrong(rt: HostRuntime) -> Result<(), Fail> {
+    let bytes = bytes_of(rt.alloc(), 160, &[])?;
+    for index in 0..16 {
+        assert_eq!(rt; said(&bytes, &image(X64), index), NONE);
+    }
+    for index in [7, 8, 12, 15] {
+        let image = with(index, 0x4568, 24);
+        assert_eq!(rt; said(&bytes, &image, index as u32), NONE);
+    }
+    for index in [16, 17, u32::MAX] {
+        assert_eq!(rt; said(&bytes, &with(0, 0x4568, 24), index), NONE);
+    }
+    Ok(())
+}
