@@ -180,7 +180,7 @@ pub struct Refusal {
     pub text: String,
     /// What is wrong with a directory, with its numbers, for text.
     #[serde(skip)]
-    failure: Option<Failure>,
+    pub failure: Option<Failure>,
 }
 
 impl Refusal {

@@ -81,13 +81,13 @@ fn directory_failure(view: &View, index: u32) -> Option<Failure>
     }
 }
 
-/// Returns what is wrong with a directory, by its index, `IMAGE_DIRECTORY_ENTRY_*` of winnt.h: the result of the call that reads
-/// it, and the numbers of that error. `NOTHING` where that call returns no error, and of a directory that no call reads: those with
-/// the indices 7, 8, 12 and 15.
+/// Returns what is wrong with a directory, by its index, `IMAGE_DIRECTORY_ENTRY_*` of winnt.h: the result of the call that
+/// reads it, and the numbers of that error. `NOTHING` where that call returns no error, and of a directory that no call
+/// reads: those with the indices 7, 8, 12 and 15.
 ///
 /// The calls are `pe_c_export_tables`, `pe_c_import_libraries`, `pe_c_resource_leaves`, `pe_c_function_table` or
-/// `pe_c_arm64_table`, `pe_c_next_certificate` of the first certificate, `pe_c_relocation_blocks`, `pe_c_debug_entries`, `pe_c_tls`,
-/// `pe_c_load_config`, `pe_c_bound_imports`, `pe_c_delay_imports` and `pe_c_clr_header`.
+/// `pe_c_arm64_table`, `pe_c_next_certificate` of the first certificate, `pe_c_relocation_blocks`, `pe_c_debug_entries`,
+/// `pe_c_tls`, `pe_c_load_config`, `pe_c_bound_imports`, `pe_c_delay_imports` and `pe_c_clr_header`.
 #[unsafe(no_mangle)]
 pub extern "C" fn pe_c_directory_failure(view: &View, index: u32, out: &mut Failure) -> u32
     ensures { SaysWhy result out.old out.new
