@@ -112,18 +112,22 @@ impl<'a> ExportData<'a> {
         let (info, sections) = (raw::image_with(Index::Export, dd, file_alignment, opts), raw::sections_of(sections)?);
         let view = View::of(bytes, &info, &sections);
         match Self::of(view.with_index(&view.make_index()?))? {
-            Some((data, _)) => Ok(data),
+            Some((mut data, tables)) => {
+                add_unnamed(bytes, &tables.addresses, &mut data.export_address_table)?;
+                Ok(data)
+            }
             None => Err(unmapped(dd)),
         }
     }
 
+    /// All but the RVAs in the table of RVAs: those of exports that have a name come with them.
     pub(crate) fn of(view: View<'a, '_>) -> error::Result<Option<(Self, Tables)>> {
         let directory = view.directory(Index::Export);
         let Some(walk) = view.export_tables().map_err(|it| refused(view, it))? else { return Ok(None) };
         let Some(addresses) = view.export_addresses()? else { return Ok(None) };
         let at = view.offset(directory.virtual_address).ok_or_else(|| unmapped(directory))?;
         let name = if addresses.has_name != 0 { Some(view.text(addresses.name)?) } else { None };
-        let export_address_table = entries_of(view.bytes, &addresses)?;
+        let export_address_table = unknown(raw::narrow(addresses.addresses.length / RVA_SIZE)?)?;
         let data = ExportData {
             name,
             export_directory_table: ExportDirectoryTable {
@@ -140,25 +144,38 @@ impl<'a> ExportData<'a> {
     }
 }
 
-/// The entries of the table of RVAs. The call is made without sections, by which no forwarder's text is looked for: all of them may
-/// lie in one long text.
-fn entries_of(bytes: &[u8], table: &sys::AddressTable) -> error::Result<ExportAddressTable> {
-    let mut entries = raw::list(raw::narrow(table.addresses.length / RVA_SIZE)?)?;
+/// An entry that is not read yet, or of an ordinal that is not used.
+const UNKNOWN: ExportAddressTableEntry = ExportAddressTableEntry::ExportRVA(0);
+
+fn unknown(count: usize) -> error::Result<ExportAddressTable> {
+    let mut entries = raw::list(count)?;
+    entries.resize(count, UNKNOWN);
+    Ok(entries)
+}
+
+/// Reads the entries of the table of RVAs that are not known from exports with a name. The calls are made without sections, by which
+/// no forwarder's text is looked for: all of them may lie in one long text.
+fn add_unnamed(bytes: &[u8], table: &sys::AddressTable, entries: &mut [ExportAddressTableEntry]) -> error::Result<()> {
     let (mut next, mut room) = (0, [sys::Exported::default(); TAKEN]);
-    loop {
-        let written = View::of_bytes(bytes).list_export_addresses(table, &mut next, &mut room)?;
-        if written == 0 {
-            return Ok(entries);
+    while let Some(known) = entries.get(next..).and_then(|it| it.iter().position(|it| *it == UNKNOWN)) {
+        next += known;
+        let rest = entries.get_mut(next..).unwrap_or_default();
+        let count = rest.iter().take(TAKEN).take_while(|it| **it == UNKNOWN).count();
+        let (mut index, part) = (next as u64, room.get_mut(..count).unwrap_or_default());
+        let written = View::of_bytes(bytes).list_export_addresses(table, &mut index, part)?;
+        for (entry, found) in rest.iter_mut().zip(part.iter().take(written)) {
+            *entry = entry_of(&table.directory, found.rva);
         }
-        entries.extend(room.iter().take(written).map(entry_of));
+        next += count;
     }
+    Ok(())
 }
 
 /// An entry of the table of RVAs: one inside the directory leads to a forwarder's text.
-fn entry_of(it: &sys::Exported) -> ExportAddressTableEntry {
-    match it.is_forwarder {
-        0 => ExportAddressTableEntry::ExportRVA(it.rva),
-        _ => ExportAddressTableEntry::ForwarderRVA(it.rva),
+fn entry_of(directory: &sys::Directory, rva: u32) -> ExportAddressTableEntry {
+    match rva.checked_sub(directory.virtual_address) {
+        Some(from_start) if from_start < directory.size => ExportAddressTableEntry::ForwarderRVA(rva),
+        _ => ExportAddressTableEntry::ExportRVA(rva),
     }
 }
 
@@ -255,12 +272,12 @@ pub struct Export<'a> {
 }
 
 impl<'a> Export<'a> {
-    /// Of the tables of an image. Those whose name or forwarder cannot be read are skipped, as in goblin. The names are taken from
-    /// how many bytes are left.
+    /// Of the tables of an image, whose RVAs go into the table of RVAs. Those whose name or forwarder cannot be read are skipped, as in
+    /// goblin. The names are taken from how many bytes are left.
     pub(crate) fn of(
         view: View<'a, '_>,
         mut tables: Tables,
-        data: &ExportData<'_>,
+        data: &mut ExportData<'_>,
         names: &mut NamesLeft,
     ) -> error::Result<Vec<Self>> {
         let mut exports = raw::list(data.export_name_pointer_table.len())?;
@@ -268,18 +285,25 @@ impl<'a> Export<'a> {
         while let Some(found) = view.next_exports(&mut tables.walk, &mut room)? {
             for it in found {
                 names.take(raw::narrow(it.name.length)?)?;
-                let reexport = match data.export_address_table.get(it.index as usize) {
-                    None | Some(ExportAddressTableEntry::ExportRVA(_)) => None,
-                    Some(_) => match Reexport::of_entry(view, &tables.addresses, it.index, names)? {
-                        Some(reexport) => Some(reexport),
-                        None => continue,
-                    },
+                let entry = entry_of(&tables.addresses.directory, it.rva);
+                if let Some(known) = data.export_address_table.get_mut(it.index as usize) {
+                    *known = entry;
+                }
+                let reexport = match entry {
+                    ExportAddressTableEntry::ExportRVA(_) => None,
+                    ExportAddressTableEntry::ForwarderRVA(_) => {
+                        match Reexport::of_entry(view, &tables.addresses, it.index, names)? {
+                            Some(reexport) => Some(reexport),
+                            None => continue,
+                        }
+                    }
                 };
                 let offset = if it.has_offset != 0 { Some(raw::narrow(it.offset)?) } else { None };
                 let name = Some(view.text(it.name)?);
                 raw::push(&mut exports, Export { name, offset, rva: it.rva as usize, size: 0, reexport })?;
             }
         }
+        add_unnamed(view.bytes, &tables.addresses, &mut data.export_address_table)?;
         Ok(exports)
     }
 

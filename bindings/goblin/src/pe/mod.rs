@@ -172,8 +172,8 @@ type Exports<'a> = (Option<export::ExportData<'a>>, Vec<export::Export<'a>>);
 /// A damaged export directory counts as absent in both modes, as in goblin.
 fn exports_of<'a>(view: View<'a, '_>, limits: &Limits) -> error::Result<Exports<'a>> {
     let found = unless_damaged(export::ExportData::of(view), true)?;
-    let Some((data, tables)) = found else { return Ok((None, Vec::new())) };
-    let exports = export::Export::of(view, tables, &data, &mut NamesLeft::of(limits))?;
+    let Some((mut data, tables)) = found else { return Ok((None, Vec::new())) };
+    let exports = export::Export::of(view, tables, &mut data, &mut NamesLeft::of(limits))?;
     Ok((Some(data), exports))
 }
 
