@@ -125,8 +125,8 @@ enum {
     PE_C_NO_OPTIONAL_HEADER = 32,   /* image has no optional header */
     PE_C_WRITE_ALIGNMENT = 33,      /* alignment cannot be written; never returned */
     PE_C_WRITE_SYMBOLS = 34,        /* images with COFF symbols cannot be written; never returned */
-    PE_C_WRITE_OVERLAP = 35,        /* sections overlap in the file; never returned */
-    PE_C_WRITE_SECTION = 36,        /* section data is not in the source bytes; never returned */
+    PE_C_WRITE_OVERLAP = 35,        /* sections overlap in the file */
+    PE_C_WRITE_SECTION = 36,        /* section data is not in the source bytes */
     PE_C_WRITE_FIT = 37,            /* write does not fit the buffer */
     PE_C_IMPORTS_LIMIT = 38,        /* image has more imports than the limit; never returned */
     PE_C_NOTHING = 100,             /* there is nothing of the kind, or the walk is over */
@@ -1326,6 +1326,22 @@ uint32_t pe_c_detached_length(const pe_c_view *view, uint64_t *out) PE_C_RESULT(
  * it may be NULL if room_length is 0.
  * Errors: those of pe_c_attach up to PE_C_SIGN_SECTION; PE_C_WRITE_FIT where the file does not fit into the array. */
 uint32_t pe_c_detach(const pe_c_view *view, uint8_t *room, size_t room_length, uint64_t *out) PE_C_RESULT(1, 4);
+
+/* ---- sections written
+ *
+ * The sections of an image changed: a caller reads them by pe_c_sections, changes a field, and writes them. Their data come from
+ * `bytes`, the whole file. Any number may be passed.
+ * https://learn.microsoft.com/windows/win32/debug/pe-format#section-table-section-headers */
+
+/* Writes the sections of the view into the array: for each its data at pointer_to_raw_data, its header, and zeros after the data
+ * up to a multiple of `unit` bytes, no zeros where that is 0. The headers are written one after the other, from `next` on, which
+ * moves past them. Offsets count from the start of the array. Where pieces overlap the later one wins. What no piece covers is
+ * unchanged, and after an error all of the array and `next`. The array does not overlap the file; it may be NULL if room_length
+ * is 0.
+ * Errors: PE_C_WRITE_OVERLAP where two sections that are not equal share a byte of the file; PE_C_WRITE_SECTION where the data of
+ * one are not in the file; PE_C_WRITE_FIT where a piece does not fit into the array. */
+uint32_t pe_c_write_sections(const pe_c_view *view, uint32_t unit, uint8_t *room, size_t room_length, uint64_t *next)
+    PE_C_RESULT(1, 5);
 
 /* ---- x64 functions and unwind records
  *

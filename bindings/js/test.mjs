@@ -224,6 +224,17 @@ test('certificates are attached, listed and detached', () => {
   assert.equal(image.call('pe_c_digest_ranges').ranges.length, 4);
 });
 
+test('sections are written', () => {
+  const bytes = file('debug'), image = library.open(bytes), room = Uint8Array.from(bytes).fill(0, 0, 0x200);
+  const { sections_offset: next, number_of_sections: count } = image.info, end = Number(next) + 40 * count;
+  assert.equal(image.call('pe_c_write_sections', { unit: 0, room, next }), BigInt(end));
+  const wanted = Uint8Array.from(bytes);
+  wanted.fill(0, 0, Number(next)).fill(0, end, 0x200);
+  assert.deepEqual(room, wanted);
+  const short = { unit: 0, room: room.subarray(0, end - 1), next };
+  assert.equal(refused(() => image.call('pe_c_write_sections', short)).constant, 'PE_C_WRITE_FIT');
+});
+
 // What `openssl asn1parse`, `openssl x509` and `osslsigncode verify` print of it, as tests/signatures.rs of the cargo crate has it.
 test('by whom a signature is', () => {
   const { certificates: [{ signer }] } = factsOf(library, file('signature'), 'signature.bin');

@@ -446,6 +446,8 @@ static void certificates(const struct file *file)
     CALL(pe_c_detached_length, length, VIEW, &length);
     if (IS_DONE(pe_c_detach, length, VIEW, file->room, file->room_length, &length))
         add_bytes(file->room, length);
+    uint64_t next = file->image.sections_offset;
+    CALL(pe_c_write_sections, next, VIEW, file->image.file_alignment, file->room, file->room_length, &next);
 }
 
 static void exports(const struct file *file)

@@ -37,6 +37,7 @@ mod results;
 mod rich_header;
 mod section_index;
 mod section_names;
+mod section_write;
 mod signature_bytes;
 mod signatures;
 mod signing;

@@ -79,6 +79,10 @@ pub(crate) const TE_SIZE: u32 = 31;
 
 pub(crate) const NO_OPTIONAL_HEADER: u32 = 32;
 
+pub(crate) const WRITE_OVERLAP: u32 = 35;
+
+pub(crate) const WRITE_SECTION: u32 = 36;
+
 pub(crate) const WRITE_FIT: u32 = 37;
 
 pub(crate) const SIGN_NO_DIRECTORY: u32 = 201;

@@ -453,6 +453,8 @@ fn read_by_lies(bytes: &[u8], random: &mut Random, seen: &mut Seen) {
         let (first, size) = (room.as_mut_ptr(), room.len());
         sys::pe_c_attach(&view, part.as_ptr(), part.len(), few, first, size, &mut written);
         assert!(written == 0 || written == needed && written <= size as u64);
+        let mut next = index;
+        sys::pe_c_write_sections(&view, few, first, size, &mut next);
         sys::pe_c_detached_length(&view, &mut needed);
         sys::pe_c_detach(&view, first, size, &mut left);
         assert!(left == 0 || left == needed && left <= size as u64);

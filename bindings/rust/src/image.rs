@@ -143,6 +143,10 @@ errors! {
     TE_SIZE = 31;
     /// Image has no optional header.
     NO_OPTIONAL_HEADER = 32;
+    /// Sections overlap in the file.
+    WRITE_OVERLAP = 35;
+    /// Section data is not in the source bytes.
+    WRITE_SECTION = 36;
     /// Write does not fit the buffer.
     WRITE_FIT = 37;
     /// Image has no certificate directory.

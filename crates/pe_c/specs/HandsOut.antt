@@ -1,5 +1,5 @@
 -- The result of a call: a number, and a value at `out`. DONE means that the value is there, others say why it is not.
-use Rattle.std.specs.Prelude.{◌≡◌, ℕ, Option, Some, None, Result, Ok, Err}
+use Rattle.std.specs.Prelude.{◌≡◌, ℕ, List, Option, Some, None, Result, Ok, Err}
 use Rattle.pe_core.specs.Refusals.{Refusal, Memory, Short, BadMagic, HeaderPointer, ImportName, StringTable, CertificateRevision, CertificateType, CertificateSize, CertificateTable, Unmapped, DebugBounds, DebugSize, DebugData, PogoSize, PogoName, ExceptionSize, ExceptionOffset, ExceptionBounds, FunctionIndex, FunctionLink, FunctionCycle, UnwindVersion, UnwindCode, Arm64Version, Arm64Stream, Arm64Cut, ResourceBounds, ResourceCycle, ResourceString, TeSize, NoOptionalHeader, WriteAlignment, WriteSymbols, WriteOverlap, WriteSection, WriteFit, ImportsLimit}
 use Rattle.pe_c.specs.declared.results.TheConstants.{DONE, NOTHING}
 
@@ -54,3 +54,8 @@ abbrev pub HandsOutIf : {Y : Type 0} → ℕ → Y → Y → Result (Option Y) R
 HandsOutIf number old new (Ok (Some value)) = (number ≡ DONE) × (new ≡ value)
 HandsOutIf number old new (Ok None) = (number ≡ NOTHING) × (new ≡ old)
 HandsOutIf number old new (Err refusal) = (number ≡ result_number refusal) × (new ≡ old)
+
+-- DONE, the number of a write at `out` and what it leaves in the room; else the number of the refusal, and both are unchanged
+abbrev pub HandsOutWritten : ℕ → ℕ → ℕ → List ℕ → List ℕ → Result (ℕ × List ℕ) Refusal → Type 0
+HandsOutWritten number old new room room_after (Ok written) = (number ≡ DONE) × (new ≡ written.0) × (room_after ≡ written.1)
+HandsOutWritten number old new room room_after (Err refusal) = (number ≡ result_number refusal) × (new ≡ old) × (room_after ≡ room)

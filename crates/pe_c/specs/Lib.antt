@@ -70,3 +70,4 @@ pub mod ImageParts
 pub mod ImageDebug
 pub mod ImageOfCalls
 pub mod HeadersRead
+pub mod SectionWrites

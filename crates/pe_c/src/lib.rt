@@ -51,6 +51,7 @@ mod results;
 mod rich_header;
 mod section_index;
 mod section_names;
+mod section_write;
 mod signatures;
 mod signing;
 mod stack_frames;

@@ -281,3 +281,4 @@ pub use pe_unwind::scope_table_size;
 pub use pe_unwind::search;
 pub use pe_unwind::search_arm64;
 pub use te::TE;
+pub use write::sections::SectionWriter;

@@ -11,7 +11,7 @@ mod headers;
 mod outside;
 mod overlaps;
 mod records;
-mod sections;
+pub mod sections;
 
 ghost use Rattle.std.specs.Prelude.{◌≡◌, [], ◌∷◌, IsTrue, OnOk, Some, length, map, max};
 ghost use Rattle.pe_core.specs.Header.{header_view, optional_header_view};

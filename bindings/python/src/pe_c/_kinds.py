@@ -74,9 +74,9 @@ class Kind(enum.IntEnum):
     WRITE_SYMBOLS = 34
     """images with COFF symbols cannot be written; never returned"""
     WRITE_OVERLAP = 35
-    """sections overlap in the file; never returned"""
+    """sections overlap in the file"""
     WRITE_SECTION = 36
-    """section data is not in the source bytes; never returned"""
+    """section data is not in the source bytes"""
     WRITE_FIT = 37
     """write does not fit the buffer"""
     IMPORTS_LIMIT = 38

@@ -45,7 +45,7 @@ pub struct SectionWriter<'a> {
 impl<'a> SectionWriter<'a> {
     /// Errors, in this order: `WriteOverlap` if two unequal sections share a byte of the file; `WriteSection` if the
     /// data of one is not in `source`.
-    pub fn require_data(&self) -> Result<()>
+    pub(crate) fn require_data(&self) -> Result<()>
         ensures { Returns result (outcome ((clash_free self.now.sections.now, WriteOverlap)
             ∷ (all_in_source self.now.source.now self.now.sections.now, WriteSection) ∷ []) tt) }
     {
@@ -79,7 +79,7 @@ impl<'a> SectionWriter<'a> {
 
     /// The greatest end of the pieces of the sections, whose headers are written from `start` on, and the offset after
     /// these headers. `WriteFit` if no buffer is so long.
-    pub fn ends(&self, start: usize) -> Result<(usize, usize)>
+    pub(crate) fn ends(&self, start: usize) -> Result<(usize, usize)>
         requires unit { IsTrue (is_unit self.now.unit) }
         requires inside { IsTrue (all_in_source self.now.source.now self.now.sections.now) }
         ensures { Returns result (possible
@@ -177,7 +177,7 @@ impl<'a> SectionWriter<'a> {
     /// Writes the sections, with their headers from `start` on. The caller has checked that they fit. What the next
     /// section with data covers is not written: so of sections that are equal, or rise or fall in the file, no byte is
     /// written twice as data or zeros, however many sections cover it.
-    pub fn set(&self, buffer: &mut [u8], start: usize)
+    pub(crate) fn set(&self, buffer: &mut [u8], start: usize)
         requires unit { IsTrue (is_unit self.now.unit) }
         requires inside { IsTrue (all_in_source self.now.source.now self.now.sections.now) }
         requires fit { IsTrue (all_fit (length buffer.old)
@@ -197,7 +197,7 @@ impl<'a> SectionWriter<'a> {
     /// The offset after the section headers, which are written from `start` on. Errors, in this order: `WriteAlignment`
     /// for a unit of 0; `WriteOverlap` if two unequal sections share a byte of the file; `WriteSection` if the data of
     /// one is not in `source`; `WriteFit` if the pieces don't all fit.
-    pub fn require_all(&self, buffer: &[u8], start: usize) -> Result<usize>
+    fn require_all(&self, buffer: &[u8], start: usize) -> Result<usize>
         ensures returned { Returns result (outcome ((is_unit self.now.unit, WriteAlignment)
             ∷ section_tests self.now.source.now self.now.sections.now (length buffer.now)
             (all_section_pieces self.now.source.now self.now.unit start self.now.sections.now))
