@@ -1,8 +1,8 @@
 /* Lists names of a file by the calls of the library for C: together FILE exports|libraries|imports|symbols alone|together
  *
  * `together` lists them by one call with room for all, which reads the names together, `alone` by calls of 64 entries, or of symbols
- * by a call for each. Of imports those of one library are listed, the first. How many there are is printed, and the milliseconds of
- * the processor that the calls took. */
+ * by a call for each. Imports are those of all libraries; `alone` lists them library by library. How many there are is printed, and the
+ * milliseconds of the processor that the calls took. */
 #include "reading.h"
 
 #include <stdio.h>
@@ -63,11 +63,35 @@ static uint64_t list_symbols(const uint8_t *bytes, size_t length, pe_c_run *runs
     return count;
 }
 
+static uint64_t list_all_imports(const pe_c_view *view, pe_c_libraries libraries, pe_c_run *runs, size_t number_of_runs)
+{
+    pe_c_library library = PE_C_EMPTY;
+    pe_c_library_imports walk = PE_C_EMPTY;
+    uint64_t count = 0, written = 1;
+    if (runs == NULL) {
+        while (pe_c_next_library(view, &libraries, &library) == PE_C_DONE)
+            count += list_imports(view, &library.imports, 0, NULL, 0);
+        return count;
+    }
+    /* Each run is for a library or an import. */
+    pe_c_library_import *entries = calloc(number_of_runs, sizeof *entries);
+    if (entries == NULL || pe_c_all_imports(view, &walk) != PE_C_DONE)
+        written = 0;
+    while (written > 0) {
+        written = 0;
+        if (pe_c_list_all_imports_together(view, &walk, runs, number_of_runs, entries, number_of_runs, &written)
+            != PE_C_DONE)
+            break;
+        count += written;
+    }
+    free(entries);
+    return count;
+}
+
 static uint64_t list(const pe_c_view *view, const char *what, pe_c_run *runs, size_t number_of_runs)
 {
     pe_c_exports exports = PE_C_EMPTY;
     pe_c_libraries libraries = PE_C_EMPTY;
-    pe_c_library library = PE_C_EMPTY;
     if (strcmp(what, "exports") == 0)
         return pe_c_export_tables(view, &exports) != PE_C_DONE
                    ? 0 : list_exports(view, &exports, (size_t)exports.names.length / 4, runs, number_of_runs);
@@ -75,9 +99,7 @@ static uint64_t list(const pe_c_view *view, const char *what, pe_c_run *runs, si
         return 0;
     if (strcmp(what, "libraries") == 0)
         return list_libraries(view, &libraries, view->length / 20, runs, number_of_runs);
-    if (pe_c_next_library(view, &libraries, &library) != PE_C_DONE)
-        return 0;
-    return list_imports(view, &library.imports, (size_t)library.imports.left.length / 4, runs, number_of_runs);
+    return list_all_imports(view, libraries, runs, number_of_runs);
 }
 
 int main(int argc, char **argv)

@@ -1913,7 +1913,7 @@ uint32_t pe_c_export_at(const pe_c_view *view, const pe_c_address_table *table, 
  *
  * There are two walks: one over the DLLs (here "libraries"), and for each one over its imports, which starts as
  * library.imports. A program that reads all libraries before the first import meets errors in the order of
- * `peinfo list`. */
+ * `peinfo list`. A third walk goes through both, for pe_c_list_all_imports_together. */
 
 /* A walk over libraries. */
 typedef struct {
@@ -1947,10 +1947,29 @@ typedef struct {
     uint32_t has_name;              /* 1 or 0 */
 } pe_c_import;
 
+/* A walk over the imports of all libraries. */
+typedef struct {
+    pe_c_libraries libraries;       /* the libraries after the one that is walked over */
+    pe_c_imports imports;           /* the imports that this one has left */
+    pe_c_range library_name;        /* of this one: UTF-8, without its final zero */
+    uint64_t begun;                 /* how many libraries were begun; 0 before the first */
+} pe_c_library_imports;
+
+/* An import, and the library that it is from. */
+typedef struct {
+    pe_c_import import;             /* what pe_c_next_import returns */
+    pe_c_range library_name;        /* of the DLL: UTF-8, without its final zero */
+    uint64_t library;               /* index of the library in the order of the import directory */
+    uint32_t hint_rva;              /* RVA of the hint, which the name follows; 0 unless import.has_name */
+    uint32_t spare;                 /* 0 */
+} pe_c_library_import;
+
 PE_C_SIZE(pe_c_libraries, 16);
 PE_C_SIZE(pe_c_imports, 24);
 PE_C_SIZE(pe_c_library, 64);
 PE_C_SIZE(pe_c_import, 32);
+PE_C_SIZE(pe_c_library_imports, 64);
+PE_C_SIZE(pe_c_library_import, 64);
 
 /* Returns the import directory as a walk for pe_c_next_library. PE_C_NOTHING without a directory.
  * Errors: PE_C_UNMAPPED. */
@@ -1966,6 +1985,10 @@ uint32_t pe_c_next_library(const pe_c_view *view, pe_c_libraries *walk, pe_c_lib
  * Errors: PE_C_SHORT where the walk is not inside the bytes, or its last entry is truncated; PE_C_UNMAPPED of the RVA in
  * the entry; PE_C_SHORT of the hint there; PE_C_IMPORT_NAME of the name. */
 uint32_t pe_c_next_import(const pe_c_view *view, pe_c_imports *walk, pe_c_import *out) PE_C_RESULT(1, 2, 3);
+
+/* Returns the import directory as a walk for pe_c_list_all_imports_together. PE_C_NOTHING without a directory.
+ * Errors: PE_C_UNMAPPED. */
+uint32_t pe_c_all_imports(const pe_c_view *view, pe_c_library_imports *out) PE_C_RESULT(1, 2);
 
 /* ---- delay imports
  *
@@ -2708,7 +2731,7 @@ uint32_t pe_c_list_libraries(const pe_c_view *view, pe_c_libraries *walk, pe_c_l
 uint32_t pe_c_list_imports(const pe_c_view *view, pe_c_imports *walk, pe_c_import *entries, size_t number_of_entries,
                            uint64_t *written) PE_C_RESULT(1, 2, 5);
 
-/* Room for what the next three calls find out of names and lists; what is in it has no meaning to callers. */
+/* Room for what the next four calls find out of names and lists; what is in it has no meaning to callers. */
 typedef struct {
     uint64_t start;
     uint64_t end;
@@ -2738,6 +2761,17 @@ uint32_t pe_c_list_libraries_together(const pe_c_view *view, pe_c_libraries *wal
 uint32_t pe_c_list_imports_together(const pe_c_view *view, pe_c_imports *walk, pe_c_run *runs, size_t number_of_runs,
                                     pe_c_import *entries, size_t number_of_entries,
                                     uint64_t *written) PE_C_RESULT(1, 2, 7);
+
+/* Lists the imports of all libraries, one library after the other, and reads the names of the libraries and of the imports
+ * together. With a run for each of the entries and one for each library that is left, or more, a call takes about as long as to
+ * sort these and to read each byte a few times, however many names share a text. With fewer, as with none, further names are read
+ * to their end each, also those of libraries without an import. Libraries may share a list, whose imports are listed for each of
+ * them: `number_of_entries` bounds what a call takes.
+ * What is in `runs` after the call is left open. Errors: PE_C_ROOM; those of pe_c_next_library and pe_c_next_import, in the order
+ * of the walk. */
+uint32_t pe_c_list_all_imports_together(const pe_c_view *view, pe_c_library_imports *walk, pe_c_run *runs,
+                                        size_t number_of_runs, pe_c_library_import *entries, size_t number_of_entries,
+                                        uint64_t *written) PE_C_RESULT(1, 2, 7);
 
 /* A COFF symbol with its name. */
 typedef struct {

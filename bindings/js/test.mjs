@@ -599,6 +599,12 @@ test('a list in one call has what its walk has, and starts where that is', () =>
   const together = (call, walk) => listed(image, `pe_c_list_${call}_together`, { walk, runs: [{}, {}] });
   assert.deepEqual(together('libraries', image.call('pe_c_import_libraries')), [...image.list('libraries')]);
   assert.deepEqual(together('imports', structuredClone(dll.imports)), [...image.imports(dll)]);
+  const all = listed(image, 'pe_c_list_all_imports_together', { walk: image.call('pe_c_all_imports'), runs: [{}, {}, {}] });
+  assert.deepEqual(all.map((it) => [image.utf8(it.library_name), it.library, it.import.has_name ? image.utf8(it.import.name) : null,
+    it.import.ordinal]), [['KERNEL32.dll', 0n, 'Sleep', 42], ['KERNEL32.dll', 0n, null, 17], ['a.dll', 1n, 'f', 0]]);
+  assert.deepEqual(all[0].import, [...image.imports(dll)][0]);
+  assert.equal(image.call('pe_c_offset', { rva: all[0].hint_rva }) + 2n, all[0].import.name.offset);
+  assert.equal(all[1].hint_rva, 0);
   const names = opened('exports'), tables = names.call('pe_c_export_tables');
   assert.deepEqual(listed(names, 'pe_c_list_exports_together', { walk: tables, runs: [{}] }), [...names.list('exports')]);
   const moved = opened('relocations'), [block] = moved.list('relocationBlocks');

@@ -649,6 +649,9 @@ static void lists_of_names(const struct file *file)
         LIST(pe_c_list_imports, pe_c_import, VIEW, &library.imports);
         LIST(pe_c_list_imports_together, pe_c_import, VIEW, &together, runs, ROWS);
     }
+    pe_c_library_imports all = PE_C_EMPTY;
+    if (IS_DONE(pe_c_all_imports, all, VIEW, &all))
+        LIST(pe_c_list_all_imports_together, pe_c_library_import, VIEW, &all, runs, ROWS);
 }
 
 static void lists_of_functions(const struct file *file)

@@ -22,6 +22,7 @@ mod guard_tables;
 mod headers;
 mod image;
 mod imports;
+mod library_imports;
 mod lists;
 mod lists_together;
 mod load_config;

@@ -554,6 +554,7 @@ lists_of_an_image! {
     list_export_addresses: pe_c_list_export_addresses(table: &sys::AddressTable) over u64 => sys::Exported;
     list_relocations: pe_c_list_relocations(page_rva: u32) over Range => sys::Relocation;
     list_arm64_codes: pe_c_list_arm64_codes() over sys::Arm64Walk => sys::Arm64Code;
+    list_imports: pe_c_list_imports() over sys::Imports => sys::Import;
 }
 
 /// The same of two calls that write the same: the first reads each name by itself, the second names together, with room for runs.
@@ -577,7 +578,24 @@ macro_rules! lists_of_names {
 lists_of_names! {
     list_exports: pe_c_list_exports, pe_c_list_exports_together over sys::Exports => sys::Export;
     list_libraries: pe_c_list_libraries, pe_c_list_libraries_together over sys::Libraries => sys::Library;
-    list_imports: pe_c_list_imports, pe_c_list_imports_together over sys::Imports => sys::Import;
+}
+
+impl View<'_, '_> {
+    /// The same of imports of all libraries, whose names are read together.
+    fn list_all_imports(
+        &self,
+        walk: &mut sys::LibraryImports,
+        runs: &mut [sys::Run],
+        room: &mut [sys::LibraryImport],
+    ) -> Result<usize, Refusal> {
+        let (view, count, more, mut written) = (self.lent(), room.len(), runs.len(), 0);
+        // SAFETY: as above.
+        let number = unsafe {
+            let (runs, items) = (runs.as_mut_ptr(), room.as_mut_ptr());
+            sys::pe_c_list_all_imports_together(&view, walk, runs, more, items, count, &mut written)
+        };
+        Ok(returned(number, written)?.unwrap_or(0) as usize)
+    }
 }
 
 /// Makes methods of calls that take an image first.

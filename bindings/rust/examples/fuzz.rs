@@ -350,7 +350,10 @@ fn read_by_lies(bytes: &[u8], random: &mut Random, seen: &mut Seen) {
     together!(pe_c_list_exports_together(names), Export);
     let libraries = sys::Libraries { next: range.offset, ..sys::Libraries::default() };
     together!(pe_c_list_libraries_together(libraries), Library);
-    together!(pe_c_list_imports_together(sys::Imports { left: range, rva: index }), Import);
+    let imports = sys::Imports { left: range, rva: index };
+    together!(pe_c_list_imports_together(imports), Import);
+    let all = sys::LibraryImports { libraries, imports, library_name: range, begun: index };
+    together!(pe_c_list_all_imports_together(all), LibraryImport);
     let (mut record, mut codes, mut written) = (sys::Record::default(), [sys::Code::default(); 3], 0);
     let room = few as usize % 4;
     // SAFETY: as above.
@@ -523,6 +526,7 @@ fn read_by_lies(bytes: &[u8], random: &mut Random, seen: &mut Seen) {
     walk_of_image!(pe_c_next_library(libraries), Library);
     walk_of_image!(pe_c_next_library(sys::Libraries { next: range.offset, ..libraries }), Library);
     walk_of_image!(pe_c_next_import(sys::Imports { left: range, rva: index }), Import);
+    call_of_image!(pe_c_all_imports(), LibraryImports);
     let tls = call_of_image!(pe_c_tls(), TlsDirectory);
     call_of_image!(pe_c_tls_callbacks(&sys::TlsDirectory { address_of_callbacks: random.edge(number), ..tls }), Range);
     call_of_image!(pe_c_relocation_blocks(), Range);

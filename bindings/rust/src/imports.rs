@@ -87,6 +87,13 @@ pub struct Import<'a> {
     pub rva: u64,
 }
 
+impl<'a> Import<'a> {
+    fn of(found: &sys::Import, bytes: &'a [u8]) -> Result<Self, Error> {
+        let name = bytes_of(found.name, bytes)?;
+        Ok(Import { name: (found.has_name != 0).then_some(name), ordinal: found.ordinal, rva: found.rva })
+    }
+}
+
 /// The imports of a library, in the order of its list.
 ///
 /// The last item may be an error: [`Error::UNMAPPED`] of the RVA in the entry; [`Error::SHORT`] of the hint there;
@@ -103,16 +110,99 @@ impl<'a> Iterator for Imports<'_, 'a> {
         let found = self
             .0
             .step_together(sys::pe_c_list_imports, sys::pe_c_list_imports_together, 1, most, |it| it.name.length)?;
-        Some(found.and_then(|found| {
-            let name = bytes_of(found.name, bytes)?;
-            Ok(Import { name: (found.has_name != 0).then_some(name), ordinal: found.ordinal, rva: found.rva })
-        }))
+        Some(found.and_then(|found| Import::of(&found, bytes)))
     }
 }
 
 impl FusedIterator for Imports<'_, '_> {}
 
+/// An import, and the DLL that it is from.
+#[derive(Clone, Copy, Debug, PartialEq, Eq)]
+pub struct LibraryImport<'a> {
+    /// The DLL's name: UTF-8, without its final zero.
+    pub library: &'a [u8],
+    /// The DLL's index among [`Image::libraries`].
+    pub index: u64,
+    /// The import.
+    pub import: Import<'a>,
+    /// RVA of the hint, which the name follows; `None` for an import by ordinal.
+    pub hint_rva: Option<u32>,
+}
+
+/// The imports of all DLLs of an image, one DLL after the other.
+///
+/// DLLs may share one list, whose imports are returned for each of them: there may be far more than a file has bytes.
+///
+/// The last item may be an error: of the imports of the DLLs before it, or that of the next DLL, as [`Imports`] and
+/// [`Libraries`] have them.
+///
+/// ```
+/// # #[path = "../tests/made/mod.rs"] mod made;
+/// # let bytes = made::with_imports();
+/// use pe_c::{Image, Mode};
+///
+/// let image = Image::parse(&bytes, Mode::Permissive)?;
+/// let imports: Vec<_> = image.imports()?.into_iter().flatten().collect::<Result<_, _>>()?;
+/// let names: Vec<_> = imports.iter().map(|it| (it.library, it.import.name)).collect();
+/// let kernel32 = b"KERNEL32.dll".as_slice();
+/// assert_eq!(names, [
+///     (kernel32, Some(b"Sleep".as_slice())),
+///     (kernel32, None), // by ordinal
+///     (b"a.dll", Some(b"f")),
+/// ]);
+/// # Ok::<(), pe_c::Error>(())
+/// ```
+#[derive(Clone, Debug)]
+pub struct AllImports<'i, 'a> {
+    list: ImageList<'i, 'a, sys::LibraryImports, sys::LibraryImport>,
+    /// How many DLLs there are.
+    libraries: u64,
+}
+
+/// Lists imports whose names are read each by itself.
+unsafe extern "C" fn list_alone(
+    view: *const sys::View,
+    walk: *mut sys::LibraryImports,
+    entries: *mut sys::LibraryImport,
+    number_of_entries: usize,
+    written: *mut u64,
+) -> u32 {
+    // SAFETY: the caller's, who passes what the call takes; without runs there need be no room for them.
+    unsafe {
+        sys::pe_c_list_all_imports_together(view, walk, core::ptr::null_mut(), 0, entries, number_of_entries, written)
+    }
+}
+
+impl<'a> Iterator for AllImports<'_, 'a> {
+    type Item = Result<LibraryImport<'a>, Error>;
+
+    fn next(&mut self) -> Option<Self::Item> {
+        let (bytes, libraries) = (self.list.image.bytes(), self.libraries);
+        let more = |walk: &sys::LibraryImports| libraries.saturating_sub(walk.begun) as usize;
+        let found = self.list.step_with_runs(list_alone, sys::pe_c_list_all_imports_together, more)?;
+        Some(found.and_then(|found| {
+            let import = Import::of(&found.import, bytes)?;
+            let hint_rva = import.name.map(|_| found.hint_rva);
+            Ok(LibraryImport { library: bytes_of(found.library_name, bytes)?, index: found.library, import, hint_rva })
+        }))
+    }
+}
+
+impl FusedIterator for AllImports<'_, '_> {}
+
 impl<'a> Image<'a> {
+    /// The imports of all DLLs that the image imports from, or `None` without an import directory. The names of DLLs and imports are
+    /// read together, however many share one text.
+    ///
+    /// # Errors
+    ///
+    /// [`Error::UNMAPPED`].
+    pub fn imports(&self) -> Result<Option<AllImports<'_, 'a>>, Error> {
+        let Some(walk) = self.ask(sys::pe_c_all_imports)? else { return Ok(None) };
+        let libraries = self.libraries()?.map_or(0, |all| all.take_while(Result::is_ok).count() as u64);
+        Ok(Some(AllImports { list: ImageList::new(self, walk), libraries }))
+    }
+
     /// The DLLs that the image imports from, each with its imports, or `None` without an import directory.
     ///
     /// # Errors

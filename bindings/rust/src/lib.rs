@@ -137,7 +137,7 @@ pub use failure::Failure;
 pub use frames::{MemoryList, Stack, StepError};
 pub use guard_tables::{GuardEntries, GuardEntry, GuardTable};
 pub use image::{DirectoryIndex, Error, Image, Layout, Mode};
-pub use imports::{Import, Imports, Libraries, Library};
+pub use imports::{AllImports, Import, Imports, Libraries, Library, LibraryImport};
 pub use load_config::{LoadConfig, LoadConfigField};
 pub use relocations::{Relocation, RelocationBlock, RelocationBlocks, Relocations};
 pub use resource_edit::{ResourceContent, ResourceEditor, ResourceKey, ResourcePlace};

@@ -888,6 +888,32 @@ Import, 32 {
     has_name: u32,
 });
 record!(
+/// A walk over the imports of all libraries.
+LibraryImports, 64 {
+    /// The libraries after the one that is walked over.
+    libraries: Libraries,
+    /// The imports that this one has left.
+    imports: Imports,
+    /// Of this one: UTF-8, without its final zero.
+    library_name: Range,
+    /// How many libraries were begun; 0 before the first.
+    begun: u64,
+});
+record!(
+/// An import, and the library that it is from. See [`LibraryImport`](crate::LibraryImport).
+LibraryImport, 64 {
+    /// What [`pe_c_next_import`] returns.
+    import: Import,
+    /// Of the DLL: UTF-8, without its final zero.
+    library_name: Range,
+    /// Index of the library in the order of the import directory.
+    library: u64,
+    /// RVA of the hint, which the name follows; 0 unless the import has a name.
+    hint_rva: u32,
+    /// 0.
+    spare: u32,
+});
+record!(
 /// The fixed file information, `VS_FIXEDFILEINFO`: versions, file type and flags as numbers.
 ///
 /// ```
@@ -2205,6 +2231,16 @@ extern "C" {
         number_of_entries: usize,
         written: *mut u64,
     ) -> u32;
+    /// Lists the next imports of all libraries, and reads the names together.
+    pub fn pe_c_list_all_imports_together(
+        view: *const View,
+        walk: *mut LibraryImports,
+        runs: *mut Run,
+        number_of_runs: usize,
+        entries: *mut LibraryImport,
+        number_of_entries: usize,
+        written: *mut u64,
+    ) -> u32;
     /// Lists the next COFF symbols with their names, which are read together.
     pub fn pe_c_list_symbols(
         bytes: *const u8,
@@ -2688,6 +2724,8 @@ calls_of_an_image! {
     pe_c_next_library(walk: *mut Libraries) -> Library;
     /// Returns the next import of a library.
     pe_c_next_import(walk: *mut Imports) -> Import;
+    /// Returns the import directory, as a walk over the imports of all libraries.
+    pe_c_all_imports() -> LibraryImports;
     /// Returns the directory of bound imports.
     pe_c_bound_imports() -> Range;
     /// Returns the entries of the delay import directory, as a walk.

@@ -234,14 +234,38 @@ impl<'i, 'a, W, T: Copy + Default> ImageList<'i, 'a, W, T> {
             self.spent += others + first.as_ref().and_then(|it| it.as_ref().ok()).map_or(0, cost);
             return first;
         }
-        let (Ok(mut room), Ok(many)) = (room_for(runs * most, Run::default()), room_for(most, T::default())) else {
-            return self.step(call);
-        };
+        match self.list_together(together, runs * most, most) {
+            Some(first) => first,
+            None => self.step(call),
+        }
+    }
+
+    /// Lists so many items at most, with so many runs for their names, and returns the first. `None` if there is no memory for that.
+    fn list_together(&mut self, together: Together<W, T>, runs: usize, most: usize) -> Option<Option<Result<T, Error>>> {
+        let (mut room, many) = (room_for(runs, Run::default()).ok()?, room_for(most, T::default()).ok()?);
         self.many = many;
         // SAFETY: as above, and of the runs.
         let refused = self.fill(|view, list, written| unsafe {
             together(view, &mut list.walk, room.as_mut_ptr(), room.len(), list.many.as_mut_ptr(), most, written)
         });
-        refused.map(Err).or_else(|| self.first_left())
+        Some(refused.map(Err).or_else(|| self.first_left()))
+    }
+
+    /// The next item of a walk whose names are all read together: a run for each of four times as many items as there were, and more
+    /// for what else has a name, by the walk. Where there is no memory for that a call takes few, and reads each name by itself.
+    pub fn step_with_runs(
+        &mut self,
+        call: List<W, T>,
+        together: Together<W, T>,
+        more: impl FnOnce(&W) -> usize,
+    ) -> Option<Result<T, Error>> {
+        if !self.left.is_empty() || self.is_over {
+            return self.first_left();
+        }
+        let most = (4 * self.taken).clamp(ROOM, MOST);
+        match self.list_together(together, most + more(&self.walk), most) {
+            Some(first) => first,
+            None => self.step(call),
+        }
     }
 }

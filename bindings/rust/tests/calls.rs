@@ -702,6 +702,29 @@ fn imports_are_listed_by_library() {
     assert!(strict(SMALL).libraries().unwrap().is_none());
 }
 
+#[test]
+fn imports_of_all_libraries_are_listed() {
+    let bytes = with_imports();
+    let image = strict(&bytes);
+    let imports: Vec<_> = image.imports().unwrap().unwrap().map(Result::unwrap).collect();
+    let found: Vec<_> = imports.iter().map(|it| (it.library, it.index, it.import.name, it.import.ordinal)).collect();
+    let (kernel32, a) = (b"KERNEL32.dll".as_slice(), b"a.dll".as_slice());
+    let wanted = [(kernel32, 0, Some(b"Sleep".as_slice()), 42), (kernel32, 0, None, 17), (a, 1, Some(b"f".as_slice()), 0)];
+    assert_eq!(found, wanted);
+    let mut nested = Vec::new();
+    for library in image.libraries().unwrap().unwrap() {
+        nested.extend(library.unwrap().imports().map(Result::unwrap));
+    }
+    assert_eq!(imports.iter().map(|it| it.import).collect::<Vec<_>>(), nested);
+    // the hint of `Sleep` is 42, the two bytes before its name
+    let hint = image.offset(imports[0].hint_rva.unwrap()).unwrap() as usize;
+    assert_eq!(bytes[hint..hint + 7], *b"\x2A\0Sleep");
+    assert_eq!(imports[1].hint_rva, None);
+    let refused = with_refused_import();
+    let items: Vec<_> = strict(&refused).imports().unwrap().unwrap().collect();
+    assert_eq!(items, [Err(Error::IMPORT_NAME)]);
+}
+
 /// The error of the libraries of an image with these bytes at an RVA, and that of its imports if they can be read.
 fn import_refusals(address: u32, part: &[u8]) -> (Option<Error>, Option<Error>) {
     let mut bytes = with_imports();

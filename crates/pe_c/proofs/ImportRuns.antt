@@ -86,7 +86,7 @@ agrees offset w b dll entry rva = agrees_by_kind offset b dll entry rva (nat_le 
 -- ---- the imports of a library
 
 -- a walk that has the bytes from q on left
-abbrev over : ℕ → ℕ → ℕ → Imports
+abbrev pub over : ℕ → ℕ → ℕ → Imports
 over q n rva = record { left = record { offset = q; length = n }; rva = rva }
 
 -- the entries from q on
@@ -108,7 +108,7 @@ step_first offset w b q m rva some h i =
     let entry : le (range b q m) 0 w ≡ le b q w = le_of_range b q m 0 w i (omega (arith, h)) ∙ ap (λ (k : ℕ). le b k w) at_start in
     ap (import_left offset w b (over q m rva)) (entry_left w b q m some h i) ∙ ap (λ (e : ℕ). import_by w (over q m rva) (import_at offset w b e rva)) entry
 
-step_last : (offset : ℕ → Option ℕ) (w : ℕ) (b : List ℕ) (q rva : ℕ) → q ≤ length b → import_step offset w b (over q 0 rva) ≡ (Ok None, over q 0 rva)
+pub step_last : (offset : ℕ → Option ℕ) (w : ℕ) (b : List ℕ) (q rva : ℕ) → q ≤ length b → import_step offset w b (over q 0 rva) ≡ (Ok None, over q 0 rva)
 unfolding import_step
 step_last offset w b q rva h =
     let left : left_entry w b (record { offset = q; length = 0 }) ≡ Ok None = grind (arith, nat_tests) in

@@ -19,6 +19,7 @@ pub mod ExportParts
 pub mod ExportRuns
 pub mod FunctionPlans
 pub mod ImportRuns
+pub mod LibraryImportRuns
 pub mod Indices
 pub mod LastText
 pub mod LeftBytes

@@ -10,6 +10,7 @@ pub mod ExportAddresses
 pub mod Exports
 pub mod Images
 pub mod Imports
+pub mod LibraryImports
 pub mod LoadConfigs
 pub mod Modes
 pub mod Parts

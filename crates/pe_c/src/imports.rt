@@ -91,7 +91,7 @@ pub struct Import {
 }
 
 /// A walk over libraries that is over.
-const NO_LIBRARIES: Libraries = Libraries {
+pub const NO_LIBRARIES: Libraries = Libraries {
     next: 0,
     is_over: 1,
     spare: 0,
@@ -123,6 +123,7 @@ fn name_at<'a>(names: &NamedView<'a>, offset: usize, rva: u32) -> Result<&'a str
     }
 }
 
+/// The import directory of an image as a walk over its libraries.
 pub fn libraries_at(view: &View) -> Result<Option<Libraries>>
     ensures { answer_of result ≡ libraries_at view.now.image.now view.now.sections.now }
 {
@@ -193,8 +194,9 @@ fn library_at(names: &NamedView<'_>, offset: usize) -> Result<Option<Library>>
 /// One step over libraries: its result, and the walk after it.
 #[tactic(auto, unfolding(crate::specs::Imports::library_step))]
 pub fn library_step(names: &NamedView<'_>, walk: Libraries) -> (Result<Option<Library>>, Libraries)
-    ensures { (answer_of result.0, result.1) ≡ library_step (map_of names.now.view.now)
+    ensures returned { (answer_of result.0, result.1) ≡ library_step (map_of names.now.view.now)
         (entry_size (names.now.view.now.image.now.width == 64)) names.now.view.now.bytes.now walk }
+    ensures onward { IfOk result.0 (λ l. IfSome l (λ _. walk.next < result.1.next)) }
 {
     if walk.is_over != 0 {
         return (Ok(None), walk);
@@ -274,8 +276,10 @@ fn import_at(names: &NamedView<'_>, entry: u64, rva: u64) -> Result<Import>
 /// One step over the imports of a library.
 #[tactic(auto, unfolding(crate::specs::Imports::import_step))]
 pub fn import_step(names: &NamedView<'_>, walk: &mut Imports) -> Result<Option<Import>>
-    ensures { (answer_of result, walk.new) ≡ import_step (map_of names.now.view.now)
+    ensures returned { (answer_of result, walk.new) ≡ import_step (map_of names.now.view.now)
         (entry_size (names.now.view.now.image.now.width == 64)) names.now.view.now.bytes.now walk.old }
+    ensures there { IfOk result (λ i. IfSome i (λ _. walk.old.left.offset
+        + entry_size (names.now.view.now.image.now.width == 64) ≤ length names.now.view.now.bytes.now)) }
 {
     let is_64 = names.view.image.width == 64;
     let size = lookup_size(is_64);
@@ -297,7 +301,7 @@ pub fn import_step(names: &NamedView<'_>, walk: &mut Imports) -> Result<Option<I
 }
 
 /// One of the records that a walk may have left, by its index among them. None at the record that ends the directory.
-fn record_left(view: &View, walk: &Libraries, index: usize) -> Option<ImportDirectoryEntry> {
+pub fn record_left(view: &View, walk: &Libraries, index: usize) -> Option<ImportDirectoryEntry> {
     let offset = index.saturating_mul(SIZE_OF_RECORD as usize);
     let at = (walk.next as usize).saturating_add(offset);
     let entry = ImportDirectoryEntry::parse(view.bytes, at).ok()?;
@@ -338,28 +342,33 @@ pub fn put_library_lists(view: &View, walk: &Libraries, room: &mut [Run]) -> usi
     count
 }
 
-/// The same of the offsets of the names of the next imports. An ordinal counts as the RVA of a name, which costs a run that is not
-/// asked for.
-pub fn put_import_names(view: &View, walk: &Imports, room: &mut [Run]) -> usize
+/// The same of the offsets of the names of imports, of which these are the entries. An ordinal counts as the RVA of a name, which
+/// costs a run that is not asked for.
+pub fn put_entry_names(view: &View, entries: &[u8], room: &mut [Run]) -> usize
     ensures { result ≤ length room.new }
 {
     let mut count = 0;
     let is_64 = view.image.width == 64;
     let size = lookup_size(is_64);
-    let Ok(left) = slice_of(view.bytes, &walk.left) else {
-        return count;
-    };
-    for i in 0..left.len() / size {
+    for i in 0..entries.len() / size {
         if count == room.len() {
             break;
         }
-        let rva = (lookup_number(left, size * i, is_64) % 0x8000_0000) as u32;
+        let rva = (lookup_number(entries, size * i, is_64) % 0x8000_0000) as u32;
         if let Some(offset) = map_by(view, rva) {
             room[count] = Run::at(offset.saturating_add(SIZE_OF_HINT));
             count += 1;
         }
     }
     count
+}
+
+/// The entries that a walk has left. None where they are not inside the bytes.
+pub fn entries_left<'a>(view: &View<'a>, walk: &Imports) -> &'a [u8] {
+    match slice_of(view.bytes, &walk.left) {
+        Ok(entries) => entries,
+        Err(_) => &[],
+    }
 }
 
 /// Reads the next import of a library: `NOTHING` after the last. Each name is read to its end, so names that overlap

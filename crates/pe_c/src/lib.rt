@@ -36,6 +36,7 @@ mod headers;
 mod image;
 mod imports;
 pub mod laws;
+mod library_imports;
 mod lists;
 mod load_config;
 mod loaded;

@@ -18,6 +18,7 @@ pub mod delay_imports;
 pub mod exports;
 pub mod guard_tables;
 pub mod imports;
+pub mod library_imports;
 pub mod relocations;
 pub mod resources;
 pub mod symbols;

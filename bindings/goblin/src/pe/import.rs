@@ -19,7 +19,7 @@ pub const SIZEOF_IMPORT_DIRECTORY_ENTRY: usize = 20;
 /// How many libraries are taken a call, and how many imports of one, where a call reads their names and lists each by itself.
 const LIBRARIES_TAKEN: usize = 8;
 const TAKEN: usize = 16;
-type Room = raw::Names<sys::Import, TAKEN>;
+type Room = raw::ImportNames<TAKEN>;
 
 /// An entry of a list of imports, of 32 or 64 bits: an ordinal where its highest bit is set, else the RVA of a hint and a name.
 pub trait Bitfield<'a>:
@@ -169,8 +169,8 @@ impl<'a> ImportData<'a> {
         let Some(walk) = found else { return Ok(None) };
         let mut left = Left { imports: limits.imports, names: NamesLeft::of(limits) };
         let libraries = libraries_of::<T>(view, walk, &mut left)?;
-        let (mut import_data, mut room) = (raw::list(libraries.len())?, Room::of(view));
-        for library in &libraries {
+        let (mut import_data, mut room) = (raw::list(libraries.len())?, Room::of(view, walk, libraries.len()));
+        for library in libraries.iter().enumerate() {
             import_data.push(SyntheticImportDirectoryEntry::of::<T>(view, library, &mut left, &mut room)?);
         }
         Ok(Some(ImportData { import_data }))
@@ -223,14 +223,14 @@ fn libraries_of<'a, T: Bitfield<'a>>(
 }
 
 impl<'a> SyntheticImportDirectoryEntry<'a> {
-    /// Of a library, whose slots and names of imports are taken from how many are left.
+    /// Of a library and its index; its slots and names of imports are taken from how many are left.
     fn of<T: Bitfield<'a>>(
         view: View<'a, '_>,
-        library: &sys::Library,
+        (index, library): (usize, &sys::Library),
         left: &mut Left,
         room: &mut Room,
     ) -> error::Result<Self> {
-        let lookups = lookups_of::<T>(view, library, left, room)?;
+        let lookups = lookups_of::<T>(view, (index, library), left, room)?;
         let import_address_table = match view.offset(library.address_table_rva) {
             Some(at) => raw::address_table::<T>(view.bytes, at, left.imports)?.ok_or_else(too_many)?,
             None => Vec::new(),
@@ -253,18 +253,19 @@ impl<'a> SyntheticImportDirectoryEntry<'a> {
 
 fn lookups_of<'a, T: Bitfield<'a>>(
     view: View<'a, '_>,
-    library: &sys::Library,
+    (index, library): (usize, &sys::Library),
     left: &mut Left,
     room: &mut Room,
 ) -> error::Result<ImportLookupTable<'a>> {
     let list = library.imports.left;
     let (start, size): (usize, usize) = (raw::narrow(list.offset)?, raw::narrow(list.length)?);
-    let mut lookups = raw::list(size / T::size_of())?;
+    let count = size / T::size_of();
+    let mut lookups = raw::list(count)?;
     let mut walk = library.imports;
-    loop {
-        let found = view.next_imports(&mut walk, room)?;
+    while lookups.len() < count {
+        let found = view.next_imports(&mut walk, index, room)?;
         if found.is_empty() {
-            return Ok(lookups);
+            break;
         }
         for import in found {
             left.names.take(raw::narrow(import.name.length)?)?;
@@ -280,6 +281,7 @@ fn lookups_of<'a, T: Bitfield<'a>>(
             raw::push(&mut lookups, entry)?;
         }
     }
+    Ok(lookups)
 }
 
 /// An import of an image.

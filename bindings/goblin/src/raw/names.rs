@@ -1,11 +1,13 @@
 //! Lists of names of exports and imports, which a hostile file may let start in one long text: few are read each by itself, and once
 //! these have cost much the others are read together.
 
-use super::{narrow, resize, Refusal, View};
+use super::{narrow, push, resize, Refusal, View};
 use crate::error;
+use crate::pe::import::SIZEOF_IMPORT_DIRECTORY_ENTRY;
+use core::ops::Range;
 use pe_c::sys;
 
-/// How many libraries, or imports of one, are taken a call where their names are read together.
+/// How many libraries, or imports, are taken a call where their names are read together.
 const MOST_TOGETHER: usize = 1 << 16;
 
 /// How many names that a call skips count as the image: nothing says how long each was.
@@ -56,6 +58,28 @@ impl<T: Copy + Default, const FEW: usize> Names<T, FEW> {
     }
 }
 
+/// Room for the imports of an image, which are asked for library by library. A call takes few of one library, as for other names;
+/// once these have cost much a call takes those of all libraries that are left, and reads their names together.
+pub(crate) struct ImportNames<const FEW: usize> {
+    alone: Names<sys::Import, FEW>,
+    /// The walk before the first library, and how many there are.
+    libraries: sys::Libraries,
+    count: usize,
+    /// The walk over those that are left, and of what it listed those that were not asked for.
+    others: Option<sys::LibraryImports>,
+    many: Vec<sys::LibraryImport>,
+    left: Range<usize>,
+    runs: Vec<sys::Run>,
+    found: Vec<sys::Import>,
+}
+
+impl<const FEW: usize> ImportNames<FEW> {
+    pub fn of(view: View<'_, '_>, libraries: sys::Libraries, count: usize) -> Self {
+        let (many, runs, found) = (Vec::new(), Vec::new(), Vec::new());
+        ImportNames { alone: Names::of(view), libraries, count, others: None, many, left: 0..0, runs, found }
+    }
+}
+
 impl View<'_, '_> {
     /// The next exports that have names, of so many entries of the name table as there is room for: perhaps none of these. `None`
     /// after the last entry.
@@ -91,14 +115,45 @@ impl View<'_, '_> {
         Ok(names.found(found))
     }
 
-    /// The next imports; none at the end.
+    /// The next imports of a library, which is that with this index; none at the end.
     pub fn next_imports<'r, const FEW: usize>(
         &self,
         walk: &mut sys::Imports,
-        names: &'r mut Names<sys::Import, FEW>,
+        index: usize,
+        room: &'r mut ImportNames<FEW>,
     ) -> error::Result<&'r [sys::Import]> {
-        let most = narrow::<_, usize>(walk.left.length / 4)?.min(MOST_TOGETHER);
-        let found = names.fill(most, 1, |runs, room| self.list_imports(walk, runs, room), |it| it.name.length)?;
-        Ok(names.found(found))
+        if room.alone.left > 0 {
+            let cost = |it: &sys::Import| it.name.length;
+            let found = room.alone.fill(0, 0, |_, room| self.list_imports(walk, room), cost)?;
+            return Ok(room.alone.found(found));
+        }
+        if room.left.is_empty() {
+            self.list_others(walk, index, room)?;
+        }
+        room.found.clear();
+        let listed = room.many.get(room.left.clone()).unwrap_or_default();
+        for it in listed.iter().take_while(|it| it.library == index as u64) {
+            push(&mut room.found, it.import)?;
+        }
+        room.left.start += room.found.len();
+        Ok(&room.found)
+    }
+
+    /// Lists imports of all libraries that are left, from those that this one has left on.
+    fn list_others<const FEW: usize>(
+        &self,
+        imports: &sys::Imports,
+        index: usize,
+        room: &mut ImportNames<FEW>,
+    ) -> error::Result<()> {
+        let begun = index as u64 + 1;
+        let next = room.libraries.next.saturating_add(begun * SIZEOF_IMPORT_DIRECTORY_ENTRY as u64);
+        let libraries = sys::Libraries { next, ..room.libraries };
+        let walk =
+            room.others.get_or_insert(sys::LibraryImports { libraries, imports: *imports, begun, ..Default::default() });
+        resize(&mut room.many, MOST_TOGETHER.min(self.bytes.len()))?;
+        resize(&mut room.runs, room.many.len() + room.count.saturating_sub(index))?;
+        room.left = 0..self.list_all_imports(walk, &mut room.runs, &mut room.many)?;
+        Ok(())
     }
 }

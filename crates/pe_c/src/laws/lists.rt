@@ -9,6 +9,7 @@ ghost use Rattle.pe_c.specs.DirectoryRuns.{StepsBlocks, StepsDelayLibraries, Ste
 ghost use Rattle.pe_c.specs.Exports.{StepsExports};
 ghost use Rattle.pe_c.specs.HandsOut.{result_number};
 ghost use Rattle.pe_c.specs.Imports.{StepsImports, StepsLibraries};
+ghost use Rattle.pe_c.specs.LibraryImports.{StepsLibraryImports};
 ghost use Rattle.pe_c.specs.Lists.{GiveLists};
 ghost use Rattle.pe_c.specs.NamedSymbols.{StepsNamedSymbols};
 ghost use Rattle.pe_c.specs.ResourceLeaves.{StepsLeaves, tree_number};
@@ -29,6 +30,8 @@ pub fn lists_are_what_steps_return()
         GiveLists result_number (StepsLibraries offset w b) }
     ensures imports { (offset : ℕ → Option ℕ) (w : ℕ) (b : List ℕ) →
         GiveLists result_number (StepsImports offset w b) }
+    ensures library_imports { (offset : ℕ → Option ℕ) (w : ℕ) (b : List ℕ) →
+        GiveLists result_number (StepsLibraryImports offset w b) }
     ensures symbols { (b : List ℕ) (strings : Range) →
         GiveLists result_number (StepsNamedSymbols b strings) }
     ensures leaves { (b : List ℕ) (offset : ℕ → Option ℕ) →

@@ -3,6 +3,7 @@
 //! call starts for an image, one for any walk over some bytes, and one for a walk that is not inside the bytes.
 
 ghost use Rattle.std.specs.Prelude.{◌≡◌, ◌+◌, ◌<◌, ◌==◌, ◌∷◌, List, Ok, Err, Result, Some, [], length, map, ℕ, Option};
+ghost use Rattle.pe_core.specs.Imports.{entry_size};
 ghost use Rattle.pe_core.specs.Refusals.{Refusal};
 ghost use Rattle.pe_core.specs.Rows.{entry_items};
 ghost use Rattle.pe_core.specs.declared.section_table.SectionTable.{SectionTable};
@@ -27,7 +28,9 @@ ghost use Rattle.pe_c.specs.Clr.{streams_in};
 ghost use Rattle.pe_c.specs.DelayImports.{entry_with};
 ghost use Rattle.pe_c.specs.DirectoryRuns.{HasBlock, HasBound, StepsBlocks, StepsBoundImports, StepsCallbacks, StepsDelayLibraries, StepsDelayedFunctions, StepsForwarders, StepsRelocations, StepsStreams, forwarders_reported, relocations_reported, ReturnsBlocks, ReturnsBounds, ReturnsStreams};
 ghost use Rattle.pe_c.specs.Directories.{image_parts};
-ghost use Rattle.pe_c.specs.Images.{directory};
+ghost use Rattle.pe_c.specs.Images.{directory, map_of_image};
+ghost use Rattle.pe_c.specs.Imports.{StepsImports, StepsLibraries, libraries_at};
+ghost use Rattle.pe_c.specs.LibraryImports.{AreImportsOf, StepsLibraryImports, library_imports_at, of_libraries, of_library, then_items};
 ghost use Rattle.pe_c.specs.Ranges.{bytes_at};
 ghost use Rattle.pe_c.specs.ResourceLeaves.{StartsTree, StepsLeaves, item_reported, items_left};
 ghost use Rattle.pe_c.specs.Runs.{ReturnsItems, read_items};
@@ -38,6 +41,10 @@ ghost use Rattle.pe_c.specs.declared.clr.Metadata.{Metadata};
 ghost use Rattle.pe_c.specs.declared.clr.MetadataStreams.{MetadataStreams};
 ghost use Rattle.pe_c.specs.declared.delay_imports.DelayedFunctions.{DelayedFunctions};
 ghost use Rattle.pe_c.specs.declared.image.Image.{Image};
+ghost use Rattle.pe_c.specs.declared.imports.Import.{Import};
+ghost use Rattle.pe_c.specs.declared.imports.Libraries.{Libraries};
+ghost use Rattle.pe_c.specs.declared.imports.Library.{Library};
+ghost use Rattle.pe_c.specs.declared.library_imports.LibraryImports.{LibraryImports};
 ghost use Rattle.pe_c.specs.declared.ranges.Range.{Range};
 ghost use Rattle.pe_c.specs.declared.resource_leaves.ResourceLeaves.{ResourceLeaves};
 
@@ -137,6 +144,32 @@ pub fn walks_give_the_delay_imports()
         (refusal : Refusal) → 0 < walk.left.offset + walk.left.length →
         bytes_at i.bytes walk.left ≡ Err refusal →
         ReturnsItems (StepsDelayedFunctions image i) walk (Err (refusals.Image refusal) ∷ []) }
+{}
+
+/// A walk over the imports of all libraries returns what the walk over the imports of its library has left, and then, for each
+/// library that the walk over libraries has left, what the walk over its imports returns: each import with the name and the index
+/// of its library, up to the first error of either walk. So the walk that `pe_c_all_imports` starts returns the imports of all.
+pub fn walks_give_all_imports()
+    ensures of_image { (b : List ℕ) (image : Image) (sections : List SectionTable)
+        (start : Libraries) (walk : LibraryImports) (libraries : List (Result Library Refusal))
+        (imports : Library → List (Result Import Refusal)) →
+        libraries_at image sections ≡ Ok (Some start) →
+        library_imports_at image sections ≡ Ok (Some walk) →
+        ReturnsItems (StepsLibraries
+        (map_of_image image sections) (entry_size (image.width == 64)) b) start libraries →
+        AreImportsOf (map_of_image image sections) (entry_size (image.width == 64)) b imports libraries →
+        ReturnsItems (StepsLibraryImports
+        (map_of_image image sections) (entry_size (image.width == 64)) b) walk
+        (of_libraries (entry_size (image.width == 64)) b imports 0 libraries) }
+    ensures imports { (offset : ℕ → Option ℕ) (w : ℕ) (b : List ℕ) (walk : LibraryImports)
+        (own : List (Result Import Refusal)) (libraries : List (Result Library Refusal))
+        (imports : Library → List (Result Import Refusal)) →
+        ReturnsItems (StepsImports offset w b) walk.imports own →
+        ReturnsItems (StepsLibraries offset w b) walk.libraries libraries →
+        AreImportsOf offset w b imports libraries →
+        ReturnsItems (StepsLibraryImports offset w b) walk (then_items
+        (of_library w b walk.library_name walk.begun walk.imports own)
+        (of_libraries w b imports walk.begun libraries)) }
 {}
 
 /// A walk over bound imports returns the DLLs of its bytes up to one without a name, each with the ranges of its name and of

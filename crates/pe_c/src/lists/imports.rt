@@ -8,7 +8,7 @@ ghost use Rattle.pe_c.specs.Lists.{HandsOutList, Numbered};
 ghost use Rattle.pe_c.specs.Views.{map_of};
 
 use crate::imports::{
-    Import, Imports, Libraries, Library, import_step, library_step, put_import_names,
+    Import, Imports, Libraries, Library, entries_left, import_step, library_step, put_entry_names,
     put_library_lists, put_library_names,
 };
 use crate::lists::{Steps, hand_out_list, numbered};
@@ -126,7 +126,7 @@ pub extern "C" fn pe_c_list_imports_together(
         (entry_size (view.now.image.now.width == 64)) view.now.bytes.now))
         result walk.old walk.new entries.old entries.new written.old written.new }
 {
-    let count = put_import_names(view, walk, runs);
+    let count = put_entry_names(view, entries_left(view, walk), runs);
     let names = NamedView::together(view, &mut runs[..count]);
     hand_out_list(&names, walk, entries, written)
 }

@@ -7,6 +7,7 @@ use Rattle.pe_c.specs.DirectoryRuns.{StepsBlocks, StepsDelayLibraries, StepsDela
 use Rattle.pe_c.specs.Exports.{StepsExports}
 use Rattle.pe_c.specs.HandsOut.{result_number}
 use Rattle.pe_c.specs.Imports.{StepsImports, StepsLibraries}
+use Rattle.pe_c.specs.LibraryImports.{StepsLibraryImports}
 use Rattle.pe_c.specs.NamedSymbols.{StepsNamedSymbols}
 use Rattle.pe_c.specs.ResourceLeaves.{StepsLeaves, tree_number}
 use Rattle.pe_c.specs.Unwinding.{StepsCodes}
@@ -25,6 +26,9 @@ returns-clause-libraries c offset w b = give_lists result_number (StepsLibraries
 
 pub returns-clause-imports : goal.returns-clause-imports
 returns-clause-imports c offset w b = give_lists result_number (StepsImports offset w b)
+
+pub returns-clause-library_imports : goal.returns-clause-library_imports
+returns-clause-library_imports c offset w b = give_lists result_number (StepsLibraryImports offset w b)
 
 pub returns-clause-symbols : goal.returns-clause-symbols
 returns-clause-symbols c b strings = give_lists result_number (StepsNamedSymbols b strings)

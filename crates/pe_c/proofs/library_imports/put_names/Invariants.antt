@@ -1,5 +1,5 @@
 use Rattle.std.proofs.Common.{◌≤◌, length, ◌≡◌}
-use Rattle.pe_c.proofs.imports.put_import_names.Given as goal
+use Rattle.pe_c.proofs.library_imports.put_names.Given as goal
 
 -- as many as there is room for
 abbrev pub invariant-loop-i : goal.invariant-loop-i

@@ -1,0 +1,320 @@
+//! The list of the imports of all libraries, whose names are read together in a room of the caller.
+
+use super::imports::{NO_IMPORT as ONLY_ONES, with_imports};
+use super::made::{
+    IMPORT_NAME, OVER, SHORT, UNMAPPED, X64, directory, having, image, of_range, range, sections,
+    view,
+};
+use crate::image::Image;
+use crate::imports::{Import, Imports, Libraries};
+use crate::library_imports::{LibraryImport, LibraryImports, pe_c_all_imports};
+use crate::lists::library_imports::pe_c_list_all_imports_together;
+use crate::ranges::Range;
+use crate::results::{DONE, NOTHING, ROOM};
+use crate::text_runs::Run;
+use pe_images::put;
+use std::test::Fail;
+
+const RUN: Run = Run {
+    start: 0x7777,
+    end: 0x77,
+    text: 7,
+};
+
+/// What is in the array before a call.
+const NO_IMPORT: LibraryImport = LibraryImport {
+    import: ONLY_ONES,
+    library_name: Range {
+        offset: 1,
+        length: 1,
+    },
+    library: 1,
+    hint_rva: 1,
+    spare: 1,
+};
+
+/// The range of the name, the slot, the ordinal or hint, and whether there is a name; the range of the library's name, its
+/// index; the RVA of the hint.
+type Fields = (([u64; 2], u64, u32, u32), ([u64; 2], u64), u32);
+
+const UNTOUCHED: Fields = (([1, 1], 1, 1, 1), ([1, 1], 1), 1);
+
+fn of_import(it: LibraryImport) -> Fields {
+    let Import {
+        name,
+        rva,
+        ordinal,
+        has_name,
+    } = it.import;
+    (
+        (of_range(name), rva, ordinal, has_name),
+        (of_range(it.library_name), it.library),
+        it.hint_rva,
+    )
+}
+
+/// The next record, whether the libraries are over, the entries that are left and the next slot; the library's name, and how many
+/// were begun.
+type Walk = (u64, u32, [u64; 2], u64, [u64; 2], u64);
+
+fn of_walk(walk: LibraryImports) -> Walk {
+    let LibraryImports {
+        libraries,
+        imports,
+        library_name,
+        begun,
+    } = walk;
+    (
+        libraries.next,
+        libraries.is_over,
+        of_range(imports.left),
+        imports.rva,
+        of_range(library_name),
+        begun,
+    )
+}
+
+/// A walk before the library whose record is at an offset.
+fn walk_at(next: u64) -> LibraryImports {
+    LibraryImports {
+        libraries: Libraries {
+            next,
+            is_over: 0,
+            spare: 0,
+        },
+        imports: Imports {
+            left: range(0, 0),
+            rva: 0,
+        },
+        library_name: range(0, 0),
+        begun: 0,
+    }
+}
+
+fn with_directory(virtual_address: u32) -> Image {
+    having(image(X64), 1, directory(virtual_address, 60))
+}
+
+/// A list with room for so many names and entries: the result, how many were written, and the entries.
+fn list(
+    bytes: &[u8],
+    image: &Image,
+    walk: &mut LibraryImports,
+    names: usize,
+    entries: usize,
+) -> (u32, u64, [Fields; 4]) {
+    let (mut runs, mut room, mut written) = ([RUN; 6], [NO_IMPORT; 4], 77);
+    let answer = pe_c_list_all_imports_together(
+        &view(bytes, image, &sections()),
+        walk,
+        &mut runs[..names],
+        &mut room[..entries],
+        &mut written,
+    );
+    (answer, written, room.map(of_import))
+}
+
+/// What the image imports: of the library `a` the name `f`, whose hint is 7, and the ordinal 17, of the library `bc` the
+/// ordinal 5, whose list is the address table.
+const IMPORTS: [Fields; 3] = [
+    (([0xB2, 1], 0x2000, 7, 1), ([0xA0, 1], 0), 0x10B0),
+    ((OVER, 0x2008, 17, 0), ([0xA0, 1], 0), 0),
+    ((OVER, 0x1088, 5, 0), ([0xA2, 2], 1), 0),
+];
+
+#[test]
+fn walks_over_all_imports(rt: HostRuntime) -> Result<(), Fail> {
+    let bytes = with_imports(rt.alloc())?;
+    for (virtual_address, number, start) in [
+        (0x1010, DONE, (0x10, 0, OVER, 0, OVER, 0)),
+        (0, NOTHING, (9, 0, OVER, 0, OVER, 0)),
+        (0x3000, UNMAPPED, (9, 0, OVER, 0, OVER, 0)),
+    ] {
+        let image = match virtual_address {
+            0 => image(X64),
+            other => with_directory(other),
+        };
+        let mut walk = walk_at(9);
+        let answer = pe_c_all_imports(&view(&bytes, &image, &sections()), &mut walk);
+        assert_eq!(rt; (answer, of_walk(walk)), (number, start));
+    }
+    Ok(())
+}
+
+#[test]
+fn all_imports_in_their_order(rt: HostRuntime) -> Result<(), Fail> {
+    let bytes = with_imports(rt.alloc())?;
+    let image = with_directory(0x1010);
+    let [first, second, third] = IMPORTS;
+    for names in 0..6 {
+        let mut walk = walk_at(0x10);
+        assert_eq!(rt;
+            list(&bytes, &image, &mut walk, names, 4),
+            (DONE, 3, [first, second, third, UNTOUCHED])
+        );
+        let end = (0, 1, [0x90, 0], 0x1090, [0xA2, 2], 2);
+        assert_eq!(rt; of_walk(walk), end);
+        assert_eq!(rt;
+            list(&bytes, &image, &mut walk, names, 4),
+            (DONE, 0, [UNTOUCHED; 4])
+        );
+        assert_eq!(rt; of_walk(walk), end);
+        // One a call: a library is left once the first import of the next is asked for.
+        let mut walk = walk_at(0x10);
+        for (import, after) in [
+            (first, (0x24, 0, [0x68, 8], 0x2008, [0xA0, 1], 1)),
+            (second, (0x24, 0, [0x70, 0], 0x2010, [0xA0, 1], 1)),
+            (third, (0x38, 0, [0x90, 0], 0x1090, [0xA2, 2], 2)),
+        ] {
+            let (answer, written, [entry, ..]) = list(&bytes, &image, &mut walk, names, 1);
+            assert_eq!(rt;
+                (answer, written, entry, of_walk(walk)),
+                (DONE, 1, import, after)
+            );
+        }
+    }
+    let mut walk = walk_at(0x10);
+    assert_eq!(rt;
+        list(&bytes, &image, &mut walk, 6, 0),
+        (ROOM, 77, [UNTOUCHED; 4])
+    );
+    assert_eq!(rt; of_walk(walk).0, 0x10);
+    Ok(())
+}
+
+/// In an image of 32 bits entries have four bytes: of `a` they are 10B0h and 80000009h, of `bc` 5, an RVA that is not mapped.
+#[test]
+fn all_pe32_imports(rt: HostRuntime) -> Result<(), Fail> {
+    let mut bytes = with_imports(rt.alloc())?;
+    put(&mut bytes, &[(0x64, &[9, 0, 0, 0x80, 0, 0, 0, 0])]);
+    let pe32 = Image {
+        width: 32,
+        ..with_directory(0x1010)
+    };
+    let mut walk = walk_at(0x10);
+    let [first, ..] = IMPORTS;
+    let second = ((OVER, 0x2004, 9, 0), ([0xA0, 1], 0), 0);
+    assert_eq!(rt;
+        list(&bytes, &pe32, &mut walk, 3, 4),
+        (DONE, 2, [first, second, UNTOUCHED, UNTOUCHED])
+    );
+    // The walk is before the error, and over after it.
+    assert_eq!(rt; of_walk(walk), (0x24, 0, [0x68, 0], 0x2008, [0xA0, 1], 1));
+    assert_eq!(rt;
+        list(&bytes, &pe32, &mut walk, 3, 4),
+        (UNMAPPED, 77, [UNTOUCHED; 4])
+    );
+    assert_eq!(rt;
+        list(&bytes, &pe32, &mut walk, 3, 4),
+        (DONE, 0, [UNTOUCHED; 4])
+    );
+    Ok(())
+}
+
+#[test]
+fn libraries_without_an_import(rt: HostRuntime) -> Result<(), Fail> {
+    let image = with_directory(0x1010);
+    let [_, _, third] = IMPORTS;
+    // The list of `a` is not mapped, or starts at a zero entry.
+    for part in [[0x60, 0x90], [0x70, 0x10]] {
+        let mut bytes = with_imports(rt.alloc())?;
+        put(&mut bytes, &[(0x10, &part)]);
+        for names in 0..4 {
+            let mut walk = walk_at(0x10);
+            assert_eq!(rt;
+                list(&bytes, &image, &mut walk, names, 4),
+                (DONE, 1, [third, UNTOUCHED, UNTOUCHED, UNTOUCHED])
+            );
+        }
+        // Its name is read all the same.
+        put(&mut bytes, &[(0xA0, &[0xFF])]);
+        let mut walk = walk_at(0x10);
+        assert_eq!(rt;
+            list(&bytes, &image, &mut walk, 2, 4),
+            (IMPORT_NAME, 77, [UNTOUCHED; 4])
+        );
+        assert_eq!(rt; of_walk(walk), (0, 1, OVER, 0, OVER, 0));
+    }
+    Ok(())
+}
+
+/// Of two errors that which the walk meets first: an import of `a` comes before the record of `bc`.
+#[test]
+fn errors_of_both_walks(rt: HostRuntime) -> Result<(), Fail> {
+    let image = with_directory(0x1010);
+    let mut bytes = with_imports(rt.alloc())?;
+    // The name of `bc` is not mapped.
+    put(&mut bytes, &[(0x31, &[0x30])]);
+    let mut walk = walk_at(0x10);
+    let [first, second, _] = IMPORTS;
+    assert_eq!(rt;
+        list(&bytes, &image, &mut walk, 0, 4),
+        (DONE, 2, [first, second, UNTOUCHED, UNTOUCHED])
+    );
+    assert_eq!(rt;
+        list(&bytes, &image, &mut walk, 0, 4),
+        (UNMAPPED, 77, [UNTOUCHED; 4])
+    );
+    assert_eq!(rt; of_walk(walk), (0, 1, OVER, 0x2010, [0xA0, 1], 1));
+    // So is the name of the import.
+    put(&mut bytes, &[(0xB2, &[0xFF])]);
+    let mut walk = walk_at(0x10);
+    assert_eq!(rt;
+        list(&bytes, &image, &mut walk, 5, 4),
+        (IMPORT_NAME, 77, [UNTOUCHED; 4])
+    );
+    assert_eq!(rt; of_walk(walk), (0, 1, OVER, 0x2000, [0xA0, 1], 1));
+    assert_eq!(rt;
+        list(&bytes, &image, &mut walk, 5, 4),
+        (DONE, 0, [UNTOUCHED; 4])
+    );
+    Ok(())
+}
+
+/// Numbers that no call returns, and no records or entries at all.
+#[test]
+fn walks_of_any_numbers(rt: HostRuntime) -> Result<(), Fail> {
+    let bytes = with_imports(rt.alloc())?;
+    let image = with_directory(0x1010);
+    for next in [0xC0 - 19, 0xC0, u64::MAX] {
+        let mut walk = walk_at(next);
+        assert_eq!(rt;
+            list(&bytes, &image, &mut walk, 3, 4),
+            (SHORT, 77, [UNTOUCHED; 4])
+        );
+        assert_eq!(rt; of_walk(walk).1, 1);
+    }
+    // Entries that are left of a library of any name, as which none was begun, or all that can be counted.
+    for (begun, library, next) in [(0, 0, 1), (u64::MAX, u64::MAX - 1, u64::MAX)] {
+        let mut walk = LibraryImports {
+            imports: Imports {
+                left: range(0x68, 8),
+                rva: u64::MAX,
+            },
+            library_name: range(0x7777, 0x77),
+            begun,
+            ..walk_at(0x24)
+        };
+        let [_, _, third] = IMPORTS;
+        let own = ((OVER, u64::MAX, 17, 0), ([0x7777, 0x77], library), 0);
+        let other = (third.0, ([0xA2, 2], next - 1), third.2);
+        assert_eq!(rt;
+            list(&bytes, &image, &mut walk, 2, 4),
+            (DONE, 2, [own, other, UNTOUCHED, UNTOUCHED])
+        );
+        assert_eq!(rt; walk.begun, next);
+    }
+    let mut walk = LibraryImports {
+        imports: Imports {
+            left: range(0xC0, 1),
+            rva: 5,
+        },
+        ..walk_at(0x10)
+    };
+    assert_eq!(rt;
+        list(&bytes, &image, &mut walk, 2, 4),
+        (SHORT, 77, [UNTOUCHED; 4])
+    );
+    assert_eq!(rt; of_walk(walk), (0, 1, OVER, 5, OVER, 0));
+    Ok(())
+}
