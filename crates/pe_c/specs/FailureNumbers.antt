@@ -53,7 +53,7 @@ reason_numbers reasons.NoOptionalHeader = numbers 0 0 0
 reason_numbers (reasons.WriteAlignment alignment) = numbers 0 0 0
 reason_numbers (reasons.WriteSymbols offset) = numbers 0 0 0
 reason_numbers (reasons.WriteOverlap first second) = numbers 0 0 0
-reason_numbers (reasons.WriteSection index) = numbers 0 0 0
+reason_numbers (reasons.WriteSection index) = numbers 0 0 index
 reason_numbers (reasons.WriteFit end length) = numbers end 0 length
 reason_numbers (reasons.ImportsLimit count limit) = numbers 0 0 0
 

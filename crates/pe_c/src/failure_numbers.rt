@@ -66,7 +66,7 @@ fn reason_numbers(reason: Reason) -> ErrorNumbers
         Reason::WriteAlignment(_) => numbers(0, 0, 0),
         Reason::WriteSymbols(_) => numbers(0, 0, 0),
         Reason::WriteOverlap(..) => numbers(0, 0, 0),
-        Reason::WriteSection(_) => numbers(0, 0, 0),
+        Reason::WriteSection(index) => numbers(0, 0, index as u64),
         Reason::WriteFit { end, length } => numbers(end, 0, length as u64),
         Reason::ImportsLimit { .. } => numbers(0, 0, 0),
     }
