@@ -32,13 +32,16 @@ fn sections_are_written(rt: HostRuntime) -> Result<(), Fail> {
     for (unit, zeros) in [(16, 12), (4, 0), (0, 0)] {
         let (number, next, room) = sections_written(&bytes, &[one], unit, 0x100);
         assert_eq!(rt; (number, next), (DONE, 0x128));
-        assert_eq!(rt; room[..8], [OLD; 8]);
-        assert_eq!(rt; room[8..12], [7; 4]);
+        assert_eq!(rt; &room[..8], [OLD; 8].as_slice());
+        assert_eq!(rt; &room[8..12], [7; 4].as_slice());
         assert_eq!(rt; &room[12..12 + zeros], &[0; 12][..zeros]);
         assert_eq!(rt; room[12 + zeros], OLD);
-        assert_eq!(rt; room[0x100..0x110], *b".rdata\0\0\x05\x06\x07\x08\x01\x02\x03\x04");
-        assert_eq!(rt; room[0x110..0x118], [4, 0, 0, 0, 8, 0, 0, 0]);
-        assert_eq!(rt; room[0x118..0x128], [0; 16]);
+        assert_eq!(rt;
+            &room[0x100..0x110],
+            b".rdata\0\0\x05\x06\x07\x08\x01\x02\x03\x04".as_slice()
+        );
+        assert_eq!(rt; &room[0x110..0x118], [4, 0, 0, 0, 8, 0, 0, 0].as_slice());
+        assert_eq!(rt; &room[0x118..0x128], [0; 16].as_slice());
         assert_eq!(rt; room[0x128], OLD);
     }
     Ok(())
