@@ -241,7 +241,12 @@ impl<'i, 'a, W, T: Copy + Default> ImageList<'i, 'a, W, T> {
     }
 
     /// Lists so many items at most, with so many runs for their names, and returns the first. `None` if there is no memory for that.
-    fn list_together(&mut self, together: Together<W, T>, runs: usize, most: usize) -> Option<Option<Result<T, Error>>> {
+    fn list_together(
+        &mut self,
+        together: Together<W, T>,
+        runs: usize,
+        most: usize,
+    ) -> Option<Option<Result<T, Error>>> {
         let (mut room, many) = (room_for(runs, Run::default()).ok()?, room_for(most, T::default()).ok()?);
         self.many = many;
         // SAFETY: as above, and of the runs.

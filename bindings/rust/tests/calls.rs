@@ -709,7 +709,8 @@ fn imports_of_all_libraries_are_listed() {
     let imports: Vec<_> = image.imports().unwrap().unwrap().map(Result::unwrap).collect();
     let found: Vec<_> = imports.iter().map(|it| (it.library, it.index, it.import.name, it.import.ordinal)).collect();
     let (kernel32, a) = (b"KERNEL32.dll".as_slice(), b"a.dll".as_slice());
-    let wanted = [(kernel32, 0, Some(b"Sleep".as_slice()), 42), (kernel32, 0, None, 17), (a, 1, Some(b"f".as_slice()), 0)];
+    let wanted =
+        [(kernel32, 0, Some(b"Sleep".as_slice()), 42), (kernel32, 0, None, 17), (a, 1, Some(b"f".as_slice()), 0)];
     assert_eq!(found, wanted);
     let mut nested = Vec::new();
     for library in image.libraries().unwrap().unwrap() {

@@ -149,8 +149,12 @@ impl View<'_, '_> {
         let begun = index as u64 + 1;
         let next = room.libraries.next.saturating_add(begun * SIZEOF_IMPORT_DIRECTORY_ENTRY as u64);
         let libraries = sys::Libraries { next, ..room.libraries };
-        let walk =
-            room.others.get_or_insert(sys::LibraryImports { libraries, imports: *imports, begun, ..Default::default() });
+        let walk = room.others.get_or_insert(sys::LibraryImports {
+            libraries,
+            imports: *imports,
+            begun,
+            ..Default::default()
+        });
         resize(&mut room.many, MOST_TOGETHER.min(self.bytes.len()))?;
         resize(&mut room.runs, room.many.len() + room.count.saturating_sub(index))?;
         room.left = 0..self.list_all_imports(walk, &mut room.runs, &mut room.many)?;
