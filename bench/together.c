@@ -3,12 +3,14 @@
  * `together` lists them by one call with room for all, which reads the names together, `alone` by calls of 64 entries, or of symbols
  * by a call for each. Imports are those of all libraries; `alone` lists them library by library. How many there are is printed, and the
  * milliseconds of the processor that the calls took. */
-#include "reading.h"
+#include "pe.h"
 
 #include <stdio.h>
 #include <stdlib.h>
 #include <string.h>
 #include <time.h>
+
+#include "reading.h"
 
 enum { ENTRIES = 64 };
 
