@@ -2741,8 +2741,8 @@ typedef struct {
 PE_C_SIZE(pe_c_run, 24);
 
 /* Lists what pe_c_list_exports does, and reads the names together. With a run for each entry that the name table has left, or
- * more, a call takes about as long as to sort these and to read each byte twice, however many of the names share a text: a hostile
- * file may let all of them start in one long text. With fewer runs further names are read to their end each; none are needed.
+ * more, a call takes about as long as to sort these and to read each byte a few times, however many of the names share a text: a
+ * hostile file may let all of them start in one long text. With fewer runs further names are read to their end each; none are needed.
  * What is in `runs` after the call is left open. Errors: as pe_c_list_exports. */
 uint32_t pe_c_list_exports_together(const pe_c_view *view, pe_c_exports *walk, pe_c_run *runs, size_t number_of_runs,
                                     pe_c_export *entries, size_t number_of_entries,

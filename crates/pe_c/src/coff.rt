@@ -17,7 +17,7 @@ use crate::headers::{CoffFields, coff_fields};
 use crate::image::sections_into;
 use crate::ranges::{NO_BYTES, Range, slice_of};
 use crate::results::{hand_out, hand_out_some};
-use crate::text_runs::{Run, Texts};
+use crate::text_runs::{Run, TextCosts, Texts};
 use pe_core::{CoffHeader, Error, Reason, Result, SIZE_OF_SYMBOL, SectionTable, Strtab, read_u32};
 
 /// The size of a COFF header in bytes.
@@ -317,6 +317,25 @@ pub fn symbol_name_at(
 {
     let texts = Texts::alone(slice_of(bytes, strings)?);
     symbol_name_by(bytes, table, strings, index, texts)
+}
+
+/// Whether the names of the symbols in the next entries have more bytes than twice the string table, each read by itself: many of
+/// them share a string.
+pub fn strings_cost_much(bytes: &[u8], walk: &SymbolWalk, strings: &[u8]) -> bool {
+    let Ok(entries) = slice_of(bytes, &walk.table) else {
+        return false;
+    };
+    let mut costs = TextCosts::of(strings);
+    for i in walk.next as usize..entries.len() / SIZE_OF_SYMBOL {
+        let name = SIZE_OF_SYMBOL * i;
+        if read_u32(entries, name) == 0 {
+            let offset = read_u32(entries, name + 4) as usize;
+            if costs.are_over(strings, offset) {
+                return true;
+            }
+        }
+    }
+    false
 }
 
 /// Writes where in the string table the names of the symbols in the next entries start to a room, as starts, as far as it has room,

@@ -15,7 +15,7 @@ use crate::image::{EXPORT_TABLE, directory, is_absent, offset_of};
 use crate::named_view::NamedView;
 use crate::ranges::{NO_BYTES, Range, range_from, slice_of};
 use crate::results::{hand_out_some, options};
-use crate::text_runs::Run;
+use crate::text_runs::{Run, TextCosts};
 use crate::view::{View, map_by};
 use pe_core::{DataDirectory, ExportData, Result, read_u32, u16_at, u32_at};
 
@@ -168,6 +168,22 @@ fn tables_of<'a>(bytes: &'a [u8], walk: &Exports) -> Result<Tables<'a>>
         ordinals: slice_of(bytes, &walk.ordinals)?,
         addresses: slice_of(bytes, &walk.addresses)?,
     })
+}
+
+/// Whether the next names have more bytes than twice the view, each read by itself: many of them share a text.
+pub fn names_cost_much(view: &View, walk: &Exports) -> bool {
+    let Ok(names) = slice_of(view.bytes, &walk.names) else {
+        return false;
+    };
+    let mut costs = TextCosts::of(view.bytes);
+    for i in walk.next as usize..names.len() / 4 {
+        if let Some(offset) = map_by(view, read_u32(names, 4 * i)) {
+            if costs.are_over(view.bytes, offset) {
+                return true;
+            }
+        }
+    }
+    false
 }
 
 /// Writes the offsets of the next names to a room, as starts, as far as it has room, and returns how many they are.

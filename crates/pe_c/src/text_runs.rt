@@ -34,8 +34,12 @@ pub const NO_RUN: Run = Run {
 };
 
 impl Run {
-    /// An offset whose run is not known yet.
-    pub fn at(offset: usize) -> Run {
+    /// An offset whose run is not known yet: it starts there, and has no end.
+    pub fn at(offset: usize) -> Run
+        ensures start { result.start ≡ offset }
+        ensures end { result.end ≡ 0 }
+        ensures text { result.text ≡ 0 }
+    {
         Run {
             start: offset as u64,
             end: 0,
@@ -78,6 +82,48 @@ fn first_zero(bytes: &[u8]) -> Option<usize>
     ensures { result ≡ position (λ c. c == 0) bytes.now }
 {
     bytes.iter().position(|byte| *byte == 0)
+}
+
+/// How many bytes there are from an offset up to the first zero, or to the end of all.
+fn length_at(bytes: &[u8], offset: usize) -> usize
+    ensures { result ≤ length bytes.now }
+{
+    let rest = from_offset(bytes, offset);
+    first_zero(rest).unwrap_or(rest.len())
+}
+
+/// What the texts at some offsets cost that are read by themselves. Those that start after a zero, each after the one before, have
+/// no byte in common; the others are counted.
+#[derive(Clone, Copy)]
+pub struct TextCosts {
+    /// Where the last text starts that is not counted.
+    last: usize,
+    /// How many bytes the others may have yet.
+    left: usize,
+}
+
+impl TextCosts {
+    /// No text is read. Those that are counted may have as many bytes as there are.
+    pub fn of(bytes: &[u8]) -> TextCosts {
+        TextCosts {
+            last: 0,
+            left: bytes.len(),
+        }
+    }
+
+    /// Adds the text at an offset, and returns whether it is too much.
+    pub fn are_over(&mut self, bytes: &[u8], offset: usize) -> bool {
+        if self.last < offset && offset <= bytes.len() && bytes[offset - 1] == 0 {
+            self.last = offset;
+            return false;
+        }
+        let length = length_at(bytes, offset);
+        if self.left <= length {
+            return true;
+        }
+        self.left -= length + 1;
+        false
+    }
 }
 
 /// The run that starts at an offset.

@@ -8,7 +8,7 @@ ghost use Rattle.pe_c.specs.Lists.{HandsOutList, Numbered, StepsByIndex};
 ghost use Rattle.pe_c.specs.Views.{map_of};
 
 use crate::export_addresses::{AddressTable, Exported, exported_at};
-use crate::exports::{Export, Exports, put_name_offsets, step};
+use crate::exports::{Export, Exports, names_cost_much, put_name_offsets, step};
 use crate::lists::{Steps, hand_out_list, next_index, numbered};
 use crate::named_view::NamedView;
 use crate::text_runs::Run;
@@ -40,9 +40,20 @@ pub extern "C" fn pe_c_list_exports(
     hand_out_list(&NamedView::alone(view), walk, entries, written)
 }
 
-/// Lists what `pe_c_list_exports` does, and reads the names together: with one of `runs` for each entry that the name table has
-/// left, or more, a call takes about as long as to sort these and to read each byte once or twice, however many of the names
-/// share a text. With less room further names are read to their end each. What is in `runs` after the call is left open.
+/// An image of which the next names are read together, if they cost much else.
+fn names_of<'a>(view: &'a View<'a>, walk: &Exports, runs: &'a mut [Run]) -> NamedView<'a>
+    ensures { result.view.now ≡ view.entry.now }
+{
+    if !names_cost_much(view, walk) {
+        return NamedView::alone(view);
+    }
+    let count = put_name_offsets(view, walk, runs);
+    NamedView::together(view, &mut runs[..count])
+}
+
+/// Lists what `pe_c_list_exports` does, and reads names together that share much: with one of `runs` for each entry that the name
+/// table has left, or more, a call takes about as long as to sort these and to read each byte a few times, however many of the
+/// names share a text. With less room further names are read to their end each. What is in `runs` after the call is left open.
 ///
 /// Errors: as `pe_c_list_exports`.
 #[unsafe(no_mangle)]
@@ -57,9 +68,7 @@ pub extern "C" fn pe_c_list_exports_together(
         (StepsExports (map_of view.now) view.now.bytes.now))
         result walk.old walk.new entries.old entries.new written.old written.new }
 {
-    let count = put_name_offsets(view, walk, runs);
-    let names = NamedView::together(view, &mut runs[..count]);
-    hand_out_list(&names, walk, entries, written)
+    hand_out_list(&names_of(view, walk, runs), walk, entries, written)
 }
 
 /// Steps over the entries of an address table.

@@ -8,7 +8,8 @@ ghost use Rattle.pe_c.specs.NamedSymbols.{StepsNamedSymbols, named_after, named_
 ghost use Rattle.pe_c.specs.Ranges.{bytes_at};
 
 use crate::coff::{
-    Symbol, SymbolWalk, put_string_offsets, symbol_at, symbol_name_at, symbol_name_by,
+    Symbol, SymbolWalk, put_string_offsets, strings_cost_much, symbol_at, symbol_name_at,
+    symbol_name_by,
 };
 use crate::lists::{Steps, hand_out_list};
 use crate::ranges::{NO_BYTES, Range, slice_of};
@@ -147,10 +148,26 @@ impl<'a> Steps<SymbolWalk, NamedSymbol> for Together<'a> {
     }
 }
 
+/// The texts of a string table, those of the next symbols read together, if they cost much else.
+fn texts_of<'a>(
+    bytes: &[u8],
+    walk: &SymbolWalk,
+    strings: &'a [u8],
+    runs: &'a mut [Run],
+) -> Texts<'a>
+    ensures { result.bytes.now ≡ strings.entry.now }
+{
+    if !strings_cost_much(bytes, walk, strings) {
+        return Texts::alone(strings);
+    }
+    let count = put_string_offsets(bytes, walk, runs);
+    Texts::together(strings, &mut runs[..count])
+}
+
 /// Lists the symbols of a walk, as `pe_c_next_symbol` returns them, each with what `pe_c_symbol_name` returns of it, and moves the
-/// walk past them. The names are read together: with one of `runs` for each entry that the symbol table has left, or more, a call
-/// takes about as long as to sort these and to read each byte of the string table twice, however many of the names share a string.
-/// With fewer further names are read to their end each. What is in `runs` after the call is left open.
+/// walk past them. Names that share much are read together: with one of `runs` for each entry that the symbol table has left, or
+/// more, a call takes about as long as to sort these and to read each byte of the string table a few times, however many of the
+/// names share a string. With fewer further names are read to their end each. What is in `runs` after the call is left open.
 ///
 /// Errors: `ROOM` where `entries` is empty; `SHORT` where the symbol table is not inside the bytes.
 #[unsafe(no_mangle)]
@@ -169,8 +186,7 @@ pub extern "C" fn pe_c_list_symbols(
     let strings = walk.strings;
     match slice_of(bytes, &strings) {
         Ok(table) => {
-            let count = put_string_offsets(bytes, &walk.symbols, runs);
-            let texts = Texts::together(table, &mut runs[..count]);
+            let texts = texts_of(bytes, &walk.symbols, table, runs);
             let names = Together {
                 bytes,
                 strings,
