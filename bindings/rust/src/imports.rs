@@ -144,12 +144,9 @@ pub struct LibraryImport<'a> {
 /// let image = Image::parse(&bytes, Mode::Permissive)?;
 /// let imports: Vec<_> = image.imports()?.into_iter().flatten().collect::<Result<_, _>>()?;
 /// let names: Vec<_> = imports.iter().map(|it| (it.library, it.import.name)).collect();
-/// let kernel32 = b"KERNEL32.dll".as_slice();
-/// assert_eq!(names, [
-///     (kernel32, Some(b"Sleep".as_slice())),
-///     (kernel32, None), // by ordinal
-///     (b"a.dll", Some(b"f")),
-/// ]);
+/// let (kernel32, a) = (b"KERNEL32.dll".as_slice(), b"a.dll".as_slice());
+/// // The second is imported by its ordinal.
+/// assert_eq!(names, [(kernel32, Some(b"Sleep".as_slice())), (kernel32, None), (a, Some(b"f".as_slice()))]);
 /// # Ok::<(), pe_c::Error>(())
 /// ```
 #[derive(Clone, Debug)]
