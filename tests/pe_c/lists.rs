@@ -82,25 +82,43 @@ fn functions_in_lists(rt: HostRuntime) {
     }
 }
 
+const NO_CODE: Code = Code {
+    code_offset: 7,
+    operation: 7,
+    operand: 7,
+    from_frame: 7,
+    value: 7,
+};
+
+/// A list of codes with this room: the result, how many are written, what the walk has left, and of the first code its operation,
+/// operand and value.
+fn codes(bytes: &[u8], walk: &mut CodeWalk, room: usize) -> (u32, u64, [u64; 2], [u32; 3]) {
+    let (image, sections) = (image(X64), sections());
+    let view = view(bytes, &image, &sections);
+    let mut entries = [NO_CODE; 256];
+    let mut written = UNWRITTEN;
+    let number = pe_c_list_codes(&view, walk, &mut entries[..room.min(256)], &mut written);
+    let first = entries[0];
+    let fields = [u32::from(first.operation), u32::from(first.operand), first.value];
+    (number, written, of_range(walk.left), fields)
+}
+
+fn walk_of_codes(left: Range, version: u8) -> CodeWalk {
+    CodeWalk {
+        left,
+        version,
+        frame_register: 0,
+        spare: [0; 6],
+    }
+}
+
 /// Two codes of x64, and then one with an operation that no version has: `sub rsp, 40` at 4 and `push rbp` at 1.
 #[test]
 fn codes_in_lists(rt: HostRuntime) {
     let bytes = [0xFF, 4, 0x42, 1, 0x50, 0, 0x0F];
     let (image, sections) = (image(X64), sections());
     let view = view(&bytes, &image, &sections);
-    let none = Code {
-        code_offset: 7,
-        operation: 7,
-        operand: 7,
-        from_frame: 7,
-        value: 7,
-    };
-    let mut walk = CodeWalk {
-        left: range(1, 6),
-        version: 1,
-        frame_register: 0,
-        spare: [0; 6],
-    };
+    let mut walk = walk_of_codes(range(1, 6), 1);
     for (room, answer, count, first, left) in [
         (0, ROOM, UNWRITTEN, [7; 4], [1, 6]),
         (1, DONE, 1, [4, 1, 0, 40], [3, 4]),
@@ -108,7 +126,7 @@ fn codes_in_lists(rt: HostRuntime) {
         (3, UNWIND_CODE, UNWRITTEN, [7; 4], [7, 0]),
         (3, DONE, 0, [7; 4], [7, 0]),
     ] {
-        let mut entries = [none; 3];
+        let mut entries = [NO_CODE; 3];
         let mut written = UNWRITTEN;
         let number = pe_c_list_codes(&view, &mut walk, &mut entries[..room], &mut written);
         assert_eq!(rt;
@@ -124,6 +142,63 @@ fn codes_in_lists(rt: HostRuntime) {
         ];
         assert_eq!(rt; fields, first);
         assert_eq!(rt; (entries[1].value, entries[2].value), (7, 7));
+    }
+}
+
+/// 255 slots of `push rbx`, the most that a record has, with room for all, for one less and for more.
+#[test]
+fn all_slots_in_lists(rt: HostRuntime) {
+    let bytes = [0x30; 512];
+    let push = [0, 3, 0];
+    for (room, first, second) in [
+        (255, (DONE, 255, [512, 0], push), (DONE, 0, [512, 0], [7; 3])),
+        (254, (DONE, 254, [510, 2], push), (DONE, 1, [512, 0], push)),
+        (256, (DONE, 255, [512, 0], push), (DONE, 0, [512, 0], [7; 3])),
+    ] {
+        let mut walk = walk_of_codes(range(2, 510), 1);
+        assert_eq!(rt; codes(&bytes, &mut walk, room), first);
+        assert_eq!(rt; codes(&bytes, &mut walk, room), second);
+    }
+}
+
+/// A slot of which one byte is there, after a whole one.
+#[test]
+fn truncated_slots_in_lists(rt: HostRuntime) {
+    let bytes = [0x30; 8];
+    let mut walk = walk_of_codes(range(2, 3), 1);
+    for want in [
+        (DONE, 1, [4, 1], [0, 3, 0]),
+        (SHORT, UNWRITTEN, [5, 0], [7; 3]),
+        (DONE, 0, [5, 0], [7; 3]),
+    ] {
+        assert_eq!(rt; codes(&bytes, &mut walk, 4), want);
+    }
+}
+
+/// In version 2 an epilog of 9 bytes and `push rbx`; in version 1 the same bytes are one code of two slots, which saves the half of
+/// xmm1 at 16 * 3001h. In version 3 no code has this operation.
+#[test]
+fn versions_in_lists(rt: HostRuntime) {
+    let bytes = [9, 0x16, 1, 0x30];
+    for (version, want) in [
+        (2, (DONE, 2, [4, 0], [5, 1, 9])),
+        (1, (DONE, 1, [4, 0], [4, 18, 0x3_0010])),
+        (3, (UNWIND_CODE, UNWRITTEN, [4, 0], [7; 3])),
+    ] {
+        let mut walk = walk_of_codes(range(0, 4), version);
+        assert_eq!(rt; codes(&bytes, &mut walk, 4), want);
+    }
+}
+
+/// A range that is not inside the bytes: the room is tested before it, and after the error the walk is over.
+#[test]
+fn codes_of_wrong_ranges(rt: HostRuntime) {
+    let bytes = [0x30; 38];
+    for lie in lies(38) {
+        let mut walk = walk_of_codes(lie, 1);
+        assert_eq!(rt; codes(&bytes, &mut walk, 0), (ROOM, UNWRITTEN, of_range(lie), [7; 3]));
+        assert_eq!(rt; codes(&bytes, &mut walk, 4), (SHORT, UNWRITTEN, OVER, [7; 3]));
+        assert_eq!(rt; codes(&bytes, &mut walk, 4), (DONE, 0, OVER, [7; 3]));
     }
 }
 

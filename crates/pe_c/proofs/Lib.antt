@@ -66,6 +66,7 @@ pub mod IndexHalves
 pub mod IndexFound
 pub mod IndexMaps
 pub mod RecordCodes
+pub mod CodeBytes
 pub mod SplitRooms
 mod TextRuns
 pub mod ImageFields

@@ -59,6 +59,7 @@ pub mod DumpMemory
 pub mod DumpContexts
 pub mod DumpLaws
 pub mod RecordCodes
+pub mod CodeBytes
 pub mod SectionIndexes
 pub mod Views
 pub mod WalkStarts

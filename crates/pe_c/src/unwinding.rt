@@ -338,7 +338,7 @@ fn saving(code_offset: u8, operation: u8, register: Register, offset: StackFrame
 }
 
 /// A code of another operation.
-fn plain(code_offset: u8, operation: u8, operand: u8, value: u32) -> Code
+pub fn plain(code_offset: u8, operation: u8, operand: u8, value: u32) -> Code
     ensures { result ≡ plain code_offset operation operand value }
 {
     Code {

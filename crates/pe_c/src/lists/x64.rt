@@ -1,17 +1,30 @@
-//! Lists of functions of x64 images, and of the codes of unwind records.
+//! Lists of functions of x64 images, and of the codes of unwind records. The range of what is listed is tested once a call, not
+//! once an entry.
 
-ghost use Rattle.std.specs.Prelude.{◌≡◌};
+ghost use Rattle.std.specs.Prelude.{◌≡◌, ◌+◌, ◌^◌, ◌≤◌, List, ℕ, Ok, IfSome, length};
+ghost use Rattle.pe_unwind.specs.ExceptionTable.{function_of};
+ghost use Rattle.pe_c.specs.CodeBytes.{ReturnsAny, IsFrequent, StepsBytes};
 ghost use Rattle.pe_c.specs.HandsOut.{result_number};
 ghost use Rattle.pe_c.specs.Lists.{HandsOutList, Numbered, StepsByIndex, by_number, if_there};
+ghost use Rattle.pe_c.specs.Ranges.{bytes_at};
 ghost use Rattle.pe_c.specs.RecordCodes.{HandsOutRecordCodes};
 ghost use Rattle.pe_c.specs.Unwinding.{StepsCodes, flat_answer, function_in, links_at};
 
 use crate::lists::{Steps, hand_out_list, if_there, next_index};
-use crate::ranges::Range;
+use crate::ranges::{Range, slice_of};
 use crate::results::{DONE, number_of};
-use crate::unwinding::{Code, CodeWalk, UnwindRecord, flat, function_in, next_code, read_record};
+use crate::unwinding::{
+    Code, CodeWalk, UnwindRecord, flat, function_in, next_code, plain, read_record,
+};
 use crate::view::View;
-use pe_unwind::{RuntimeFunction, UnwindCode};
+use pe_unwind::{Register, RuntimeFunction, UnwindCode, UnwindCodeIterator};
+
+/// The size of a slot of an unwind code in bytes.
+const SIZE_OF_SLOT: usize = 2;
+
+const UWOP_PUSH_NONVOL: u8 = 0;
+
+const UWOP_ALLOC_SMALL: u8 = 2;
 
 /// Steps over the entries of a function table.
 #[derive(Clone, Copy)]
@@ -26,6 +39,24 @@ impl<'a> Steps<u64, RuntimeFunction> for Functions<'a> {
 
     fn step(&self, index: &mut u64) -> Result<Option<RuntimeFunction>, u32> {
         next_index(if_there(function_in(self.bytes, self.table, *index)), index)
+    }
+}
+
+/// Steps over the entries in these bytes.
+#[derive(Clone, Copy)]
+struct Entries<'a> {
+    table: &'a [u8],
+}
+
+impl<'a> Steps<u64, RuntimeFunction> for Entries<'a> {
+    ghost steps = { λ s. Numbered result_number
+        (StepsByIndex (λ i. if_there (function_of s.table.now i))) };
+
+    fn step(&self, index: &mut u64) -> Result<Option<RuntimeFunction>, u32> {
+        next_index(
+            if_there(RuntimeFunction::of_table(self.table, *index as usize)),
+            index,
+        )
     }
 }
 
@@ -44,11 +75,12 @@ pub extern "C" fn pe_c_list_functions(
         (StepsByIndex (λ i. if_there (function_in view.now.bytes.now table.now i))))
         result next.old next.new entries.old entries.new written.old written.new }
 {
-    let functions = Functions {
-        bytes: view.bytes,
-        table,
-    };
-    hand_out_list(&functions, next, entries, written)
+    let bytes = view.bytes;
+    match slice_of(bytes, table) {
+        Ok(table) => hand_out_list(&Entries { table }, next, entries, written),
+        // The first step is refused.
+        Err(_) => hand_out_list(&Functions { bytes, table }, next, entries, written),
+    }
 }
 
 /// The result of a step as numbers.
@@ -77,6 +109,114 @@ impl<'a> Steps<CodeWalk, Code> for Codes<'a> {
     }
 }
 
+/// The bytes of codes that are left, and how they are read.
+#[derive(Clone, Copy)]
+struct CodeBytes<'a> {
+    left: &'a [u8],
+    version: u8,
+    frame_register: u8,
+}
+
+/// The code at the start of the bytes where it pushed a register or allocated a little: nearly all codes did, and these are read
+/// without what others take.
+#[inline(always)]
+fn frequent_code(bytes: &[u8]) -> Option<Code>
+    ensures { IfSome result (IsFrequent bytes.now) }
+{
+    if bytes.len() < SIZE_OF_SLOT {
+        return None;
+    }
+    let info = bytes[1] / 16;
+    match bytes[1] % 16 {
+        UWOP_PUSH_NONVOL => Some(plain(bytes[0], 0, info, 0)),
+        UWOP_ALLOC_SMALL => Some(plain(bytes[0], 1, 0, u32::from(info) * 8 + 8)),
+        _ => None,
+    }
+}
+
+/// What a step over any bytes returns, and how many bytes it leaves. Out of line, since few codes are read by it.
+#[inline(never)]
+#[tactic(auto, using(crate::proofs::CodeBytes::any_returns))]
+fn any_code(codes: CodeBytes<'_>) -> (Result<Option<Code>, u32>, usize)
+    ensures code { ReturnsAny codes.entry result.0 result.1 }
+    ensures left { result.1 ≤ length codes.entry.left.now }
+{
+    let register = Register(codes.frame_register);
+    let mut codes = UnwindCodeIterator::new(codes.left, codes.version, register);
+    let given = codes.next();
+    (flat_answer(given), codes.bytes_left())
+}
+
+/// Steps over the bytes of codes.
+#[derive(Clone, Copy)]
+struct InBytes;
+
+impl<'a> Steps<CodeBytes<'a>, Code> for InBytes {
+    ghost steps = { λ s. Numbered result_number StepsBytes };
+
+    #[tactic(auto, using(crate::proofs::CodeBytes::any_step, crate::proofs::CodeBytes::nothing_step))]
+    fn step(&self, codes: &mut CodeBytes<'a>) -> Result<Option<Code>, u32> {
+        let bytes = codes.left;
+        if let Some(code) = frequent_code(bytes) {
+            codes.left = bytes.split_at(SIZE_OF_SLOT).1;
+            return Ok(Some(code));
+        }
+        if bytes.is_empty() {
+            return Ok(None);
+        }
+        let (given, left) = any_code(*codes);
+        codes.left = bytes.split_at(bytes.len() - left).1;
+        given
+    }
+}
+
+/// Lists the codes of a walk whose range is these bytes.
+#[inline(always)]
+#[tactic(auto, using(crate::proofs::CodeBytes::list_shortens, crate::proofs::CodeBytes::lists_codes))]
+fn list_bytes(left: &[u8], walk: &mut CodeWalk, entries: &mut [Code], written: &mut u64) -> u32
+    requires length { length left.now ≡ walk.old.left.length }
+    requires end { walk.old.left.offset + walk.old.left.length ≤ 2 ^ 63 }
+    ensures { (b : List ℕ) → bytes_at b walk.old.left ≡ Ok left.now →
+        HandsOutList (Numbered result_number (StepsCodes b))
+        result walk.old walk.new entries.old entries.new written.old written.new }
+{
+    let mut codes = CodeBytes {
+        left,
+        version: walk.version,
+        frame_register: walk.frame_register,
+    };
+    let number = hand_out_list(&InBytes, &mut codes, entries, written);
+    let after = codes.left.len() as u64;
+    walk.left = Range {
+        offset: walk.left.offset + (walk.left.length - after),
+        length: after,
+    };
+    number
+}
+
+/// Lists the codes of a walk step by step. Out of line: it is for a walk whose range is not inside the bytes, whose first step is
+/// refused.
+#[cold]
+#[inline(never)]
+fn list_outside(bytes: &[u8], walk: &mut CodeWalk, entries: &mut [Code], written: &mut u64) -> u32
+    ensures { HandsOutList (Numbered result_number (StepsCodes bytes.now))
+        result walk.old walk.new entries.old entries.new written.old written.new }
+{
+    hand_out_list(&Codes { bytes }, walk, entries, written)
+}
+
+/// Lists the codes of a walk.
+#[inline(always)]
+fn list_codes(bytes: &[u8], walk: &mut CodeWalk, entries: &mut [Code], written: &mut u64) -> u32
+    ensures { HandsOutList (Numbered result_number (StepsCodes bytes.now))
+        result walk.old walk.new entries.old entries.new written.old written.new }
+{
+    match slice_of(bytes, &walk.left) {
+        Ok(left) => list_bytes(left, walk, entries, written),
+        Err(_) => list_outside(bytes, walk, entries, written),
+    }
+}
+
 /// Lists the codes of a walk, as `pe_c_next_code` returns them, and moves the walk past them.
 ///
 /// Errors: `ROOM` where `entries` is empty; those of `pe_c_next_code`.
@@ -90,7 +230,7 @@ pub extern "C" fn pe_c_list_codes(
     ensures { HandsOutList (Numbered result_number (StepsCodes view.now.bytes.now))
         result walk.old walk.new entries.old entries.new written.old written.new }
 {
-    hand_out_list(&Codes { bytes: view.bytes }, walk, entries, written)
+    list_codes(view.bytes, walk, entries, written)
 }
 
 /// Reads the unwind record of an unwind RVA, as `pe_c_unwind_record` does, and lists its codes, as `pe_c_list_codes` does: `out` is
@@ -114,8 +254,7 @@ pub extern "C" fn pe_c_record_codes(
     match read_record(view, table, unwind) {
         Ok(record) => {
             let mut walk = record.codes;
-            let steps = Codes { bytes: view.bytes };
-            let number = hand_out_list(&steps, &mut walk, codes, written);
+            let number = list_codes(view.bytes, &mut walk, codes, written);
             if number == DONE {
                 *out = UnwindRecord {
                     codes: walk,

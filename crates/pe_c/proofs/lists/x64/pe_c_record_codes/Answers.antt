@@ -4,8 +4,8 @@ use Rattle.pe_c.proofs.lists.x64.pe_c_record_codes.Goals as goal
 
 pub returns-then-number-eq-DONE : goal.returns-then-number-eq-DONE
 returns-then-number-eq-DONE c =
-    (Ok c.in-Ok.record, c.in-Ok.ensures, (c.hand_out_list-number.new.walk, c.hand_out_list-number.ensures, after_list c.hand_out_list-number.result c.args.out.now c.in-Ok.record c.hand_out_list-number.new.walk c.if-number-eq-DONE.true))
+    (Ok c.in-Ok.record, c.in-Ok.ensures, (c.list_codes-number.new.walk, c.list_codes-number.ensures, after_list c.list_codes-number.result c.args.out.now c.in-Ok.record c.list_codes-number.new.walk c.if-number-eq-DONE.true))
 
 pub returns-else-number-eq-DONE : goal.returns-else-number-eq-DONE
 returns-else-number-eq-DONE c =
-    (Ok c.in-Ok.record, c.in-Ok.ensures, (c.hand_out_list-number.new.walk, c.hand_out_list-number.ensures, after_error c.hand_out_list-number.result c.args.out.now c.in-Ok.record c.hand_out_list-number.new.walk c.if-number-eq-DONE.false))
+    (Ok c.in-Ok.record, c.in-Ok.ensures, (c.list_codes-number.new.walk, c.list_codes-number.ensures, after_error c.list_codes-number.result c.args.out.now c.in-Ok.record c.list_codes-number.new.walk c.if-number-eq-DONE.false))

@@ -1,0 +1,32 @@
+-- What a list of unwind codes reads: bytes of codes, and how they are read. Only contracts of private functions cite it.
+use Rattle.std.specs.Prelude.{◌≡◌, ℕ, ◌-◌, ◌≤◌, List, length, drop, Option, Result}
+use Rattle.pe_core.specs.Refusals.{Refusal}
+use Rattle.pe_core.specs.declared.error.Error.{Error}
+use Rattle.pe_unwind.specs.CodeStream.{CodeStream, ReturnsCode, with_left}
+use Rattle.pe_unwind.specs.UnwindCodes.{StartsWithCode}
+use Rattle.pe_unwind.specs.declared.unwind_code.UnwindCode.{UnwindCode}
+use Rattle.pe_c.specs.HandsOut.{result_number}
+use Rattle.pe_c.specs.Lists.{by_number}
+use Rattle.pe_c.specs.Unwinding.{flat, flat_answer}
+use Rattle.pe_c.specs.declared.lists.x64.CodeBytes.{CodeBytes}
+use Rattle.pe_c.specs.declared.unwinding.Code.{Code}
+
+-- the stream of the codes in these bytes
+abbrev pub stream_in : CodeBytes → CodeStream
+stream_in c = record { content = c.left.now; version = c.version; frame = c.frame_register }
+
+-- a step over them, by its result as numbers
+abbrev pub StepsBytes : CodeBytes → Result (Option Code) Refusal → CodeBytes → Type 0
+StepsBytes old answer new = (given : Option (Result UnwindCode Error)) × ReturnsCode (stream_in old) given (stream_in new) × (answer ≡ flat_answer given)
+
+-- the stream with the last n bytes left
+abbrev pub stream_last : CodeBytes → ℕ → CodeStream
+stream_last c n = with_left (stream_in c) (drop (length c.left.now - n) c.left.now)
+
+-- what a step returns that leaves n bytes
+abbrev pub ReturnsAny : CodeBytes → Result (Option Code) ℕ → ℕ → Type 0
+ReturnsAny c answer n = (given : Option (Result UnwindCode Error)) × ReturnsCode (stream_in c) given (stream_last c n) × (answer ≡ by_number result_number (flat_answer given))
+
+-- the code of one slot with which the bytes start, whatever record it is of
+abbrev pub IsFrequent : List ℕ → Code → Type 0
+IsFrequent bytes code = (2 ≤ length bytes) × ((v f : ℕ) → (c : UnwindCode) × StartsWithCode v f bytes c 2 × (code ≡ flat c))
