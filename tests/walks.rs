@@ -5,8 +5,8 @@ use crate::frames::bytes_of;
 use crate::sections;
 use pe_core::{DataDirectory, ParseOptions, SectionTable};
 use pe_frame::{
-    FrameError, Memory, MemoryList, MemoryPiece, Module, ModuleOrder, Modules, Registers, Stack,
-    StackFrames, StackPieces, WalkEnd, Way,
+    FrameError, LoadedModules, Memory, MemoryList, MemoryPiece, Module, ModuleOrder, Modules,
+    Registers, Stack, StackFrame, StackFrames, StackPieces, WalkEnd, WalkPosition, Way,
 };
 use pe_images::image;
 use pe_unwind::ExceptionData;
@@ -316,6 +316,39 @@ fn a_walk_says_why_it_is_over(rt: HostRuntime) -> Result<(), Fail> {
     assert_eq!(rt; end.as_str(), "no module has the instruction pointer");
     let end = end_of_step(&rt, alloc, registers(LIB + 0xA0, 0x1000), &[], 1)?;
     assert_eq!(rt; end.as_str(), "no module has the instruction pointer");
+    Ok(())
+}
+
+/// The function at 0x40 pushed rbx and allocated 32 bytes. The word that it pushed is known, and its return address is not: a step
+/// restores rbx and the stack pointer, and then has an error.
+#[test]
+fn a_frame_without_a_caller_stays(rt: HostRuntime) -> Result<(), Fail> {
+    let alloc = rt.alloc();
+    let lib = lib(alloc)?;
+    let data = exceptions(&lib, 4)?;
+    let modules = [module(LIB, &lib, &data)];
+    let modules = Modules::new(&modules).map_err(|_| "one module ascends")?;
+    let bytes = bytes_of(alloc, &[0, 0, 0, 0, 0xB1])?;
+    let memory = Stack {
+        start: 0x1000,
+        bytes: &bytes,
+    };
+    let mut top = registers(LIB + 0x50, 0x1000);
+    top.general[RBX] = 0xB0;
+    let frame = StackFrame {
+        registers: top,
+        way: Way::Top,
+        has_called: false,
+    };
+    let mut position = WalkPosition::starting(frame, 9);
+    assert!(rt; position.advance(&modules, &memory));
+    assert!(rt; !position.advance(&modules, &memory));
+    let end = text(alloc, &position.end)?;
+    assert_eq!(rt; end.as_str(), "no memory at address 0x1028");
+    assert!(rt; position.frame == frame);
+    let mut changed = frame;
+    assert!(rt; modules.become_caller(&mut changed, &memory).is_err());
+    assert!(rt; changed == frame);
     Ok(())
 }
 

@@ -114,7 +114,7 @@ fn next_frame_from<W: WalkRecord, L: LoadedModules, M: Memory>(
     if position.remaining == 0 {
         return NOTHING;
     }
-    if position.advance_once(modules, memory) {
+    if position.advance(modules, memory) {
         walk.put_frame(&position.frame);
         DONE
     } else {

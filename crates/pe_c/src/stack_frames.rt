@@ -175,6 +175,16 @@ pub fn flat_registers(registers: &Registers) -> FrameRegisters
     }
 }
 
+/// Writes registers as callers get them, where they stand: no record of them is made and moved.
+pub fn put_registers(registers: &Registers, flat: &mut FrameRegisters)
+    ensures flat { flat.new ≡ flat_registers registers.now }
+    ensures xmm { length registers.now.xmm ≡ 16 }
+{
+    flat.general = registers.general;
+    flat.xmm = half_registers(&registers.xmm);
+    flat.rip = registers.rip;
+}
+
 /// The number of an error of a step, and the address that it speaks of.
 pub fn reported(error: &FrameError) -> (u32, Option<u64>)
     ensures { result ≡ (error_number error.now, error_address error.now) }
@@ -233,7 +243,7 @@ fn put_caller(
 {
     match left {
         Ok(is_interrupted) => {
-            frame.registers = flat_registers(registers);
+            put_registers(registers, &mut frame.registers);
             frame.interrupted = u32::from(is_interrupted);
             DONE
         }

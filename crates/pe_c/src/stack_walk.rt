@@ -2,7 +2,7 @@
 //! outwards. The caller keeps the walk between two calls, and holds the modules and the memory.
 //! https://learn.microsoft.com/cpp/build/exception-handling-x64
 
-ghost use Rattle.std.specs.Prelude.{◌≡◌, ◌≤◌, ◌<◌, ◌+◌, length, Some, IfSome, IsTrue};
+ghost use Rattle.std.specs.Prelude.{◌≡◌, ◌≤◌, ◌<◌, ◌+◌, length, Some, IfSome, IsTrue, OnErr};
 ghost use Rattle.std.specs.List.{list_all};
 ghost use Rattle.std.specs.Option.{option_map};
 ghost use Rattle.pe_core.specs.Refusals.{answer_by};
@@ -21,7 +21,7 @@ use crate::frame_calls::{
 };
 use crate::ranges::Range;
 use crate::results::options;
-use crate::stack_frames::{FrameRegisters, flat_registers, registers_of};
+use crate::stack_frames::{FrameRegisters, put_registers, registers_of};
 use crate::view::View;
 use pe_core::{ByteRange, Error, Result};
 use pe_frame::{
@@ -210,7 +210,7 @@ impl<'a> ViewedModules<'a> {
         first_with(self.views, self.is_ascending, address)
     }
 
-    /// Makes a frame that of its caller, by the module that has its lookup address, or says why there is none.
+    /// Makes a frame that of its caller, by the module that has its lookup address, or says why there is none: then it stays.
     fn become_caller_in<M: Memory>(
         &self,
         view: &ModuleView<'_>,
@@ -220,8 +220,9 @@ impl<'a> ViewedModules<'a> {
         requires table { IsTrue (has_table view.now) }
         requires has { IsTrue (has_address module_base module_size
             (lookup_address frame.old) (module_of view.now)) }
-        ensures { CallsIn (M.word memory.now) (modules_of self.now.views.now) frame.old
+        ensures caller { CallsIn (M.word memory.now) (modules_of self.now.views.now) frame.old
             (Some (module_of view.now)) (frame_left result frame.new) }
+        ensures kept { OnErr result (frame.new ≡ frame.old) }
     {
         let exceptions = exceptions_of(view);
         let module = module_with(view, exceptions.as_ref());
@@ -312,7 +313,7 @@ fn write_frame(frame: &StackFrame, walk: &mut StackWalk)
     ensures after { walk.new ≡ after_frame walk.old frame.now }
     ensures xmm { length frame.now.registers.xmm ≡ 16 }
 {
-    walk.registers = flat_registers(&frame.registers);
+    put_registers(&frame.registers, &mut walk.registers);
     walk.remaining -= 1;
     walk.has_returned = 1;
     walk.way = number_of_way(frame.way);

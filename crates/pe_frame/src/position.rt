@@ -1,7 +1,7 @@
 //! Where a walk of a stack is, on any machine: what a caller keeps between two frames, without the modules and the memory that the
 //! walk is over.
 
-ghost use Rattle.std.specs.Prelude.{◌≡◌, if◌then◌else◌, Result, Some, None};
+ghost use Rattle.std.specs.Prelude.{◌≡◌, if◌then◌else◌, OnErr, Result, Some, None};
 ghost use Rattle.pe_frame.specs.FrameWalks.{Process, frame_left};
 ghost use Rattle.pe_frame.specs.declared.walk.WalkEnd.{WalkEnd};
 
@@ -14,15 +14,16 @@ pub trait WalkFrame: Copy {
     // What may be the caller of a frame, or the reason why it has none.
     ghost Calls: { Process → Self → Result Self WalkEnd → Type 0 };
 
-    /// Makes it that of its caller, or says why there is none: then it means nothing.
+    /// Makes it that of its caller, or says why there is none: then it stays.
     fn become_caller<L: LoadedModules, M: Memory>(
         &mut self,
         modules: &L,
         memory: &M,
     ) -> Result<(), WalkEnd>
-        ensures { Calls
+        ensures caller { Calls
             (record { memory = M.word memory.now; modules = L.modules modules.now })
-            self.old (frame_left result self.new) };
+            self.old (frame_left result self.new) }
+        ensures kept { OnErr result (self.new ≡ self.old) };
 }
 
 /// Where a walk is, without the modules and the memory that it is over. A caller may keep it between two frames.
@@ -53,7 +54,7 @@ impl<F: WalkFrame> WalkPosition<F> {
         }
     }
 
-    /// Makes the frame the one that follows: the first as it is, and then the caller of each.
+    /// Makes the frame the one that follows: the first as it is, and then the caller of each. Where none follows, it stays.
     fn follow<L: LoadedModules, M: Memory>(
         &mut self,
         modules: &L,
@@ -63,23 +64,25 @@ impl<F: WalkFrame> WalkPosition<F> {
             (state_of (record { memory = M.word memory.now; modules = L.modules modules.now }) self.old)
             (frame_left result self.new.frame) }
         ensures others { self.new ≡ record self.old { frame = self.new.frame } }
+        ensures kept { OnErr result (self.new ≡ self.old) }
     {
-        if self.has_returned {
-            self.frame.become_caller(modules, memory)
-        } else {
-            Ok(())
+        if !self.has_returned {
+            return Ok(());
+        }
+        match self.frame.become_caller(modules, memory) {
+            Ok(()) => Ok(()),
+            Err(end) => Err(end),
         }
     }
 
-    /// Goes on as [`WalkPosition::advance`] does, for a caller that does not go on from the last frame once the walk is over: then
-    /// `frame` means nothing, so that no frame is copied before the step.
+    /// Goes on to the next frame of the walk over these modules and this memory, which is `frame` then. False once the walk is
+    /// over: then `frame` stays.
     #[tactic(auto, using(crate::proofs::FrameWalks::advanced))]
-    pub fn advance_once<L: LoadedModules, M: Memory>(&mut self, modules: &L, memory: &M) -> bool
+    pub fn advance<L: LoadedModules, M: Memory>(&mut self, modules: &L, memory: &M) -> bool
         ensures { Advances F.Calls
             (state_of (record { memory = M.word memory.now; modules = L.modules modules.now }) self.old)
             (if result then Some self.new.frame else None)
-            (state_of (record { memory = M.word memory.now; modules = L.modules modules.now })
-            (record self.new { frame = if result then self.new.frame else self.old.frame })) }
+            (state_of (record { memory = M.word memory.now; modules = L.modules modules.now }) self.new) }
     {
         if self.remaining == 0 {
             return false;
@@ -96,22 +99,6 @@ impl<F: WalkFrame> WalkPosition<F> {
                 false
             }
         }
-    }
-
-    /// Goes on to the next frame of the walk over these modules and this memory, which is `frame` then. False once the walk is
-    /// over: then `frame` stays.
-    pub fn advance<L: LoadedModules, M: Memory>(&mut self, modules: &L, memory: &M) -> bool
-        ensures { Advances F.Calls
-            (state_of (record { memory = M.word memory.now; modules = L.modules modules.now }) self.old)
-            (if result then Some self.new.frame else None)
-            (state_of (record { memory = M.word memory.now; modules = L.modules modules.now }) self.new) }
-    {
-        let frame = self.frame;
-        if self.advance_once(modules, memory) {
-            return true;
-        }
-        self.frame = frame;
-        false
     }
 
     /// The next frame of the walk over these modules and this memory. `None` once the walk is over.

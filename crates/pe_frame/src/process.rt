@@ -1,6 +1,6 @@
 //! What a walk asks of the modules of a process, however a caller keeps them.
 
-ghost use Rattle.std.specs.Prelude.{◌≡◌, List};
+ghost use Rattle.std.specs.Prelude.{◌≡◌, List, OnErr};
 ghost use Rattle.pe_frame.specs.Arm64Walks as arm64;
 ghost use Rattle.pe_frame.specs.FrameWalks.{frame_left};
 ghost use Rattle.pe_frame.specs.Modules.{is_after_call, is_after_call_arm64, is_code_return, is_code_return_arm64};
@@ -40,12 +40,13 @@ pub trait LoadedModules {
     ghost modules: { Self → List Module };
 
     /// Makes a frame that of its caller, or says why there is none: [`caller_in_module`] by the module that has the lookup address
-    /// of the frame, or [`caller_outside`] if none does. Where there is none the frame means nothing. A frame of 400 bytes is
-    /// changed where it is, since moving it takes longer than the step.
+    /// of the frame, or [`caller_outside`] if none does. Where there is none the frame stays. A frame of 400 bytes is changed where it
+    /// is, since moving it takes longer than the step.
     fn become_caller<M: Memory>(&self, frame: &mut StackFrame, memory: &M) -> Result<(), WalkEnd>
-        ensures { Calls
+        ensures caller { Calls
             (record { memory = M.word memory.now; modules = modules self.now })
-            frame.old (frame_left result frame.new) };
+            frame.old (frame_left result frame.new) }
+        ensures kept { OnErr result (frame.new ≡ frame.old) };
 
     /// The frame of the caller of a frame on ARM64, or why there is none: [`caller_in_module_arm64`] or [`caller_outside_arm64`].
     fn caller_of_arm64<M: Memory>(

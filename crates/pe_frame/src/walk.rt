@@ -9,7 +9,7 @@
 //! dispatcher of exceptions saved the registers without a machine frame. After a call of a null pointer the frame is in no module:
 //! its return address is at the stack pointer, if a call ends at that. Where neither leads on, the stack is scanned.
 
-ghost use Rattle.std.specs.Prelude.{◌≡◌, ◌≤◌, ◌<◌, ◌+◌, ◌-◌, Ok, Err, IsTrue, true};
+ghost use Rattle.std.specs.Prelude.{◌≡◌, ◌≤◌, ◌<◌, ◌+◌, ◌-◌, Ok, Err, IsTrue, OnErr, true};
 ghost use Rattle.std.specs.Option.{is_none, option_map};
 ghost use Rattle.std.specs.Iterator.{at_most};
 ghost use Rattle.pe_frame.specs.AddressRanges.{has_address};
@@ -240,7 +240,8 @@ fn caller_of_leaf<L: CallSites, M: Memory>(
 
 /// Puts the frame of a caller in place of another, if there is one.
 fn put(caller: Result<StackFrame, WalkEnd>, frame: &mut StackFrame) -> Result<(), WalkEnd>
-    ensures { frame_left result frame.new ≡ caller }
+    ensures caller { frame_left result frame.new ≡ caller }
+    ensures kept { OnErr result (frame.new ≡ frame.old) }
 {
     match caller {
         Ok(caller) => {
@@ -259,22 +260,25 @@ fn become_caller_of_leaf<L: CallSites, M: Memory>(
     frame: &mut StackFrame,
     memory: &M,
 ) -> Result<(), WalkEnd>
-    ensures { frame_left result frame.new
+    ensures caller { frame_left result frame.new
         ≡ caller_of_leaf (M.word memory.now) (L.list modules.now) frame.old }
+    ensures kept { OnErr result (frame.new ≡ frame.old) }
 {
     let caller = caller_of_leaf(modules, frame, memory);
     put(caller, frame)
 }
 
-/// Makes a frame in no module that of its caller, or says why there is none. Out of line, as `become_caller_of_leaf`.
+/// Makes a frame in no module that of its caller, or says why there is none: then the frame stays. Out of line, as
+/// `become_caller_of_leaf`.
 #[inline(never)]
 pub fn caller_outside<L: CallSites, M: Memory>(
     modules: &L,
     frame: &mut StackFrame,
     memory: &M,
 ) -> Result<(), WalkEnd>
-    ensures { frame_left result frame.new
+    ensures caller { frame_left result frame.new
         ≡ caller_outside (M.word memory.now) (L.list modules.now) frame.old }
+    ensures kept { OnErr result (frame.new ≡ frame.old) }
 {
     if frame.has_called {
         return Err(WalkEnd::NoModule);
@@ -336,7 +340,8 @@ fn frame_after<L: CallSites, M: Memory>(
     }
 }
 
-/// Makes a frame that of its caller, by the records of the function that lookup found. `rva` is that of the frame.
+/// Makes a frame that of its caller, by the records of the function that lookup found, or says why there is none: then the frame
+/// means nothing. `rva` is that of the frame.
 fn caller_by_records<L: CallSites, M: Memory>(
     modules: &L,
     found: &FrameFunction<'_>,
@@ -369,8 +374,32 @@ fn caller_by_records<L: CallSites, M: Memory>(
     frame_after(modules, memory, left, frame)
 }
 
+/// The same with the frame as it was where it has no caller: by then a step may have changed some of its registers.
+fn become_caller_by_records<L: CallSites, M: Memory>(
+    modules: &L,
+    found: &FrameFunction<'_>,
+    frame: &mut StackFrame,
+    rva: u32,
+    memory: &M,
+) -> Result<(), WalkEnd>
+    requires { rva ≡ frame.old.registers.rip - found.now.module.now.base }
+    ensures caller { CallsFound (M.word memory.now) (L.list modules.now)
+        found.now.module.now found.now.exceptions.now
+        frame.old (Some found.now.function) (frame_left result frame.new) }
+    ensures kept { OnErr result (frame.new ≡ frame.old) }
+{
+    let before = *frame;
+    match caller_by_records(modules, found, frame, rva, memory) {
+        Ok(()) => Ok(()),
+        Err(end) => {
+            *frame = before;
+            Err(end)
+        }
+    }
+}
+
 /// Makes a frame that of its caller, by the module that has its lookup address, or says why there is none: then the frame
-/// means nothing.
+/// stays.
 pub fn caller_in_module<L: CallSites, M: Memory>(
     modules: &L,
     module: &Module<'_>,
@@ -378,8 +407,9 @@ pub fn caller_in_module<L: CallSites, M: Memory>(
     memory: &M,
 ) -> Result<(), WalkEnd>
     requires { IsTrue (has_address module_base module_size (lookup_address frame.old) module.now) }
-    ensures { CallsIn (M.word memory.now) (L.list modules.now)
+    ensures caller { CallsIn (M.word memory.now) (L.list modules.now)
         frame.old (Some module.now) (frame_left result frame.new) }
+    ensures kept { OnErr result (frame.new ≡ frame.old) }
 {
     let Some(exceptions) = module.exceptions else {
         return become_caller_of_leaf(modules, frame, memory);
@@ -393,7 +423,7 @@ pub fn caller_in_module<L: CallSites, M: Memory>(
                 function,
             };
             let rva = module.rva_of(frame.registers.rip);
-            caller_by_records(modules, &found, frame, rva, memory)
+            become_caller_by_records(modules, &found, frame, rva, memory)
         }
         None => become_caller_of_leaf(modules, frame, memory),
     }
