@@ -99,7 +99,11 @@ fn codes(bytes: &[u8], walk: &mut CodeWalk, room: usize) -> (u32, u64, [u64; 2],
     let mut written = UNWRITTEN;
     let number = pe_c_list_codes(&view, walk, &mut entries[..room.min(256)], &mut written);
     let first = entries[0];
-    let fields = [u32::from(first.operation), u32::from(first.operand), first.value];
+    let fields = [
+        u32::from(first.operation),
+        u32::from(first.operand),
+        first.value,
+    ];
     (number, written, of_range(walk.left), fields)
 }
 
@@ -151,9 +155,17 @@ fn all_slots_in_lists(rt: HostRuntime) {
     let bytes = [0x30; 512];
     let push = [0, 3, 0];
     for (room, first, second) in [
-        (255, (DONE, 255, [512, 0], push), (DONE, 0, [512, 0], [7; 3])),
+        (
+            255,
+            (DONE, 255, [512, 0], push),
+            (DONE, 0, [512, 0], [7; 3]),
+        ),
         (254, (DONE, 254, [510, 2], push), (DONE, 1, [512, 0], push)),
-        (256, (DONE, 255, [512, 0], push), (DONE, 0, [512, 0], [7; 3])),
+        (
+            256,
+            (DONE, 255, [512, 0], push),
+            (DONE, 0, [512, 0], [7; 3]),
+        ),
     ] {
         let mut walk = walk_of_codes(range(2, 510), 1);
         assert_eq!(rt; codes(&bytes, &mut walk, room), first);
@@ -196,8 +208,14 @@ fn codes_of_wrong_ranges(rt: HostRuntime) {
     let bytes = [0x30; 38];
     for lie in lies(38) {
         let mut walk = walk_of_codes(lie, 1);
-        assert_eq!(rt; codes(&bytes, &mut walk, 0), (ROOM, UNWRITTEN, of_range(lie), [7; 3]));
-        assert_eq!(rt; codes(&bytes, &mut walk, 4), (SHORT, UNWRITTEN, OVER, [7; 3]));
+        assert_eq!(rt;
+            codes(&bytes, &mut walk, 0),
+            (ROOM, UNWRITTEN, of_range(lie), [7; 3])
+        );
+        assert_eq!(rt;
+            codes(&bytes, &mut walk, 4),
+            (SHORT, UNWRITTEN, OVER, [7; 3])
+        );
         assert_eq!(rt; codes(&bytes, &mut walk, 4), (DONE, 0, OVER, [7; 3]));
     }
 }
