@@ -132,6 +132,34 @@ fn exports_together(rt: HostRuntime) -> Result<(), Fail> {
     Ok(())
 }
 
+/// Ten names at 100h, of 83 bytes with their zero: more than the image has in all, so they are read together.
+#[test]
+fn exports_that_share_much(rt: HostRuntime) -> Result<(), Fail> {
+    let mut bytes = with_texts(rt.alloc(), &[(0x68, &[8, 0x10, 0, 0])])?;
+    for i in 0..10 {
+        bytes[0x20 + 4 * i..0x24 + 4 * i].copy_from_slice(&[0, 0x11, 0, 0]);
+    }
+    let (image, sections) = (image(X64), sections());
+    let view = view(&bytes, &image, &sections);
+    for room in [0, 1, 7, 8, 10, 12] {
+        let mut walk = exports();
+        (walk.names, walk.ordinals) = (range(0x20, 40), range(0x80, 20));
+        let mut runs = [RUN; 12];
+        let mut entries = [NO_EXPORT; 11];
+        let mut written = 77;
+        let lent = &mut runs[..room];
+        let answer = pe_c_list_exports_together(&view, &mut walk, lent, &mut entries, &mut written);
+        assert_eq!(rt; (answer, written, walk.next), (DONE, 10, 10));
+        for entry in &entries[..10] {
+            assert_eq!(rt; (of_range(entry.name), entry.rva), ([0x100, 82], 0x1008));
+        }
+        // The first starts after a zero and is not counted, six have 498 bytes of 512, and the eighth is too much.
+        let start = if room < 8 { 0x7777 } else { 0x100 };
+        assert_eq!(rt; runs[0].start, start, "{room}");
+    }
+    Ok(())
+}
+
 const NO_LIBRARY: Library = Library {
     name: NO_RANGE,
     imports: Imports {
@@ -364,6 +392,32 @@ fn symbols_with_their_names(rt: HostRuntime) -> Result<(), Fail> {
             }
         }
         assert_eq!(rt; walk.symbols.next, 7);
+    }
+    Ok(())
+}
+
+/// Twelve symbols that have the string at 100h as their name, of 83 bytes with its zero, of a table of 272.
+#[test]
+fn symbols_that_share_much(rt: HostRuntime) -> Result<(), Fail> {
+    let mut bytes = with_texts(rt.alloc(), &[])?;
+    for i in 0..12 {
+        bytes[0x18 + 18 * i + 4] = 0x10;
+    }
+    for room in [0, 4, 5, 12] {
+        let mut walk = symbols(range(0x18, 216), range(0xF0, 0x110));
+        let mut runs = [RUN; 12];
+        let mut entries = [NO_SYMBOL; 13];
+        let mut written = 77;
+        let lent = &mut runs[..room];
+        let answer = pe_c_list_symbols(&bytes, &mut walk, lent, &mut entries, &mut written);
+        assert_eq!(rt; (answer, written), (DONE, 12));
+        for (i, entry) in entries[..12].iter().enumerate() {
+            assert_eq!(rt; (entry.symbol.index, entry.name_result), (i as u32, DONE));
+            assert_eq!(rt; of_range(entry.name), [0x100, 82]);
+        }
+        // The first starts after a zero and is not counted, three have 249 bytes, and the fifth is too much.
+        let start = if room < 5 { 0x7777 } else { 0x10 };
+        assert_eq!(rt; runs[0].start, start, "{room}");
     }
     Ok(())
 }

@@ -46,7 +46,7 @@ directory_refusal i b image sections =
 -- DONE and a failure with the number, or NOTHING where there is none: then `out` is unchanged
 abbrev pub SaysWhy : ℕ → Failure → Failure → Option ℕ → Type 0
 SaysWhy number old new None = (number ≡ NOTHING) × (new ≡ old)
-SaysWhy number old new (Some refusal) = (number ≡ DONE) × (new.result ≡ refusal)
+SaysWhy number old new (Some refusal) = (number ≡ DONE) × (new.result ≡ refusal) × (new.spare ≡ 0)
 
 -- ---- what a failure says of a call
 

@@ -103,4 +103,4 @@ abbrev pub IsWhy : Option Failure → Option ℕ → Type 0
 IsWhy None None = Unit {0}
 IsWhy None (Some number) = ⊥
 IsWhy (Some f) None = ⊥
-IsWhy (Some f) (Some number) = f.result ≡ number
+IsWhy (Some f) (Some number) = (f.result ≡ number) × (f.spare ≡ 0)

@@ -17,7 +17,7 @@ use crate::headers::{CoffFields, coff_fields};
 use crate::image::sections_into;
 use crate::ranges::{NO_BYTES, Range, slice_of};
 use crate::results::{hand_out, hand_out_some};
-use crate::text_runs::{Run, TextCosts, Texts};
+use crate::text_runs::{Run, TextCosts, Texts, end_of_next};
 use pe_core::{CoffHeader, Error, Reason, Result, SIZE_OF_SYMBOL, SectionTable, Strtab, read_u32};
 
 /// The size of a COFF header in bytes.
@@ -319,14 +319,14 @@ pub fn symbol_name_at(
     symbol_name_by(bytes, table, strings, index, texts)
 }
 
-/// Whether the names of the symbols in the next entries have more bytes than twice the string table, each read by itself: many of
-/// them share a string.
-pub fn strings_cost_much(bytes: &[u8], walk: &SymbolWalk, strings: &[u8]) -> bool {
+/// Whether the names of the symbols in the next entries, so many at most, have more bytes than twice the string table, each read by
+/// itself: many of them share a string.
+pub fn strings_cost_much(bytes: &[u8], walk: &SymbolWalk, strings: &[u8], most: usize) -> bool {
     let Ok(entries) = slice_of(bytes, &walk.table) else {
         return false;
     };
     let mut costs = TextCosts::of(strings);
-    for i in walk.next as usize..entries.len() / SIZE_OF_SYMBOL {
+    for i in walk.next as usize..end_of_next(walk.next, most, entries.len() / SIZE_OF_SYMBOL) {
         let name = SIZE_OF_SYMBOL * i;
         if read_u32(entries, name) == 0 {
             let offset = read_u32(entries, name + 4) as usize;
@@ -338,8 +338,8 @@ pub fn strings_cost_much(bytes: &[u8], walk: &SymbolWalk, strings: &[u8]) -> boo
     false
 }
 
-/// Writes where in the string table the names of the symbols in the next entries start to a room, as starts, as far as it has room,
-/// and returns how many they are.
+/// Writes where in the string table the names of the symbols in the next entries start to a room, as starts, of as many entries as
+/// it has room for, and returns how many they are.
 pub fn put_string_offsets(bytes: &[u8], walk: &SymbolWalk, room: &mut [Run]) -> usize
     ensures { result ≤ length room.new }
 {
@@ -347,7 +347,11 @@ pub fn put_string_offsets(bytes: &[u8], walk: &SymbolWalk, room: &mut [Run]) -> 
     let Ok(entries) = slice_of(bytes, &walk.table) else {
         return count;
     };
-    for i in walk.next as usize..entries.len() / SIZE_OF_SYMBOL {
+    for i in walk.next as usize..end_of_next(
+        walk.next,
+        room.len(),
+        entries.len() / SIZE_OF_SYMBOL,
+    ) {
         if count == room.len() {
             break;
         }

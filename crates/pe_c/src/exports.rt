@@ -15,7 +15,7 @@ use crate::image::{EXPORT_TABLE, directory, is_absent, offset_of};
 use crate::named_view::NamedView;
 use crate::ranges::{NO_BYTES, Range, range_from, slice_of};
 use crate::results::{hand_out_some, options};
-use crate::text_runs::{Run, TextCosts};
+use crate::text_runs::{Run, TextCosts, end_of_next};
 use crate::view::{View, map_by};
 use pe_core::{DataDirectory, ExportData, Result, read_u32, u16_at, u32_at};
 
@@ -170,13 +170,13 @@ fn tables_of<'a>(bytes: &'a [u8], walk: &Exports) -> Result<Tables<'a>>
     })
 }
 
-/// Whether the next names have more bytes than twice the view, each read by itself: many of them share a text.
-pub fn names_cost_much(view: &View, walk: &Exports) -> bool {
+/// Whether the next names, so many at most, have more bytes than twice the view, each read by itself: many of them share a text.
+pub fn names_cost_much(view: &View, walk: &Exports, most: usize) -> bool {
     let Ok(names) = slice_of(view.bytes, &walk.names) else {
         return false;
     };
     let mut costs = TextCosts::of(view.bytes);
-    for i in walk.next as usize..names.len() / 4 {
+    for i in walk.next as usize..end_of_next(walk.next, most, names.len() / 4) {
         if let Some(offset) = map_by(view, read_u32(names, 4 * i)) {
             if costs.are_over(view.bytes, offset) {
                 return true;
@@ -186,7 +186,7 @@ pub fn names_cost_much(view: &View, walk: &Exports) -> bool {
     false
 }
 
-/// Writes the offsets of the next names to a room, as starts, as far as it has room, and returns how many they are.
+/// Writes the offsets of the next names to a room, as starts, of as many entries as it has room for, and returns how many they are.
 pub fn put_name_offsets(view: &View, walk: &Exports, room: &mut [Run]) -> usize
     ensures { result ≤ length room.new }
 {
@@ -194,7 +194,7 @@ pub fn put_name_offsets(view: &View, walk: &Exports, room: &mut [Run]) -> usize
     let Ok(names) = slice_of(view.bytes, &walk.names) else {
         return count;
     };
-    for i in walk.next as usize..names.len() / 4 {
+    for i in walk.next as usize..end_of_next(walk.next, room.len(), names.len() / 4) {
         if count == room.len() {
             break;
         }

@@ -126,6 +126,13 @@ impl TextCosts {
     }
 }
 
+/// The end of the next so many entries of a table, from an index on.
+pub fn end_of_next(next: u64, most: usize, count: usize) -> usize
+    ensures { result ≤ count }
+{
+    (next as usize).saturating_add(most).min(count)
+}
+
 /// The run that starts at an offset.
 fn run_from(bytes: &[u8], start: usize) -> Run
     ensures { IsTextRun bytes.now result }

@@ -44,7 +44,7 @@ pub extern "C" fn pe_c_list_exports(
 fn names_of<'a>(view: &'a View<'a>, walk: &Exports, runs: &'a mut [Run]) -> NamedView<'a>
     ensures { result.view.now ≡ view.entry.now }
 {
-    if !names_cost_much(view, walk) {
+    if !names_cost_much(view, walk, runs.len()) {
         return NamedView::alone(view);
     }
     let count = put_name_offsets(view, walk, runs);

@@ -157,7 +157,7 @@ fn texts_of<'a>(
 ) -> Texts<'a>
     ensures { result.bytes.now ≡ strings.entry.now }
 {
-    if !strings_cost_much(bytes, walk, strings) {
+    if !strings_cost_much(bytes, walk, strings, runs.len()) {
         return Texts::alone(strings);
     }
     let count = put_string_offsets(bytes, walk, runs);
