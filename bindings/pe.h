@@ -852,9 +852,10 @@ uint32_t pe_c_te_first_debug_entry(const uint8_t *bytes, size_t length, const pe
  *
  * A result is one number. These calls return with it where the error is, and the number that stands there. */
 
-/* What is wrong with headers or with a directory. A number that the error does not have is 0. */
+/* What is wrong with headers or with a directory. A number that the error does not have here is 0. */
 typedef struct {
-    uint64_t offset;                /* of what is truncated or refused, or where it ends after the bytes that hold it */
+    uint64_t offset;                /* offset, from the start of the bytes, of what is truncated or refused, or where it ends
+                                       after the bytes that hold it */
     uint64_t needed;                /* bytes that are needed */
     uint64_t value;                 /* the number that is refused: a magic number, an RVA, a size */
     uint32_t result;                /* the error */
@@ -2731,7 +2732,7 @@ uint32_t pe_c_list_libraries(const pe_c_view *view, pe_c_libraries *walk, pe_c_l
 uint32_t pe_c_list_imports(const pe_c_view *view, pe_c_imports *walk, pe_c_import *entries, size_t number_of_entries,
                            uint64_t *written) PE_C_RESULT(1, 2, 5);
 
-/* Room for what the next four calls find out of names and lists; what is in it has no meaning to callers. */
+/* Room for what the calls that take runs find out of names and lists; what is in it has no meaning to callers. */
 typedef struct {
     uint64_t start;
     uint64_t end;
@@ -2740,9 +2741,10 @@ typedef struct {
 
 PE_C_SIZE(pe_c_run, 24);
 
-/* Lists what pe_c_list_exports does, and reads the names together. With a run for each entry that the name table has left, or
- * more, a call takes about as long as to sort these and to read each byte a few times, however many of the names share a text: a
- * hostile file may let all of them start in one long text. With fewer runs further names are read to their end each; none are needed.
+/* Lists what pe_c_list_exports does, and reads names together where they share much, others each by itself. With a run for each
+ * entry that the name table has left, or more, a call takes about as long as to sort these and to read each byte a few times,
+ * however many of the names share a text: a hostile file may let all of them start in one long text. A call looks at no more names
+ * for that than there are runs, and reads further ones to their end each; no runs are needed.
  * What is in `runs` after the call is left open. Errors: as pe_c_list_exports. */
 uint32_t pe_c_list_exports_together(const pe_c_view *view, pe_c_exports *walk, pe_c_run *runs, size_t number_of_runs,
                                     pe_c_export *entries, size_t number_of_entries,
@@ -2791,8 +2793,9 @@ typedef struct {
 PE_C_SIZE(pe_c_named_symbol, 72);
 PE_C_SIZE(pe_c_named_symbol_walk, 40);
 
-/* Lists the symbols of a walk as pe_c_next_symbol returns them, each with what pe_c_symbol_name returns of it. The names are read
- * together, with a run for each entry that the symbol table has left, or more, as said above; the string table stays as it is.
+/* Lists the symbols of a walk as pe_c_next_symbol returns them, each with what pe_c_symbol_name returns of it. Names are read
+ * together where they share much, with a run for each entry that the symbol table has left, or more, as those of
+ * pe_c_list_exports_together; the string table stays as it is.
  * What is in `runs` after the call is left open.
  * Errors: PE_C_ROOM; PE_C_SHORT where the symbol table is not inside the bytes. */
 uint32_t pe_c_list_symbols(const uint8_t *bytes, size_t length, pe_c_named_symbol_walk *walk, pe_c_run *runs,

@@ -169,8 +169,9 @@ impl<'a> Symbols<'a> {
         Some(Symbol { tables: self.tables, entry })
     }
 
-    /// The symbols that are left, each with its name, which are read together: this takes about as long as to read both tables and
-    /// to sort the names in the string table, where [`Symbol::name`] of each reads a string that many names share as often.
+    /// The symbols that are left, each with its name; names that share much are read together: this takes about as long as to read
+    /// both tables and to sort the names in the string table, where [`Symbol::name`] of each reads a string that many names share as
+    /// often.
     ///
     /// # Errors
     ///

@@ -21,7 +21,8 @@ use core::fmt;
 pub struct Failure {
     /// The error.
     pub error: Error,
-    /// Offset of what is truncated or refused, or where it ends after the bytes that hold it; 0 where the error has none.
+    /// Offset, from the start of the bytes, of what is truncated or refused, or where it ends after the bytes that hold it; 0 where
+    /// the error has none.
     pub offset: u64,
     /// How many bytes are needed; 0 where the error has no such number.
     pub needed: u64,

@@ -189,7 +189,8 @@ impl FusedIterator for AllImports<'_, '_> {}
 
 impl<'a> Image<'a> {
     /// The imports of all DLLs that the image imports from, or `None` without an import directory. The names of DLLs and imports are
-    /// read together, however many share one text.
+    /// read together from the first on, however many share one text; so the calls take two to four times as long for ordinary names as
+    /// library by library, by [`Image::libraries`].
     ///
     /// # Errors
     ///

@@ -1687,9 +1687,9 @@ TeHeader, 48 {
     spare: u32,
 });
 record!(
-/// What is wrong with headers or with a directory. A number that the error does not have is 0.
+/// What is wrong with headers or with a directory. A number that the error does not have here is 0.
 Failure, 32 {
-    /// Offset of what is truncated or refused, or where it ends after the bytes that hold it.
+    /// Offset, from the start of the bytes, of what is truncated or refused, or where it ends after the bytes that hold it.
     offset: u64,
     /// Bytes that are needed.
     needed: u64,
@@ -2201,7 +2201,7 @@ extern "C" {
         number_of_entries: usize,
         written: *mut u64,
     ) -> u32;
-    /// Lists the next exports that have a name, and reads the names together.
+    /// Lists the next exports that have a name, and reads names together where they share much.
     pub fn pe_c_list_exports_together(
         view: *const View,
         walk: *mut Exports,
@@ -2241,7 +2241,7 @@ extern "C" {
         number_of_entries: usize,
         written: *mut u64,
     ) -> u32;
-    /// Lists the next COFF symbols with their names, which are read together.
+    /// Lists the next COFF symbols with their names, which are read together where they share much.
     pub fn pe_c_list_symbols(
         bytes: *const u8,
         length: usize,

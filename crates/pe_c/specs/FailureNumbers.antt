@@ -1,5 +1,6 @@
 -- The numbers of an error, and the failure that it is. An offset, a start or an end is the offset of the failure, bytes that are
--- needed are its needed bytes, and any other number is its value. The lists are written by tools/make_errors.
+-- needed are its needed bytes, and any other number is its value; of a relocation's kind the RVA is the offset. An error that has
+-- none here is all zeros. The lists are written by tools/make_errors.
 use Rattle.std.specs.Prelude.{◌≡◌, ℕ, Option, Some, None, Result, Ok, Err}
 use Rattle.pe_core.specs.Refusals.{Refusal, kind_of}
 use Rattle.pe_core.specs.declared.error.Error.{Error}

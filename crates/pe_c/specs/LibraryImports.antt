@@ -79,6 +79,7 @@ turn_by_import w b walk otherwise (Err refusal) left = (Some (Err refusal), all_
 unfoldable pub turn : (ℕ → Option ℕ) → ℕ → List ℕ → LibraryImports → Turn
 turn offset w b walk = let own = import_step offset w b walk.imports in turn_by_import w b walk (next_library offset w b walk) own.0 own.1
 
+-- what all steps of a walk return, without turns, is `of_libraries` below, by the law walks_give_all_imports
 -- turns by which libraries without an import begin, so many, and then one that returns this
 abbrev pub Turns : (LibraryImports → Turn) → ℕ → LibraryImports → Result (Option LibraryImport) Refusal → LibraryImports → Type 0
 Turns make zero old answer new = (Some answer, new) ≡ make old

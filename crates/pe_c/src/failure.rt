@@ -16,11 +16,11 @@ use pe_core::{
     read_u32, require_bytes,
 };
 
-/// What is wrong with headers or with a directory. A number that the error does not have is 0.
+/// What is wrong with headers or with a directory. A number that the error does not have here is 0.
 #[repr(C)]
 #[derive(Clone, Copy)]
 pub struct Failure {
-    /// Offset of what is truncated or refused, or where it ends after the bytes that hold it.
+    /// Offset, from the start of the bytes, of what is truncated or refused, or where it ends after the bytes that hold it.
     pub offset: u64,
     /// How many bytes are needed.
     pub needed: u64,

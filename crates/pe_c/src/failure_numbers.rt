@@ -1,5 +1,6 @@
 //! The numbers of an error, as a failure has them: an offset, a start or an end is its `offset`, bytes that are needed are its
-//! `needed`, and any other number is its `value`; `tools/make_errors` writes which. A number that an error does not have is 0.
+//! `needed`, and any other number is its `value`; of a relocation's kind the RVA is the `offset`. An error that has none here is all
+//! zeros. `tools/make_errors` writes which.
 
 ghost use Rattle.std.specs.Prelude.{◌≡◌};
 ghost use Rattle.pe_core.specs.Refusals.{answer_of};

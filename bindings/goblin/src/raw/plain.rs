@@ -1,6 +1,6 @@
-//! Reads that this crate makes itself, since no call of the library returns what they read, and why none does. Where a call returns a
-//! range and not its numbers, the range is the call's and the numbers are read here. `tools/try_goblin --check` has the same list, and
-//! refuses a function that it does not name.
+//! Reads that this crate makes itself, since no call of the library returns what they read (of `hint_rva`, but the list of the imports
+//! of all libraries), and why none does. Where a call returns a range and not its numbers, the range is the call's and the numbers are
+//! read here. `tools/try_goblin --check` has the same list, and refuses a function that it does not name.
 //!
 //! At an offset that a caller names, of bytes that need not be an image:
 //!
@@ -14,7 +14,8 @@
 //!
 //! - `words`, `halves`: the RVAs of names and the indices of names as they stand, of which the list of exports leaves out those that
 //!   lead to no export;
-//! - `hint_rva`: the RVA of a hint, where `pe_c_next_import` returns what is there and the RVA of the slot;
+//! - `hint_rva`: the RVA of a hint, where the list of one library returns what is there and the RVA of the slot;
+//!   `pe_c_list_all_imports_together` returns it, and is called once names have cost much;
 //! - `address_table`: the slots of imports as they stand, which are addresses of another run, or the list of imports again;
 //! - `tls_slot`: what the loader wrote to the slot whose address `pe_c_tls` returns;
 //! - `word_at`: the words of an ARM64 record, whose fields `pe_c_arm64_unwind_record` returns, but not their reserved bits;
