@@ -876,8 +876,8 @@ uint32_t pe_c_te_failure(const uint8_t *bytes, size_t length, pe_c_failure *out)
  * of that error. PE_C_NOTHING where that call returns no error, and of a directory that no call reads. It never returns an error.
  *
  * The calls: pe_c_export_tables, pe_c_import_libraries, pe_c_resource_leaves; pe_c_function_table, of ARM64 pe_c_arm64_table;
- * pe_c_next_certificate of the first certificate; pe_c_relocation_blocks, pe_c_debug_entries, pe_c_tls, pe_c_load_config,
- * pe_c_bound_imports, pe_c_delay_imports, pe_c_clr_header.
+ * pe_c_next_certificate of the first certificate, in an image as loaded of what is at that offset; pe_c_relocation_blocks,
+ * pe_c_debug_entries, pe_c_tls, pe_c_load_config, pe_c_bound_imports, pe_c_delay_imports, pe_c_clr_header.
  *
  * The numbers: of PE_C_SHORT `offset` and `needed`; of PE_C_CERTIFICATE_SIZE `needed`; of PE_C_UNMAPPED `value`, the RVA; of
  * PE_C_EXCEPTION_SIZE, PE_C_CERTIFICATE_REVISION, PE_C_CERTIFICATE_TYPE and PE_C_DIRECTORY_CLR_HEADER_SIZE `value`; of

@@ -47,20 +47,29 @@ fn with(index: usize, rva: u32, size: u32) -> Image {
     having(image(X64), index, directory(rva, size))
 }
 
-/// Each directory at an unmapped RVA, and where the bytes end before its record or its table does.
+/// Each directory at an unmapped RVA.
 #[test]
-fn unmapped_and_truncated(rt: HostRuntime) -> Result<(), Fail> {
+fn unmapped(rt: HostRuntime) -> Result<(), Fail> {
     let bytes = bytes_of(rt.alloc(), 160, &[])?;
     for index in [0, 1, 2, 3, 5, 6, 9, 10, 13, 14] {
         let found = said(&bytes, &with(index, 0x4568, 24), index as u32);
         assert_eq!(rt; found, (DONE, (UNMAPPED, [0, 0, 0x4568]), 0));
     }
+    Ok(())
+}
+
+/// Each directory whose record or table ends past the bytes.
+#[test]
+fn truncated(rt: HostRuntime) -> Result<(), Fail> {
+    let bytes = bytes_of(rt.alloc(), 160, &[])?;
     // The export directory has 40 bytes, the one of TLS 40 in PE32+, a CLR header 72, and the load configuration its size.
     for (index, rva, size, wanted) in [
         (0, 0x1079, 1, (SHORT, [0x79, 40, 0])),
         (9, 0x107A, 1, (SHORT, [0x7A, 40, 0])),
         (10, 0x109D, 1, (SHORT, [0x9D, 4, 0])),
         (14, 0x1060, 1, (SHORT, [0x60, 72, 0])),
+        // The first directory of resources has 16 bytes.
+        (2, 0x1098, 8, (SHORT, [0x98, 16, 0])),
         (5, 0x1010, 0x91, (SHORT, [0x10, 0x91, 0])),
         (13, 0x1020, 0x81, (SHORT, [0x20, 0x81, 0])),
         // Bound imports stand at a file offset.
@@ -74,6 +83,18 @@ fn unmapped_and_truncated(rt: HostRuntime) -> Result<(), Fail> {
         let image = with(index, rva, size);
         assert_eq!(rt; said(&bytes, &image, index as u32), (DONE, wanted, 0));
     }
+    let pe32 = Image {
+        width: 32,
+        ..with(9, 0x1089, 1)
+    };
+    assert_eq!(rt; said(&bytes, &pe32, 9), (DONE, (SHORT, [0x89, 24, 0]), 0));
+    Ok(())
+}
+
+/// Tables that end where the bytes do, and one that permissive mode reads as far as it goes.
+#[test]
+fn nothing_is_truncated(rt: HostRuntime) -> Result<(), Fail> {
+    let bytes = bytes_of(rt.alloc(), 160, &[])?;
     let whole = [
         (5, 0x1010, 0x90),
         (13, 0x1020, 0x80),
@@ -83,11 +104,6 @@ fn unmapped_and_truncated(rt: HostRuntime) -> Result<(), Fail> {
     for (index, rva, size) in whole {
         assert_eq!(rt; said(&bytes, &with(index, rva, size), index as u32), NONE);
     }
-    let pe32 = Image {
-        width: 32,
-        ..with(9, 0x1089, 1)
-    };
-    assert_eq!(rt; said(&bytes, &pe32, 9), (DONE, (SHORT, [0x89, 24, 0]), 0));
     let permissive = in_mode(&with(6, 0x1011, 0x90), PERMISSIVE);
     assert_eq!(rt; said(&bytes, &permissive, 6), NONE);
     Ok(())

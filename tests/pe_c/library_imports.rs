@@ -271,9 +271,23 @@ fn errors_of_both_walks(rt: HostRuntime) -> Result<(), Fail> {
     Ok(())
 }
 
-/// Numbers that no call returns, and no records or entries at all.
+/// The RVA of a hint is the low 31 bits of an entry: in PE32+ the bits 31 to 62 are left out.
 #[test]
-fn walks_of_any_numbers(rt: HostRuntime) -> Result<(), Fail> {
+fn bits_above_the_hint_rva(rt: HostRuntime) -> Result<(), Fail> {
+    let mut bytes = with_imports(rt.alloc())?;
+    put(&mut bytes, &[(0x63, &[0x80, 1, 2, 3, 0x7F])]);
+    let mut walk = walk_at(0x10);
+    let [first, second, third] = IMPORTS;
+    assert_eq!(rt;
+        list(&bytes, &with_directory(0x1010), &mut walk, 3, 4),
+        (DONE, 3, [first, second, third, UNTOUCHED])
+    );
+    Ok(())
+}
+
+/// Records that are not all in the bytes, which no call returns as the next one.
+#[test]
+fn walks_past_the_bytes(rt: HostRuntime) -> Result<(), Fail> {
     let bytes = with_imports(rt.alloc())?;
     let image = with_directory(0x1010);
     for next in [0xC0 - 19, 0xC0, u64::MAX] {
@@ -284,6 +298,14 @@ fn walks_of_any_numbers(rt: HostRuntime) -> Result<(), Fail> {
         );
         assert_eq!(rt; of_walk(walk).1, 1);
     }
+    Ok(())
+}
+
+/// Entries that no call returns as those that are left.
+#[test]
+fn walks_of_any_numbers(rt: HostRuntime) -> Result<(), Fail> {
+    let bytes = with_imports(rt.alloc())?;
+    let image = with_directory(0x1010);
     // Entries that are left of a library of any name, as which none was begun, or all that can be counted.
     for (begun, library, next) in [(0, 0, 1), (u64::MAX, u64::MAX - 1, u64::MAX)] {
         let mut walk = LibraryImports {

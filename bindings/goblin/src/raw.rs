@@ -652,9 +652,11 @@ impl View<'_, '_> {
     }
 }
 
-/// How many bytes the certificate needs that is first in a walk: it is the table of an image that has no other.
+/// How many bytes the certificate needs that is first in a walk: it is the table of an image that has no other. 0 past 4 GB, where
+/// no directory leads.
 pub(crate) fn needed_by_certificate(bytes: &[u8], walk: Range) -> u64 {
-    let directory = DataDirectory { virtual_address: walk.offset as u32, size: walk.length as u32 };
+    let (Ok(virtual_address), Ok(size)) = (u32::try_from(walk.offset), u32::try_from(walk.length)) else { return 0 };
+    let directory = DataDirectory { virtual_address, size };
     let info = image_with(Index::Certificate, directory, 0, &ParseOptions::default());
     let failure = View::of(bytes, &info, &[]).directory_failure(Index::Certificate as u32);
     failure.ok().flatten().map_or(0, |it| it.needed)

@@ -24,6 +24,11 @@ impl Style {
         Style { has_colours: is_terminal && !is_refused && has_colours(), width: width.unwrap_or(usize::MAX) }
     }
 
+    /// The same for lines that end where they end: what is in them is there to be copied.
+    pub fn whole(self) -> Style {
+        Style { width: usize::MAX, ..self }
+    }
+
     /// A text whose lines fit: a longer one goes on in the column of the cell that does not fit, or is too narrow a column.
     pub fn fitted(self, text: String) -> String {
         if self.width == usize::MAX {
@@ -73,11 +78,6 @@ impl Page {
 
     pub fn into_text(self) -> String {
         self.style.fitted(self.text)
-    }
-
-    /// The same with paths that are whole, to be copied.
-    pub fn into_whole_text(self) -> String {
-        self.text
     }
 
     /// The first line of an image or of a part.

@@ -265,7 +265,7 @@ pub fn complaints(facts: &Facts) -> String {
 /// Where a symbol server has the PDB of an image, and the image.
 pub fn keys(facts: &Facts, style: Style) -> String {
     let (Some(headers), Some(debug)) = (&facts.headers, &facts.debug) else { return String::new() };
-    let mut page = Page::new(style);
+    let mut page = Page::new(style.whole());
     page.heading(&escaped(&facts.file));
     let pdb = match &debug.pdb {
         Part::Present(pdb) => {
@@ -276,5 +276,5 @@ pub fn keys(facts: &Facts, style: Style) -> String {
     };
     page.row("PDB", pdb);
     page.row("image", headers.symbol_server_path.as_deref().map_or("none".into(), escaped));
-    page.into_whole_text()
+    page.into_text()
 }

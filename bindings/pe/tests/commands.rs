@@ -876,6 +876,20 @@ fn the_lines_of_each_command_fit_the_columns() {
     );
 }
 
+/// The paths of `pe key` are there to be copied: a name with spaces stands on one line too, however narrow it is.
+#[test]
+fn paths_of_a_symbol_server_stand_whole() {
+    let folder = Folder::new("whole-paths");
+    let record = [b"RSDS".as_slice(), &made::GUID, &1u32.to_le_bytes(), b"My own App.pdb\0"].concat();
+    let file = folder.file("an app.exe", &with_debug_records(&[(2, &record)]));
+    let pdb = "My own App.pdb/497B72F6390A44FC878E5A2D63B6CC4B1/My own App.pdb";
+    let image = "an app.exe/000000006000/an app.exe";
+    for columns in [None, Some(20), Some(40)] {
+        let said = said_in(columns, &["key", &file]);
+        assert_eq!(said, format!("{file}\n  PDB           {pdb}\n  image         {image}\n"), "{columns:?}");
+    }
+}
+
 #[test]
 fn what_is_no_image_is_named_by_every_command() {
     let folder = Folder::new("named-kinds");

@@ -452,6 +452,16 @@ class Loaded(unittest.TestCase):
         with self.assertRaises(pefile.PEFormatError):
             pefile.PE(data=self.image()).get_memory_mapped_image(0x1000)
 
+    def test_more_bytes_than_a_caller_takes(self):
+        data = bytearray(self.image())
+        self.assertEqual(len(pe_c.Image(bytes(data)).map(most=0x1200)), 0x1200)
+        # SizeOfImage is at 0x90.
+        for size, more in ((0x1200, {"most": 0x11FF}), (0x10000001, {}), (0xFFFFFFFF, {})):
+            struct.pack_into("<I", data, 0x90, size)
+            with self.assertRaises(pe_c.Error) as caught:
+                pe_c.Image(bytes(data)).map(**more)
+            self.assertEqual((caught.exception.kind, caught.exception.part), (Kind.ROOM, f"map of {size} bytes"))
+
 
 class Everything(unittest.TestCase):
     """After it is open nothing is raised but Error."""

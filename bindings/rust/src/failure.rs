@@ -52,7 +52,7 @@ impl Image<'_> {
     }
 
     /// What is wrong with a directory: the error of the method that reads it, with its numbers. `None` where that method returns no
-    /// error, and of a directory that none reads.
+    /// error, as for the certificates of a module in memory, which has none, and of a directory that none reads.
     ///
     /// The methods are [`Image::exports`], [`Image::libraries`], [`Image::resource_leaves`], [`Image::functions`] or
     /// [`Image::arm64_functions`], [`Image::certificates`] with its first item, [`Image::relocation_blocks`],
@@ -77,6 +77,10 @@ impl Image<'_> {
     /// # Ok::<(), pe_c::Error>(())
     /// ```
     pub fn directory_failure(&self, index: DirectoryIndex) -> Option<Failure> {
+        // A module in memory has something else at the certificates' file offset.
+        if index == DirectoryIndex::Security && self.layout() != Layout::File {
+            return None;
+        }
         found(self.ask_with(sys::pe_c_directory_failure, index as u32))
     }
 }

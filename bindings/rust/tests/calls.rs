@@ -146,6 +146,21 @@ fn images_in_memory_say_what_their_files_say() {
     assert_eq!(parts, [0x1000, 0x2000]);
 }
 
+/// A module in memory has no certificates, so nothing is wrong with them, whatever is at their file offset.
+#[test]
+fn certificates_in_memory_have_no_failure() {
+    let mut bytes = with_certificates();
+    // The low byte of the revision, which is 0x200.
+    bytes[0x604] = 3;
+    let file = strict(&bytes);
+    let failure = file.directory_failure(DirectoryIndex::Security).unwrap();
+    assert_eq!((failure.error, failure.value), (Error::CERTIFICATE_REVISION, Some(0x203)));
+    let memory = as_loaded(&file);
+    let module = Image::parse_as(&memory, Mode::Strict, Layout::Mapped).unwrap();
+    assert_eq!(module.directory_failure(DirectoryIndex::Security), None);
+    assert_eq!(module.certificates().count(), 0);
+}
+
 #[test]
 fn images_are_refused_by_number() {
     assert_eq!(Image::parse(&[], Mode::Strict).unwrap_err(), Error::SHORT);

@@ -453,10 +453,12 @@ class Image(Reader):
 
     # ---- signing
 
-    def map(self, base: int | None = None) -> bytes | None:
-        """The image as a loader lays it out, as many bytes as size_of_image says, up to 4 GB of a short file: the headers, the data
-        of each section at its RVA, zeros elsewhere. With a base it is relocated to that: None where it is another than the image's
-        own and there are no base relocations. Raises Error, and MemoryError where it cannot be allocated."""
+    def map(self, base: int | None = None, *, most: int = 0x10000000) -> bytes | None:
+        """The image as a loader lays it out, as many bytes as size_of_image says: the headers, the data of each section at its RVA,
+        zeros elsewhere. With a base it is relocated to that: None where it is another than the image's own and there are no base
+        relocations. Raises Error: Kind.ROOM where that is more than `most` bytes, since a short file may say 4 GB."""
+        if self.headers.size_of_image > most:
+            raise error_of(Kind.ROOM, f"map of {self.headers.size_of_image} bytes", self.path)
         difference = 0 if base is None else base - self.headers.base
         mapped: bytes | None = self._asked("map", "mapped", difference)
         return mapped

@@ -892,10 +892,10 @@ class PE:
         if self.OPTIONAL_HEADER.SizeOfImage > max_virtual_address:
             raise PEFormatError(f"SizeOfImage is {self.OPTIONAL_HEADER.SizeOfImage:#x}, more than max_virtual_address")
         try:
-            mapped = self._image.map(ImageBase)
+            mapped = self._image.map(ImageBase, most=max_virtual_address)
         except Error as error:
             raise PEFormatError(str(error)) from None
-        return self._image.map() or b"" if mapped is None else mapped
+        return self._image.map(most=max_virtual_address) or b"" if mapped is None else mapped
 
     def has_relocs(self) -> bool:
         return hasattr(self, "DIRECTORY_ENTRY_BASERELOC")
