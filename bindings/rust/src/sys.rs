@@ -2417,13 +2417,7 @@ extern "C" {
         out: *mut u64,
     ) -> u32;
     /// Writes the sections of a view into an array, with their headers from an offset on, which moves.
-    pub fn pe_c_write_sections(
-        view: *const View,
-        unit: u32,
-        room: *mut u8,
-        room_length: usize,
-        next: *mut u64,
-    ) -> u32;
+    pub fn pe_c_write_sections(view: *const View, unit: u32, room: *mut u8, room_length: usize, next: *mut u64) -> u32;
     /// Returns the length of the block that [`pe_c_write_block`] writes.
     pub fn pe_c_block_length(
         key: *const u8,
