@@ -412,7 +412,7 @@ fn symbols_that_share_much(rt: HostRuntime) -> Result<(), Fail> {
         let answer = pe_c_list_symbols(&bytes, &mut walk, lent, &mut entries, &mut written);
         assert_eq!(rt; (answer, written), (DONE, 12));
         for (i, entry) in entries[..12].iter().enumerate() {
-            assert_eq!(rt; (entry.symbol.index, entry.name_result), (i as u32, DONE));
+            assert_eq!(rt; (entry.symbol.index, entry.name_result), (i as u64, DONE));
             assert_eq!(rt; of_range(entry.name), [0x100, 82]);
         }
         // The first starts after a zero and is not counted, three have 249 bytes, and the fifth is too much.
