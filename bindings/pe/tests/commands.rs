@@ -894,7 +894,7 @@ fn paths_of_a_symbol_server_stand_whole() {
 fn what_is_no_image_is_named_by_every_command() {
     let folder = Folder::new("named-kinds");
     let elf = folder.file("a", b"\x7fELF\x02\x01\x01");
-    let image = folder.file("a.exe", &made::SMALL);
+    let image = folder.file("a.exe", made::SMALL);
     let out = folder.0.join("out").to_str().unwrap().to_string();
     let commands: [&[&str]; 9] = [
         &["extract", &elf, "manifest", &out],

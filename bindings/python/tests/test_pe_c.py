@@ -478,7 +478,7 @@ class Hostile(unittest.TestCase):
         self.assertEqual((depth, is_limited), (9, True))
 
     def test_they_take_little_time_and_memory(self):
-        """All facts and their JSON, and the warnings, each take less than a second of a processor."""
+        """All facts and their JSON, and the warnings, each take less than three seconds of a slow processor."""
         made = {**{name: f"LIMITED[{name!r}][0](*test_pe_c.Hostile.LIMITED[{name!r}][1])" for name in self.LIMITED},
                 **{name: f"TOGETHER[{name!r}]()" for name in self.TOGETHER}}
         for name, image in made.items():
@@ -490,8 +490,8 @@ class Hostile(unittest.TestCase):
             done = subprocess.run([sys.executable, "-c", code], capture_output=True, text=True, timeout=60)
             self.assertEqual(done.returncode, 0, done.stderr)
             start, facts, warnings, kilobytes = map(float, done.stdout.split())
-            self.assertLess(facts - start, 1, name)
-            self.assertLess(warnings - facts, 1, name)
+            self.assertLess(facts - start, 3, name)
+            self.assertLess(warnings - facts, 3, name)
             self.assertLess(kilobytes, 200 << 10, name)
 
     def test_damaged_images(self):
