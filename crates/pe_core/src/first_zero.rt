@@ -9,9 +9,6 @@ use std::simd::prelude::*;
 /// The number of bytes of one vector load.
 const LANES: usize = 16;
 
-/// The number of bytes in which `ascii_text_end` looks for the zero: four loads.
-const MOST_OF_TEXT: usize = 64;
-
 /// The index of the lowest bit that is set, or 16 if none is.
 #[inline(always)]
 fn lowest_bit(mask: u64) -> usize
@@ -44,18 +41,18 @@ fn ascii_run(bytes: &[u8], at: usize) -> usize
     lowest_bit(others.to_bitmask())
 }
 
-/// The index of the first zero at or after `start`, if the bytes before it are ASCII and at most 63. `None` also if the
-/// zero is one of the last bytes, which no load of 16 reaches.
+/// The index of the first zero at or after `start`, if the bytes before it are ASCII. It looks at `most` bytes, in loads of
+/// 16. `None` also if the zero is one of the last bytes of all, which no such load reaches.
 #[inline(always)]
 #[tactic(auto, using(crate::proofs::AsciiTexts::ascii_texts))]
-pub(crate) fn ascii_text_end(bytes: &[u8], start: usize) -> Option<usize>
+pub(crate) fn ascii_text_end(bytes: &[u8], start: usize, most: usize) -> Option<usize>
     ensures { IfSome result (IsAsciiText bytes.now start) }
 {
     if bytes.len() < start {
         return None;
     }
     let mut end = start;
-    while LANES <= bytes.len() - end && end - start < MOST_OF_TEXT {
+    while LANES <= bytes.len() - end && end - start < most {
         let run = zero_run(bytes, end);
         if ascii_run(bytes, end) < run {
             return None;

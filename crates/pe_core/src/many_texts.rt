@@ -7,8 +7,8 @@ ghost use Rattle.std.specs.Option.{option_map};
 ghost use Rattle.pe_core.specs.Text.{text_of, text_at, texts_of};
 ghost use Rattle.pe_core.specs.TextRuns.{AreFirstTexts, IsLastText, IsRun, last_of};
 
-use crate::first_zero::{ascii_text_end, first_zero};
-use crate::text::{from_offset, text_at, text_of};
+use crate::first_zero::first_zero;
+use crate::text::{ascii_text_at, from_offset, text_at, text_of};
 use std::alloc::{AllocError, Allocator};
 
 /// A text of fewer bytes is short, and a run of at least as many is kept.
@@ -52,22 +52,13 @@ fn text_from(text: &str, offset: usize) -> Option<&str>
     }
 }
 
-/// The text at `offset`, if it is ASCII and short, as most names: such a text needs no test of UTF-8.
-fn ascii_text_at(bytes: &[u8], offset: usize) -> Option<&str>
-    ensures { IfSome result (λ text. text_at bytes.now offset ≡ Some text.now) }
-{
-    let end = ascii_text_end(bytes, offset)?;
-    // SAFETY: ASCII is UTF-8.
-    Some(unsafe { str::from_utf8_unchecked(&bytes[offset..end]) })
-}
-
 /// The text at `offset`, if a zero ends it within `LONG` bytes, as most names. Such a text costs the same
 /// wherever it lies, so no run is kept for it.
 #[tactic(auto, using(crate::proofs::FirstZero::short_texts))]
 fn short_text_at(bytes: &[u8], offset: usize) -> Option<Option<&str>>
     ensures { IfSome result (λ text. option_map (λ s. s.now) text ≡ text_at bytes.now offset) }
 {
-    if let Some(text) = ascii_text_at(bytes, offset) {
+    if let Some(text) = ascii_text_at(bytes, offset, LONG) {
         return Some(Some(text));
     }
     let rest = from_offset(bytes, offset);

@@ -1,11 +1,14 @@
 //! Texts: bytes that are UTF-8, NUL-terminated where they stand in a table of the image.
 
-ghost use Rattle.std.specs.Prelude.{◌≡◌, ◌==◌, drop};
+ghost use Rattle.std.specs.Prelude.{◌≡◌, ◌==◌, IfSome, drop};
 ghost use Rattle.std.specs.List.{before_first};
 ghost use Rattle.std.specs.Option.{option_map};
 ghost use Rattle.pe_core.specs.Text.{text_of, text_at};
 
-use crate::first_zero::first_zero;
+use crate::first_zero::{ascii_text_end, first_zero};
+
+/// The bytes of a text in which `text_at` first looks for ASCII alone: as many as the longest names have.
+const MOST_OF_NAME: usize = 1024;
 
 /// The bytes as text. `None` if they are not UTF-8.
 #[tactic(auto, using(crate::proofs::Texts::utf8_tests))]
@@ -38,12 +41,25 @@ pub(crate) fn from_offset(bytes: &[u8], offset: usize) -> &[u8]
     }
 }
 
+/// The text at `offset`, if it is ASCII and has fewer than `most` bytes, or a few more: such a text needs no test of UTF-8.
+/// Most names are such texts.
+pub(crate) fn ascii_text_at(bytes: &[u8], offset: usize, most: usize) -> Option<&str>
+    ensures { IfSome result (λ text. text_at bytes.now offset ≡ Some text.now) }
+{
+    let end = ascii_text_end(bytes, offset, most)?;
+    // SAFETY: ASCII is UTF-8.
+    Some(unsafe { str::from_utf8_unchecked(&bytes[offset..end]) })
+}
+
 /// The text at `offset`: the bytes from there up to the first zero. `None` if it is not NUL-terminated or not
 /// UTF-8, or if the offset is past the end.
 #[tactic(auto, using(crate::proofs::Texts::to_zero))]
 pub fn text_at(bytes: &[u8], offset: usize) -> Option<&str>
     ensures { option_map (λ s. s.now) result ≡ text_at bytes.now offset }
 {
+    if let Some(text) = ascii_text_at(bytes, offset, MOST_OF_NAME) {
+        return Some(text);
+    }
     let rest = from_offset(bytes, offset);
     let length = first_zero(rest)?;
     text_of(&rest[..length])
