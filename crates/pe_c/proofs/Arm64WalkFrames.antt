@@ -7,6 +7,7 @@ use Rattle.pe_c.specs.FrameCalls.{state_in}
 use Rattle.pe_c.specs.Arm64StackWalks.{after_frame, arm64_stack_walks, frame_in}
 use Rattle.pe_c.specs.declared.arm64.stack_walk.Arm64StackWalk.{Arm64StackWalk}
 use Rattle.pe_c.proofs.FrameRuns.{KeepWalks}
+use Rattle.pe_c.proofs.MarkedWalks.{KeepMarks}
 use Rattle.pe_c.proofs.WalkFrames.{same_bit, same_way}
 
 pub kept : (w : Arm64StackWalk) (s : Arm64StackFrame) → frame_in (after_frame w s) ≡ s
@@ -23,5 +24,16 @@ keep_walks = record {
   counted = λ w s. refl;
   unended = λ w s. refl;
   over = λ w e. refl;
+  ended = λ w e. refl;
+}
+
+pub keep_marks : KeepMarks arm64_stack_walks
+keep_marks = record {
+  has = λ w. refl;
+  twice = λ w. refl;
+  left = λ w. refl;
+  frame = λ w. refl;
+  state = λ p w. refl;
+  framed = λ w s. refl;
   ended = λ w e. refl;
 }

@@ -31,6 +31,7 @@ pub mod PogoRuns
 pub mod RecordRanges
 pub mod Rings
 pub mod Rooms
+pub mod MarkedWalks
 pub mod RunWalks
 pub mod Runs
 pub mod Steps

@@ -16,6 +16,7 @@ use Rattle.pe_c.specs.FrameCalls.{bit_of, is_set, state_in, way_number, way_of}
 use Rattle.pe_c.specs.StackWalks.{after_frame, frame_in, stack_walks}
 use Rattle.pe_c.specs.declared.stack_walk.StackWalk.{StackWalk}
 use Rattle.pe_c.proofs.FrameRuns.{KeepWalks}
+use Rattle.pe_c.proofs.MarkedWalks.{KeepMarks}
 
 -- ---- registers
 
@@ -75,5 +76,16 @@ keep_walks = record {
   counted = λ w s. refl;
   unended = λ w s. refl;
   over = λ w e. refl;
+  ended = λ w e. refl;
+}
+
+pub keep_marks : KeepMarks stack_walks
+keep_marks = record {
+  has = λ w. refl;
+  twice = λ w. refl;
+  left = λ w. refl;
+  frame = λ w. refl;
+  state = λ p w. refl;
+  framed = λ w s. refl;
   ended = λ w e. refl;
 }

@@ -25,6 +25,10 @@ after_frame w s = record w {
 abbrev pub after_end : Arm64StackWalk → WalkEnd → Arm64StackWalk
 after_end w e = record w { remaining = 0; end = end_number e; error = end_error e; address = unwrap_or (end_address e) 0 }
 
+-- the walk with the mark that its pieces of memory were tested
+abbrev pub marked : Arm64StackWalk → Arm64StackWalk
+marked w = record w { is_searched = 1 }
+
 -- walks of ARM64
 abbrev pub arm64_stack_walks : WalkRecords Arm64StackWalk Arm64StackFrame
 arm64_stack_walks = record {
@@ -34,4 +38,6 @@ arm64_stack_walks = record {
   ending = λ w. record { end = w.end; error = w.error; address = w.address };
   after_frame = after_frame;
   after_end = after_end;
+  is_searched = λ w. is_set w.is_searched;
+  marked = marked;
 }

@@ -3,7 +3,8 @@ use Rattle.std.specs.Prelude.{◌≡◌, ◌<◌, ◌≤◌, ◌⊎◌, ℕ, zer
 use Rattle.std.specs.Option.{unwrap_or}
 use Rattle.pe_core.specs.Refusals.{Refusal, kind_of}
 use Rattle.pe_frame.specs.FrameWalks.{FrameWalk, Follows, Process}
-use Rattle.pe_frame.specs.MemoryLists.{memory_of}
+use Rattle.pe_frame.specs.MemoryLists.{ascend, memory_of}
+use Rattle.pe_frame.specs.SearchedMemory.{searched_word}
 use Rattle.pe_frame.specs.declared.memory_list.MemoryPiece.{MemoryPiece}
 use Rattle.pe_frame.specs.declared.modules.Module.{Module}
 use Rattle.pe_frame.specs.declared.walk.Way.{Way}
@@ -81,6 +82,10 @@ pub record WalkRecords (W F : Type 0) : Type 0 where
   pub ending : W → EndNumbers
   pub after_frame : W → F → W
   pub after_end : W → WalkEnd → W
+  -- an earlier call found that the pieces lie in the memory and ascend
+  pub is_searched : W → Bool
+  -- the walk with this mark
+  pub marked : W → W
 
 -- the walk that a record stands for
 abbrev pub state_in : {W F : Type 0} → WalkRecords W F → Process → W → FrameWalk Process F
@@ -149,20 +154,33 @@ abbrev pub OverModules : Type 0 → ℕ → (List Module → Type 0) → Result 
 OverModules unchanged number steps (Err refusal) = (number ≡ result_number refusal) × unchanged
 OverModules unchanged number steps (Ok views) = steps (modules_of views)
 
-abbrev pub OverProcess : Type 0 → ℕ → List ModuleView → List ℕ → List MemoryPiece → (Process → Type 0) → Type 0
-OverProcess unchanged number views memory pieces steps =
-    OverModules unchanged number
-    (λ modules. OverPieces unchanged number (λ word. steps (record { memory = word; modules = modules })) (memory_of memory pieces))
-    (viewed views)
+module _ {W F : Type 0} (m : WalkRecords W F) where
+  -- the walk with the mark, if the test is passed
+  abbrev pub marked_if : Bool → W → W
+  marked_if true w = m.marked w
+  marked_if false w = w
+
+  -- What a call returns over memory, by whether the walk has the mark. With it the pieces are searched and not tested. Without it they
+  -- are tested, and the walk that goes on has the mark if they ascend.
+  abbrev pub OverMemory : Bool → Type 0 → ℕ → List ℕ → List MemoryPiece → W → ((ℕ → Option ℕ) → W → Type 0) → Type 0
+  OverMemory true unchanged number memory pieces w steps = steps (searched_word memory pieces) w
+  OverMemory false unchanged number memory pieces w steps =
+      OverPieces unchanged number (λ word. steps word (marked_if (ascend pieces) w)) (memory_of memory pieces)
+
+  abbrev pub OverProcess : Type 0 → ℕ → List ModuleView → List ℕ → List MemoryPiece → W → (Process → W → Type 0) → Type 0
+  OverProcess unchanged number views memory pieces w steps =
+      OverModules unchanged number
+      (λ modules. OverMemory (m.is_searched w) unchanged number memory pieces w (λ word. steps (record { memory = word; modules = modules })))
+      (viewed views)
 
 module _ {W F : Type 0} (Calls : Process → F → Result F WalkEnd → Type 0) (m : WalkRecords W F) where
   abbrev pub HandsOutFrame : List ModuleView → List ℕ → List MemoryPiece → ℕ → W → W → Type 0
   HandsOutFrame views memory pieces number old new =
-      OverProcess (new ≡ old) number views memory pieces (λ p. HandsOutNext Calls m p number old new)
+      OverProcess m (new ≡ old) number views memory pieces old (λ p w. HandsOutNext Calls m p number w new)
 
   -- the same of several frames, with the slots and the count before the call and after it
   abbrev pub HandsOutFrames : List ModuleView → List ℕ → List MemoryPiece → ℕ → List W × ℕ → List W × ℕ → W → W → Type 0
   HandsOutFrames views memory pieces number slots filled old new =
-      OverProcess ((new ≡ old) × (filled ≡ slots)) number views memory pieces
-      (λ p. FillsFrames Calls m p filled.1 slots.0 filled.0 old new
+      OverProcess m ((new ≡ old) × (filled ≡ slots)) number views memory pieces old
+      (λ p w. FillsFrames Calls m p filled.1 slots.0 filled.0 w new
       × (number ≡ (if nat_lt filled.1 (length slots.0) then NOTHING else DONE)))

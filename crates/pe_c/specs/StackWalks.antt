@@ -25,6 +25,10 @@ after_frame w s = record w {
 abbrev pub after_end : StackWalk → WalkEnd → StackWalk
 after_end w e = record w { remaining = 0; end = end_number e; error = end_error e; address = unwrap_or (end_address e) 0 }
 
+-- the walk with the mark that its pieces of memory were tested
+abbrev pub marked : StackWalk → StackWalk
+marked w = record w { is_searched = 1 }
+
 -- walks of x64
 abbrev pub stack_walks : WalkRecords StackWalk StackFrame
 stack_walks = record {
@@ -34,4 +38,6 @@ stack_walks = record {
   ending = λ w. record { end = w.end; error = w.error; address = w.address };
   after_frame = after_frame;
   after_end = after_end;
+  is_searched = λ w. is_set w.is_searched;
+  marked = marked;
 }

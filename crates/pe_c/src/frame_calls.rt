@@ -4,7 +4,7 @@
 
 ghost use Rattle.std.specs.Prelude.{◌≡◌, ◌<◌, ◌==◌, Ok};
 ghost use Rattle.pe_frame.specs.FrameWalks.{Process, state_of, walk_after};
-ghost use Rattle.pe_c.specs.FrameCalls.{FillsFrames, HandsOutFrame, HandsOutFrames, HandsOutNext, WalkRecords, end_address, end_error, end_number, state_in, way_number, way_of};
+ghost use Rattle.pe_c.specs.FrameCalls.{FillsFrames, HandsOutFrame, HandsOutFrames, HandsOutNext, WalkRecords, end_address, end_error, end_number, marked_if, state_in, way_number, way_of};
 ghost use Rattle.pe_c.specs.declared.results.TheConstants.{NOTHING};
 
 use crate::results::{DONE, LONG_CHAIN, NOTHING, number_of};
@@ -12,7 +12,8 @@ use crate::stack_frames::reported;
 use crate::stack_walk::{ModuleView, ViewedModules};
 use pe_core::Result;
 use pe_frame::{
-    LoadedModules, Memory, MemoryList, MemoryPiece, WalkEnd, WalkFrame, WalkPosition, Way,
+    LoadedModules, Memory, MemoryList, MemoryPiece, SearchedMemory, WalkEnd, WalkFrame,
+    WalkPosition, Way,
 };
 
 /// The record of a walk on some machine: where the walk is, and the frame that was returned last.
@@ -38,6 +39,14 @@ pub trait WalkRecord: Copy {
     /// Writes why the walk is over.
     fn put_end(&mut self, end: &WalkEnd)
         ensures { self.new ≡ records.after_end self.old end.now };
+
+    /// Whether an earlier call found that the pieces of memory lie in the memory and ascend.
+    fn is_searched(&self) -> bool
+        ensures { result ≡ records.is_searched self.now };
+
+    /// Writes that a call found so.
+    fn mark(&mut self)
+        ensures { self.new ≡ records.marked self.old };
 }
 
 /// The number of a way.
@@ -159,6 +168,15 @@ fn next_frames<W: WalkRecord, L: LoadedModules, M: Memory>(
     frames.len()
 }
 
+/// Marks a walk whose pieces of memory ascend.
+fn mark_if<W: WalkRecord>(ascend: bool, walk: &mut W)
+    ensures { walk.new ≡ marked_if W.records ascend walk.old }
+{
+    if ascend {
+        walk.mark();
+    }
+}
+
 /// The next frame of a walk over what a caller passes.
 pub fn next_frame_over<W: WalkRecord>(
     modules: &[ModuleView<'_>],
@@ -173,8 +191,14 @@ pub fn next_frame_over<W: WalkRecord>(
         Ok(modules) => modules,
         Err(error) => return number_of(&error),
     };
+    if walk.is_searched() {
+        return next_frame(&modules, &SearchedMemory::new(memory, pieces), walk);
+    }
     match MemoryList::new(memory, pieces) {
-        Ok(memory) => next_frame(&modules, &memory, walk),
+        Ok(memory) => {
+            mark_if(memory.is_ascending(), walk);
+            next_frame(&modules, &memory, walk)
+        }
         Err(error) => number_of(&error),
     }
 }
@@ -195,11 +219,16 @@ pub fn next_frames_over<W: WalkRecord>(
         Ok(modules) => modules,
         Err(error) => return number_of(&error),
     };
-    let memory = match MemoryList::new(memory, pieces) {
-        Ok(memory) => memory,
-        Err(error) => return number_of(&error),
+    let filled = if walk.is_searched() {
+        next_frames(&modules, &SearchedMemory::new(memory, pieces), walk, frames)
+    } else {
+        let memory = match MemoryList::new(memory, pieces) {
+            Ok(memory) => memory,
+            Err(error) => return number_of(&error),
+        };
+        mark_if(memory.is_ascending(), walk);
+        next_frames(&modules, &memory, walk, frames)
     };
-    let filled = next_frames(&modules, &memory, walk, frames);
     *count = filled as u64;
     if filled < frames.len() { NOTHING } else { DONE }
 }

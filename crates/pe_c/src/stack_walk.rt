@@ -63,8 +63,9 @@ pub struct StackWalk {
     pub end: u32,
     /// Of a walk that is over the number of the error, for records, a long chain and a step, else 0.
     pub error: u32,
-    /// 0.
-    pub spare: u32,
+    /// 1 where an earlier call of this walk found that the pieces of memory lie in `memory`, ascend and do not overlap: later calls
+    /// search them, and test only those that they read. 0 before the first call.
+    pub is_searched: u32,
 }
 
 /// Whether the function table of a module lies in its bytes.
@@ -349,6 +350,14 @@ impl WalkRecord for StackWalk {
         self.error = error;
         self.address = address.unwrap_or(0);
     }
+
+    fn is_searched(&self) -> bool {
+        self.is_searched != 0
+    }
+
+    fn mark(&mut self) {
+        self.is_searched = 1;
+    }
 }
 
 /// Returns the next frame of a stack walk on x64, in `walk`: the top frame as it is, and then the caller of each, as `StackFrames`
@@ -357,7 +366,13 @@ impl WalkRecord for StackWalk {
 /// The first module that has an address is that of the address: by binary search in modules in ascending order that do not overlap,
 /// in any others in turn. `memory` has the bytes of the stack, and `pieces` says where each is, as in `pe_c_step`.
 ///
-/// Errors, which change nothing: `SHORT` if the function table of a module does not lie in its bytes, or a piece not in `memory`.
+/// The first call of a walk tests all pieces. Where they are in ascending order and do not overlap it sets `is_searched` of the walk,
+/// also of one that is over, and later calls then find a piece by halving, and test only those that they read. The caller passes the
+/// same pieces in all calls of a walk: with others a word may be unknown, or be that of another piece than the first that has it, but
+/// no byte outside of `memory` is read.
+///
+/// Errors, which change nothing: `SHORT` if the function table of a module does not lie in its bytes, or, of a walk whose
+/// `is_searched` is 0, a piece not in `memory`.
 #[unsafe(no_mangle)]
 pub extern "C" fn pe_c_next_frame(
     modules: &[ModuleView<'_>],
@@ -375,7 +390,7 @@ pub extern "C" fn pe_c_next_frame(
 /// `count` to how many there are. `NOTHING` where the walk was over before all were filled; of an empty array all are filled, also
 /// where the walk is over.
 ///
-/// The modules and the pieces of memory are tested once a call.
+/// The modules are tested once a call, and the pieces of memory in the first of a walk.
 ///
 /// Errors, which change nothing: those of `pe_c_next_frame`.
 #[unsafe(no_mangle)]

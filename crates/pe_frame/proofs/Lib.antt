@@ -12,6 +12,8 @@ pub mod Begun
 pub mod PiecesShow
 pub mod ListsShow
 pub mod OnePiece
+pub mod Halving
+pub mod Searches
 pub mod NoCode
 pub mod FrameSteps
 pub mod OneShortPlan

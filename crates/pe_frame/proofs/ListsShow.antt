@@ -64,7 +64,7 @@ same_bytes : (f g : ℕ → Option ℕ) (a n : ℕ) → ((b : ℕ) → f b ≡ g
 same_bytes f g a zero same = refl
 same_bytes f g a (suc n) same = rw (same_bytes f g a n same, same (a + n)) refl
 
-same_word : (f g : ℕ → Option ℕ) (a : ℕ) → ((b : ℕ) → f b ≡ g b) → known_word f a ≡ known_word g a
+pub same_word : (f g : ℕ → Option ℕ) (a : ℕ) → ((b : ℕ) → f b ≡ g b) → known_word f a ≡ known_word g a
 same_word f g a same = rw (same_bytes f g a 8 same) refl
 
 pub word_of_its_pieces : (bytes : List ℕ) (listed : List MemoryPiece) (pieces : List Stack) (a : ℕ) → ArePieces bytes listed pieces → listed_word bytes listed a ≡ pieces_word pieces a

@@ -8,7 +8,7 @@ use Rattle.std.specs.Option.{is_none}
 use Rattle.std.specs.List.Sorted.{IsNonDecreasingBy}
 use Rattle.pe_core.proofs.Equality.{both}
 use Rattle.pe_core.proofs.Map.{found_passes}
-use Rattle.pe_frame.specs.AddressRanges.{has_address, FirstAscend, AreAscending, IsCountUpTo, Overlaps}
+use Rattle.pe_frame.specs.AddressRanges.{has_address, FirstAscend, AreAscending, IsCountUpTo, IsOverlap, Overlaps, rise_from}
 use Rattle.pe_frame.specs.Modules.{module_base, module_size}
 use Rattle.pe_frame.specs.declared.modules.Module.{Module}
 
@@ -147,6 +147,65 @@ module _ {X : Type 0} (start size : X → ℕ) (xs : List X) where
       λ d more. let same : i + 1 - 1 ≡ i = omega arith in rw (same, at i x d lt is) refl,
     ),
   )
+
+-- ---- the test of the order, as a definition
+
+module _ {X : Type 0} (start size : X → ℕ) where
+  -- ascending ranges pass it
+  passed_from : (end : ℕ) (xs : List X) → ((d : X) → 0 < length xs → end ≤ start (get_or xs 0 d)) → AreAscending start size xs → rise_from start size end xs ≡ true
+  unfolding rise_from
+  passed_from end [] first up = refl
+  passed_from end (x ∷ xs) first up =
+      let le : end ≤ start x = first x (omega arith) in
+      let here : nat_le end (start x) ≡ true = grind (arith, nat_tests) in
+      let rest : rise_from start size (start x + size x) xs ≡ true = passed_from (start x + size x) xs (λ d some. up 0 1 d (omega arith) (omega (arith, some))) (λ j k d less within. up (suc j) (suc k) d (omega (arith, less)) (omega (arith, within))) in
+      rw (here, rest) refl
+
+  -- ranges that pass it start at or after the address
+  starts_from : (end k : ℕ) (xs : List X) (d : X) → rise_from start size end xs ≡ true → k < length xs → end ≤ start (get_or xs k d)
+  unfolding rise_from
+  starts_from end k [] d t lt = absurd (omega (arith, lt))
+  starts_from end zero (x ∷ xs) d t lt =
+      let tests = both (nat_le end (start x)) (rise_from start size (start x + size x) xs) t in
+      let here = tests.0 in
+      grind (arith, nat_tests)
+  starts_from end (suc k) (x ∷ xs) d t lt =
+      let tests = both (nat_le end (start x)) (rise_from start size (start x + size x) xs) t in
+      let here = tests.0 in
+      let le : end ≤ start x = grind (arith, nat_tests) in
+      let more = starts_from (start x + size x) k xs d tests.1 (omega (arith, lt)) in
+      omega (arith, le, more)
+
+  -- they ascend
+  ascends_from : (end : ℕ) (xs : List X) → rise_from start size end xs ≡ true → AreAscending start size xs
+  unfolding rise_from
+  ascends_from end [] t j k d less lt = absurd (omega (arith, lt))
+  ascends_from end (x ∷ xs) t j zero d less lt = absurd (omega (arith, less))
+  ascends_from end (x ∷ xs) t zero (suc k) d less lt =
+      let tests = both (nat_le end (start x)) (rise_from start size (start x + size x) xs) t in
+      starts_from (start x + size x) k xs d tests.1 (omega (arith, lt))
+  ascends_from end (x ∷ xs) t (suc j) (suc k) d less lt =
+      let tests = both (nat_le end (start x)) (rise_from start size (start x + size x) xs) t in
+      ascends_from (start x + size x) xs tests.1 j k d (omega (arith, less)) (omega (arith, lt))
+
+  pub test_passed : (xs : List X) → AreAscending start size xs → rise_from start size 0 xs ≡ true
+  test_passed xs up = passed_from 0 xs (λ d some. omega arith) up
+
+  pub test_ascends : (xs : List X) → rise_from start size 0 xs ≡ true → AreAscending start size xs
+  test_ascends xs t = ascends_from 0 xs t
+
+  failed_by : (xs : List X) (i : ℕ) (t : Bool) → IsOverlap start size xs i → rise_from start size 0 xs ≡ t → false ≡ t
+  failed_by xs i false overlap is = refl
+  failed_by [] i true overlap is = absurd (omega (arith, overlap.within))
+  failed_by (x ∷ xs) i true overlap is =
+      let le = test_ascends (x ∷ xs) is (i - 1) i x (omega (arith, overlap.after)) overlap.within in
+      let lt = overlap.overlaps x in
+      absurd (omega (arith, le, lt))
+
+  -- the search for an overlap decides it
+  pub decided : (xs : List X) (overlap : Option ℕ) → Overlaps start size xs overlap → is_none overlap ≡ rise_from start size 0 xs
+  decided xs None up = sym (test_passed xs up)
+  decided xs (Some i) overlap = failed_by xs i (rise_from start size 0 xs) overlap refl
 
 -- ---- modules
 

@@ -2,6 +2,7 @@ pub mod AddressRanges
 pub mod Memory
 pub mod MemoryPieces
 pub mod MemoryLists
+pub mod SearchedMemory
 pub mod Undoing
 pub mod Steps
 pub mod InPlace

@@ -1,10 +1,10 @@
 -- Memory by a list of its pieces in some bytes, as those of a minidump file.
-use Rattle.std.specs.Prelude.{◌≡◌, ℕ, ◌+◌, ◌-◌, ◌<◌, ◌≤◌, Bool, List, [], ◌∷◌, length, slice_index, Option, Result}
+use Rattle.std.specs.Prelude.{◌≡◌, ℕ, ◌+◌, ◌-◌, ◌<◌, ◌≤◌, ◌^◌, ◌&&◌, nat_le, Bool, List, [], ◌∷◌, length, slice_index, Option, Result}
 use Rattle.std.specs.List.{find, list_all, list_any, AllByRecursion}
 use Rattle.std.specs.Option.{option_map}
 use Rattle.pe_core.specs.Bytes.{holds, range}
 use Rattle.pe_core.specs.Refusals.{Refusal, Short, outcome}
-use Rattle.pe_frame.specs.AddressRanges.{has_address}
+use Rattle.pe_frame.specs.AddressRanges.{has_address, rise_from}
 use Rattle.pe_frame.specs.MemoryPieces.{known_word}
 use Rattle.pe_frame.specs.declared.memory.Stack.{Stack}
 use Rattle.pe_frame.specs.declared.memory_list.MemoryPiece.{MemoryPiece}
@@ -17,9 +17,17 @@ are_inside bytes pieces = list_all (λ p. holds bytes p.offset p.length) pieces
 abbrev pub memory_of : List ℕ → List MemoryPiece → Result (List ℕ × List MemoryPiece) Refusal
 memory_of bytes pieces = outcome ((are_inside bytes pieces, Short) ∷ []) (bytes, pieces)
 
+-- the test whether the pieces are in ascending order and do not overlap
+abbrev pub ascend : List MemoryPiece → Bool
+ascend pieces = rise_from (λ p. p.start) (λ p. p.length) 0 pieces
+
 -- a piece has a byte at this address
 abbrev pub lists_byte : ℕ → MemoryPiece → Bool
 lists_byte a p = has_address (λ q. q.start) (λ q. q.length) a p
+
+-- a piece that has a byte at this address has the eight from there on, of which none passes the last address
+abbrev pub has_word : ℕ → MemoryPiece → Bool
+has_word a p = nat_le (a + 8) (2 ^ 64) && nat_le (a + 8) (p.start + p.length)
 
 -- the byte at an address, of the first piece that has one there
 abbrev pub listed_byte : List ℕ → List MemoryPiece → ℕ → Option ℕ

@@ -64,7 +64,7 @@ pub(crate) fn range_with<R: AddressRange>(ranges: &[R], address: u64) -> Option<
 }
 
 /// Whether a range has an address.
-fn has_address<R: AddressRange>(range: &R, address: u64) -> bool
+pub(crate) fn has_address<R: AddressRange>(range: &R, address: u64) -> bool
     ensures { result ≡ has_address R.start_of R.size_of address range.now }
 {
     range.start() <= address && address - range.start() < range.size()

@@ -6,14 +6,16 @@ pub mod constants;
 pub mod jumps;
 pub mod walks;
 
-ghost use Rattle.std.specs.Prelude.{◌≡◌, ℕ, ◌+◌, ◌-◌, ◌^◌, ◌<◌, ◌≤◌, length, slice_index, true, List, Option, None, Some, Result, Ok, [], ◌∷◌};
+ghost use Rattle.std.specs.Prelude.{◌≡◌, ◌↔◌, ℕ, ◌+◌, ◌-◌, ◌^◌, ◌<◌, ◌≤◌, length, slice_index, true, List, Option, None, Some, Result, Ok, [], ◌∷◌};
 ghost use Rattle.pe_core.specs.Traits.{IsEquality};
 ghost use Rattle.pe_unwind.specs.UnwindRecord.{UnwindInfoView};
 ghost use Rattle.pe_frame.specs.declared.error.FrameError.{FrameError};
 ghost use Rattle.pe_frame.specs.declared.registers.Registers.{Registers};
 ghost use Rattle.pe_frame.specs.Memory.{stack_word};
 ghost use Rattle.pe_frame.specs.MemoryPieces.{ArePiecesOf, have_byte, pieces_word};
-ghost use Rattle.pe_frame.specs.MemoryLists.{AreListed, ArePieces, list_byte, listed_word};
+ghost use Rattle.pe_frame.specs.AddressRanges.{AreAscending};
+ghost use Rattle.pe_frame.specs.MemoryLists.{AreListed, ArePieces, are_inside, ascend, list_byte, listed_word};
+ghost use Rattle.pe_frame.specs.SearchedMemory.{searched_word};
 ghost use Rattle.pe_frame.specs.declared.memory.Stack.{Stack};
 ghost use Rattle.pe_frame.specs.declared.memory_list.MemoryPiece.{MemoryPiece};
 ghost use Rattle.pe_frame.specs.Machine.{loaded};
@@ -168,6 +170,16 @@ pub fn memory_lists_show_memory()
         a + 8 ≤ 2 ^ 64 → listed_word bytes pieces a ≡ Some (loaded memory a) }
     ensures pieces { (bytes : List ℕ) (listed : List MemoryPiece) (pieces : List Stack) (a : ℕ) →
         ArePieces bytes listed pieces → listed_word bytes listed a ≡ pieces_word pieces a }
+{}
+
+/// Memory that is searched is the memory of the list, where its pieces lie in the bytes, are in ascending order and do not overlap
+/// (`words`). The test of their order decides the latter (`order`).
+pub fn searched_memory_is_listed()
+    ensures words { (bytes : List ℕ) (pieces : List MemoryPiece) (a : ℕ) →
+        are_inside bytes pieces ≡ true → ascend pieces ≡ true →
+        searched_word bytes pieces a ≡ listed_word bytes pieces a }
+    ensures order { (pieces : List MemoryPiece) →
+        ((ascend pieces ≡ true) ↔ AreAscending (λ p. p.start) (λ p. p.length) pieces) }
 {}
 
 /// There are such frames: of a part in the body of a function, of one with a frame register, after its prolog and inside of

@@ -32,6 +32,7 @@ mod process;
 mod record;
 mod registers;
 mod scan;
+mod searched_memory;
 mod undo;
 mod walk;
 
@@ -51,4 +52,5 @@ pub use modules::{Module, ModuleOrder, Modules};
 pub use position::{WalkFrame, WalkPosition};
 pub use process::{CallSites, LoadedModules};
 pub use registers::Registers;
+pub use searched_memory::SearchedMemory;
 pub use walk::{StackFrame, StackFrames, WalkEnd, Way, caller_in_module, caller_outside};

@@ -7,7 +7,7 @@ ghost use Rattle.std.specs.List.{find};
 ghost use Rattle.pe_core.specs.Bytes.{holds, le};
 ghost use Rattle.pe_core.specs.Refusals.{Short, answer_by, answer_of, outcome};
 ghost use Rattle.pe_frame.specs.AddressRanges.{AreAscending};
-ghost use Rattle.pe_frame.specs.MemoryLists.{are_inside, listed_byte, lists_byte, memory_of};
+ghost use Rattle.pe_frame.specs.MemoryLists.{are_inside, ascend, has_word, listed_byte, lists_byte, memory_of};
 ghost use Rattle.pe_frame.specs.declared.memory_list.MemoryPiece.{MemoryPiece};
 
 use crate::address_ranges::{AddressRange, first_overlap, first_with, range_with};
@@ -50,6 +50,7 @@ pub struct MemoryList<'a> {
     /// Whether they are in ascending order and do not overlap.
     is_ascending: bool,
     ghost ascending: { IsTrue is_ascending → AreAscending (λ p. p.start) (λ p. p.length) pieces.now },
+    ghost tested: { is_ascending ≡ ascend pieces.now },
     ghost inside: { IsTrue (are_inside bytes.now pieces.now) },
 }
 
@@ -78,6 +79,13 @@ impl<'a> MemoryList<'a> {
         })
     }
 
+    /// Whether the pieces are in ascending order and do not overlap.
+    pub fn is_ascending(&self) -> bool
+        ensures { result ≡ ascend self.now.pieces.now }
+    {
+        self.is_ascending
+    }
+
     /// The first piece that has a byte at an address.
     fn piece_at(&self, address: u64) -> Option<&'a MemoryPiece>
         ensures { option_map (λ p. p.now) result ≡ find (lists_byte address) self.now.pieces.now }
@@ -98,7 +106,7 @@ fn index_of(bytes: &[u8], piece: &MemoryPiece, address: u64) -> usize
 }
 
 /// The byte of a piece at an address that it has.
-fn byte_of(bytes: &[u8], piece: &MemoryPiece, address: u64) -> Option<u8>
+pub(crate) fn byte_of(bytes: &[u8], piece: &MemoryPiece, address: u64) -> Option<u8>
     requires has { IsTrue (lists_byte address piece.now) }
     requires inside { IsTrue (holds bytes.now piece.now.offset piece.now.length) }
     ensures { result ≡ Some (slice_index bytes.now (piece.now.offset + (address - piece.now.start))) }
@@ -118,16 +126,16 @@ impl<'a> KnownBytes for MemoryList<'a> {
 }
 
 /// Whether a piece that has a byte at an address has the eight from there on.
-fn has_word(piece: &MemoryPiece, address: u64) -> bool
+pub(crate) fn has_word(piece: &MemoryPiece, address: u64) -> bool
     requires { IsTrue (lists_byte address piece.now) }
-    ensures { IsTrue result → (address + 8 ≤ piece.now.start + piece.now.length) × (address + 8 ≤ 2 ^ 64) }
+    ensures { result ≡ has_word address piece.now }
 {
     address <= u64::MAX - (SIZE_OF_WORD - 1)
         && piece.length - (address - piece.start) >= SIZE_OF_WORD
 }
 
 /// The number of the eight bytes of a piece from an address on.
-fn word_of(bytes: &[u8], piece: &MemoryPiece, address: u64) -> Option<u64>
+pub(crate) fn word_of(bytes: &[u8], piece: &MemoryPiece, address: u64) -> Option<u64>
     requires has { IsTrue (lists_byte address piece.now) }
     requires whole { address + 8 ≤ piece.now.start + piece.now.length }
     requires inside { IsTrue (holds bytes.now piece.now.offset piece.now.length) }

@@ -34,8 +34,8 @@ pub struct Arm64StackWalk {
     pub end: u32,
     /// Of a walk that is over the number of the error, for records and a step, else 0.
     pub error: u32,
-    /// 0.
-    pub spare: u32,
+    /// 1 where the pieces of memory are searched, as in `StackWalk`.
+    pub is_searched: u32,
 }
 
 /// Writes a frame to a walk.
@@ -78,6 +78,14 @@ impl WalkRecord for Arm64StackWalk {
         self.end = number_of_end(end);
         self.error = error;
         self.address = address.unwrap_or(0);
+    }
+
+    fn is_searched(&self) -> bool {
+        self.is_searched != 0
+    }
+
+    fn mark(&mut self) {
+        self.is_searched = 1;
     }
 }
 

@@ -1,8 +1,8 @@
-use Rattle.std.proofs.Common.{◌≡◌, rules, Bool, true, false, [], ◌∷◌, Ok, refl, sym}
+use Rattle.std.proofs.Common.{◌≡◌, ◌∙◌, rules, Bool, true, false, [], ◌∷◌, Ok, refl, sym}
 use Rattle.std.specs.Option.{is_none}
 use Rattle.pe_core.specs.Refusals.{Short, outcome}
 use Rattle.pe_frame.specs.MemoryLists.{are_inside}
-use Rattle.pe_frame.proofs.Lookups.{ascends}
+use Rattle.pe_frame.proofs.Lookups.{ascends, decided}
 use Rattle.pe_frame.proofs.memory_list.MemoryList.new.Goals as goal
 
 passed : (t : Bool) (x : Unit {0}) → outcome ((t, Short) ∷ []) x ≡ Ok x → t ≡ true
@@ -15,5 +15,8 @@ invariant_of-result c =
       ascending = λ is.
           let none : is_none c.first_overlap.result ≡ true = search rules in
           ascends (λ p. p.start) (λ p. p.length) c.args.pieces.now c.first_overlap.result c.first_overlap.ensures none;
+      tested =
+          let none : c.is_none-is_ascending.result ≡ is_none c.first_overlap.result = search rules in
+          none ∙ decided (λ p. p.start) (λ p. p.length) c.args.pieces.now c.first_overlap.result c.first_overlap.ensures;
       inside = passed (are_inside c.args.bytes.now c.args.pieces.now) tt (sym c.in_ok-require_inside.ensures);
     }

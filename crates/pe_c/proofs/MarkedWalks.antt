@@ -1,0 +1,126 @@
+-- Walks with the mark that their pieces of memory were tested: over the same memory a call returns the same, up to the mark.
+use Rattle.std.proofs.Common.{◌≡◌, ◌↔◌, ℕ, zero, suc, Bool, true, false, List, Option, Result, Ok, Err, refl, ap, sym, ◌∙◌, subst}
+use Rattle.std.specs.List.{list_all}
+use Rattle.pe_core.specs.Refusals.{Refusal}
+use Rattle.pe_frame.specs.FrameWalks.{Follows, FrameWalk, Process}
+use Rattle.pe_frame.specs.MemoryLists.{are_inside, ascend, listed_word, memory_of}
+use Rattle.pe_frame.specs.SearchedMemory.{searched_word}
+use Rattle.pe_frame.specs.declared.memory_list.MemoryPiece.{MemoryPiece}
+use Rattle.pe_frame.specs.declared.walk.WalkEnd.{WalkEnd}
+use Rattle.pe_frame.proofs.Searches.{words_listed}
+use Rattle.pe_c.specs.FrameCalls.{HandsOutBy, HandsOutFound, HandsOutNext, OverMemory, OverModules, OverProcess, WalkRecords, marked_if, state_in}
+use Rattle.pe_c.specs.StackFrames.{OverPieces}
+use Rattle.pe_c.specs.WalkModules.{has_table, modules_of, viewed}
+use Rattle.pe_c.specs.declared.stack_walk.ModuleView.{ModuleView}
+
+-- what the mark leaves: it is no part of the walk that a record stands for, and stays
+pub record KeepMarks {W F : Type 0} (m : WalkRecords W F) : Type 0 where
+  pub has : (w : W) → m.is_searched (m.marked w) ≡ true
+  pub twice : (w : W) → m.marked (m.marked w) ≡ m.marked w
+  pub left : (w : W) → m.remaining (m.marked w) ≡ m.remaining w
+  pub frame : (w : W) → m.frame (m.marked w) ≡ m.frame w
+  pub state : (p : Process) (w : W) → state_in m p (m.marked w) ≡ state_in m p w
+  pub framed : (w : W) (s : F) → m.after_frame (m.marked w) s ≡ m.marked (m.after_frame w s)
+  pub ended : (w : W) (e : WalkEnd) → m.after_end (m.marked w) e ≡ m.marked (m.after_end w e)
+
+-- pieces that lie in the memory
+pub pieces_there : (memory : List ℕ) (pieces : List MemoryPiece) → are_inside memory pieces ≡ true → memory_of memory pieces ≡ Ok (memory, pieces)
+pieces_there memory pieces inside = rw inside refl
+
+-- modules whose tables lie in their bytes
+pub views_there : (views : List ModuleView) → list_all has_table views ≡ true → viewed views ≡ Ok views
+views_there views tables = rw tables refl
+
+-- ---- the mark changes nothing
+
+module _ {W F : Type 0} (m : WalkRecords W F) (keep : KeepMarks m) (number : ℕ) (views : List ModuleView) (memory : List ℕ) (pieces : List MemoryPiece) (w : W) (steps : Process → W → Type 0) (tables : list_all has_table views ≡ true) (inside : are_inside memory pieces ≡ true) (up : ascend pieces ≡ true) (unmarked : m.is_searched w ≡ false) where
+  abbrev over : (ℕ → Option ℕ) → W → Type 0
+  over word = steps (record { memory = word; modules = modules_of views })
+
+  abbrev by_views : Type 0 → W → Result (List ModuleView) Refusal → Type 0
+  by_views unchanged v =
+      OverModules unchanged number (λ modules. OverMemory m (m.is_searched v) unchanged number memory pieces v (λ word. steps (record { memory = word; modules = modules })))
+
+  abbrev by_mark : Type 0 → W → Bool → Type 0
+  by_mark unchanged v b = OverMemory m b unchanged number memory pieces v over
+
+  abbrev by_pieces : Type 0 → Result (List ℕ × List MemoryPiece) Refusal → Type 0
+  by_pieces unchanged = OverPieces unchanged number (λ word. over word (marked_if m (ascend pieces) w))
+
+  from_marked : (unchanged : Type 0) → OverProcess m unchanged number views memory pieces (m.marked w) steps → over (listed_word memory pieces) (m.marked w)
+  from_marked unchanged given =
+      let it = subst (by_views unchanged (m.marked w)) (views_there views tables) given in
+      let searched = subst (by_mark unchanged (m.marked w)) (keep.has w) it in
+      subst (λ (word : ℕ → Option ℕ). over word (m.marked w)) (words_listed memory pieces inside up) searched
+
+  to_marked : (unchanged : Type 0) → over (listed_word memory pieces) (m.marked w) → OverProcess m unchanged number views memory pieces (m.marked w) steps
+  to_marked unchanged given =
+      let searched = subst (λ (word : ℕ → Option ℕ). over word (m.marked w)) (sym (words_listed memory pieces inside up)) given in
+      let it = subst (by_mark unchanged (m.marked w)) (sym (keep.has w)) searched in
+      subst (by_views unchanged (m.marked w)) (sym (views_there views tables)) it
+
+  from_unmarked : (unchanged : Type 0) → OverProcess m unchanged number views memory pieces w steps → over (listed_word memory pieces) (m.marked w)
+  from_unmarked unchanged given =
+      let it = subst (by_views unchanged w) (views_there views tables) given in
+      let tested = subst (by_mark unchanged w) unmarked it in
+      let listed = subst (by_pieces unchanged) (pieces_there memory pieces inside) tested in
+      subst (λ (b : Bool). over (listed_word memory pieces) (marked_if m b w)) up listed
+
+  to_unmarked : (unchanged : Type 0) → over (listed_word memory pieces) (m.marked w) → OverProcess m unchanged number views memory pieces w steps
+  to_unmarked unchanged given =
+      let listed = subst (λ (b : Bool). over (listed_word memory pieces) (marked_if m b w)) (sym up) given in
+      let tested = subst (by_pieces unchanged) (sym (pieces_there memory pieces inside)) listed in
+      let it = subst (by_mark unchanged w) (sym unmarked) tested in
+      subst (by_views unchanged w) (sym (views_there views tables)) it
+
+  pub same_over : (unchanged other : Type 0) → (OverProcess m unchanged number views memory pieces (m.marked w) steps ↔ OverProcess m other number views memory pieces w steps)
+  same_over unchanged other = (λ given. to_unmarked other (from_marked unchanged given), λ given. to_marked unchanged (from_unmarked other given))
+
+-- ---- a call for a walk with the mark and without it
+
+module _ {W F : Type 0} (Calls : Process → F → Result F WalkEnd → Type 0) (m : WalkRecords W F) (keep : KeepMarks m) (p : Process) (number : ℕ) where
+  found_up : (old new : W) (found : Result F WalkEnd) → HandsOutFound Calls m number old new found → HandsOutFound Calls m number (m.marked old) (m.marked new) found
+  found_up old new (Ok s) h = (h.0, ap m.marked h.1 ∙ sym (keep.framed old s), keep.frame new ∙ h.2)
+  found_up old new (Err e) h = (h.0, ap m.marked h.1 ∙ sym (keep.ended old e))
+
+  up_by : (n : ℕ) (old new : W) → HandsOutBy Calls m n p number old new → HandsOutBy Calls m n p number (m.marked old) (m.marked new)
+  up_by zero old new h = (h.0, ap m.marked h.1)
+  up_by (suc n) old new h = (
+    h.0,
+    subst (λ (v : FrameWalk Process F). Follows Calls v h.0) (sym (keep.state p old)) h.1,
+    found_up old new h.0 h.2,
+  )
+
+  with_mark : (old new : W) → HandsOutNext Calls m p number old new → HandsOutNext Calls m p number (m.marked old) (m.marked new)
+  with_mark old new h =
+      subst (λ (n : ℕ). HandsOutBy Calls m n p number (m.marked old) (m.marked new)) (sym (keep.left old)) (up_by (m.remaining old) old new h)
+
+  abbrev IsLike : (W → Type 0) → W → Type 0
+  IsLike Is new = (other : W) × Is other × (m.marked other ≡ m.marked new)
+
+  like : (old new made : W) → new ≡ m.marked made → m.marked made ≡ m.marked new
+  like old new made is = sym (ap m.marked is ∙ keep.twice made)
+
+  found_down : (old new : W) (found : Result F WalkEnd) → HandsOutFound Calls m number (m.marked old) new found → IsLike (λ other. HandsOutFound Calls m number old other found) new
+  found_down old new (Ok s) h =
+      let is : new ≡ m.marked (m.after_frame old s) = h.1 ∙ keep.framed old s in
+      (m.after_frame old s, (h.0, refl, sym (keep.frame (m.after_frame old s)) ∙ (sym (ap m.frame is) ∙ h.2)), like old new (m.after_frame old s) is)
+  found_down old new (Err e) h =
+      let is : new ≡ m.marked (m.after_end old e) = h.1 ∙ keep.ended old e in
+      (m.after_end old e, (h.0, refl), like old new (m.after_end old e) is)
+
+  down_by : (n : ℕ) (old new : W) → HandsOutBy Calls m n p number (m.marked old) new → IsLike (λ other. HandsOutBy Calls m n p number old other) new
+  down_by zero old new h = (old, (h.0, refl), like old new old h.1)
+  down_by (suc n) old new h =
+      let it = found_down old new h.0 h.2 in
+      (it.0, (h.0, subst (λ (v : FrameWalk Process F). Follows Calls v h.0) (keep.state p old) h.1, it.1), it.2)
+
+  without_mark : (old new : W) → HandsOutNext Calls m p number (m.marked old) new → IsLike (λ other. HandsOutNext Calls m p number old other) new
+  without_mark old new h =
+      down_by (m.remaining old) old new (subst (λ (n : ℕ). HandsOutBy Calls m n p number (m.marked old) new) (keep.left old) h)
+
+  pub by_either : (b c : Bool) (old new : W) → HandsOutNext Calls m p number (marked_if m b old) new → IsLike (λ other. HandsOutNext Calls m p number (marked_if m c old) other) new
+  by_either true true old new h = (new, h, refl)
+  by_either false false old new h = (new, h, refl)
+  by_either true false old new h = without_mark old new h
+  by_either false true old new h = (m.marked new, with_mark old new h, keep.twice new)

@@ -1,0 +1,9 @@
+use Rattle.pe_frame.proofs.Lookups.{test_ascends, test_passed}
+use Rattle.pe_frame.proofs.Searches.{word_listed}
+use Rattle.pe_frame.proofs.laws.searched_memory_is_listed.Goals as goal
+
+pub returns-clause-words : goal.returns-clause-words
+returns-clause-words c bytes pieces a inside up = word_listed bytes pieces a (test_ascends (λ p. p.start) (λ p. p.length) pieces up) inside
+
+pub returns-clause-order : goal.returns-clause-order
+returns-clause-order c pieces = (test_ascends (λ p. p.start) (λ p. p.length) pieces, test_passed (λ p. p.start) (λ p. p.length) pieces)

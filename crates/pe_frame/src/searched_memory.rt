@@ -1,0 +1,137 @@
+//! Memory by a list of its pieces that is not tested first. [`MemoryList`](crate::MemoryList) tests all pieces when it is made: that
+//! they lie in the bytes, and whether they ascend. Once it has said that they do, a caller that comes back with the same pieces for
+//! each frame of a walk need not have them tested again: here a piece is found by halving, and tested as it is used, so that n frames
+//! over m pieces take n log m steps in place of n m.
+//!
+//! Nothing has to be believed of the list. In ascending pieces that lie in the bytes the memory is that of `MemoryList`. In any
+//! others a byte is one of some piece that has its address and lies in the bytes, or it is unknown.
+
+ghost use Rattle.std.specs.Prelude.{◌≡◌, ◌+◌, ◌-◌, ◌<◌, ◌≤◌, ◌^◌, length};
+ghost use Rattle.std.specs.Option.{option_map};
+ghost use Rattle.pe_core.specs.Bytes.{holds};
+ghost use Rattle.pe_frame.specs.AddressRanges.{start_by, started};
+ghost use Rattle.pe_frame.specs.SearchedMemory.{no_piece, piece_shown, pieces_started, searched_byte, shows_byte};
+
+use crate::address_ranges::has_address;
+use crate::memory::{KnownBytes, Memory, known_word};
+use crate::memory_list::{MemoryPiece, byte_of, has_word, word_of};
+
+/// Memory by a list of its pieces in some bytes, of which none was tested. The piece for an address is the last that starts at or
+/// before it, as a search by halving finds it; it counts if it has the address and lies in the bytes. Nothing is copied.
+#[derive(Clone, Copy, Debug)]
+pub struct SearchedMemory<'a> {
+    bytes: &'a [u8],
+    pieces: &'a [MemoryPiece],
+}
+
+/// How many bits a number has.
+fn bits_of(number: usize) -> u32
+    ensures enough { number < 2 ^ result }
+    ensures most { result ≤ 64 }
+{
+    usize::BITS - number.leading_zeros()
+}
+
+/// A power of two.
+#[tactic(auto, using(crate::proofs::Halving::shifted))]
+fn power_of_two(bits: u32) -> usize
+    requires { bits < 64 }
+    ensures { result ≡ 2 ^ bits }
+{
+    1 << bits
+}
+
+/// Whether there are so many pieces, and the last of them starts at or before an address.
+fn start_by(pieces: &[MemoryPiece], address: u64, count: usize) -> bool
+    requires { 0 < count }
+    ensures { result ≡ start_by (λ p. p.start) no_piece pieces.now address count }
+{
+    count <= pieces.len() && pieces[count - 1].start <= address
+}
+
+/// How many pieces start at or before an address, where they are sorted.
+fn pieces_started(pieces: &[MemoryPiece], address: u64) -> usize
+    ensures count { result ≡ pieces_started pieces.now address }
+    ensures most { result ≤ length pieces.now }
+{
+    let mut count = 0;
+    let mut bits = bits_of(pieces.len());
+    while bits > 0 {
+        bits -= 1;
+        let more = count + power_of_two(bits);
+        if start_by(pieces, address, more) {
+            count = more;
+        }
+    }
+    count
+}
+
+/// Whether a piece lies in the bytes.
+fn lies_in(bytes: &[u8], piece: &MemoryPiece) -> bool
+    ensures { result ≡ holds bytes.now piece.now.offset piece.now.length }
+{
+    let length = bytes.len() as u64;
+    piece.length <= length && piece.offset <= length - piece.length
+}
+
+/// Whether a piece has a byte at an address, and lies in the bytes.
+fn shows_byte(bytes: &[u8], piece: &MemoryPiece, address: u64) -> bool
+    ensures { result ≡ shows_byte bytes.now address piece.now }
+{
+    has_address(piece, address) && lies_in(bytes, piece)
+}
+
+impl<'a> SearchedMemory<'a> {
+    /// Memory by a list of its pieces in these bytes. No piece is tested.
+    pub fn new(bytes: &'a [u8], pieces: &'a [MemoryPiece]) -> SearchedMemory<'a>
+        ensures bytes { result.bytes.now ≡ bytes.entry.now }
+        ensures pieces { result.pieces.now ≡ pieces.entry.now }
+    {
+        SearchedMemory { bytes, pieces }
+    }
+
+    /// The piece that has a byte at an address.
+    #[tactic(auto, unfolding(crate::specs::SearchedMemory::piece_shown))]
+    fn piece_at(&self, address: u64) -> Option<&'a MemoryPiece>
+        ensures { option_map (λ p. p.now) result
+            ≡ piece_shown self.now.bytes.now self.now.pieces.now address }
+    {
+        let count = pieces_started(self.pieces, address);
+        if count == 0 {
+            return None;
+        }
+        let piece = &self.pieces[count - 1];
+        if shows_byte(self.bytes, piece, address) {
+            Some(piece)
+        } else {
+            None
+        }
+    }
+}
+
+impl<'a> KnownBytes for SearchedMemory<'a> {
+    ghost byte = { λ s. searched_byte s.bytes.now s.pieces.now };
+
+    fn byte_at(&self, address: u64) -> Option<u8> {
+        match self.piece_at(address) {
+            Some(piece) => byte_of(self.bytes, piece, address),
+            None => None,
+        }
+    }
+}
+
+impl<'a> Memory for SearchedMemory<'a> {
+    ghost use Rattle.pe_frame.specs.SearchedMemory.{searched_word};
+
+    ghost word = { λ s. searched_word s.bytes.now s.pieces.now };
+
+    /// One search finds a word that stands in one piece.
+    fn u64_at(&self, address: u64) -> Option<u64> {
+        if let Some(piece) = self.piece_at(address) {
+            if has_word(piece, address) {
+                return word_of(self.bytes, piece, address);
+            }
+        }
+        known_word(self, address)
+    }
+}
