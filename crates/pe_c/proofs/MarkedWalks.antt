@@ -8,7 +8,7 @@ use Rattle.pe_frame.specs.SearchedMemory.{searched_word}
 use Rattle.pe_frame.specs.declared.memory_list.MemoryPiece.{MemoryPiece}
 use Rattle.pe_frame.specs.declared.walk.WalkEnd.{WalkEnd}
 use Rattle.pe_frame.proofs.Searches.{words_listed}
-use Rattle.pe_c.specs.FrameCalls.{HandsOutBy, HandsOutFound, HandsOutNext, OverMemory, OverModules, OverProcess, WalkRecords, marked_if, state_in}
+use Rattle.pe_c.specs.FrameCalls.{HandsOutBy, HandsOutFound, HandsOutNext, OverMemory, OverModules, OverProcess, WalkRecords, is_set, marked_if, state_in}
 use Rattle.pe_c.specs.StackFrames.{OverPieces}
 use Rattle.pe_c.specs.WalkModules.{has_table, modules_of, viewed}
 use Rattle.pe_c.specs.declared.stack_walk.ModuleView.{ModuleView}
@@ -31,9 +31,12 @@ pieces_there memory pieces inside = rw inside refl
 pub views_there : (views : List ModuleView) → list_all has_table views ≡ true → viewed views ≡ Ok views
 views_there views tables = rw tables refl
 
+pub unmarked : (n : ℕ) → n ≡ 0 → is_set n ≡ false
+unmarked n none = rw none refl
+
 -- ---- the mark changes nothing
 
-module _ {W F : Type 0} (m : WalkRecords W F) (keep : KeepMarks m) (number : ℕ) (views : List ModuleView) (memory : List ℕ) (pieces : List MemoryPiece) (w : W) (steps : Process → W → Type 0) (tables : list_all has_table views ≡ true) (inside : are_inside memory pieces ≡ true) (up : ascend pieces ≡ true) (unmarked : m.is_searched w ≡ false) where
+module _ {W F : Type 0} (m : WalkRecords W F) (keep : KeepMarks m) (number : ℕ) (views : List ModuleView) (memory : List ℕ) (pieces : List MemoryPiece) (w : W) (steps : Process → W → Type 0) (tables : list_all has_table views ≡ true) (inside : are_inside memory pieces ≡ true) (up : ascend pieces ≡ true) (without : m.is_searched w ≡ false) where
   abbrev over : (ℕ → Option ℕ) → W → Type 0
   over word = steps (record { memory = word; modules = modules_of views })
 
@@ -62,7 +65,7 @@ module _ {W F : Type 0} (m : WalkRecords W F) (keep : KeepMarks m) (number : ℕ
   from_unmarked : (unchanged : Type 0) → OverProcess m unchanged number views memory pieces w steps → over (listed_word memory pieces) (m.marked w)
   from_unmarked unchanged given =
       let it = subst (by_views unchanged w) (views_there views tables) given in
-      let tested = subst (by_mark unchanged w) unmarked it in
+      let tested = subst (by_mark unchanged w) without it in
       let listed = subst (by_pieces unchanged) (pieces_there memory pieces inside) tested in
       subst (λ (b : Bool). over (listed_word memory pieces) (marked_if m b w)) up listed
 
@@ -70,7 +73,7 @@ module _ {W F : Type 0} (m : WalkRecords W F) (keep : KeepMarks m) (number : ℕ
   to_unmarked unchanged given =
       let listed = subst (λ (b : Bool). over (listed_word memory pieces) (marked_if m b w)) (sym up) given in
       let tested = subst (by_pieces unchanged) (sym (pieces_there memory pieces inside)) listed in
-      let it = subst (by_mark unchanged w) (sym unmarked) tested in
+      let it = subst (by_mark unchanged w) (sym without) tested in
       subst (by_views unchanged w) (sym (views_there views tables)) it
 
   pub same_over : (unchanged other : Type 0) → (OverProcess m unchanged number views memory pieces (m.marked w) steps ↔ OverProcess m other number views memory pieces w steps)

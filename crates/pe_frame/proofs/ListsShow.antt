@@ -13,7 +13,7 @@ use Rattle.pe_frame.proofs.PiecesShow.{first_shown, word_known}
 
 -- ---- a machine's memory
 
-byte_here : (memory : ℕ → ℕ) (bytes : List ℕ) (b : ℕ) (p : MemoryPiece) → ((i : ℕ) → i < p.length → get_or bytes (p.offset + i) 0 ≡ memory (p.start + i)) → lists_byte b p ≡ true → get_or bytes (p.offset + (b - p.start)) 0 ≡ memory b
+pub byte_here : (memory : ℕ → ℕ) (bytes : List ℕ) (b : ℕ) (p : MemoryPiece) → ((i : ℕ) → i < p.length → get_or bytes (p.offset + i) 0 ≡ memory (p.start + i)) → lists_byte b p ≡ true → get_or bytes (p.offset + (b - p.start)) 0 ≡ memory b
 byte_here memory bytes b p shows has =
     let within = is_within p.start p.length b has in
     let same : p.start + (b - p.start) ≡ b = omega (arith, within.0) in

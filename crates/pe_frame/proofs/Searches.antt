@@ -1,21 +1,25 @@
 -- Memory that is searched is that of the list of its pieces, where they ascend.
-use Rattle.std.proofs.Common.{◌≡◌, ℕ, zero, suc, ◌+◌, ◌-◌, ◌<◌, ◌≤◌, Bool, true, false, cond, inl, inr, nat_eq, List, length, Option, Some, None, get_or, refl, ap, sym, ◌∙◌, subst, arith}
+use Rattle.std.proofs.Common.{◌≡◌, ℕ, zero, suc, ◌+◌, ◌-◌, ◌^◌, ◌<◌, ◌≤◌, Bool, true, false, cond, inl, inr, nat_eq, List, [], ◌∷◌, ◌++◌, nat_le, length, Option, Some, None, get_or, refl, ap, sym, ◌∙◌, subst, arith}
 use Rattle.std.proofs.lemmas.Bool.{cases_lt}
 use Rattle.std.proofs.lemmas.Bool.Decides.{nat_tests}
 use Rattle.std.proofs.Math.Path.{fun_ext}
 use Rattle.std.proofs.lemmas.List.{get_or_default}
-use Rattle.std.specs.List.{find}
-use Rattle.std.specs.Option.{option_map}
+use Rattle.std.specs.List.{AllByRecursion, find}
+use Rattle.std.specs.Option.{option_and_then, option_map}
 use Rattle.pe_core.specs.Bytes.{holds, le}
+use Rattle.pe_core.specs.Rows.{each}
+use Rattle.pe_core.proofs.EntryItems.{get_or-each}
 use Rattle.pe_core.proofs.Equality.{both}
 use Rattle.pe_core.proofs.Map.{found_passes}
 use Rattle.pe_frame.specs.AddressRanges.{AreAscending, IsCountUpTo}
-use Rattle.pe_frame.specs.MemoryLists.{are_inside, ascend, has_word, listed_byte, listed_word, lists_byte}
-use Rattle.pe_frame.specs.MemoryPieces.{known_word}
+use Rattle.pe_frame.specs.Machine.{loaded}
+use Rattle.pe_frame.specs.MemoryLists.{AreListed, are_inside, ascend, has_word, listed_byte, listed_word, lists_byte}
+use Rattle.pe_frame.specs.MemoryPieces.{known_bytes, known_word}
 use Rattle.pe_frame.specs.SearchedMemory.{no_piece, piece_found, piece_shown, pieces_started, searched_byte, searched_word, shows_byte, word_by}
 use Rattle.pe_frame.specs.declared.memory_list.MemoryPiece.{MemoryPiece}
 use Rattle.pe_frame.proofs.Halving.{bits_enough, count_of, searched}
-use Rattle.pe_frame.proofs.ListsShow.{same_word}
+use Rattle.pe_frame.proofs.Begun.{number_shown}
+use Rattle.pe_frame.proofs.ListsShow.{byte_here, same_word}
 use Rattle.pe_frame.proofs.Lookups.{ends_before, found_of_all, has_it, is_within, none_starts, range_found, range_missed, starts_rise, test_ascends}
 use Rattle.pe_frame.proofs.OnePiece.{word_in_piece}
 
@@ -106,3 +110,89 @@ word_listed bytes pieces a up inside =
 pub words_listed : (bytes : List ℕ) (pieces : List MemoryPiece) → are_inside bytes pieces ≡ true → ascend pieces ≡ true → searched_word bytes pieces ≡ listed_word bytes pieces
 words_listed bytes pieces inside up =
     fun_ext (λ (a : ℕ). word_listed bytes pieces a (test_ascends start_of size_of pieces up) inside)
+
+-- ---- pieces in any order
+
+-- what holds of all elements, and of what stands for one past them, holds of each
+all_at : {X : Type 0} (P : X → Type 0) (xs : List X) (i : ℕ) (d : X) → AllByRecursion P xs → P d → P (get_or xs i d)
+all_at P [] i d all past = past
+all_at P (x ∷ xs) zero d all past = all.0
+all_at P (x ∷ xs) (suc i) d all past = all_at P xs i d all.1 past
+
+either : {X : Type 0} (P : X → Type 0) (t : Bool) (x y : X) → P x → P y → P (cond t x y)
+either P true x y h k = h
+either P false x y h k = k
+
+module _ (memory : ℕ → ℕ) (bytes : List ℕ) (pieces : List MemoryPiece) (shows : AreListed memory bytes pieces) where
+  abbrev Shows : MemoryPiece → Type 0
+  Shows p = (i : ℕ) → i < p.length → get_or bytes (p.offset + i) 0 ≡ memory (p.start + i)
+
+  nothing : Shows no_piece
+  nothing i small = absurd (omega (arith, small))
+
+  found_shows : (a : ℕ) → Shows (piece_found pieces a)
+  found_shows a =
+      either Shows (nat_eq (pieces_started pieces a) 0) no_piece (get_or pieces (pieces_started pieces a - 1) no_piece) nothing (all_at Shows pieces (pieces_started pieces a - 1) no_piece shows nothing)
+
+  is_found : (p q : MemoryPiece) (t : Bool) → cond t (Some q) None ≡ Some p → Shows q → Shows p
+  is_found p q true e h = let same : q ≡ p = cc e in subst Shows same h
+  is_found p q false e h = absurd (cc e)
+
+  shown_shows : (a : ℕ) (p : MemoryPiece) → Some p ≡ piece_shown bytes pieces a → Shows p
+  unfolding piece_shown
+  shown_shows a p is = is_found p (piece_found pieces a) (shows_byte bytes a (piece_found pieces a)) (sym is) (found_shows a)
+
+  byte_by : (b v : ℕ) (o : Option MemoryPiece) → piece_shown bytes pieces b ≡ o → option_map (λ p. get_or bytes (p.offset + (b - p.start)) 0) o ≡ Some v → v ≡ memory b
+  byte_by b v None is e = absurd (cc e)
+  byte_by b v (Some p) is e =
+      let same : get_or bytes (p.offset + (b - p.start)) 0 ≡ v = cc e in
+      sym same ∙ byte_here memory bytes b p (shown_shows b p (sym is)) (shown bytes pieces b p (sym is)).0
+
+  byte_right : (b v : ℕ) → searched_byte bytes pieces b ≡ Some v → v ≡ memory b
+  byte_right b v e = byte_by b v (piece_shown bytes pieces b) refl e
+
+  bytes_by : (a n : ℕ) (bs : List ℕ) (before : Option (List ℕ)) (last : Option ℕ) → ((known : List ℕ) → before ≡ Some known → known ≡ each (λ i. memory (a + i)) n) → ((v : ℕ) → last ≡ Some v → v ≡ memory (a + n)) → option_and_then (λ known. option_map (λ b. known ++ b ∷ []) last) before ≡ Some bs → bs ≡ each (λ i. memory (a + i)) (suc n)
+  unfolding each
+  bytes_by a n bs None last first more e = absurd (cc e)
+  bytes_by a n bs (Some known) None first more e = absurd (cc e)
+  bytes_by a n bs (Some known) (Some b) first more e =
+      let same : known ++ b ∷ [] ≡ bs = cc e in
+      sym same ∙ (ap (λ (k : List ℕ). k ++ b ∷ []) (first known refl) ∙ ap (λ (v : ℕ). each (λ i. memory (a + i)) n ++ v ∷ []) (more b refl))
+
+  bytes_right : (a n : ℕ) (bs : List ℕ) → known_bytes (searched_byte bytes pieces) a n ≡ Some bs → bs ≡ each (λ i. memory (a + i)) n
+  unfolding each
+  bytes_right a zero bs e = let same : [] ≡ bs = cc e in sym same
+  bytes_right a (suc n) bs e =
+      bytes_by a n bs (known_bytes (searched_byte bytes pieces) a n) (searched_byte bytes pieces (a + n)) (λ known is. bytes_right a n known is) (λ v is. byte_right (a + n) v is) e
+
+  number_by : (a v : ℕ) (t : Bool) (o : Option (List ℕ)) → ((bs : List ℕ) → o ≡ Some bs → bs ≡ each (λ i. memory (a + i)) 8) → cond t (option_map (λ bs. le bs 0 8) o) None ≡ Some v → v ≡ loaded memory a
+  number_by a v false o right e = absurd (cc e)
+  number_by a v true None right e = absurd (cc e)
+  number_by a v true (Some bs) right e =
+      let same : le bs 0 8 ≡ v = cc e in
+      sym same
+      ∙ (ap (λ (k : List ℕ). le k 0 8) (right bs refl)
+      ∙ number_shown (each (λ i. memory (a + i)) 8) 0 a 8 memory (omega arith) (λ i small. let at : 0 + i ≡ i = omega arith in rw at (get_or-each (λ i. memory (a + i)) 8 i 0 small)))
+
+  by_bytes_right : (a v : ℕ) → known_word (searched_byte bytes pieces) a ≡ Some v → v ≡ loaded memory a
+  by_bytes_right a v e =
+      number_by a v (nat_le (a + 8) (2 ^ 64)) (known_bytes (searched_byte bytes pieces) a 8) (λ bs is. bytes_right a 8 bs is) e
+
+  in_one_right : (a v : ℕ) (p : MemoryPiece) (t : Bool) → Some p ≡ piece_shown bytes pieces a → has_word a p ≡ t → cond t (Some (le bytes (p.offset + (a - p.start)) 8)) (known_word (searched_byte bytes pieces) a) ≡ Some v → v ≡ loaded memory a
+  in_one_right a v p false is has e = by_bytes_right a v e
+  in_one_right a v p true is has e =
+      let within = is_within p.start p.length a (shown bytes pieces a p is).0 in
+      let from : p.start ≤ a = within.0 in
+      let to : a + 8 ≤ p.start + p.length = grind (arith, nat_tests) in
+      let same : le bytes (p.offset + (a - p.start)) 8 ≡ v = cc e in
+      let here : (i : ℕ) → i < 8 → get_or bytes (p.offset + (a - p.start) + i) 0 ≡ memory (a + i) = λ i small.
+          ap (λ (k : ℕ). get_or bytes k 0) (omega (arith, from)) ∙ (shown_shows a p is (a - p.start + i) (omega (arith, from, to, small)) ∙ ap memory (omega (arith, from))) in
+      sym same ∙ number_shown bytes (p.offset + (a - p.start)) a 8 memory (omega arith) here
+
+  by_piece_right : (a v : ℕ) (o : Option MemoryPiece) → o ≡ piece_shown bytes pieces a → word_by bytes pieces a o ≡ Some v → v ≡ loaded memory a
+  by_piece_right a v None is e = by_bytes_right a v e
+  by_piece_right a v (Some p) is e = in_one_right a v p (has_word a p) is refl e
+
+  -- a word that is known is that of the memory
+  pub word_right : (a v : ℕ) → searched_word bytes pieces a ≡ Some v → v ≡ loaded memory a
+  word_right a v e = by_piece_right a v (piece_shown bytes pieces a) refl e

@@ -173,13 +173,16 @@ pub fn memory_lists_show_memory()
 {}
 
 /// Memory that is searched is the memory of the list, where its pieces lie in the bytes, are in ascending order and do not overlap
-/// (`words`). The test of their order decides the latter (`order`).
+/// (`words`). The test of their order decides the latter (`order`). Of pieces in any order that show what a machine's memory has, a
+/// word that is known is that of the memory (`any`).
 pub fn searched_memory_is_listed()
     ensures words { (bytes : List ℕ) (pieces : List MemoryPiece) (a : ℕ) →
         are_inside bytes pieces ≡ true → ascend pieces ≡ true →
         searched_word bytes pieces a ≡ listed_word bytes pieces a }
     ensures order { (pieces : List MemoryPiece) →
         ((ascend pieces ≡ true) ↔ AreAscending (λ p. p.start) (λ p. p.length) pieces) }
+    ensures any { (bytes : List ℕ) (pieces : List MemoryPiece) (a v : ℕ) (memory : ℕ → ℕ) →
+        AreListed memory bytes pieces → searched_word bytes pieces a ≡ Some v → v ≡ loaded memory a }
 {}
 
 /// There are such frames: of a part in the body of a function, of one with a frame register, after its prolog and inside of

@@ -19,6 +19,7 @@ ghost use Rattle.pe_stacks.specs.Images.{is_image_of};
 ghost use Rattle.pe_stacks.specs.MemoryRuns.{AreRuns, bytes_at};
 ghost use Rattle.pe_stacks.specs.ThreadContexts.{thread_context};
 ghost use Rattle.pe_c.specs.Arm64StackWalks.{arm64_stack_walks};
+ghost use Rattle.pe_c.specs.Arm64StackWalks as arm64_walks;
 ghost use Rattle.pe_c.specs.DumpContexts.{arm64_reported, context_arm64_at, context_x64_at, thread_context_at, x64_reported};
 ghost use Rattle.pe_c.specs.DumpImages.{fits};
 ghost use Rattle.pe_c.specs.DumpLaws.{IsStreamOf, as_reported, memory_range};
@@ -29,7 +30,7 @@ ghost use Rattle.pe_c.specs.Dumps.{dump_stream_at};
 ghost use Rattle.pe_c.specs.FrameCalls.{HandsOutFrame};
 ghost use Rattle.pe_c.specs.Images.{image_info_of};
 ghost use Rattle.pe_c.specs.Ranges.{IsRange};
-ghost use Rattle.pe_c.specs.StackWalks.{stack_walks};
+ghost use Rattle.pe_c.specs.StackWalks.{marked, stack_walks};
 ghost use Rattle.pe_c.specs.declared.arm64.stack_walk.Arm64StackWalk.{Arm64StackWalk};
 ghost use Rattle.pe_c.specs.declared.ranges.Range.{Range};
 ghost use Rattle.pe_c.specs.declared.stack_walk.ModuleView.{ModuleView};
@@ -78,15 +79,18 @@ pub fn memory_ranges_are_bytes()
 {}
 
 /// What `pe_c_next_frame` returns over the runs of pieces that lie in the memory, as `pe_c_memory_runs` writes them, it returns over
-/// these pieces too: the walk over the memory of a dump in order is that over the memory as the dump lists it (`x64`). So does
-/// `pe_c_next_arm64_frame` (`arm64`).
+/// these pieces too, for a walk without the mark `is_searched`: the walk over the memory of a dump in order is that over the memory as
+/// the dump lists it (`x64`). Runs ascend, so that the walk over them has the mark from then on. That over the pieces has it if
+/// they ascend; in all else the two walks are equal. So does `pe_c_next_arm64_frame` (`arm64`).
 pub fn walks_over_runs_are_over_pieces()
     ensures x64 { (views : List ModuleView) (memory : List ℕ) (pieces runs : List MemoryPiece) (number : ℕ) (old new : StackWalk) →
-        AreRuns pieces runs → are_inside memory pieces ≡ true →
+        AreRuns pieces runs → are_inside memory pieces ≡ true → old.is_searched ≡ 0 →
         HandsOutFrame Calls stack_walks views memory runs number old new →
-        HandsOutFrame Calls stack_walks views memory pieces number old new }
+        (other : StackWalk) × HandsOutFrame Calls stack_walks views memory pieces number old other
+        × (marked other ≡ marked new) }
     ensures arm64 { (views : List ModuleView) (memory : List ℕ) (pieces runs : List MemoryPiece) (number : ℕ) (old new : Arm64StackWalk) →
-        AreRuns pieces runs → are_inside memory pieces ≡ true →
+        AreRuns pieces runs → are_inside memory pieces ≡ true → old.is_searched ≡ 0 →
         HandsOutFrame arm64.Calls arm64_stack_walks views memory runs number old new →
-        HandsOutFrame arm64.Calls arm64_stack_walks views memory pieces number old new }
+        (other : Arm64StackWalk) × HandsOutFrame arm64.Calls arm64_stack_walks views memory pieces number old other
+        × (arm64_walks.marked other ≡ arm64_walks.marked new) }
 {}

@@ -1,16 +1,22 @@
-//! The law of whole stack walks, a frame a call.
+//! The laws of whole stack walks, a frame a call.
 
-ghost use Rattle.std.specs.Prelude.{List};
+ghost use Rattle.std.specs.Prelude.{◌≡◌, ◌↔◌, ℕ, List, true};
+ghost use Rattle.std.specs.List.{list_all};
 ghost use Rattle.pe_frame.specs.Arm64Walks as arm64;
 ghost use Rattle.pe_frame.specs.FrameWalks.{IsWalk, Process};
+ghost use Rattle.pe_frame.specs.MemoryLists.{are_inside, ascend};
 ghost use Rattle.pe_frame.specs.Walks.{Calls};
 ghost use Rattle.pe_frame.specs.declared.arm64.walk.Arm64StackFrame.{Arm64StackFrame};
+ghost use Rattle.pe_frame.specs.declared.memory_list.MemoryPiece.{MemoryPiece};
 ghost use Rattle.pe_frame.specs.declared.walk.StackFrame.{StackFrame};
 ghost use Rattle.pe_frame.specs.declared.walk.WalkEnd.{WalkEnd};
 ghost use Rattle.pe_c.specs.Arm64StackWalks.{arm64_stack_walks};
-ghost use Rattle.pe_c.specs.FrameCalls.{HasEnd, IsOpen, ReturnsFrames, state_in};
-ghost use Rattle.pe_c.specs.StackWalks.{stack_walks};
+ghost use Rattle.pe_c.specs.Arm64StackWalks as arm64_walks;
+ghost use Rattle.pe_c.specs.FrameCalls.{HandsOutFrame, HandsOutFrames, HasEnd, IsOpen, ReturnsFrames, state_in};
+ghost use Rattle.pe_c.specs.StackWalks.{marked, stack_walks};
+ghost use Rattle.pe_c.specs.WalkModules.{has_table};
 ghost use Rattle.pe_c.specs.declared.arm64.stack_walk.Arm64StackWalk.{Arm64StackWalk};
+ghost use Rattle.pe_c.specs.declared.stack_walk.ModuleView.{ModuleView};
 ghost use Rattle.pe_c.specs.declared.stack_walk.StackWalk.{StackWalk};
 
 /// Calls of `pe_c_next_frame` return, in turn, exactly the frames of a walk as pe_frame defines it, over the memory and the
@@ -26,4 +32,32 @@ pub fn walks_give_the_frames()
         ReturnsFrames arm64.Calls arm64_stack_walks p w frames last →
         (end : WalkEnd) × IsWalk arm64.Calls (state_in arm64_stack_walks p w) frames end
         × HasEnd arm64_stack_walks last end }
+{}
+
+/// What `pe_c_next_frame` returns for a walk with the mark `is_searched`, it returns for the same walk without it, and the other way
+/// round: where the pieces of memory lie in it, are in ascending order and do not overlap, and the function table of each module lies
+/// in its bytes (`x64`). So do `pe_c_next_frames` (`x64_frames`) and the calls of ARM64 (`arm64`, `arm64_frames`).
+pub fn marks_change_nothing()
+    ensures x64 { (views : List ModuleView) (memory : List ℕ) (pieces : List MemoryPiece) (number : ℕ) (w new : StackWalk) →
+        list_all has_table views ≡ true → are_inside memory pieces ≡ true →
+        ascend pieces ≡ true → w.is_searched ≡ 0 →
+        (HandsOutFrame Calls stack_walks views memory pieces number (marked w) new
+        ↔ HandsOutFrame Calls stack_walks views memory pieces number w new) }
+    ensures x64_frames { (views : List ModuleView) (memory : List ℕ) (pieces : List MemoryPiece)
+        (number : ℕ) (slots filled : List StackWalk × ℕ) (w new : StackWalk) →
+        list_all has_table views ≡ true → are_inside memory pieces ≡ true →
+        ascend pieces ≡ true → w.is_searched ≡ 0 →
+        (HandsOutFrames Calls stack_walks views memory pieces number slots filled (marked w) new
+        ↔ HandsOutFrames Calls stack_walks views memory pieces number slots filled w new) }
+    ensures arm64 { (views : List ModuleView) (memory : List ℕ) (pieces : List MemoryPiece) (number : ℕ) (w new : Arm64StackWalk) →
+        list_all has_table views ≡ true → are_inside memory pieces ≡ true →
+        ascend pieces ≡ true → w.is_searched ≡ 0 →
+        (HandsOutFrame arm64.Calls arm64_stack_walks views memory pieces number (arm64_walks.marked w) new
+        ↔ HandsOutFrame arm64.Calls arm64_stack_walks views memory pieces number w new) }
+    ensures arm64_frames { (views : List ModuleView) (memory : List ℕ) (pieces : List MemoryPiece)
+        (number : ℕ) (slots filled : List Arm64StackWalk × ℕ) (w new : Arm64StackWalk) →
+        list_all has_table views ≡ true → are_inside memory pieces ≡ true →
+        ascend pieces ≡ true → w.is_searched ≡ 0 →
+        (HandsOutFrames arm64.Calls arm64_stack_walks views memory pieces number slots filled (arm64_walks.marked w) new
+        ↔ HandsOutFrames arm64.Calls arm64_stack_walks views memory pieces number slots filled w new) }
 {}

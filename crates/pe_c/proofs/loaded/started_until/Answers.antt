@@ -1,5 +1,6 @@
 use Rattle.std.proofs.Common.{◌+◌, ◌-◌, ◌∙◌, sym, ap, rules, arith}
-use Rattle.pe_c.proofs.IndexSearches.{grows, halved, start_inside}
+use Rattle.pe_frame.proofs.Halving.{grows, halved}
+use Rattle.pe_c.proofs.IndexSearches.{start_inside}
 use Rattle.pe_c.proofs.ViewRuns.{alike_down, alike_first, alike_last, alike_up}
 use Rattle.pe_c.proofs.loaded.started_until.Goals as goal
 
