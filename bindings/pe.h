@@ -1494,7 +1494,9 @@ typedef struct {
                                        instruction that is about to run */
     uint32_t end;                   /* PE_C_END_* of a walk that is over */
     uint32_t error;                 /* a result, for PE_C_END_RECORDS, _LONG_CHAIN and _STEP; else 0 */
-    uint32_t spare;                 /* 0 */
+    uint32_t is_searched;           /* 1 where a call found that the pieces of memory lie in it, ascend and do not overlap: later
+                                       calls test only those that they read. 0 before the first call, and where the caller wants
+                                       them tested again */
 } pe_c_stack_walk;
 
 PE_C_SIZE(pe_c_module, 80);
@@ -1591,21 +1593,24 @@ uint32_t pe_c_step(const pe_c_view *view, const pe_c_range *table, const uint8_t
  * and may copy it.
  *
  * An address is that of the first module that has it: by binary search in modules in ascending order that do not overlap, in any
- * others in turn. `memory` and `pieces` are as in pe_c_step. They are tested in each
- * call, and may differ from call to call.
+ * others in turn. The modules are tested in each call, and may differ from call to call. `memory` and `pieces` are as in pe_c_step.
+ * The first call of a walk tests all pieces. Where they ascend and do not overlap it sets walk->is_searched, of a walk that is over
+ * too, and later calls find a piece by halving and test only those that they read: pass the same pieces in all calls of a walk, or
+ * set walk->is_searched to 0 for others. With others a word may be unknown, as PE_C_MISSING, or be one of another piece that has
+ * the address; no byte outside of the memory is ever read.
  *
  * In each frame the function is looked up by rip, or by the byte before it where the function has called. Its epilogs are known by
  * their code in the image, and a jump out of it is followed. In the top frame, and in one that was interrupted, the caller may have
  * no records: then it is found by the return address at rsp, if a call ends there, else by the first of 128 words from rsp on that
  * is after a call in an executable section. Only past an interrupt may the stack pointer not rise.
- * Errors, which change nothing: PE_C_SHORT where the table of a module is not inside its bytes, or a piece not inside the
- * memory. */
+ * Errors, which change nothing: PE_C_SHORT where the table of a module is not inside its bytes, or, where walk->is_searched is 0, a
+ * piece not inside the memory. */
 uint32_t pe_c_next_frame(const pe_c_module *modules, size_t module_count, const uint8_t *memory, size_t memory_length,
                          const pe_c_memory_piece *pieces, size_t piece_count, pe_c_stack_walk *walk) PE_C_RESULT(7);
 
-/* The same for several frames in one call, which tests the modules and the pieces once: each of `frames` is the walk as it is
- * after a frame, and `count` how many there are. PE_C_NOTHING where the walk was over before all were filled: the others stay
- * unchanged. An array of no entries is always filled.
+/* The same for several frames in one call, which tests the modules once: each of `frames` is the walk as it is after a frame, and
+ * `count` how many there are. PE_C_NOTHING where the walk was over before all were filled: the others stay unchanged. An array of no
+ * entries is always filled.
  * Errors, which change nothing: those of pe_c_next_frame. */
 uint32_t pe_c_next_frames(const pe_c_module *modules, size_t module_count, const uint8_t *memory, size_t memory_length,
                           const pe_c_memory_piece *pieces, size_t piece_count, pe_c_stack_walk *walk,
@@ -1821,7 +1826,7 @@ typedef struct {
                                        instruction that is about to run */
     uint32_t end;                   /* PE_C_END_* of a walk that is over */
     uint32_t error;                 /* a result, for PE_C_END_RECORDS and _STEP; else 0 */
-    uint32_t spare;                 /* 0 */
+    uint32_t is_searched;           /* as in pe_c_stack_walk */
 } pe_c_arm64_stack_walk;
 
 PE_C_SIZE(pe_c_arm64_stack_walk, 368);

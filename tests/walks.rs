@@ -6,7 +6,7 @@ use crate::sections;
 use pe_core::{DataDirectory, ParseOptions, SectionTable};
 use pe_frame::{
     FrameError, LoadedModules, Memory, MemoryList, MemoryPiece, Module, ModuleOrder, Modules,
-    Registers, Stack, StackFrame, StackFrames, StackPieces, WalkEnd, WalkPosition, Way,
+    Registers, SearchedMemory, Stack, StackFrame, StackFrames, StackPieces, WalkEnd, WalkPosition, Way,
 };
 use pe_images::image;
 use pe_unwind::ExceptionData;
@@ -919,5 +919,63 @@ fn words_of_many_pieces_are_found_soon(rt: HostRuntime) -> Result<(), Fail> {
         }
     }
     assert_eq!(rt; known, 9);
+    Ok(())
+}
+
+/// Memory that is searched is that of the list where its pieces ascend. Of others it has the piece that a search by halving comes to:
+/// where two overlap the later one, and in pieces in no order it may pass by the one that has the address. What lies outside of the
+/// bytes is unknown.
+#[test]
+fn searched_pieces_are_tested_as_they_are_used(rt: HostRuntime) -> Result<(), Fail> {
+    let bytes = [8, 7, 6, 5, 4, 3, 2, 1, 16, 15, 14, 13, 12, 11, 10, 9];
+    let (first, second) = (0x0102_0304_0506_0708, 0x090A_0B0C_0D0E_0F10);
+    let ascending = [listed(0x100, 8, 8), listed(0x108, 0, 8), listed(0x200, 9, 8)];
+    let overlapping = [listed(0x100, 0, 16), listed(0x108, 0, 8), listed(0x200, 0, 8)];
+    let unordered = [listed(0x108, 0, 8), listed(0x100, 8, 8), listed(0x200, 0, 8)];
+    for (pieces, address, word) in [
+        (&ascending, 0xFF, None),
+        (&ascending, 0x100, Some(second)),
+        (&ascending, 0x104, Some(0x0506_0708_090A_0B0C)),
+        (&ascending, 0x108, Some(first)),
+        (&ascending, 0x109, None),
+        (&ascending, 0x200, None),
+        (&overlapping, 0x100, Some(first)),
+        (&overlapping, 0x108, Some(first)),
+        (&unordered, 0x100, Some(second)),
+        (&unordered, 0x108, None),
+        (&unordered, 0x200, Some(first)),
+    ] {
+        assert_eq!(rt; SearchedMemory::new(&bytes, pieces).u64_at(address), word);
+    }
+    assert_eq!(rt; SearchedMemory::new(&bytes, &[]).u64_at(0x100), None);
+    Ok(())
+}
+
+/// A word of ascending pieces, of which some touch, is that of the list, also where only some of its bytes are there.
+#[test]
+fn searched_words_are_those_of_the_list(rt: HostRuntime) -> Result<(), Fail> {
+    let mut bytes = Vec::new(rt.alloc());
+    let mut pieces = Vec::new(rt.alloc());
+    let mut start = 0;
+    for index in 0..1000 {
+        bytes.push((index % 251) as u8)?;
+        // Pieces of 1 to 13 bytes, which overlap in the bytes, with gaps of 0 to 2.
+        let length = (index * index % 13 + 1).min(index + 1);
+        pieces.push(listed(start, index + 1 - length, length))?;
+        start += length + index % 3;
+    }
+    let memory = MemoryList::new(&bytes, &pieces).map_err(|_| "pieces that are inside")?;
+    assert!(rt; memory.is_ascending());
+    let searched = SearchedMemory::new(&bytes, &pieces);
+    let mut known = 0;
+    for address in 0..start + 16 {
+        assert_eq!(rt; searched.u64_at(address), memory.u64_at(address));
+        if memory.u64_at(address).is_some() {
+            known += 1;
+        }
+    }
+    assert!(rt; known > 100);
+    assert_eq!(rt; searched.u64_at(u64::MAX), None);
+    assert_eq!(rt; searched.u64_at(u64::MAX - 7), None);
     Ok(())
 }

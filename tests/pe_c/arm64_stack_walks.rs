@@ -11,6 +11,7 @@ use crate::ranges::Range;
 use crate::results::{DONE, MISSING, NOTHING};
 use crate::stack_walk::ModuleView;
 use pe_core::SectionTable;
+use pe_frame::MemoryPiece;
 use pe_images::image as bytes_of;
 use std::alloc::{AllocError, Global};
 use std::test::Fail;
@@ -108,7 +109,7 @@ fn walk_from(pc: u64, sp: u64, fp: u64, lr: u64, most: u64) -> Arm64StackWalk {
         has_called: 0,
         end: 0,
         error: 0,
-        spare: 0,
+        is_searched: 0,
     }
 }
 
@@ -261,6 +262,50 @@ fn ranges_that_lie(rt: HostRuntime) -> Result<(), Fail> {
             );
             assert_eq!(rt; (answer, count, slots[0].registers.pc), (SHORT, 77, 1));
         }
+    }
+    Ok(())
+}
+
+/// The first call of a walk tests all pieces, and later ones those alone that they read.
+#[test]
+fn pieces_are_tested_once_a_walk(rt: HostRuntime) -> Result<(), Fail> {
+    let (bytes, headers, sections) = (program(rt.alloc())?, image(ARM64), sections());
+    let modules = [module(&bytes, &headers, &sections)];
+    let (inner, outer) = (STACK + 32, STACK + 64);
+    let words = [
+        7, 7, inner, INSIDE, outer, AFTER_CALL, 7, 7, 0x1111, 0, 7, 7,
+    ];
+    let stack = bytes_of_words(rt.alloc(), &words)?;
+    let [near] = piece(STACK, &stack);
+    let far = |offset| MemoryPiece {
+        start: 1 << 40,
+        offset,
+        length: 8,
+    };
+    let (inside, outside) = ([near, far(88)], [near, far(96)]);
+    let mut walk = walk_from(DISPATCHER, STACK, inner, 5, 9);
+    for (pieces, answer, mark) in [(&outside, SHORT, 0), (&inside, DONE, 1)] {
+        assert_eq!(rt; pe_c_next_arm64_frame(&modules, &stack, pieces, &mut walk), answer);
+        assert_eq!(rt; walk.is_searched, mark);
+    }
+    let mut unmarked = walk;
+    unmarked.is_searched = 0;
+    assert_eq!(rt; pe_c_next_arm64_frame(&modules, &stack, &outside, &mut unmarked), SHORT);
+    assert_eq!(rt; pe_c_next_arm64_frame(&modules, &stack, &inside, &mut unmarked), DONE);
+    let (mut several, mut frames, mut count) = (walk, [walk_from(0, 0, 0, 0, 9); 1], 77);
+    let answer = pe_c_next_arm64_frames(
+        &modules,
+        &stack,
+        &outside,
+        &mut several,
+        &mut frames,
+        &mut count,
+    );
+    assert_eq!(rt; (answer, count, frames[0].is_searched), (DONE, 1, 1));
+    assert_eq!(rt; pe_c_next_arm64_frame(&modules, &stack, &outside, &mut walk), DONE);
+    for found in [walk, several, frames[0]] {
+        assert_eq!(rt; frame_of(&found), frame_of(&unmarked));
+        assert_eq!(rt; found.registers.pc, INSIDE);
     }
     Ok(())
 }

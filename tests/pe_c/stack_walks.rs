@@ -99,7 +99,7 @@ fn walk_from(rip: u64, rsp: u64, most: u64) -> StackWalk {
         has_called: 0,
         end: 0,
         error: 0,
-        spare: 0,
+        is_searched: 0,
     }
 }
 
@@ -317,5 +317,187 @@ fn ranges_that_lie(rt: HostRuntime) -> Result<(), Fail> {
         );
         assert_eq!(rt; [walk.remaining, u64::from(walk.has_returned)], [9, 0]);
     }
+    Ok(())
+}
+
+/// A piece of 8 bytes far from the stack.
+fn far_piece(offset: u64) -> MemoryPiece {
+    MemoryPiece {
+        start: 1 << 40,
+        offset,
+        length: 8,
+    }
+}
+
+/// The first call of a walk tests all pieces, and later ones those alone that they read.
+#[test]
+fn pieces_are_tested_once_a_walk(rt: HostRuntime) -> Result<(), Fail> {
+    let (bytes, headers, sections) = (program(rt.alloc())?, image(X64), code());
+    let modules = [module(&bytes, &headers, &sections)];
+    let words = [1, 2, 3, 4, 0xB1, AFTER_CALL, 5, 6, 7, 8, 0xB2, 0];
+    let stack = bytes_of_words(rt.alloc(), &words)?;
+    let [near] = piece(STACK, &stack);
+    let (inside, outside) = ([near, far_piece(0)], [near, far_piece(96)]);
+    let mut walk = walk_from(JUMPING, STACK, 9);
+    for (pieces, answer, mark) in [(&outside, SHORT, 0), (&inside, DONE, 1)] {
+        assert_eq!(rt; pe_c_next_frame(&modules, &stack, pieces, &mut walk), answer);
+        assert_eq!(rt; walk.is_searched, mark);
+    }
+    let mut unmarked = walk;
+    unmarked.is_searched = 0;
+    assert_eq!(rt; pe_c_next_frame(&modules, &stack, &outside, &mut unmarked), SHORT);
+    assert_eq!(rt; [unmarked.remaining, u64::from(unmarked.is_searched)], [8, 0]);
+    let (mut frames, mut count) = ([walk_from(7, 8, 9); 1], 77);
+    let mut several = walk;
+    let answer = pe_c_next_frames(
+        &modules,
+        &stack,
+        &outside,
+        &mut several,
+        &mut frames,
+        &mut count,
+    );
+    assert_eq!(rt; (answer, count, frames[0].is_searched), (DONE, 1, 1));
+    assert_eq!(rt; pe_c_next_frame(&modules, &stack, &outside, &mut walk), DONE);
+    for found in [walk, several, frames[0]] {
+        assert_eq!(rt; frame_of(&found), ([AFTER_CALL, STACK + 48], [RECORDS, 1]));
+        assert_eq!(rt; [found.registers.general[3], found.remaining], [0xB1, 7]);
+    }
+    Ok(())
+}
+
+/// The mark is that the pieces ascend and do not overlap. A walk that is over has it too, and a call of no frames sets it.
+#[test]
+fn walks_are_marked_by_the_order_of_their_pieces(rt: HostRuntime) -> Result<(), Fail> {
+    let (bytes, headers, sections) = (program(rt.alloc())?, image(X64), code());
+    let modules = [module(&bytes, &headers, &sections)];
+    let stack = bytes_of_words(rt.alloc(), &[8, 1])?;
+    let [near] = piece(STACK, &stack);
+    let last = MemoryPiece {
+        start: STACK + 15,
+        offset: 0,
+        length: 1,
+    };
+    for (pieces, mark) in [
+        ([near, far_piece(8)], 1),
+        ([far_piece(8), near], 0),
+        ([near, last], 0),
+    ] {
+        let mut walk = walk_from(DISPATCHER, STACK, 9);
+        for answer in [DONE, DONE, NOTHING] {
+            assert_eq!(rt; pe_c_next_frame(&modules, &stack, &pieces, &mut walk), answer);
+            assert_eq!(rt; walk.is_searched, mark);
+        }
+        assert_eq!(rt; frame_of(&walk), ([1, STACK + 16], [RECORDS, 0]));
+        assert_eq!(rt; end_of(&walk), ([0, 0], [NO_MODULE, 0]));
+        let (mut over, mut count) = (walk_from(DISPATCHER, STACK, 0), 77);
+        assert_eq!(rt; pe_c_next_frame(&modules, &stack, &pieces, &mut over), NOTHING);
+        assert_eq!(rt; (frame_of(&over), over.is_searched), (([DISPATCHER, STACK], [TOP, 0]), mark));
+        let mut none = walk_from(DISPATCHER, STACK, 9);
+        let answer = pe_c_next_frames(&modules, &stack, &pieces, &mut none, &mut [], &mut count);
+        assert_eq!(rt; (answer, count, none.is_searched), (DONE, 0, mark));
+        assert_eq!(rt; [none.remaining, u64::from(none.has_returned)], [9, 0]);
+    }
+    Ok(())
+}
+
+/// By single calls with the mark a walk is what it is without it, in pieces of each length.
+#[test]
+fn walks_with_the_mark_are_those_without(rt: HostRuntime) -> Result<(), Fail> {
+    let (bytes, headers, sections) = (program(rt.alloc())?, image(X64), code());
+    let modules = [module(&bytes, &headers, &sections)];
+    let words = [
+        1, 2, 3, 4, 0xB1, AFTER_CALL, 5, 6, 7, 8, 0xB2, AFTER_CALL, 9, 10, 11, 12, 0xB3, 0,
+    ];
+    let stack = bytes_of_words(rt.alloc(), &words)?;
+    for width in [1, 3, 8, 11, 144] {
+        let mut pieces = Vec::new(rt.alloc());
+        for offset in (0..stack.len()).step_by(width) {
+            pieces.push(MemoryPiece {
+                start: STACK + offset as u64,
+                offset: offset as u64,
+                length: width.min(stack.len() - offset) as u64,
+            })?;
+        }
+        let (mut walk, mut unmarked) =
+            (walk_from(JUMPING, STACK, 9), walk_from(JUMPING, STACK, 9));
+        for answer in [DONE, DONE, DONE, NOTHING] {
+            unmarked.is_searched = 0;
+            assert_eq!(rt; pe_c_next_frame(&modules, &stack, &pieces, &mut unmarked), answer);
+            assert_eq!(rt; pe_c_next_frame(&modules, &stack, &pieces, &mut walk), answer);
+            assert_eq!(rt; (frame_of(&walk), end_of(&walk)), (frame_of(&unmarked), end_of(&unmarked)));
+            assert_eq!(rt; walk.registers.general, unmarked.registers.general);
+            assert_eq!(rt; [walk.is_searched, unmarked.is_searched], [1, 1]);
+        }
+        assert_eq!(rt; frame_of(&walk), ([AFTER_CALL, STACK + 96], [RECORDS, 1]));
+        assert_eq!(rt; walk.registers.general[3], 0xB2);
+    }
+    Ok(())
+}
+
+/// Numbers in no order, the same in each run.
+fn next_number(state: &mut u64) -> u64 {
+    *state ^= *state << 13;
+    *state ^= *state >> 7;
+    *state ^= *state << 17;
+    *state
+}
+
+/// A piece near the word at `STACK + 8` that may overlap others, and may lie outside of 32 bytes of memory.
+fn any_piece(state: &mut u64) -> MemoryPiece {
+    let number = next_number(state);
+    MemoryPiece {
+        start: if number % 29 == 0 { u64::MAX - 3 } else { STACK + number % 16 },
+        offset: if number % 31 == 0 { u64::MAX - 3 } else { (number >> 8) % 28 },
+        length: if number % 37 == 0 { u64::MAX } else { (number >> 16) % 20 },
+    }
+}
+
+/// Whether a byte is that of a piece that has its address and lies in the memory.
+fn is_listed(memory: &[u8], pieces: &[MemoryPiece], address: u64, byte: u8) -> bool {
+    pieces.iter().any(|piece| {
+        let inside = match piece.offset.checked_add(piece.length) {
+            Some(end) => end <= memory.len() as u64,
+            None => false,
+        };
+        let has = piece.start <= address && address - piece.start < piece.length;
+        inside && has && memory[(piece.offset + (address - piece.start)) as usize] == byte
+    })
+}
+
+/// A caller may set the mark over any pieces: what is read is then a byte of one of them that has the address, or it is unknown.
+#[test]
+fn the_mark_is_not_trusted(rt: HostRuntime) -> Result<(), Fail> {
+    let (bytes, headers, sections) = (program(rt.alloc())?, image(X64), code());
+    let modules = [module(&bytes, &headers, &sections)];
+    let memory = bytes_of(rt.alloc(), 32, &[])?;
+    let mut memory = memory;
+    for index in 0..32 {
+        memory[index] = index as u8 + 1;
+    }
+    let (mut state, mut known, mut unknown) = (0x9E37_79B9_7F4A_7C15, 0, 0);
+    for _ in 0..4000 {
+        let mut pieces = [far_piece(0); 5];
+        for index in 0..5 {
+            pieces[index] = any_piece(&mut state);
+        }
+        // Its return address is the word at STACK + 8.
+        let mut walk = walk_from(DISPATCHER + 4, STACK, 2);
+        walk.has_returned = 1;
+        walk.is_searched = 1 + (state % 3) as u32;
+        let answer = pe_c_next_frame(&modules, &memory, &pieces, &mut walk);
+        if answer == DONE {
+            for (index, byte) in u64::to_le_bytes(walk.registers.rip).iter().enumerate() {
+                let address = STACK + 8 + index as u64;
+                assert!(rt; is_listed(&memory, &pieces, address, *byte));
+            }
+            known += 1;
+        } else {
+            assert_eq!(rt; (answer, walk.end), (NOTHING, STEP));
+            assert_eq!(rt; end_of(&walk), ([0, STACK + 8], [STEP, MISSING]));
+            unknown += 1;
+        }
+    }
+    assert!(rt; known > 100 && unknown > 100);
     Ok(())
 }

@@ -184,7 +184,7 @@ macro_rules! machine {
 machine!(Registers, StackWalk, pe_c_next_frames, false);
 machine!(Arm64Registers, Arm64StackWalk, pe_c_next_arm64_frames, true);
 
-/// How many frames are asked for at most in one call, which tests all pieces of memory.
+/// How many frames are asked for at most in one call, which tests all modules.
 const MOST_AT_ONCE: usize = 1024;
 
 /// A stack walk: the frames of a thread, from the top frame outwards, through all modules of a process. The registers that it

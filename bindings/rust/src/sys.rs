@@ -632,8 +632,9 @@ StackWalk, 432 {
     end: u32,
     /// Of a walk that is over the number of its error, or 0.
     error: u32,
-    /// 0.
-    spare: u32,
+    /// 1 where a call found that the pieces of memory lie in it, ascend and do not overlap: later calls test only those that they
+    /// read. 0 before the first call.
+    is_searched: u32,
 });
 record!(
 /// A piece of memory: its address, and where in a memory that is passed its bytes are, as a minidump has it.
@@ -780,8 +781,9 @@ Arm64StackWalk, 368 {
     end: u32,
     /// Of a walk that is over the number of its error, or 0.
     error: u32,
-    /// 0.
-    spare: u32,
+    /// 1 where a call found that the pieces of memory lie in it, ascend and do not overlap: later calls test only those that they
+    /// read. 0 before the first call.
+    is_searched: u32,
 });
 record!(
 /// A walk over exports.
