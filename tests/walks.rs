@@ -6,7 +6,8 @@ use crate::sections;
 use pe_core::{DataDirectory, ParseOptions, SectionTable};
 use pe_frame::{
     FrameError, LoadedModules, Memory, MemoryList, MemoryPiece, Module, ModuleOrder, Modules,
-    Registers, SearchedMemory, Stack, StackFrame, StackFrames, StackPieces, WalkEnd, WalkPosition, Way,
+    Registers, SearchedMemory, Stack, StackFrame, StackFrames, StackPieces, WalkEnd, WalkPosition,
+    Way,
 };
 use pe_images::image;
 use pe_unwind::ExceptionData;
@@ -929,9 +930,21 @@ fn words_of_many_pieces_are_found_soon(rt: HostRuntime) -> Result<(), Fail> {
 fn searched_pieces_are_tested_as_they_are_used(rt: HostRuntime) -> Result<(), Fail> {
     let bytes = [8, 7, 6, 5, 4, 3, 2, 1, 16, 15, 14, 13, 12, 11, 10, 9];
     let (first, second) = (0x0102_0304_0506_0708, 0x090A_0B0C_0D0E_0F10);
-    let ascending = [listed(0x100, 8, 8), listed(0x108, 0, 8), listed(0x200, 9, 8)];
-    let overlapping = [listed(0x100, 0, 16), listed(0x108, 0, 8), listed(0x200, 0, 8)];
-    let unordered = [listed(0x108, 0, 8), listed(0x100, 8, 8), listed(0x200, 0, 8)];
+    let ascending = [
+        listed(0x100, 8, 8),
+        listed(0x108, 0, 8),
+        listed(0x200, 9, 8),
+    ];
+    let overlapping = [
+        listed(0x100, 0, 16),
+        listed(0x108, 0, 8),
+        listed(0x200, 0, 8),
+    ];
+    let unordered = [
+        listed(0x108, 0, 8),
+        listed(0x100, 8, 8),
+        listed(0x200, 0, 8),
+    ];
     for (pieces, address, word) in [
         (&ascending, 0xFF, None),
         (&ascending, 0x100, Some(second)),

@@ -364,6 +364,8 @@ function walked(memory, remaining = 100) {
     pieces: [{ start: ENTRY - 8n, offset: 0, length: memory.length }] });
   const walk = { registers: frameRegisters(), remaining }, frames = [...process.frames(walk)];
   assert.equal(process.call('pe_c_next_frame', { walk }), null);
+  // One piece of memory ascends: it was tested in the first call alone.
+  assert.equal(walk.is_searched, 1);
   return [frames.map((it) => [it.registers.rip, it.registers.general[4], it.way, it.has_called]), walk];
 }
 

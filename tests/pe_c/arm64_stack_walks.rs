@@ -285,13 +285,22 @@ fn pieces_are_tested_once_a_walk(rt: HostRuntime) -> Result<(), Fail> {
     let (inside, outside) = ([near, far(88)], [near, far(96)]);
     let mut walk = walk_from(DISPATCHER, STACK, inner, 5, 9);
     for (pieces, answer, mark) in [(&outside, SHORT, 0), (&inside, DONE, 1)] {
-        assert_eq!(rt; pe_c_next_arm64_frame(&modules, &stack, pieces, &mut walk), answer);
+        assert_eq!(rt;
+            pe_c_next_arm64_frame(&modules, &stack, pieces, &mut walk),
+            answer
+        );
         assert_eq!(rt; walk.is_searched, mark);
     }
     let mut unmarked = walk;
     unmarked.is_searched = 0;
-    assert_eq!(rt; pe_c_next_arm64_frame(&modules, &stack, &outside, &mut unmarked), SHORT);
-    assert_eq!(rt; pe_c_next_arm64_frame(&modules, &stack, &inside, &mut unmarked), DONE);
+    assert_eq!(rt;
+        pe_c_next_arm64_frame(&modules, &stack, &outside, &mut unmarked),
+        SHORT
+    );
+    assert_eq!(rt;
+        pe_c_next_arm64_frame(&modules, &stack, &inside, &mut unmarked),
+        DONE
+    );
     let (mut several, mut frames, mut count) = (walk, [walk_from(0, 0, 0, 0, 9); 1], 77);
     let answer = pe_c_next_arm64_frames(
         &modules,
@@ -302,7 +311,10 @@ fn pieces_are_tested_once_a_walk(rt: HostRuntime) -> Result<(), Fail> {
         &mut count,
     );
     assert_eq!(rt; (answer, count, frames[0].is_searched), (DONE, 1, 1));
-    assert_eq!(rt; pe_c_next_arm64_frame(&modules, &stack, &outside, &mut walk), DONE);
+    assert_eq!(rt;
+        pe_c_next_arm64_frame(&modules, &stack, &outside, &mut walk),
+        DONE
+    );
     for found in [walk, several, frames[0]] {
         assert_eq!(rt; frame_of(&found), frame_of(&unmarked));
         assert_eq!(rt; found.registers.pc, INSIDE);

@@ -340,13 +340,22 @@ fn pieces_are_tested_once_a_walk(rt: HostRuntime) -> Result<(), Fail> {
     let (inside, outside) = ([near, far_piece(0)], [near, far_piece(96)]);
     let mut walk = walk_from(JUMPING, STACK, 9);
     for (pieces, answer, mark) in [(&outside, SHORT, 0), (&inside, DONE, 1)] {
-        assert_eq!(rt; pe_c_next_frame(&modules, &stack, pieces, &mut walk), answer);
+        assert_eq!(rt;
+            pe_c_next_frame(&modules, &stack, pieces, &mut walk),
+            answer
+        );
         assert_eq!(rt; walk.is_searched, mark);
     }
     let mut unmarked = walk;
     unmarked.is_searched = 0;
-    assert_eq!(rt; pe_c_next_frame(&modules, &stack, &outside, &mut unmarked), SHORT);
-    assert_eq!(rt; [unmarked.remaining, u64::from(unmarked.is_searched)], [8, 0]);
+    assert_eq!(rt;
+        pe_c_next_frame(&modules, &stack, &outside, &mut unmarked),
+        SHORT
+    );
+    assert_eq!(rt;
+        [unmarked.remaining, u64::from(unmarked.is_searched)],
+        [8, 0]
+    );
     let (mut frames, mut count) = ([walk_from(7, 8, 9); 1], 77);
     let mut several = walk;
     let answer = pe_c_next_frames(
@@ -358,7 +367,10 @@ fn pieces_are_tested_once_a_walk(rt: HostRuntime) -> Result<(), Fail> {
         &mut count,
     );
     assert_eq!(rt; (answer, count, frames[0].is_searched), (DONE, 1, 1));
-    assert_eq!(rt; pe_c_next_frame(&modules, &stack, &outside, &mut walk), DONE);
+    assert_eq!(rt;
+        pe_c_next_frame(&modules, &stack, &outside, &mut walk),
+        DONE
+    );
     for found in [walk, several, frames[0]] {
         assert_eq!(rt; frame_of(&found), ([AFTER_CALL, STACK + 48], [RECORDS, 1]));
         assert_eq!(rt; [found.registers.general[3], found.remaining], [0xB1, 7]);
@@ -385,14 +397,23 @@ fn walks_are_marked_by_the_order_of_their_pieces(rt: HostRuntime) -> Result<(), 
     ] {
         let mut walk = walk_from(DISPATCHER, STACK, 9);
         for answer in [DONE, DONE, NOTHING] {
-            assert_eq!(rt; pe_c_next_frame(&modules, &stack, &pieces, &mut walk), answer);
+            assert_eq!(rt;
+                pe_c_next_frame(&modules, &stack, &pieces, &mut walk),
+                answer
+            );
             assert_eq!(rt; walk.is_searched, mark);
         }
         assert_eq!(rt; frame_of(&walk), ([1, STACK + 16], [RECORDS, 0]));
         assert_eq!(rt; end_of(&walk), ([0, 0], [NO_MODULE, 0]));
         let (mut over, mut count) = (walk_from(DISPATCHER, STACK, 0), 77);
-        assert_eq!(rt; pe_c_next_frame(&modules, &stack, &pieces, &mut over), NOTHING);
-        assert_eq!(rt; (frame_of(&over), over.is_searched), (([DISPATCHER, STACK], [TOP, 0]), mark));
+        assert_eq!(rt;
+            pe_c_next_frame(&modules, &stack, &pieces, &mut over),
+            NOTHING
+        );
+        assert_eq!(rt;
+            (frame_of(&over), over.is_searched),
+            (([DISPATCHER, STACK], [TOP, 0]), mark)
+        );
         let mut none = walk_from(DISPATCHER, STACK, 9);
         let answer = pe_c_next_frames(&modules, &stack, &pieces, &mut none, &mut [], &mut count);
         assert_eq!(rt; (answer, count, none.is_searched), (DONE, 0, mark));
@@ -419,13 +440,21 @@ fn walks_with_the_mark_are_those_without(rt: HostRuntime) -> Result<(), Fail> {
                 length: width.min(stack.len() - offset) as u64,
             })?;
         }
-        let (mut walk, mut unmarked) =
-            (walk_from(JUMPING, STACK, 9), walk_from(JUMPING, STACK, 9));
+        let (mut walk, mut unmarked) = (walk_from(JUMPING, STACK, 9), walk_from(JUMPING, STACK, 9));
         for answer in [DONE, DONE, DONE, NOTHING] {
             unmarked.is_searched = 0;
-            assert_eq!(rt; pe_c_next_frame(&modules, &stack, &pieces, &mut unmarked), answer);
-            assert_eq!(rt; pe_c_next_frame(&modules, &stack, &pieces, &mut walk), answer);
-            assert_eq!(rt; (frame_of(&walk), end_of(&walk)), (frame_of(&unmarked), end_of(&unmarked)));
+            assert_eq!(rt;
+                pe_c_next_frame(&modules, &stack, &pieces, &mut unmarked),
+                answer
+            );
+            assert_eq!(rt;
+                pe_c_next_frame(&modules, &stack, &pieces, &mut walk),
+                answer
+            );
+            assert_eq!(rt;
+                (frame_of(&walk), end_of(&walk)),
+                (frame_of(&unmarked), end_of(&unmarked))
+            );
             assert_eq!(rt; walk.registers.general, unmarked.registers.general);
             assert_eq!(rt; [walk.is_searched, unmarked.is_searched], [1, 1]);
         }
@@ -447,9 +476,21 @@ fn next_number(state: &mut u64) -> u64 {
 fn any_piece(state: &mut u64) -> MemoryPiece {
     let number = next_number(state);
     MemoryPiece {
-        start: if number % 29 == 0 { u64::MAX - 3 } else { STACK + number % 16 },
-        offset: if number % 31 == 0 { u64::MAX - 3 } else { (number >> 8) % 28 },
-        length: if number % 37 == 0 { u64::MAX } else { (number >> 16) % 20 },
+        start: if number % 29 == 0 {
+            u64::MAX - 3
+        } else {
+            STACK + number % 16
+        },
+        offset: if number % 31 == 0 {
+            u64::MAX - 3
+        } else {
+            (number >> 8) % 28
+        },
+        length: if number % 37 == 0 {
+            u64::MAX
+        } else {
+            (number >> 16) % 20
+        },
     }
 }
 
@@ -470,8 +511,7 @@ fn is_listed(memory: &[u8], pieces: &[MemoryPiece], address: u64, byte: u8) -> b
 fn the_mark_is_not_trusted(rt: HostRuntime) -> Result<(), Fail> {
     let (bytes, headers, sections) = (program(rt.alloc())?, image(X64), code());
     let modules = [module(&bytes, &headers, &sections)];
-    let memory = bytes_of(rt.alloc(), 32, &[])?;
-    let mut memory = memory;
+    let mut memory = bytes_of(rt.alloc(), 32, &[])?;
     for index in 0..32 {
         memory[index] = index as u8 + 1;
     }
@@ -482,7 +522,7 @@ fn the_mark_is_not_trusted(rt: HostRuntime) -> Result<(), Fail> {
             pieces[index] = any_piece(&mut state);
         }
         // Its return address is the word at STACK + 8.
-        let mut walk = walk_from(DISPATCHER + 4, STACK, 2);
+        let mut walk = walk_from(DISPATCHER, STACK, 2);
         walk.has_returned = 1;
         walk.is_searched = 1 + (state % 3) as u32;
         let answer = pe_c_next_frame(&modules, &memory, &pieces, &mut walk);

@@ -707,7 +707,13 @@ fn read_by_lies(bytes: &[u8], random: &mut Random, seen: &mut Seen) {
         }
         let modules = [sys::Module { image: view, table, base: image.base }; 2];
         let registers = sys::Registers { rip: image.base.wrapping_add(u64::from(few % 96)), ..frame.registers };
-        let mut walk = sys::StackWalk { registers, remaining: u64::from(few % 32), way: few % 8, is_searched: few & 1, ..Default::default() };
+        let mut walk = sys::StackWalk {
+            registers,
+            remaining: u64::from(few % 32),
+            way: few % 8,
+            is_searched: few & 1,
+            ..Default::default()
+        };
         let (mut frames, mut filled) = ([sys::StackWalk::default(); 3], 0);
         for _ in 0..MOST {
             // SAFETY: as above. The bytes of the image stand for memory.
@@ -744,8 +750,13 @@ fn read_by_lies(bytes: &[u8], random: &mut Random, seen: &mut Seen) {
         }
         let modules = [sys::Module { image: view, table, base: image.base }; 2];
         let registers = sys::Arm64Registers { pc: image.base.wrapping_add(u64::from(few % 96)), ..frame.registers };
-        let mut walk =
-            sys::Arm64StackWalk { registers, remaining: u64::from(few % 32), way: few % 8, is_searched: few & 1, ..Default::default() };
+        let mut walk = sys::Arm64StackWalk {
+            registers,
+            remaining: u64::from(few % 32),
+            way: few % 8,
+            is_searched: few & 1,
+            ..Default::default()
+        };
         let (mut frames, mut filled) = ([sys::Arm64StackWalk::default(); 3], 0);
         for _ in 0..MOST {
             // SAFETY: as above. The bytes of the image stand for memory.

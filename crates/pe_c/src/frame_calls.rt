@@ -2,10 +2,10 @@
 //! frame outwards. The caller keeps the walk between two calls, in a record with the registers of its machine, and holds the
 //! modules and the memory.
 
-ghost use Rattle.std.specs.Prelude.{◌≡◌, ◌<◌, ◌==◌, Ok};
+ghost use Rattle.std.specs.Prelude.{◌≡◌, ◌<◌, ◌==◌, Ok, if◌then◌else◌, length, nat_lt};
 ghost use Rattle.pe_frame.specs.FrameWalks.{Process, state_of, walk_after};
 ghost use Rattle.pe_c.specs.FrameCalls.{FillsFrames, HandsOutFrame, HandsOutFrames, HandsOutNext, WalkRecords, end_address, end_error, end_number, marked_if, state_in, way_number, way_of};
-ghost use Rattle.pe_c.specs.declared.results.TheConstants.{NOTHING};
+ghost use Rattle.pe_c.specs.declared.results.TheConstants.{DONE, NOTHING};
 
 use crate::results::{DONE, LONG_CHAIN, NOTHING, number_of};
 use crate::stack_frames::reported;
@@ -168,6 +168,24 @@ fn next_frames<W: WalkRecord, L: LoadedModules, M: Memory>(
     frames.len()
 }
 
+/// The next frames of a walk over these modules and this memory, and how many there are.
+fn fill_frames<W: WalkRecord, L: LoadedModules, M: Memory>(
+    modules: &L,
+    memory: &M,
+    walk: &mut W,
+    frames: &mut [W],
+    count: &mut u64,
+) -> u32
+    ensures frames { FillsFrames W.Frame.Calls W.records
+        (record { memory = M.word memory.now; modules = L.modules modules.now })
+        count.new frames.old frames.new walk.old walk.new }
+    ensures number { result ≡ (if nat_lt count.new (length frames.old) then NOTHING else DONE) }
+{
+    let filled = next_frames(modules, memory, walk, frames);
+    *count = filled as u64;
+    if filled < frames.len() { NOTHING } else { DONE }
+}
+
 /// Marks a walk whose pieces of memory ascend.
 fn mark_if<W: WalkRecord>(ascend: bool, walk: &mut W)
     ensures { walk.new ≡ marked_if W.records ascend walk.old }
@@ -219,16 +237,14 @@ pub fn next_frames_over<W: WalkRecord>(
         Ok(modules) => modules,
         Err(error) => return number_of(&error),
     };
-    let filled = if walk.is_searched() {
-        next_frames(&modules, &SearchedMemory::new(memory, pieces), walk, frames)
-    } else {
-        let memory = match MemoryList::new(memory, pieces) {
-            Ok(memory) => memory,
-            Err(error) => return number_of(&error),
-        };
-        mark_if(memory.is_ascending(), walk);
-        next_frames(&modules, &memory, walk, frames)
+    if walk.is_searched() {
+        let memory = SearchedMemory::new(memory, pieces);
+        return fill_frames(&modules, &memory, walk, frames, count);
+    }
+    let memory = match MemoryList::new(memory, pieces) {
+        Ok(memory) => memory,
+        Err(error) => return number_of(&error),
     };
-    *count = filled as u64;
-    if filled < frames.len() { NOTHING } else { DONE }
+    mark_if(memory.is_ascending(), walk);
+    fill_frames(&modules, &memory, walk, frames, count)
 }

@@ -186,7 +186,7 @@ module _ (memory : ℕ → ℕ) (bytes : List ℕ) (pieces : List MemoryPiece) (
       let to : a + 8 ≤ p.start + p.length = grind (arith, nat_tests) in
       let same : le bytes (p.offset + (a - p.start)) 8 ≡ v = cc e in
       let here : (i : ℕ) → i < 8 → get_or bytes (p.offset + (a - p.start) + i) 0 ≡ memory (a + i) = λ i small.
-          ap (λ (k : ℕ). get_or bytes k 0) (omega (arith, from)) ∙ (shown_shows a p is (a - p.start + i) (omega (arith, from, to, small)) ∙ ap memory (omega (arith, from))) in
+      ap (λ (k : ℕ). get_or bytes k 0) (omega (arith, from)) ∙ (shown_shows a p is (a - p.start + i) (omega (arith, from, to, small)) ∙ ap memory (omega (arith, from))) in
       sym same ∙ number_shown bytes (p.offset + (a - p.start)) a 8 memory (omega arith) here
 
   by_piece_right : (a v : ℕ) (o : Option MemoryPiece) → o ≡ piece_shown bytes pieces a → word_by bytes pieces a o ≡ Some v → v ≡ loaded memory a
