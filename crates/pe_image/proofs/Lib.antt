@@ -13,6 +13,7 @@ pub mod ExceptionFields
 pub mod Overlays
 pub mod Rows
 pub mod Ends
+pub mod TableLists
 pub mod WrittenCertificates
 pub mod Laid
 pub mod Clashes
