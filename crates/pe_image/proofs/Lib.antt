@@ -6,6 +6,7 @@ pub mod Modes
 pub mod Permissive
 pub mod LibraryLists
 pub mod Requests
+pub mod ImageParts
 pub mod Headline
 pub mod SectionsFirst
 pub mod Limited

@@ -45,7 +45,11 @@ impl<'a, A: Allocator + Copy + Drop> PE<'a, A> {
             None => Err(Error::Malformed(Reason::NoOptionalHeader)),
             Some(optional) => {
                 let directory = optional.data_directories.get_certificate_table();
-                write_table(buffer, directory, &CertificateList::Values(&self.certificates))
+                write_table(
+                    buffer,
+                    directory,
+                    &CertificateList::Values(&self.certificates),
+                )
             }
         }
     }
