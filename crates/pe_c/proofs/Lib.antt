@@ -83,3 +83,4 @@ pub mod OneImports
 pub mod OneDebugData
 pub mod OneResources
 pub mod OneImage
+pub mod ImageWriters

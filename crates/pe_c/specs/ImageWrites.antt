@@ -1,12 +1,13 @@
 -- What calls return that write an image. They read the headers and the certificates from the bytes, in the mode of the image that
 -- is passed; the sections are those that are passed.
-use Rattle.std.specs.Prelude.{ℕ, List, Result, Ok}
+use Rattle.std.specs.Prelude.{◌≡◌, ℕ, List, Result, Ok}
 use Rattle.pe_core.specs.Header.{HeaderView}
 use Rattle.pe_core.specs.Refusals.{Refusal, ◌>>=◌}
+use Rattle.pe_core.specs.Sections.{sections_at}
 use Rattle.pe_records.specs.Certificates.{CertificateView}
-use Rattle.pe_image.specs.FieldSteps.{list_by_mode}
-use Rattle.pe_image.specs.Fields.{certificate_field}
+use Rattle.pe_image.specs.Fields.{certificate_field, list_by_mode}
 use Rattle.pe_image.specs.Writing.{image_by, image_length_by, whole_by, whole_length_by}
+use Rattle.pe_c.specs.Images.{image_at}
 use Rattle.pe_c.specs.Modes.{mode_of_number, options_of}
 use Rattle.pe_c.specs.Signing.{headers_of}
 use Rattle.pe_c.specs.declared.view.View.{View}
@@ -34,3 +35,9 @@ whole_written_at v old = parts_of v >>= λ p. whole_by p.0.optional_header v.byt
 
 abbrev pub whole_length_at : View → Result ℕ Refusal
 whole_length_at v = parts_of v >>= λ p. whole_length_by p.0.optional_header v.bytes.now p.0 v.sections.now p.1
+
+-- the view has these bytes, and what `pe_c_image` and `pe_c_sections` return of them in this mode
+pub record IsViewOf (b : List ℕ) (mode : ℕ) (v : View) : Type 0 where
+  pub bytes : v.bytes.now ≡ b
+  pub image : image_at b mode ≡ Ok v.image.now
+  pub sections : sections_at b v.image.now.sections_offset v.image.now.number_of_sections ≡ Ok v.sections.now

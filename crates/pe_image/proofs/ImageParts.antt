@@ -9,8 +9,7 @@ use Rattle.pe_core.specs.declared.options.ParseMode.TheVariants.{Strict, Permiss
 use Rattle.pe_core.specs.declared.options.ParseOptions.{ParseOptions}
 use Rattle.pe_records.specs.Certificates.{CertificateView}
 use Rattle.pe_image.specs.Core.{CoreView, core_of}
-use Rattle.pe_image.specs.FieldSteps.{list_by_mode}
-use Rattle.pe_image.specs.Fields.{Field, certificate_field, given_value}
+use Rattle.pe_image.specs.Fields.{Field, certificate_field, given_value, list_by_mode}
 use Rattle.pe_image.specs.Image.{IsAfterCore, IsImage, ImageView, before_resources, certificates_of, core_part, debug_of, demanded, exceptions_of, first_fields_demanded, relocations_of}
 use Rattle.pe_image.proofs.Permissive.{certificates_alone, core_of_image}
 use Rattle.pe_image.proofs.SectionsFirst.{core_before, headers_of_core}

@@ -7,8 +7,7 @@ ghost use Rattle.pe_core.specs.Header.{header_view};
 ghost use Rattle.pe_core.specs.Refusals.{ReturnsAs};
 ghost use Rattle.pe_records.specs.Certificates.{certificate_view, certificates_at};
 ghost use Rattle.pe_image.specs.CertificateLists.{IsFirst, certificate_views, listed};
-ghost use Rattle.pe_image.specs.FieldSteps.{list_by_mode};
-ghost use Rattle.pe_image.specs.Fields.{certificate_field};
+ghost use Rattle.pe_image.specs.Fields.{certificate_field, list_by_mode};
 ghost use Rattle.pe_image.specs.Layout.{directory};
 
 use pe_core::{DataDirectory, Error, Header, ParseMode, ParseOptions, Reason, Result};
