@@ -145,8 +145,7 @@ fn changed_sections_are_written(rt: HostRuntime) -> Result<(), Fail> {
     sections[0].name = *b".changed";
     sections[0].size_of_raw_data = 0x1F0;
     for (writer, last) in [(Writer::Image, 0), (Writer::Whole, 0x77)] {
-        let (numbers, ends, room) =
-            written_with(alloc, writer, &bytes, STRICT, &sections, SIZE)?;
+        let (numbers, ends, room) = written_with(alloc, writer, &bytes, STRICT, &sections, SIZE)?;
         assert_eq!(rt; (numbers, ends), ([DONE; 2], [0x410; 2]), "{writer:?}");
         assert!(rt; room[0x148..0x150] == *b".changed", "{writer:?}");
         assert!(rt; room[0x158..0x15C] == [0xF0, 1, 0, 0], "{writer:?}");
@@ -174,10 +173,11 @@ fn certificates_are_read_by_mode(rt: HostRuntime) -> Result<(), Fail> {
     assert_eq!(rt; (numbers, ends), ([DONE; 2], [0x410; 2]));
     assert!(rt; room[..SIZE] == bytes[..]);
     // Without its padding the certificate is the end of the file, and padding follows it where it is written.
-    let bytes = &having(alloc, 0xEC, &[9])?[..0x409];
-    let (numbers, ends, room) = written(alloc, Writer::Whole, bytes, STRICT, LONGER)?;
+    let mut bytes = having(alloc, 0xEC, &[9])?;
+    bytes.truncate(0x409);
+    let (numbers, ends, room) = written(alloc, Writer::Whole, &bytes, STRICT, LONGER)?;
     assert_eq!(rt; (numbers, ends), ([DONE; 2], [0x410; 2]));
-    assert!(rt; room[..0x409] == *bytes);
+    assert!(rt; room[..0x409] == bytes[..]);
     assert!(rt; room[0x409..SIZE] == [0; 7]);
     assert!(rt; is_old(&room[SIZE..]));
     Ok(())
@@ -189,7 +189,12 @@ fn certificates_are_read_by_mode(rt: HostRuntime) -> Result<(), Fail> {
 fn writes_are_refused(rt: HostRuntime) -> Result<(), Fail> {
     let alloc = rt.alloc();
     for (offset, part, of_image, of_whole) in [
-        (0x4C, [3, 2, 1, 0, 0, 0, 0, 0].as_slice(), WRITE_SYMBOLS, DONE),
+        (
+            0x4C,
+            [3, 2, 1, 0, 0, 0, 0, 0].as_slice(),
+            WRITE_SYMBOLS,
+            DONE,
+        ),
         (0x7C, &[0, 3, 0, 0], WRITE_ALIGNMENT, DONE),
         (0x7C, &[0, 0, 0, 0], WRITE_ALIGNMENT, DONE),
         (0x158, &[0xFF; 8], WRITE_SECTION, WRITE_SECTION),
@@ -212,16 +217,21 @@ fn writes_are_refused(rt: HostRuntime) -> Result<(), Fail> {
     };
     let low = pointer_below_64(alloc)?;
     for writer in [Writer::Image, Writer::Whole] {
-        let (numbers, ends, room) =
-            written_with(alloc, writer, &bytes, STRICT, &[one, other], LONGER)?;
+        let (numbers, ends, room) = written_with(
+            alloc,
+            writer,
+            &bytes,
+            STRICT,
+            &[one, other],
+            LONGER,
+        )?;
         assert_eq!(rt; (numbers, ends), ([WRITE_OVERLAP; 2], [OLD_NUMBER; 2]));
         assert!(rt; is_old(&room));
         for (bytes, mode, wanted) in [
             (&low[..], PERMISSIVE, NO_OPTIONAL_HEADER),
             (&bytes[..0x40], STRICT, SHORT),
         ] {
-            let (numbers, ends, room) =
-                written_with(alloc, writer, bytes, mode, &[], LONGER)?;
+            let (numbers, ends, room) = written_with(alloc, writer, bytes, mode, &[], LONGER)?;
             assert_eq!(rt; (numbers, ends), ([wanted; 2], [OLD_NUMBER; 2]));
             assert!(rt; is_old(&room));
         }
