@@ -123,8 +123,8 @@ enum {
     PE_C_RESOURCE_STRING = 30,      /* version string value missing, or its length above 32,767 */
     PE_C_TE_SIZE = 31,              /* stripped size smaller than the TE header */
     PE_C_NO_OPTIONAL_HEADER = 32,   /* image has no optional header */
-    PE_C_WRITE_ALIGNMENT = 33,      /* alignment cannot be written; never returned */
-    PE_C_WRITE_SYMBOLS = 34,        /* images with COFF symbols cannot be written; never returned */
+    PE_C_WRITE_ALIGNMENT = 33,      /* alignment cannot be written */
+    PE_C_WRITE_SYMBOLS = 34,        /* images with COFF symbols cannot be written */
     PE_C_WRITE_OVERLAP = 35,        /* sections overlap in the file */
     PE_C_WRITE_SECTION = 36,        /* section data is not in the source bytes */
     PE_C_WRITE_FIT = 37,            /* write does not fit the buffer */
@@ -1328,21 +1328,49 @@ uint32_t pe_c_detached_length(const pe_c_view *view, uint64_t *out) PE_C_RESULT(
  * Errors: those of pe_c_attach up to PE_C_SIGN_SECTION; PE_C_WRITE_FIT where the file does not fit into the array. */
 uint32_t pe_c_detach(const pe_c_view *view, uint8_t *room, size_t room_length, uint64_t *out) PE_C_RESULT(1, 4);
 
-/* ---- sections written
+/* ---- sections and images written
  *
- * The sections of an image changed: a caller reads them by pe_c_sections, changes a field, and writes them. Their data come from
- * `bytes`, the whole file. Any number may be passed.
- * https://learn.microsoft.com/windows/win32/debug/pe-format#section-table-section-headers */
+ * The sections of an image changed: a caller reads them by pe_c_sections, changes a field, and writes them, by themselves or with
+ * all of the image. Their data come from `bytes`, the whole file. Any number may be passed.
+ * https://learn.microsoft.com/windows/win32/debug/pe-format#section-table-section-headers
+ * pe_c_write_image and pe_c_write_whole read the headers and the certificates from the bytes, in the mode of the image: the other
+ * fields of that make no difference, and a caller that wants another header changes it in the bytes. In strict mode a certificate
+ * table that is invalid is an error, and in permissive mode no certificate of it is written. Certificates go where their directory
+ * says, each with zeros up to a multiple of 8 bytes. Of all of these calls: offsets count from the start of the array, and where
+ * pieces overlap the later one wins. What no piece covers is unchanged, and after an error all of the array and `out` or `next`.
+ * The array does not overlap the file; it may be NULL if room_length is 0. */
 
 /* Writes the sections of the view into the array: for each its data at pointer_to_raw_data, its header, and zeros after the data
  * up to a multiple of `unit` bytes, no zeros where that is 0. The headers are written one after the other, from `next` on, which
- * moves past them. Offsets count from the start of the array. Where pieces overlap the later one wins. What no piece covers is
- * unchanged, and after an error all of the array and `next`. The array does not overlap the file; it may be NULL if room_length
- * is 0.
+ * moves past them.
  * Errors: PE_C_WRITE_OVERLAP where two sections that are not equal share a byte of the file; PE_C_WRITE_SECTION where the data of
  * one are not in the file; PE_C_WRITE_FIT where a piece does not fit into the array. */
 uint32_t pe_c_write_sections(const pe_c_view *view, uint32_t unit, uint8_t *room, size_t room_length, uint64_t *next)
     PE_C_RESULT(1, 5);
+
+/* Returns how many bytes of an array pe_c_write_image needs with these arguments: the greatest end of what it writes.
+ * Errors: those of pe_c_write_image, but PE_C_WRITE_FIT only where no array is long enough. */
+uint32_t pe_c_image_length(const pe_c_view *view, uint64_t *out) PE_C_RESULT(1, 2);
+
+/* Writes the image into the array: the DOS header, the stub, the PE signature, the COFF header and the optional header where the
+ * headers have them; the sections of the view as pe_c_write_sections does, up to multiples of the file alignment, with their
+ * headers in the section table; the certificates. Puts to `out` the greatest of three offsets: the start of the section table, the
+ * end of the data of the last section with the greatest raw pointer, the end of the certificates.
+ * Errors: those of pe_c_image; in strict mode those of pe_c_next_certificate, of all certificates; PE_C_NO_OPTIONAL_HEADER;
+ * PE_C_WRITE_ALIGNMENT where the file alignment is no power of two; PE_C_WRITE_SYMBOLS where the pointer to COFF symbols is not 0;
+ * PE_C_WRITE_OVERLAP, PE_C_WRITE_SECTION and PE_C_WRITE_FIT as of pe_c_write_sections. */
+uint32_t pe_c_write_image(const pe_c_view *view, uint8_t *room, size_t room_length, uint64_t *out) PE_C_RESULT(1, 4);
+
+/* Returns how many bytes of an array pe_c_write_whole needs with these arguments: those of the file, or the greatest end of what is
+ * written over it if that is greater.
+ * Errors: those of pe_c_write_whole, but PE_C_WRITE_FIT only where no array is long enough. */
+uint32_t pe_c_whole_length(const pe_c_view *view, uint64_t *out) PE_C_RESULT(1, 2);
+
+/* Writes the whole file into the array, and over it what pe_c_write_image writes, but no zeros after sections. So COFF symbols and
+ * bytes between sections and after them stay as they are in the file. An image without certificates whose sections are unchanged
+ * comes back byte for byte. Puts to `out` the greater of the file's length and of what pe_c_write_image puts there.
+ * Errors: those of pe_c_write_image but for PE_C_WRITE_ALIGNMENT and PE_C_WRITE_SYMBOLS. */
+uint32_t pe_c_write_whole(const pe_c_view *view, uint8_t *room, size_t room_length, uint64_t *out) PE_C_RESULT(1, 4);
 
 /* ---- x64 functions and unwind records
  *

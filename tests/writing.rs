@@ -1,8 +1,10 @@
 //! Images, sections and certificates as they are written.
 
-use crate::images::{headers_alone, image, pointer_below_64, put, with_functions, with_part};
+use crate::images::{
+    headers_alone, image, pointer_below_64, put, with_every_directory, with_functions, with_part,
+};
 use crate::whole_images::in_mode;
-use pe_image::{Error, PE, ParseMode, Reason};
+use pe_image::{CertificateList, Error, ImageWriter, PE, ParseMode, ParseOptions, Reason};
 use std::alloc::{AllocError, Global};
 use std::process::Abort;
 use std::test::Fail;
@@ -142,8 +144,8 @@ fn writes_equal_sections_alone(rt: HostRuntime) -> Result<(), Fail> {
 fn refuses_what_can_not_be_written(rt: HostRuntime) -> Result<(), Fail> {
     let alloc = rt.alloc();
     let permissive = in_mode(ParseMode::Permissive);
-    // shows: pe_image/src/write.rt require_fields WriteAlignment
-    // shows: pe_image/src/write.rt require_fields WriteSymbols
+    // shows: pe_image/src/write/image.rt require_fields WriteAlignment
+    // shows: pe_image/src/write/image.rt require_fields WriteSymbols
     for (offset, part, reason) in [
         (
             0x4C,
@@ -601,5 +603,67 @@ fn writes_certificates_at_an_odd_offset(rt: HostRuntime) -> Result<(), Fail> {
     assert_eq!(rt; pe.write_certificates(&mut written)?, 0x40F);
     let certificate = [9, 0, 0, 0, 0, 2, 2, 0, 0xAA, 0, 0, 0, 0, 0, 0, 0, 0x55];
     assert!(rt; written.get(0x3FF..) == Some(certificate.as_slice()));
+    Ok(())
+}
+
+/// The parts of an image are written as the image is, with the two certificates of its table, and without a list of them.
+#[test]
+fn writes_parts_as_an_image(rt: HostRuntime) -> Result<(), Fail> {
+    let alloc = rt.alloc();
+    let bytes = with_every_directory(alloc)?;
+    let pe = PE::parse(alloc, &bytes)?;
+    let opts = ParseOptions::default();
+    let writer = ImageWriter {
+        source: &bytes,
+        header: &pe.header,
+        sections: &pe.sections,
+        certificates: CertificateList::of_image(&bytes, &pe.header, &opts)?,
+    };
+    let (mut parts, mut value) = (buffer(alloc, 0xA20, 0x55)?, buffer(alloc, 0xA20, 0x55)?);
+    assert_eq!(rt;
+        (writer.write_into(&mut parts)?, pe.write_into(&mut value)?),
+        (0xA20, 0xA20)
+    );
+    assert!(rt; parts == value);
+    assert_eq!(rt; writer.write_whole(&mut parts)?, 0xA20);
+    assert!(rt; parts == bytes);
+    assert_eq!(rt;
+        (writer.written_len()?, writer.whole_len()?),
+        (0xA20, 0xA20)
+    );
+    let opts = ParseOptions {
+        parse_attribute_certificates: false,
+        ..opts
+    };
+    let without = ImageWriter {
+        certificates: CertificateList::of_image(&bytes, &pe.header, &opts)?,
+        ..writer
+    };
+    let mut parts = buffer(alloc, 0xA20, 0x55)?;
+    assert_eq!(rt; without.write_into(&mut parts)?, 0xA00);
+    assert!(rt; parts.get(0xA00..) == Some([0x55; 0x20].as_slice()));
+    assert_eq!(rt;
+        (without.written_len()?, without.whole_len()?),
+        (0xA00, 0xA20)
+    );
+    Ok(())
+}
+
+/// A table of certificates that passes the end of the file is no list of them.
+#[test]
+fn lists_no_table_past_the_file(rt: HostRuntime) -> Result<(), Fail> {
+    let bytes = with_functions(rt.alloc())?;
+    // shows: pe_image/src/write/certificate_list.rt read CertificateTable
+    for (address, size, end) in [
+        (0x400, 0x11, 0x411),
+        (0x411, 0, 0x411),
+        (usize::MAX, 2, u64::MAX),
+    ] {
+        let refused = CertificateList::read(&bytes, address, size).err();
+        assert!(rt;
+            matches!(refused, Some(Error::Malformed(Reason::CertificateTable(n))) if n == end),
+            "{address} {size}"
+        );
+    }
     Ok(())
 }

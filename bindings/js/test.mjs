@@ -235,6 +235,19 @@ test('sections are written', () => {
   assert.equal(refused(() => image.call('pe_c_write_sections', short)).constant, 'PE_C_WRITE_FIT');
 });
 
+test('images are written', () => {
+  const bytes = file('debug'), image = library.open(bytes), length = image.call('pe_c_whole_length');
+  const room = new Uint8Array(Number(length));
+  assert.equal(image.call('pe_c_write_whole', { room }), length);
+  assert.deepEqual(room, Uint8Array.from(bytes));
+  const part = new Uint8Array(Number(image.call('pe_c_image_length')));
+  image.call('pe_c_write_image', { room: part });
+  const { sections_offset: offset, number_of_sections: count } = image.info, headers = Number(offset) + 40 * count;
+  assert.deepEqual(part.subarray(0, headers), room.subarray(0, headers));
+  assert.ok(part.subarray(headers, 0x200).every((it) => it === 0));
+  assert.equal(refused(() => image.call('pe_c_write_whole', { room: room.subarray(1) })).constant, 'PE_C_WRITE_FIT');
+});
+
 // What `openssl asn1parse`, `openssl x509` and `osslsigncode verify` print of it, as tests/signatures.rs of the cargo crate has it.
 test('by whom a signature is', () => {
   const { certificates: [{ signer }] } = factsOf(library, file('signature'), 'signature.bin');

@@ -21,6 +21,7 @@ mod failure;
 mod guard_tables;
 mod headers;
 mod image;
+mod image_write;
 mod imports;
 mod library_imports;
 mod lists;

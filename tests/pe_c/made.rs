@@ -79,6 +79,10 @@ pub(crate) const TE_SIZE: u32 = 31;
 
 pub(crate) const NO_OPTIONAL_HEADER: u32 = 32;
 
+pub(crate) const WRITE_ALIGNMENT: u32 = 33;
+
+pub(crate) const WRITE_SYMBOLS: u32 = 34;
+
 pub(crate) const WRITE_OVERLAP: u32 = 35;
 
 pub(crate) const WRITE_SECTION: u32 = 36;

@@ -458,6 +458,11 @@ fn read_by_lies(bytes: &[u8], random: &mut Random, seen: &mut Seen) {
         assert!(written == 0 || written == needed && written <= size as u64);
         let mut next = index;
         sys::pe_c_write_sections(&view, few, first, size, &mut next);
+        sys::pe_c_image_length(&view, &mut needed);
+        sys::pe_c_write_image(&view, first, size, &mut left);
+        sys::pe_c_whole_length(&view, &mut needed);
+        sys::pe_c_write_whole(&view, first, size, &mut left);
+        left = 0;
         sys::pe_c_detached_length(&view, &mut needed);
         sys::pe_c_detach(&view, first, size, &mut left);
         assert!(left == 0 || left == needed && left <= size as u64);

@@ -118,6 +118,7 @@ fn has_value(error: Error) -> bool {
         | Error::ARM64_VERSION
         | Error::ARM64_STREAM
         | Error::TE_SIZE
+        | Error::WRITE_ALIGNMENT
         | Error::WRITE_SECTION
         | Error::WRITE_FIT
         | Error::DIRECTORY_BLOCK_SIZE
@@ -167,6 +168,8 @@ impl fmt::Display for Failure {
             Error::RESOURCE_CYCLE => write!(f, "loop in the resource tree through the directory at offset {offset:#x}"),
             Error::RESOURCE_STRING => write!(f, "version string at offset {offset:#x}: value missing, or its length above 32,767"),
             Error::TE_SIZE => write!(f, "stripped size of {value} bytes is smaller than the 40 bytes of a TE header"),
+            Error::WRITE_ALIGNMENT => write!(f, "images with alignment {value:#x} cannot be written"),
+            Error::WRITE_SYMBOLS => write!(f, "images with COFF symbols cannot be written (symbol table at file offset {offset:#x})"),
             Error::WRITE_SECTION => write!(f, "data of section {value} is not in the source bytes"),
             Error::WRITE_FIT => write!(f, "write ends at offset {offset:#x}, past a buffer of {value} bytes"),
             Error::DIRECTORY_BLOCK_SIZE => write!(f, "base relocation block of {value} bytes: the size is below 8 or odd"),

@@ -143,6 +143,10 @@ errors! {
     TE_SIZE = 31;
     /// Image has no optional header.
     NO_OPTIONAL_HEADER = 32;
+    /// Alignment cannot be written.
+    WRITE_ALIGNMENT = 33;
+    /// Images with COFF symbols cannot be written.
+    WRITE_SYMBOLS = 34;
     /// Sections overlap in the file.
     WRITE_OVERLAP = 35;
     /// Section data is not in the source bytes.

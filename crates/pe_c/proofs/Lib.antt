@@ -84,3 +84,4 @@ pub mod OneImports
 pub mod OneDebugData
 pub mod OneResources
 pub mod OneImage
+pub mod ImageWriters

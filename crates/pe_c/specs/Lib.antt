@@ -73,3 +73,4 @@ pub mod ImageDebug
 pub mod ImageOfCalls
 pub mod HeadersRead
 pub mod SectionWrites
+pub mod ImageWrites

@@ -8,6 +8,7 @@ pub mod dumps;
 pub mod failures;
 pub mod frames;
 pub mod guard_tables;
+pub mod image_writes;
 pub mod indexes;
 pub mod lists;
 pub mod results;

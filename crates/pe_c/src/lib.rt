@@ -34,6 +34,7 @@ mod frame_calls;
 mod guard_tables;
 mod headers;
 mod image;
+mod image_write;
 mod imports;
 pub mod laws;
 mod library_imports;

@@ -1,5 +1,5 @@
 -- The ends of pieces: the greatest of them decides whether all fit.
-use Rattle.std.proofs.Common.{◌≡◌, ℕ, ◌+◌, ◌*◌, ◌≤◌, ◌<◌, ◌&&◌, Bool, true, false, Ok, Err, List, [], ◌∷◌, ◌++◌, length, get_or, drop, replicate, map, refl, ap, sym, ◌∙◌, arith}
+use Rattle.std.proofs.Common.{◌≡◌, ℕ, ◌+◌, ◌*◌, ◌≤◌, ◌<◌, ◌&&◌, Bool, true, false, Ok, Err, List, [], ◌∷◌, ◌++◌, length, get_or, drop, replicate, refl, ap, sym, ◌∙◌, arith}
 use Rattle.std.specs.Prelude.{Option, None, Some, is_ok, nat_le, max, ◌==◌, if◌then◌else◌}
 use Rattle.std.specs.Int.{is_power_of_two}
 use Rattle.std.proofs.lemmas.List.{length-append, length-replicate}
@@ -12,8 +12,7 @@ use Rattle.pe_core.specs.Sections.{raw_end, sections_offset}
 use Rattle.pe_core.specs.Spelling.{spell_optional}
 use Rattle.pe_core.specs.declared.data_directories.DataDirectory.{DataDirectory}
 use Rattle.pe_core.specs.declared.section_table.SectionTable.{SectionTable}
-use Rattle.pe_records.specs.Certificates.{CertificateView, certificate_view}
-use Rattle.pe_records.specs.declared.certificate_table.AttributeCertificate.{AttributeCertificate}
+use Rattle.pe_records.specs.Certificates.{CertificateView}
 use Rattle.pe_records.specs.CertificateWriting.{padding, spell_certificate, written_length}
 use Rattle.pe_records.proofs.CertificatePieces.{length-spell, length_written}
 use Rattle.pe_core.proofs.Splices.{length-bytes_of}
@@ -24,7 +23,7 @@ use Rattle.pe_image.specs.Pieces.{all_certificate_pieces, all_section_pieces, ce
 use Rattle.pe_image.specs.Writing.{all_in_source, certificate_directory, clash_free, image_by, image_end, image_length, image_length_by, image_pieces, image_tests, image_written, padded_pieces, section_tests, whole_by, whole_length, whole_length_by, whole_pieces, whole_written}
 use Rattle.pe_image.specs.WritingSteps.{all_end, possible}
 use Rattle.pe_image.proofs.Laid.{length_coff, length_dos, length_section}
-use Rattle.pe_image.proofs.Rows.{fits_if, unfit_if, refused_if, rest_at, rest_of_seen}
+use Rattle.pe_image.proofs.Rows.{fits_if, unfit_if, refused_if, rest_at}
 use Rattle.pe_image.proofs.Steps.{accepted_if, value_if}
 
 both_le : (a b n : ℕ) → (nat_le a n && nat_le b n) ≡ nat_le (max a b) n
@@ -142,22 +141,26 @@ certificates_reach (Some d) [] = refl
 certificates_reach (Some d) (c ∷ cs) = row_reach cs c d.virtual_address ∙ some_end cs c d.virtual_address
 
 -- what is left ends where all of them do
-pub record RowLeft (start : ℕ) (cs : List AttributeCertificate) (offset i : ℕ) : Type 0 where
-  pub ends : row_end written_length offset (drop i (map certificate_view cs)) ≡ row_end written_length start (map certificate_view cs)
+pub record RowLeft (start : ℕ) (cs : List CertificateView) (offset : ℕ) (rest : List CertificateView) : Type 0 where
+  pub ends : row_end written_length offset rest ≡ row_end written_length start cs
   pub small : offset ≤ longest
 
-pub row_next : (start : ℕ) (cs : List AttributeCertificate) (offset next i : ℕ) (d : AttributeCertificate) → i < length cs → RowLeft start cs offset i → possible (offset + written_length (certificate_view (get_or cs i d))) (offset + written_length (certificate_view (get_or cs i d))) ≡ Ok next → RowLeft start cs next (i + 1)
-row_next start cs offset next i d h r e =
-    let k : ℕ = offset + written_length (certificate_view (get_or cs i d)) in
+pub row_next : (start : ℕ) (cs : List CertificateView) (offset next : ℕ) (c : CertificateView) (left rest : List CertificateView) → left ≡ c ∷ rest → RowLeft start cs offset left → possible (offset + written_length c) (offset + written_length c) ≡ Ok next → RowLeft start cs next rest
+row_next start cs offset next c left rest is r e =
+    let k : ℕ = offset + written_length c in
     let same : next ≡ k = value_if (nat_le k longest) k next e in
-    rw same (record { ends = rw (rest_of_seen certificate_view cs i d h) at r.ends; small = within k k next e })
+    rw same (record { ends = rw is at r.ends; small = within k k next e })
 
-pub row_refused : {Z : Type 0} (start : ℕ) (cs : List AttributeCertificate) (offset i : ℕ) (d : AttributeCertificate) (z : Z) (k : Refusal) → i < length cs → RowLeft start cs offset i → possible (offset + written_length (certificate_view (get_or cs i d))) (offset + written_length (certificate_view (get_or cs i d))) ≡ Err k → possible (row_end written_length start (map certificate_view cs)) z ≡ Err k
-row_refused start cs offset i d z k h r e =
-    let n : ℕ = offset + written_length (certificate_view (get_or cs i d)) in
-    let rest : List CertificateView = drop (i + 1) (map certificate_view cs) in
-    let ends : row_end written_length n rest ≡ row_end written_length start (map certificate_view cs) = rw (rest_of_seen certificate_view cs i d h) at r.ends in
-    impossible n (row_end written_length start (map certificate_view cs)) n z k (omega (arith, row_end_after rest n, ends)) e
+pub row_refused : {Z : Type 0} (start : ℕ) (cs : List CertificateView) (offset : ℕ) (c : CertificateView) (left rest : List CertificateView) (z : Z) (k : Refusal) → left ≡ c ∷ rest → RowLeft start cs offset left → possible (offset + written_length c) (offset + written_length c) ≡ Err k → possible (row_end written_length start cs) z ≡ Err k
+row_refused start cs offset c left rest z k is r e =
+    let n : ℕ = offset + written_length c in
+    let ends : row_end written_length n rest ≡ row_end written_length start cs = rw is at r.ends in
+    impossible n (row_end written_length start cs) n z k (omega (arith, row_end_after rest n, ends)) e
+
+pub row_last : (start : ℕ) (cs : List CertificateView) (offset : ℕ) (left : List CertificateView) → left ≡ [] → RowLeft start cs offset left → possible (row_end written_length start cs) (row_end written_length start cs) ≡ Ok offset
+row_last start cs offset left is r =
+    let ends : offset ≡ row_end written_length start cs = rw is at r.ends in
+    accepted_if (nat_le (row_end written_length start cs) longest) (row_end written_length start cs) offset (sym (le_is (row_end written_length start cs) longest (omega (arith, ends, r.small)))) ends
 
 -- ---- the whole
 

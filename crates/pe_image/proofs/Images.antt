@@ -14,8 +14,8 @@ use Rattle.std.specs.Option.{option_map}
 use Rattle.pe_image.specs.LayoutParts.{layout_of}
 use Rattle.pe_image.specs.declared.layout.Layout.{Layout}
 use Rattle.pe_image.specs.Core.{CoreView, core_of, sections_read}
-use Rattle.pe_image.specs.Fields.{Field, given_value}
-use Rattle.pe_image.specs.FieldSteps.{by_mode, list_by_mode, first_fields_in_turn, ReturnsResources}
+use Rattle.pe_image.specs.Fields.{Field, given_value, list_by_mode}
+use Rattle.pe_image.specs.FieldSteps.{by_mode, first_fields_in_turn, ReturnsResources}
 use Rattle.pe_image.specs.Image.{ImageView, FirstFieldsView, first_fields, image_of, with_fields, demanded, first_fields_demanded, before_resources, AreResourcesOf, IsAfterCore, IsImage, ReturnsImage}
 use Rattle.pe_image.specs.ImageSteps.{unless_refused, ReturnsAfterCore}
 use Rattle.pe_image.specs.declared.pe.PE.{PE}

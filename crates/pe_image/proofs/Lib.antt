@@ -6,6 +6,7 @@ pub mod Modes
 pub mod Permissive
 pub mod LibraryLists
 pub mod Requests
+pub mod ImageParts
 pub mod Headline
 pub mod SectionsFirst
 pub mod Limited
@@ -13,6 +14,7 @@ pub mod ExceptionFields
 pub mod Overlays
 pub mod Rows
 pub mod Ends
+pub mod TableLists
 pub mod WrittenCertificates
 pub mod Laid
 pub mod Clashes

@@ -1,18 +1,17 @@
 -- Certificates as pieces.
-use Rattle.std.proofs.Common.{◌≡◌, ℕ, ◌+◌, ◌≤◌, ◌<◌, ◌&&◌, Bool, true, false, cond, Err, List, ◌++◌, length, get_or, drop, map, ap, sym, ◌∙◌, arith}
+use Rattle.std.proofs.Common.{◌≡◌, ℕ, ◌+◌, ◌≤◌, ◌&&◌, Bool, true, false, cond, Err, List, [], ◌∷◌, ◌++◌, length, ap, sym, ◌∙◌, arith}
 use Rattle.std.specs.Prelude.{nat_le}
 use Rattle.std.proofs.lemmas.Bool.Decides.{nat_tests}
 use Rattle.std.proofs.lemmas.List.{length-append}
 use Rattle.pe_core.specs.Bytes.{holds, put, splice}
 use Rattle.pe_core.specs.Refusals.{Refusal}
-use Rattle.pe_records.specs.Certificates.{CertificateView, certificate_view}
-use Rattle.pe_records.specs.declared.certificate_table.AttributeCertificate.{AttributeCertificate}
+use Rattle.pe_records.specs.Certificates.{CertificateView}
 use Rattle.pe_records.specs.CertificateWriting.{padding, spell_certificate, written_certificate, written_end, written_length}
 use Rattle.pe_records.proofs.CertificatePieces.{length-spell, length_written, three_pieces}
 use Rattle.pe_image.specs.Overlay.{all_fit}
 use Rattle.pe_image.specs.Pieces.{certificate_pieces, in_a_row}
 use Rattle.pe_image.specs.WritingSteps.{put_in_turn}
-use Rattle.pe_image.proofs.Rows.{Goes, goes_fits, goes_next, goes_last, rest_of_seen, no_rest_of_seen, unfit_if}
+use Rattle.pe_image.proofs.Rows.{Goes, goes_fits, goes_next, goes_last, unfit_if}
 
 -- three ends of which the last is the greatest
 last_end : (k l m n : ℕ) → k ≤ m → l ≤ m → (nat_le k n && (nat_le l n && (nat_le m n && true))) ≡ nat_le m n
@@ -51,17 +50,14 @@ never_refused b p c r h e =
 
 -- ---- the writing, certificate by certificate
 
-abbrev pub GoesCertificates : List ℕ → ℕ → List AttributeCertificate → List ℕ → ℕ → ℕ → Type 0
-GoesCertificates b start cs now offset i = Goes certificate_pieces written_length b start (map certificate_view cs) now offset (drop i (map certificate_view cs))
+abbrev pub GoesCertificates : List ℕ → ℕ → List CertificateView → List ℕ → ℕ → List CertificateView → Type 0
+GoesCertificates b start cs now offset rest = Goes certificate_pieces written_length b start cs now offset rest
 
-pub next_fits : (b : List ℕ) (start : ℕ) (cs : List AttributeCertificate) (now : List ℕ) (offset i : ℕ) (d : AttributeCertificate) → i < length cs → length now ≡ length b → GoesCertificates b start cs now offset i → all_fit (length now) (certificate_pieces offset (certificate_view (get_or cs i d))) ≡ true
-next_fits b start cs now offset i d h l g =
-    rw l (goes_fits certificate_pieces written_length b start (map certificate_view cs) now offset (certificate_view (get_or cs i d)) (drop (i + 1) (map certificate_view cs)) (rw (rest_of_seen certificate_view cs i d h) at g))
+pub next_fits : (b : List ℕ) (start : ℕ) (cs : List CertificateView) (now : List ℕ) (offset : ℕ) (c : CertificateView) (left rest : List CertificateView) → left ≡ c ∷ rest → length now ≡ length b → GoesCertificates b start cs now offset left → all_fit (length now) (certificate_pieces offset c) ≡ true
+next_fits b start cs now offset c left rest is l g = rw l (goes_fits certificate_pieces written_length b start cs now offset c rest (rw is at g))
 
-pub next_goes : (b : List ℕ) (start : ℕ) (cs : List AttributeCertificate) (now next : List ℕ) (offset end i : ℕ) (d : AttributeCertificate) → i < length cs → GoesCertificates b start cs now offset i → next ≡ put_in_turn now (certificate_pieces offset (certificate_view (get_or cs i d))) → end ≡ offset + written_length (certificate_view (get_or cs i d)) → GoesCertificates b start cs next end (i + 1)
-next_goes b start cs now next offset end i d h g e f =
-    rw f (goes_next certificate_pieces written_length b start (map certificate_view cs) now next offset (certificate_view (get_or cs i d)) (drop (i + 1) (map certificate_view cs)) (rw (rest_of_seen certificate_view cs i d h) at g) e)
+pub next_goes : (b : List ℕ) (start : ℕ) (cs : List CertificateView) (now next : List ℕ) (offset end : ℕ) (c : CertificateView) (left rest : List CertificateView) → left ≡ c ∷ rest → GoesCertificates b start cs now offset left → next ≡ put_in_turn now (certificate_pieces offset c) → end ≡ offset + written_length c → GoesCertificates b start cs next end rest
+next_goes b start cs now next offset end c left rest is g e f = rw f (goes_next certificate_pieces written_length b start cs now next offset c rest (rw is at g) e)
 
-pub all_gone : (b : List ℕ) (start : ℕ) (cs : List AttributeCertificate) (now : List ℕ) (offset i : ℕ) → length cs ≤ i → GoesCertificates b start cs now offset i → now ≡ put_in_turn b (in_a_row certificate_pieces written_length start (map certificate_view cs))
-all_gone b start cs now offset i h g =
-    goes_last certificate_pieces written_length b start (map certificate_view cs) now offset (rw (no_rest_of_seen certificate_view cs i h) at g)
+pub all_gone : (b : List ℕ) (start : ℕ) (cs : List CertificateView) (now : List ℕ) (offset : ℕ) (left : List CertificateView) → left ≡ [] → GoesCertificates b start cs now offset left → now ≡ put_in_turn b (in_a_row certificate_pieces written_length start cs)
+all_gone b start cs now offset left is g = goes_last certificate_pieces written_length b start cs now offset (rw is at g)

@@ -1,7 +1,7 @@
 -- The fields before the resources, read one after the other. For proofs only.
-use Rattle.std.specs.Prelude.{◌≡◌, List, [], ℕ, Option, Some, None, Result, Ok, map}
+use Rattle.std.specs.Prelude.{◌≡◌, List, ℕ, Option, Some, None, Result, Ok, map}
 use Rattle.std.specs.Option.{option_map}
-use Rattle.pe_core.specs.Modes.{none_if_refused, empty_if_refused}
+use Rattle.pe_core.specs.Modes.{none_if_refused}
 use Rattle.pe_core.specs.Refusals.{Refusal, answer_by, ◌>>=◌}
 use Rattle.pe_core.specs.declared.data_directories.DataDirectory.{DataDirectory}
 use Rattle.pe_core.specs.declared.error.Error.{Error}
@@ -13,7 +13,7 @@ use Rattle.pe_records.specs.DebugRecords.{debug_view}
 use Rattle.pe_resource.specs.Resources.{ResourceView, resource_view, IsResource}
 use Rattle.pe_resource.specs.declared.resource.ResourceData.{ResourceData}
 use Rattle.pe_image.specs.Core.{CoreView}
-use Rattle.pe_image.specs.Fields.{Field, IsField}
+use Rattle.pe_image.specs.Fields.{Field, IsField, list_by_mode}
 use Rattle.pe_image.specs.Image.{FirstFieldsView, debug_of, exceptions_of, relocations_of, certificates_of}
 use Rattle.pe_image.specs.declared.fields.FirstFields.{FirstFields}
 
@@ -21,11 +21,6 @@ use Rattle.pe_image.specs.declared.fields.FirstFields.{FirstFields}
 abbrev pub by_mode : {X : Type 0} → ParseMode → Field X → Result (Option X) Refusal
 by_mode mode None = Ok None
 by_mode mode (Some r) = none_if_refused mode r
-
--- the same for a list, which is empty if it is absent, and in permissive mode if it is refused
-abbrev pub list_by_mode : {X : Type 0} → ParseMode → Field (List X) → Result (List X) Refusal
-list_by_mode mode None = Ok []
-list_by_mode mode (Some r) = empty_if_refused mode [] r
 
 -- the result of reading the resources of a directory, by mode
 abbrev pub ReturnsResources : ParseOptions → List ℕ → List SectionTable → ℕ → Option DataDirectory → Result (Option ResourceData) Error → Type 0

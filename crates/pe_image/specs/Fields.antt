@@ -1,10 +1,12 @@
 -- The directories of an image, each defined on its own: absent, a value, or a refusal. (PE format: optional header data
 -- directories; which of them are read, and which the options turn off, is this project's profile.)
-use Rattle.std.specs.Prelude.{◌≡◌, ℕ, ◌==◌, List, Option, Some, None, Result, Ok, Err, if◌then◌else◌}
+use Rattle.std.specs.Prelude.{◌≡◌, ℕ, ◌==◌, List, [], Option, Some, None, Result, Ok, Err, if◌then◌else◌}
 use Rattle.pe_core.specs.Header.{OptionalHeaderView}
+use Rattle.pe_core.specs.Modes.{empty_if_refused}
 use Rattle.pe_core.specs.Refusals.{Refusal}
 use Rattle.pe_core.specs.Relocations.{directory_bytes}
 use Rattle.pe_core.specs.declared.data_directories.DataDirectory.{DataDirectory}
+use Rattle.pe_core.specs.declared.options.ParseMode.{ParseMode}
 use Rattle.pe_core.specs.declared.options.ParseOptions.{ParseOptions}
 use Rattle.pe_core.specs.declared.section_table.SectionTable.{SectionTable}
 use Rattle.pe_records.specs.Certificates.{CertificateView, certificates_at}
@@ -45,6 +47,11 @@ relocation_field b opts sections o = field (λ d. directory_bytes opts b d secti
 abbrev pub certificate_field : List ℕ → ParseOptions → Option OptionalHeaderView → Field (List CertificateView)
 certificate_field b opts o =
     if opts.parse_attribute_certificates then field (λ d. certificates_at b d.virtual_address d.size) (directory 4 o) else None
+
+-- a list by mode: it is empty if it is absent; strict mode keeps a refusal, and permissive mode makes it the empty list
+abbrev pub list_by_mode : {X : Type 0} → ParseMode → Field (List X) → Result (List X) Refusal
+list_by_mode mode None = Ok []
+list_by_mode mode (Some r) = empty_if_refused mode [] r
 
 -- resources: directory 2; absent if `parse_resources` is off
 abbrev pub resource_directory : ParseOptions → Option OptionalHeaderView → Option DataDirectory

@@ -14,5 +14,6 @@ pub mod Te
 pub mod Objects
 pub mod Overlay
 pub mod Pieces
+pub mod CertificateLists
 pub mod Writing
 pub mod WritingSteps

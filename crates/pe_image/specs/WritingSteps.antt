@@ -1,6 +1,6 @@
 -- The steps of the writers. Only private contracts cite them, and the law that writing pieces in turn leaves their
 -- overlay.
-use Rattle.std.specs.Prelude.{ℕ, ◌+◌, ◌-◌, ◌^◌, ◌||◌, ◌&&◌, ◌==◌, min, max, Bool, true, false, List, [], ◌∷◌, ◌++◌, length, take, drop, replicate, map, nat_le, Option, Some, Result, if◌then◌else◌}
+use Rattle.std.specs.Prelude.{ℕ, ◌+◌, ◌-◌, ◌^◌, ◌||◌, ◌&&◌, ◌==◌, min, max, Bool, true, false, List, [], ◌∷◌, ◌++◌, length, take, drop, replicate, nat_le, Option, Some, Result, if◌then◌else◌}
 use Rattle.std.specs.Int.{is_power_of_two}
 use Rattle.pe_core.specs.Bytes.{range, splice}
 use Rattle.pe_core.specs.Header.{header_view, optional_header_view}
@@ -9,12 +9,11 @@ use Rattle.pe_core.specs.Sections.{raw_end}
 use Rattle.pe_core.specs.Spelling.{spell_section}
 use Rattle.pe_core.specs.declared.optional_header.OptionalHeader.{OptionalHeader}
 use Rattle.pe_core.specs.declared.section_table.SectionTable.{SectionTable}
-use Rattle.pe_records.specs.Certificates.{certificate_view}
-use Rattle.pe_image.specs.Image.{source_of}
+use Rattle.pe_image.specs.CertificateLists.{certificate_views}
 use Rattle.pe_image.specs.Overlay.{Piece, greatest_end, longest, piece}
 use Rattle.pe_image.specs.Pieces.{lacking}
 use Rattle.pe_image.specs.Writing.{all_in_source, clash_free, image_end, image_tests, padded_pieces, same_section, whole_pieces}
-use Rattle.pe_image.specs.declared.pe.PE.{PE}
+use Rattle.pe_image.specs.declared.write.image.ImageWriter.{ImageWriter}
 
 -- the bytes after the pieces are written one after the other
 unfoldable pub put_in_turn : List ℕ → List Piece → List ℕ
@@ -84,36 +83,35 @@ section_parts covered b unit offset s =
     ++ piece offset (spell_section s)
     ∷ parts_outside covered (raw_end s) (replicate (lacking s.size_of_raw_data unit) 0)
 
--- ---- of an image as its fields are now, with one optional header
+-- ---- of the parts of an image, with one optional header
 
 -- its pieces, with sections that are padded to a multiple of the unit
-abbrev pub own_pieces : {Z : Type 0} → PE Z → OptionalHeader → Option ℕ → List Piece
-own_pieces x o unit =
-    padded_pieces unit (source_of x) (header_view x.header) (optional_header_view o) x.sections.items
-    (map certificate_view x.certificates.items)
+abbrev pub own_pieces : ImageWriter → OptionalHeader → Option ℕ → List Piece
+own_pieces w o unit =
+    padded_pieces unit w.source.now (header_view w.header.now) (optional_header_view o) w.sections.now
+    (certificate_views w.certificates)
 
 -- these over its file
-abbrev pub own_whole : {Z : Type 0} → PE Z → OptionalHeader → List Piece
-own_whole x o =
-    whole_pieces (source_of x) (header_view x.header) (optional_header_view o) x.sections.items
-    (map certificate_view x.certificates.items)
+abbrev pub own_whole : ImageWriter → OptionalHeader → List Piece
+own_whole w o =
+    whole_pieces w.source.now (header_view w.header.now) (optional_header_view o) w.sections.now
+    (certificate_views w.certificates)
 
 -- its end
-abbrev pub own_end : {Z : Type 0} → PE Z → OptionalHeader → ℕ
-own_end x o =
-    image_end (header_view x.header) (optional_header_view o) x.sections.items (map certificate_view x.certificates.items)
+abbrev pub own_end : ImageWriter → OptionalHeader → ℕ
+own_end w o = image_end (header_view w.header.now) (optional_header_view o) w.sections.now (certificate_views w.certificates)
 
 -- the tests of writing its pieces over n bytes
-abbrev pub own_tests : {Z : Type 0} → PE Z → OptionalHeader → ℕ → List (Bool × Refusal)
-own_tests x o n =
-    image_tests (source_of x) (header_view x.header) (optional_header_view o) x.sections.items n
-    (own_pieces x o (Some o.windows_fields.file_alignment))
+abbrev pub own_tests : ImageWriter → OptionalHeader → ℕ → List (Bool × Refusal)
+own_tests w o n =
+    image_tests w.source.now (header_view w.header.now) (optional_header_view o) w.sections.now n
+    (own_pieces w o (Some o.windows_fields.file_alignment))
 
 -- the tests of these but for the last, whether they fit
-abbrev pub field_tests : {Z : Type 0} → PE Z → OptionalHeader → List (Bool × Refusal)
-field_tests x o =
+abbrev pub field_tests : ImageWriter → OptionalHeader → List (Bool × Refusal)
+field_tests w o =
     (is_power_of_two o.windows_fields.file_alignment, WriteAlignment)
-    ∷ (x.header.coff_header.pointer_to_symbol_table == 0, WriteSymbols)
-    ∷ (clash_free x.sections.items, WriteOverlap)
-    ∷ (all_in_source (source_of x) x.sections.items, WriteSection)
+    ∷ (w.header.now.coff_header.pointer_to_symbol_table == 0, WriteSymbols)
+    ∷ (clash_free w.sections.now, WriteOverlap)
+    ∷ (all_in_source w.source.now w.sections.now, WriteSection)
     ∷ []

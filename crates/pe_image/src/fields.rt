@@ -11,10 +11,10 @@ ghost use Rattle.pe_records.specs.DebugRecords.{debug_view, debug_data};
 ghost use Rattle.pe_resource.specs.Resources.{resource_view};
 ghost use Rattle.pe_unwind.specs.ExceptionTable.{exception_at};
 ghost use Rattle.pe_image.specs.CoreParts.{core_view};
-ghost use Rattle.pe_image.specs.Fields.{field, exceptions_for, IsResourceField};
+ghost use Rattle.pe_image.specs.Fields.{field, exceptions_for, IsResourceField, list_by_mode};
 ghost use Rattle.pe_image.specs.LayoutParts.{layout_of};
 ghost use Rattle.pe_image.specs.Memory.{StartsCertificates, HasCertificates, MemoryOnlyIf};
-ghost use Rattle.pe_image.specs.FieldSteps.{by_mode, list_by_mode, first_fields_view, first_fields_in_turn, ReturnsResources};
+ghost use Rattle.pe_image.specs.FieldSteps.{by_mode, first_fields_view, first_fields_in_turn, ReturnsResources};
 
 use crate::core_image::Core;
 use crate::layout::Layout;

@@ -3,10 +3,10 @@
 
 ghost use Rattle.std.specs.Prelude.{◌≡◌, ◌≢◌, ◌↔◌, ◌+◌, ◌/◌, ◌%◌, ◌<◌, ◌≤◌, ◌⊎◌, ℕ, List, [], Ok, Err, Option, Result, None, Some, is_ok, length, slice_index, true, unwrap_or};
 ghost use Rattle.pe_core.specs.Bytes.{AreBytes, range};
-ghost use Rattle.pe_core.specs.Header.{OptionalHeaderView};
+ghost use Rattle.pe_core.specs.Header.{OptionalHeaderView, header_at};
 ghost use Rattle.pe_core.specs.Imports.{ImportRecordView};
 ghost use Rattle.pe_core.specs.Refusals.{Refusal, WriteFit};
-ghost use Rattle.pe_core.specs.Sections.{SharesRawByte};
+ghost use Rattle.pe_core.specs.Sections.{SharesRawByte, sections_of};
 ghost use Rattle.pe_core.specs.declared.section_table.SectionTable.{SectionTable};
 ghost use Rattle.pe_core.specs.declared.data_directories.DataDirectory.{DataDirectory};
 ghost use Rattle.pe_core.specs.declared.error.Error.{Error};
@@ -19,7 +19,7 @@ ghost use Rattle.pe_unwind.specs.ExceptionTable.{ExceptionView, table_of};
 ghost use Rattle.pe_unwind.specs.FunctionTable.{Finds, NeverFalls, functions, scan};
 ghost use Rattle.pe_image.specs.Core.{AreLibrariesOf, CoreView, core_of};
 ghost use Rattle.pe_image.specs.Layout.{alignment};
-ghost use Rattle.pe_image.specs.Fields.{Field, given_value};
+ghost use Rattle.pe_image.specs.Fields.{Field, certificate_field, given_value, list_by_mode};
 ghost use Rattle.pe_image.specs.Headline.{AreDerived, IsPermissive};
 ghost use Rattle.pe_image.specs.Image.{HasLibraries, ImageView, core_part, AreResourcesOf, IsImage, certificates_of, debug_of, exceptions_of, image_view, libraries_of, relocations_of};
 ghost use Rattle.pe_image.specs.Overlay.{EndsInZeros, LeavesOverlay, Piece, all_fit, longest, overlay};
@@ -98,6 +98,19 @@ pub fn permissive_fields_are_their_own()
     ensures resources { (b : List ℕ) (o : ParseOptions) (c : CoreView) (x : ImageView) →
         core_of b o ≡ Ok c → IsImage b o (Ok x) →
         (f : Field ResourceView) × AreResourcesOf b o c f × (x.resource_data ≡ given_value f) }
+{}
+
+/// The headers, the section headers and the certificates of an image are those that are read of its bytes, each by itself. So a
+/// writer of these parts (`ImageWriter`) writes what `PE` writes.
+#[tactic(auto, using(crate::proofs::ImageParts::header_is, crate::proofs::ImageParts::sections_are, crate::proofs::ImageParts::certificates_are))]
+pub fn parts_to_write_are_those_of_images()
+    ensures header { (b : List ℕ) (o : ParseOptions) (x : ImageView) →
+        IsImage b o (Ok x) → header_at b o.parse_mode ≡ Ok x.header }
+    ensures sections { (b : List ℕ) (o : ParseOptions) (x : ImageView) →
+        IsImage b o (Ok x) → sections_of b x.header ≡ Ok x.sections }
+    ensures certificates { (b : List ℕ) (o : ParseOptions) (x : ImageView) →
+        IsImage b o (Ok x) → list_by_mode o.parse_mode
+        (certificate_field b o x.header.optional_header) ≡ Ok x.certificates }
 {}
 
 /// If strict mode accepts an image, permissive mode with otherwise the same options returns the same image, and so the

@@ -281,4 +281,6 @@ pub use pe_unwind::scope_table_size;
 pub use pe_unwind::search;
 pub use pe_unwind::search_arm64;
 pub use te::TE;
+pub use write::certificate_list::CertificateList;
+pub use write::image::ImageWriter;
 pub use write::sections::SectionWriter;

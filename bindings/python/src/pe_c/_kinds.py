@@ -70,9 +70,9 @@ class Kind(enum.IntEnum):
     NO_OPTIONAL_HEADER = 32
     """image has no optional header"""
     WRITE_ALIGNMENT = 33
-    """alignment cannot be written; never returned"""
+    """alignment cannot be written"""
     WRITE_SYMBOLS = 34
-    """images with COFF symbols cannot be written; never returned"""
+    """images with COFF symbols cannot be written"""
     WRITE_OVERLAP = 35
     """sections overlap in the file"""
     WRITE_SECTION = 36

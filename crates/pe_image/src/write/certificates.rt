@@ -2,15 +2,17 @@
 //! directory on, each padded with zeros to a multiple of 8 bytes. Layout:
 //! <https://learn.microsoft.com/windows/win32/debug/pe-format>, attribute certificate table.
 
-ghost use Rattle.std.specs.Prelude.{◌≡◌, ◌+◌, [], ◌∷◌, IsTrue, length, map};
+ghost use Rattle.std.specs.Prelude.{◌≡◌, ◌+◌, [], ◌∷◌, IsTrue, length};
 ghost use Rattle.pe_core.specs.Refusals.{Returns, WriteFit, outcome};
 ghost use Rattle.pe_records.specs.Certificates.{certificate_view};
 ghost use Rattle.pe_records.specs.CertificateWriting.{written_length};
+ghost use Rattle.pe_image.specs.CertificateLists.{certificate_views};
 ghost use Rattle.pe_image.specs.Overlay.{all_fit};
 ghost use Rattle.pe_image.specs.Pieces.{all_certificate_pieces, certificate_pieces, certificates_end, in_a_row, row_end};
 ghost use Rattle.pe_image.specs.Writing.{ReturnsWritten, certificates_over};
 ghost use Rattle.pe_image.specs.WritingSteps.{possible, put_in_turn};
 
+use crate::write::certificate_list::CertificateList;
 use crate::write::ends::piece_end;
 use pe_core::{DataDirectory, Result, require_room, rounded_up};
 use pe_records::AttributeCertificate;
@@ -29,14 +31,16 @@ fn certificate_end(offset: usize, certificate: &AttributeCertificate<'_>) -> Res
 
 /// The offset after certificates that are written one after the other from `start` on. `WriteFit` if no buffer is so
 /// long.
-fn row_end(start: u32, certificates: &[AttributeCertificate<'_>]) -> Result<usize>
+fn row_end(start: u32, certificates: &CertificateList<'_>) -> Result<usize>
     ensures { Returns result (possible
-        (row_end written_length start (map certificate_view certificates.now))
-        (row_end written_length start (map certificate_view certificates.now))) }
+        (row_end written_length start (certificate_views certificates.now))
+        (row_end written_length start (certificate_views certificates.now))) }
 {
     let mut offset = start as usize;
-    for i in 0..certificates.len() {
-        offset = certificate_end(offset, &certificates[i])?;
+    let mut left = *certificates;
+    while let Some((certificate, rest)) = left.first() {
+        offset = certificate_end(offset, &certificate)?;
+        left = rest;
     }
     Ok(offset)
 }
@@ -62,15 +66,17 @@ fn set_certificate(
 }
 
 /// Writes certificates one after the other. The caller has checked that they fit.
-fn set_certificates(buffer: &mut [u8], start: usize, certificates: &[AttributeCertificate<'_>])
+fn set_certificates(buffer: &mut [u8], start: usize, certificates: &CertificateList<'_>)
     requires { IsTrue (all_fit (length buffer.old) (in_a_row certificate_pieces written_length start
-        (map certificate_view certificates.now))) }
+        (certificate_views certificates.now))) }
     ensures { buffer.new ≡ put_in_turn buffer.old
-        (in_a_row certificate_pieces written_length start (map certificate_view certificates.now)) }
+        (in_a_row certificate_pieces written_length start (certificate_views certificates.now)) }
 {
     let mut offset = start;
-    for i in 0..certificates.len() {
-        offset = set_certificate(buffer, offset, &certificates[i]);
+    let mut left = *certificates;
+    while let Some((certificate, rest)) = left.first() {
+        offset = set_certificate(buffer, offset, &certificate);
+        left = rest;
     }
 }
 
@@ -78,11 +84,11 @@ fn set_certificates(buffer: &mut [u8], start: usize, certificates: &[AttributeCe
 /// if no buffer is so long.
 pub fn certificates_end(
     directory: Option<DataDirectory>,
-    certificates: &[AttributeCertificate<'_>],
+    certificates: &CertificateList<'_>,
 ) -> Result<usize>
     ensures { Returns result (possible
-        (certificates_end directory (map certificate_view certificates.now))
-        (certificates_end directory (map certificate_view certificates.now))) }
+        (certificates_end directory (certificate_views certificates.now))
+        (certificates_end directory (certificate_views certificates.now))) }
 {
     match directory {
         None => Ok(0),
@@ -97,14 +103,14 @@ pub fn certificates_end(
 fn require_table(
     buffer: &[u8],
     directory: Option<DataDirectory>,
-    certificates: &[AttributeCertificate<'_>],
+    certificates: &CertificateList<'_>,
 ) -> Result<usize>
     ensures { Returns result (outcome ((
       all_fit (length buffer.now)
-          (all_certificate_pieces directory (map certificate_view certificates.now)),
+          (all_certificate_pieces directory (certificate_views certificates.now)),
       WriteFit,
     ) ∷ [])
-        (certificates_end directory (map certificate_view certificates.now))) }
+        (certificates_end directory (certificate_views certificates.now))) }
 {
     let end = certificates_end(directory, certificates)?;
     require_room(buffer, 0, end)?;
@@ -117,12 +123,12 @@ fn require_table(
 pub fn set_table(
     buffer: &mut [u8],
     directory: Option<DataDirectory>,
-    certificates: &[AttributeCertificate<'_>],
+    certificates: &CertificateList<'_>,
 )
     requires { IsTrue (all_fit (length buffer.old)
-        (all_certificate_pieces directory (map certificate_view certificates.now))) }
+        (all_certificate_pieces directory (certificate_views certificates.now))) }
     ensures { buffer.new ≡ put_in_turn buffer.old
-        (all_certificate_pieces directory (map certificate_view certificates.now)) }
+        (all_certificate_pieces directory (certificate_views certificates.now)) }
 {
     if let Some(directory) = directory {
         set_certificates(buffer, directory.virtual_address as usize, certificates);
@@ -134,10 +140,10 @@ pub fn set_table(
 pub fn write_table(
     buffer: &mut [u8],
     directory: Option<DataDirectory>,
-    certificates: &[AttributeCertificate<'_>],
+    certificates: &CertificateList<'_>,
 ) -> Result<usize>
     ensures { ReturnsWritten result (certificates_over directory
-        (map certificate_view certificates.now) buffer.old) buffer.old buffer.new }
+        (certificate_views certificates.now) buffer.old) buffer.old buffer.new }
 {
     let end = require_table(buffer, directory, certificates)?;
     set_table(buffer, directory, certificates);

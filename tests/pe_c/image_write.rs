@@ -1,0 +1,240 @@
+//! Images written. The image is one of 1,040 bytes: a section header at 0x148, the section at 0x200, a certificate of 9 bytes at
+//! 0x400. Written unchanged it is itself, and where something was changed the bytes follow from the format.
+
+use super::made::{
+    CERTIFICATE_TABLE, NO_OPTIONAL_HEADER, PERMISSIVE, SHORT, STRICT, WRITE_ALIGNMENT, WRITE_FIT,
+    WRITE_OVERLAP, WRITE_SECTION, WRITE_SYMBOLS, X64, image, in_mode, view,
+};
+use crate::image::{pe_c_image, pe_c_sections};
+use crate::image_write::{
+    pe_c_image_length, pe_c_whole_length, pe_c_write_image, pe_c_write_whole,
+};
+use crate::results::DONE;
+use pe_core::SectionTable;
+use pe_images::{pointer_below_64, put, with_every_directory, with_functions};
+use std::alloc::{AllocError, Global};
+use std::test::Fail;
+
+/// What a byte of the room, and the number, is before a call.
+const OLD: u8 = 0xEE;
+
+const OLD_NUMBER: u64 = 0x7777;
+
+/// The image's bytes, and those of a room that is longer.
+const SIZE: usize = 0x410;
+
+const LONGER: usize = 0x420;
+
+/// Of the image alone, or of the whole file.
+#[derive(Clone, Copy, Debug)]
+enum Writer {
+    Image,
+    Whole,
+}
+
+/// What a length and a write return, the numbers that they put, and the room.
+type Written = ([u32; 2], [u64; 2], Vec<u8>);
+
+/// Writes these sections of the bytes, read in this mode, into a room of this size.
+fn written_with(
+    alloc: Global,
+    writer: Writer,
+    bytes: &[u8],
+    mode: u32,
+    sections: &[SectionTable],
+    size: usize,
+) -> Result<Written, AllocError> {
+    let mut room = vec![in alloc; OLD; size]?;
+    let (mut needed, mut end) = (OLD_NUMBER, OLD_NUMBER);
+    let info = in_mode(&image(X64), mode);
+    let source = view(bytes, &info, sections);
+    let numbers = match writer {
+        Writer::Image => [
+            pe_c_image_length(&source, &mut needed),
+            pe_c_write_image(&source, &mut room, &mut end),
+        ],
+        Writer::Whole => [
+            pe_c_whole_length(&source, &mut needed),
+            pe_c_write_whole(&source, &mut room, &mut end),
+        ],
+    };
+    Ok((numbers, [needed, end], room))
+}
+
+/// The section header of the bytes, as the calls return it.
+fn section_of(bytes: &[u8]) -> [SectionTable; 1] {
+    let mut info = image(X64);
+    let mut room = super::made::sections();
+    pe_c_image(bytes, PERMISSIVE, &mut info);
+    pe_c_sections(bytes, &info, &mut room);
+    room
+}
+
+/// The same with the sections of the bytes.
+fn written(
+    alloc: Global,
+    writer: Writer,
+    bytes: &[u8],
+    mode: u32,
+    size: usize,
+) -> Result<Written, AllocError> {
+    written_with(alloc, writer, bytes, mode, &section_of(bytes), size)
+}
+
+/// The image with a part put at an offset.
+fn having(alloc: Global, offset: usize, part: &[u8]) -> Result<Vec<u8>, AllocError> {
+    let mut bytes = with_functions(alloc)?;
+    put(&mut bytes, &[(offset, part)]);
+    Ok(bytes)
+}
+
+fn is_old(bytes: &[u8]) -> bool {
+    bytes.iter().all(|byte| *byte == OLD)
+}
+
+#[test]
+fn whole_files_come_back(rt: HostRuntime) -> Result<(), Fail> {
+    let alloc = rt.alloc();
+    // What no header describes too: bytes after the section table, and after the certificate.
+    let mut bytes = having(alloc, 0x1F0, &[0x55; 16])?;
+    bytes.extend_from_slice(&[0x66; 3])?;
+    for mode in [STRICT, PERMISSIVE] {
+        let (numbers, ends, room) = written(alloc, Writer::Whole, &bytes, mode, LONGER)?;
+        assert_eq!(rt; (numbers, ends), ([DONE; 2], [0x413; 2]));
+        assert!(rt; room[..0x413] == bytes[..]);
+        assert!(rt; is_old(&room[0x413..]));
+        let (numbers, ends, room) = written(alloc, Writer::Whole, &bytes, mode, 0x412)?;
+        assert_eq!(rt; (numbers, ends), ([DONE, WRITE_FIT], [0x413, OLD_NUMBER]));
+        assert!(rt; is_old(&room));
+    }
+    let bytes = with_every_directory(alloc)?;
+    let (numbers, ends, room) = written(alloc, Writer::Whole, &bytes, STRICT, 0xA20)?;
+    assert_eq!(rt; (numbers, ends), ([DONE; 2], [0xA20; 2]));
+    assert!(rt; room == bytes);
+    Ok(())
+}
+
+#[test]
+fn images_are_written(rt: HostRuntime) -> Result<(), Fail> {
+    let alloc = rt.alloc();
+    let bytes = having(alloc, 0x1F0, &[0x55; 16])?;
+    let (numbers, ends, room) = written(alloc, Writer::Image, &bytes, STRICT, LONGER)?;
+    assert_eq!(rt; (numbers, ends), ([DONE; 2], [0x410; 2]));
+    assert!(rt; room[..0x170] == bytes[..0x170]);
+    assert!(rt; is_old(&room[0x170..0x200]));
+    assert!(rt; room[0x200..SIZE] == bytes[0x200..]);
+    assert!(rt; is_old(&room[SIZE..]));
+    let (numbers, ends, room) = written(alloc, Writer::Image, &bytes, STRICT, SIZE - 1)?;
+    assert_eq!(rt; (numbers, ends), ([DONE, WRITE_FIT], [0x410, OLD_NUMBER]));
+    assert!(rt; is_old(&room));
+    // Both certificates of another image, each with its padding.
+    let bytes = with_every_directory(alloc)?;
+    let (numbers, ends, room) = written(alloc, Writer::Image, &bytes, STRICT, 0xA20)?;
+    assert_eq!(rt; (numbers, ends), ([DONE; 2], [0xA20; 2]));
+    assert!(rt; room[0x200..] == bytes[0x200..]);
+    Ok(())
+}
+
+/// A section of 0x1F0 bytes ends in 16 zeros that `pe_c_write_image` adds and `pe_c_write_whole` does not, so these needs are the
+/// same and the bytes are not.
+#[test]
+fn changed_sections_are_written(rt: HostRuntime) -> Result<(), Fail> {
+    let alloc = rt.alloc();
+    let bytes = having(alloc, 0x3F0, &[0x77; 16])?;
+    let mut sections = section_of(&bytes);
+    sections[0].name = *b".changed";
+    sections[0].size_of_raw_data = 0x1F0;
+    for (writer, last) in [(Writer::Image, 0), (Writer::Whole, 0x77)] {
+        let (numbers, ends, room) = written_with(alloc, writer, &bytes, STRICT, &sections, SIZE)?;
+        assert_eq!(rt; (numbers, ends), ([DONE; 2], [0x410; 2]), "{writer:?}");
+        assert!(rt; room[0x148..0x150] == *b".changed", "{writer:?}");
+        assert!(rt; room[0x158..0x15C] == [0xF0, 1, 0, 0], "{writer:?}");
+        assert!(rt; room[0x200..0x3F0] == bytes[0x200..0x3F0], "{writer:?}");
+        assert!(rt; room[0x3F0..0x400] == [last; 16], "{writer:?}");
+        assert!(rt; room[0x400..] == bytes[0x400..], "{writer:?}");
+    }
+    Ok(())
+}
+
+/// A table of certificates that passes the end of the file: strict mode refuses it, and permissive mode has no certificate of it.
+#[test]
+fn certificates_are_read_by_mode(rt: HostRuntime) -> Result<(), Fail> {
+    let alloc = rt.alloc();
+    let bytes = having(alloc, 0xEC, &[0x11])?;
+    for writer in [Writer::Image, Writer::Whole] {
+        let (numbers, ends, room) = written(alloc, writer, &bytes, STRICT, LONGER)?;
+        assert_eq!(rt; (numbers, ends), ([CERTIFICATE_TABLE; 2], [OLD_NUMBER; 2]));
+        assert!(rt; is_old(&room));
+    }
+    let (numbers, ends, room) = written(alloc, Writer::Image, &bytes, PERMISSIVE, LONGER)?;
+    assert_eq!(rt; (numbers, ends), ([DONE; 2], [0x400; 2]));
+    assert!(rt; is_old(&room[0x400..]));
+    let (numbers, ends, room) = written(alloc, Writer::Whole, &bytes, PERMISSIVE, LONGER)?;
+    assert_eq!(rt; (numbers, ends), ([DONE; 2], [0x410; 2]));
+    assert!(rt; room[..SIZE] == bytes[..]);
+    // Without its padding the certificate is the end of the file, and padding follows it where it is written.
+    let mut bytes = having(alloc, 0xEC, &[9])?;
+    bytes.truncate(0x409);
+    let (numbers, ends, room) = written(alloc, Writer::Whole, &bytes, STRICT, LONGER)?;
+    assert_eq!(rt; (numbers, ends), ([DONE; 2], [0x410; 2]));
+    assert!(rt; room[..0x409] == bytes[..]);
+    assert!(rt; room[0x409..SIZE] == [0; 7]);
+    assert!(rt; is_old(&room[SIZE..]));
+    Ok(())
+}
+
+/// What a write refuses, each with what both writers return: the image's tests come first, and the whole file has not the first
+/// two.
+#[test]
+fn writes_are_refused(rt: HostRuntime) -> Result<(), Fail> {
+    let alloc = rt.alloc();
+    for (offset, part, of_image, of_whole) in [
+        (
+            0x4C,
+            [3, 2, 1, 0, 0, 0, 0, 0].as_slice(),
+            WRITE_SYMBOLS,
+            DONE,
+        ),
+        (0x7C, &[0, 3, 0, 0], WRITE_ALIGNMENT, DONE),
+        (0x7C, &[0, 0, 0, 0], WRITE_ALIGNMENT, DONE),
+        (0x158, &[0xFF; 8], WRITE_SECTION, WRITE_SECTION),
+    ] {
+        let bytes = having(alloc, offset, part)?;
+        let (numbers, ends, room) = written(alloc, Writer::Image, &bytes, STRICT, LONGER)?;
+        assert_eq!(rt; (numbers, ends), ([of_image; 2], [OLD_NUMBER; 2]));
+        assert!(rt; is_old(&room));
+        let (numbers, _, room) = written(alloc, Writer::Whole, &bytes, STRICT, LONGER)?;
+        assert_eq!(rt; numbers, [of_whole; 2]);
+        assert_eq!(rt; room[..SIZE] == bytes[..], of_whole == DONE);
+        assert_eq!(rt; is_old(&room), of_whole != DONE);
+    }
+    let bytes = with_functions(alloc)?;
+    let [one] = section_of(&bytes);
+    let other = SectionTable {
+        pointer_to_raw_data: 0x3FF,
+        size_of_raw_data: 1,
+        ..one
+    };
+    let low = pointer_below_64(alloc)?;
+    for writer in [Writer::Image, Writer::Whole] {
+        let (numbers, ends, room) = written_with(
+            alloc,
+            writer,
+            &bytes,
+            STRICT,
+            &[one, other],
+            LONGER,
+        )?;
+        assert_eq!(rt; (numbers, ends), ([WRITE_OVERLAP; 2], [OLD_NUMBER; 2]));
+        assert!(rt; is_old(&room));
+        for (bytes, mode, wanted) in [
+            (&low[..], PERMISSIVE, NO_OPTIONAL_HEADER),
+            (&bytes[..0x40], STRICT, SHORT),
+        ] {
+            let (numbers, ends, room) = written_with(alloc, writer, bytes, mode, &[], LONGER)?;
+            assert_eq!(rt; (numbers, ends), ([wanted; 2], [OLD_NUMBER; 2]));
+            assert!(rt; is_old(&room));
+        }
+    }
+    Ok(())
+}
