@@ -1916,10 +1916,30 @@ typedef struct {
     uint32_t is_forwarder;          /* 1 or 0 */
 } pe_c_exported;
 
+/* The export directory itself, IMAGE_EXPORT_DIRECTORY. */
+typedef struct {
+    uint32_t characteristics;       /* reserved */
+    uint32_t time_date_stamp;       /* seconds since the start of 1970, or a hash */
+    uint16_t major_version;
+    uint16_t minor_version;
+    uint32_t name;                  /* RVA of the DLL's name, or 0 */
+    uint32_t base;                  /* ordinal of the export with the index 0 */
+    uint32_t number_of_functions;   /* entries of the table of RVAs */
+    uint32_t number_of_names;       /* entries of the table of names, and of that of indices */
+    uint32_t address_of_functions;  /* RVA of the table of RVAs */
+    uint32_t address_of_names;      /* RVA of the table of names */
+    uint32_t address_of_name_ordinals;  /* RVA of the table of indices */
+} pe_c_export_fields;
+
 PE_C_SIZE(pe_c_exports, 56);
 PE_C_SIZE(pe_c_export, 40);
 PE_C_SIZE(pe_c_address_table, 48);
 PE_C_SIZE(pe_c_exported, 32);
+PE_C_SIZE(pe_c_export_fields, 40);
+
+/* Returns the fields of the export directory, whatever its tables are. PE_C_NOTHING without a directory.
+ * Errors: PE_C_UNMAPPED, PE_C_SHORT of its 40 bytes. */
+uint32_t pe_c_export_directory(const pe_c_view *view, pe_c_export_fields *out) PE_C_RESULT(1, 2);
 
 /* Returns the tables of the export directory as a walk for pe_c_next_export. PE_C_NOTHING without a directory.
  * Errors: PE_C_UNMAPPED, PE_C_SHORT of the directory, then of the table of RVAs, of names and of indices. */
@@ -2248,10 +2268,30 @@ typedef struct {
     pe_c_resource_entry name;       /* the entry of this name */
 } pe_c_resource_walk;
 
+/* A directory of the tree, IMAGE_RESOURCE_DIRECTORY. */
+typedef struct {
+    uint32_t characteristics;       /* reserved */
+    uint32_t time_date_stamp;       /* seconds since the start of 1970, mostly 0 */
+    uint16_t major_version;
+    uint16_t minor_version;
+    uint16_t number_of_named_entries;   /* which come first */
+    uint16_t number_of_id_entries;
+    pe_c_range entries;             /* a walk for pe_c_next_resource_item */
+} pe_c_resource_directory;
+
+/* An entry of a directory, by its name. */
+typedef struct {
+    pe_c_resource_name name;
+    uint32_t offset;                /* of the directory to which it leads, or of the data entry, from the start of the tree */
+    uint32_t is_directory;          /* 1 where it leads to a directory, else 0 */
+} pe_c_resource_item;
+
 PE_C_SIZE(pe_c_resource_name, 24);
 PE_C_SIZE(pe_c_resource_leaf, 104);
 PE_C_SIZE(pe_c_resource_entry, 8);
 PE_C_SIZE(pe_c_resource_walk, 80);
+PE_C_SIZE(pe_c_resource_directory, 32);
+PE_C_SIZE(pe_c_resource_item, 32);
 
 /* Returns the leaves as a walk, in the order of the entries of directories. PE_C_NOTHING where the directory is absent, and in
  * permissive mode where its data is too short for a directory.
@@ -2265,6 +2305,18 @@ uint32_t pe_c_resource_leaves(const pe_c_view *view, pe_c_resource_walk *out) PE
  * language PE_C_TREE_NOT_DATA, PE_C_SHORT of its data entry; PE_C_SHORT of a name. */
 uint32_t pe_c_next_resource_leaf(const pe_c_view *view, pe_c_resource_walk *walk, pe_c_resource_leaf *out)
     PE_C_RESULT(1, 2, 3);
+
+/* Returns the directory at an offset of a tree, which is that of a walk over leaves: at 0 the root, whose entries are types, else one
+ * to which an entry leads. A hostile tree may lead to a directory again.
+ * Errors: PE_C_SHORT where the tree is not inside the bytes, or the directory or its entries are not inside the tree. */
+uint32_t pe_c_resource_directory_at(const uint8_t *bytes, size_t length, const pe_c_range *tree, uint32_t offset,
+                                    pe_c_resource_directory *out) PE_C_RESULT(3, 5);
+
+/* Returns the next entry of a directory of a tree: those with a name first.
+ * Errors: PE_C_SHORT where the tree or the walk is not inside the bytes, or where an entry is truncated, after which the walk is over;
+ * PE_C_SHORT of a name that is not inside the tree, after which the walk is past its entry. */
+uint32_t pe_c_next_resource_item(const uint8_t *bytes, size_t length, const pe_c_range *tree, pe_c_range *walk,
+                                 pe_c_resource_item *out) PE_C_RESULT(3, 4, 5);
 
 /* Returns the fixed file information in the content of a leaf of type 16 (RT_VERSION). PE_C_NOTHING where it has none.
  * Errors: PE_C_SHORT where the content is not inside the bytes; PE_C_SHORT, PE_C_RESOURCE_STRING of the version strings;

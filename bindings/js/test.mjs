@@ -561,6 +561,21 @@ test('each list of each image ends', () => {
   }
 });
 
+test('directories have fields of their own', () => {
+  const exported = opened('exports'), table = exported.call('pe_c_export_addresses');
+  const fields = exported.call('pe_c_export_directory');
+  assert.deepEqual([fields.base, BigInt(fields.number_of_functions)], [table.ordinal_base, table.addresses.length / 4n]);
+  assert.equal(exported.call('pe_c_offset', { rva: fields.name }), table.name.offset);
+  const image = opened('resources'), { tree } = image.call('pe_c_resource_leaves');
+  const { entries, ...root } = image.call('pe_c_resource_directory_at', { tree, offset: 0 });
+  const items = [];
+  for (let item; (item = image.call('pe_c_next_resource_item', { tree, walk: entries }));) items.push(item);
+  assert.equal(items.length, root.number_of_named_entries + root.number_of_id_entries);
+  const types = [...image.list('resourceLeaves')].map((it) => it.resource_type.id);
+  assert.deepEqual(items.map((it) => it.name.id), [...new Set(types)]);
+  assert.equal(refused(() => image.call('pe_c_resource_directory_at', { tree, offset: 0xffffffff })).constant, 'PE_C_SHORT');
+});
+
 function follow(image, list, item) {
   if (list === 'debugEntries') {
     const record = { offset: item.pointer_to_raw_data, length: item.size_of_data };

@@ -466,6 +466,8 @@ static void exports(const struct file *file)
     uint64_t index = 0;
     if (IS_DONE(pe_c_export_tables, tables, VIEW, &tables))
         WALK(ITEMS, pe_c_next_export, entry, VIEW, &tables, &entry) {}
+    pe_c_export_fields fields = PE_C_EMPTY;
+    CALL(pe_c_export_directory, fields, VIEW, &fields);
     if (IS_DONE(pe_c_export_addresses, table, VIEW, &table))
         WALK(ITEMS, pe_c_export_at, exported, VIEW, &table, index, &exported)
             index++;
@@ -551,6 +553,16 @@ static void edits(const struct file *file)
         add_bytes(file->room, length);
 }
 
+/* The root of a resource tree, and the directories to which its entries lead. */
+static void resource_directories(const struct file *file, const pe_c_range *tree)
+{
+    pe_c_resource_directory directory = PE_C_EMPTY, below = PE_C_EMPTY;
+    pe_c_resource_item item = PE_C_EMPTY;
+    if (IS_DONE(pe_c_resource_directory_at, directory, BYTES, tree, 0, &directory))
+        WALK(ITEMS, pe_c_next_resource_item, item, BYTES, tree, &directory.entries, &item)
+            CALL(pe_c_resource_directory_at, below, BYTES, tree, item.offset, &below);
+}
+
 static void resources(const struct file *file)
 {
     pe_c_range range = PE_C_EMPTY;
@@ -565,6 +577,7 @@ static void resources(const struct file *file)
     edits(file);
     if (!IS_DONE(pe_c_resource_leaves, walk, VIEW, &walk))
         return;
+    resource_directories(file, &walk.tree);
     WALK(ITEMS, pe_c_next_resource_leaf, leaf, VIEW, &walk, &leaf)
         if (leaf.resource_type.id == 16) {
             CALL(pe_c_fixed_version_in, version, BYTES, &leaf.content, &version);

@@ -14,6 +14,7 @@ mod debug;
 mod debug_walks;
 mod delay_imports;
 mod directory_failure;
+mod directory_tables;
 mod dump;
 mod ended_texts;
 mod exports;

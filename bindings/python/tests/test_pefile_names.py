@@ -80,11 +80,11 @@ class Gaps(unittest.TestCase):
     """Without pefile: what the table names is missing, and says why."""
 
     def test_a_missing_field_has_no_value(self):
-        directory = opened("exports").DIRECTORY_ENTRY_EXPORT.struct
+        directory = opened("resources").DIRECTORY_ENTRY_RESOURCE.struct
         self.assertFalse(hasattr(directory, "TimeDateStamp"))
         with self.assertRaises(NotInPeC) as caught:
             directory.TimeDateStamp
-        self.assertEqual(caught.exception.reason, GAPS["IMAGE_EXPORT_DIRECTORY.TimeDateStamp"])
+        self.assertEqual(caught.exception.reason, GAPS["IMAGE_RESOURCE_DIRECTORY.TimeDateStamp"])
 
     def test_missing_methods_and_names(self):
         pe = opened("exports")

@@ -523,6 +523,7 @@ fn read_by_lies(bytes: &[u8], random: &mut Random, seen: &mut Seen) {
     let tables = call_of_image!(pe_c_export_tables(), Exports);
     walk_of_image!(pe_c_next_export(tables), Export);
     walk_of_image!(pe_c_next_export(sys::Exports { names: range, next: index, ..tables }), Export);
+    call_of_image!(pe_c_export_directory(), ExportFields);
     let table = call_of_image!(pe_c_export_addresses(), AddressTable);
     call_of_image!(pe_c_export_at(&table, index), Exported);
     let lie = sys::AddressTable { addresses: range, directory, ordinal_base: few, ..table };
@@ -582,6 +583,13 @@ fn read_by_lies(bytes: &[u8], random: &mut Random, seen: &mut Seen) {
         sys::ResourceWalk { languages: part, name: entry, ..leaves },
     ] {
         walk_of_image!(pe_c_next_resource_leaf(lie), ResourceLeaf);
+    }
+    for tree in [leaves.tree, range] {
+        let directory = call!(pe_c_resource_directory_at(&tree, few % 64), ResourceDirectory);
+        for lie in [directory.entries, range] {
+            let mut walk = lie;
+            call!(pe_c_next_resource_item(&tree, &mut walk), ResourceItem);
+        }
     }
     call!(pe_c_fixed_version_in(&range), Version);
     call!(pe_c_version_text_in(&range, few % 16), Range);

@@ -220,6 +220,15 @@ impl<'i, 'a> AddressTable<'i, 'a> {
 }
 
 impl<'a> Image<'a> {
+    /// The fields of the export directory, whatever its tables are, or `None` without one.
+    ///
+    /// # Errors
+    ///
+    /// [`Error::UNMAPPED`], [`Error::SHORT`] of its 40 bytes.
+    pub fn export_directory(&self) -> Result<Option<sys::ExportFields>, Error> {
+        self.ask(sys::pe_c_export_directory)
+    }
+
     /// The table of RVAs of the exports, or `None` without an export directory.
     ///
     /// # Errors

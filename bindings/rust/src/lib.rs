@@ -142,7 +142,7 @@ pub use imports::{AllImports, Import, Imports, Libraries, Library, LibraryImport
 pub use load_config::{LoadConfig, LoadConfigField};
 pub use relocations::{Relocation, RelocationBlock, RelocationBlocks, Relocations};
 pub use resource_edit::{ResourceContent, ResourceEditor, ResourceKey, ResourcePlace};
-pub use resources::{ResourceLeaf, ResourceLeaves, ResourceName};
+pub use resources::{ResourceDirectory, ResourceItem, ResourceItems, ResourceLeaf, ResourceLeaves, ResourceName};
 pub use rich_header::{RichEntries, RichEntry, RichHeader};
 pub use signatures::{
     Algorithm, Algorithms, Attribute, Attributes, Extension, Extensions, IndirectData, KeyPurposes, KnownOid, Name,
@@ -157,8 +157,8 @@ pub use sys::{
     Arm64Context, Arm64Function, Arm64Packed, Arm64Registers, Arm64Scope, CoffHeader, Context, DebugEntry, Directory,
     DosHeader, DumpEntry, DumpException, DumpHandle, DumpInfo, DumpLocation, DumpModule, DumpPiece, DumpPower,
     DumpProcess, DumpRegion, DumpSystem, DumpThread, DumpThreadInfo, DumpThreadName, DumpThreadStack, DumpTimes,
-    DumpUnloaded, DumpVersion, Function, Headers, ImageInfo, MemoryPiece, OptionalHeader, Registers, Scope, Section,
-    SymbolEntry, TeHeader, VcFeatures,
+    DumpUnloaded, DumpVersion, ExportFields, Function, Headers, ImageInfo, MemoryPiece, OptionalHeader, Registers,
+    Scope, Section, SymbolEntry, TeHeader, VcFeatures,
 };
 pub use te::{Te, TeDebugEntries};
 pub use tls::{Tls, TlsCallbacks};

@@ -141,18 +141,120 @@ impl<'a> ResourceLeaf<'a> {
 /// # Ok::<(), pe_c::Error>(())
 /// ```
 #[derive(Clone, Debug)]
-pub struct ResourceLeaves<'i, 'a>(ImageList<'i, 'a, sys::ResourceWalk, sys::ResourceLeaf>);
+pub struct ResourceLeaves<'i, 'a> {
+    left: ImageList<'i, 'a, sys::ResourceWalk, sys::ResourceLeaf>,
+    tree: sys::Range,
+}
 
 impl<'a> Iterator for ResourceLeaves<'_, 'a> {
     type Item = Result<ResourceLeaf<'a>, Error>;
 
     fn next(&mut self) -> Option<Self::Item> {
-        let bytes = self.0.image.bytes();
-        Some(self.0.step(sys::pe_c_list_resource_leaves)?.and_then(|found| ResourceLeaf::of(found, bytes)))
+        let bytes = self.left.image.bytes();
+        Some(self.left.step(sys::pe_c_list_resource_leaves)?.and_then(|found| ResourceLeaf::of(found, bytes)))
     }
 }
 
 impl FusedIterator for ResourceLeaves<'_, '_> {}
+
+/// A directory of a resource tree: its own fields, and its entries.
+///
+/// ```
+/// # #[path = "../tests/made/mod.rs"] mod made;
+/// # let bytes = made::with_resources();
+/// use pe_c::{Image, Mode};
+///
+/// let image = Image::parse(&bytes, Mode::Permissive)?;
+/// let leaves = image.resource_leaves()?.expect("the image has resources");
+/// for item in leaves.directory(0)?.items() {
+///     let item = item?;
+///     println!("{:?}: {}", item.name, item.offset);
+/// }
+/// # Ok::<(), pe_c::Error>(())
+/// ```
+#[derive(Clone, Copy, Debug)]
+pub struct ResourceDirectory<'a> {
+    /// Reserved.
+    pub characteristics: u32,
+    /// Seconds since the start of 1970, mostly 0.
+    pub time_date_stamp: u32,
+    /// Of the resources.
+    pub major_version: u16,
+    /// Of the resources.
+    pub minor_version: u16,
+    /// How many entries have a name. They come first.
+    pub number_of_named_entries: u16,
+    /// How many entries have an id.
+    pub number_of_id_entries: u16,
+    bytes: &'a [u8],
+    tree: sys::Range,
+    entries: sys::Range,
+}
+
+impl<'a> ResourceDirectory<'a> {
+    /// The entries, in their order. An item is the error [`Error::SHORT`] where its name is not inside the tree.
+    pub fn items(&self) -> ResourceItems<'a> {
+        ResourceItems { bytes: self.bytes, tree: self.tree, left: self.entries }
+    }
+}
+
+/// An entry of a directory of a resource tree.
+#[derive(Clone, Copy, Debug, PartialEq, Eq)]
+pub struct ResourceItem<'a> {
+    /// What names it.
+    pub name: ResourceName<'a>,
+    /// Where the directory is to which it leads, for [`ResourceLeaves::directory`], or the data entry, from the start of the tree.
+    pub offset: u32,
+    /// Whether it leads to a directory.
+    pub is_directory: bool,
+}
+
+/// The entries of a directory of a resource tree, one after the other.
+#[derive(Clone, Debug)]
+pub struct ResourceItems<'a> {
+    bytes: &'a [u8],
+    tree: sys::Range,
+    left: sys::Range,
+}
+
+impl<'a> Iterator for ResourceItems<'a> {
+    type Item = Result<ResourceItem<'a>, Error>;
+
+    fn next(&mut self) -> Option<Self::Item> {
+        let found = look(self.bytes, sys::pe_c_next_resource_item, &self.tree, &mut self.left as *mut _).transpose()?;
+        Some(found.and_then(|it: sys::ResourceItem| {
+            let name = name_of(it.name, self.bytes)?;
+            Ok(ResourceItem { name, offset: it.offset, is_directory: it.is_directory != 0 })
+        }))
+    }
+}
+
+impl FusedIterator for ResourceItems<'_> {}
+
+impl<'a> ResourceLeaves<'_, 'a> {
+    /// The directory at an offset of the tree: at 0 the root, whose entries are types, else that of an [item](ResourceItem). A
+    /// hostile tree may lead to a directory again, so bound what you follow.
+    ///
+    /// # Errors
+    ///
+    /// [`Error::SHORT`] where the directory or its entries are not inside the tree.
+    pub fn directory(&self, offset: u32) -> Result<ResourceDirectory<'a>, Error> {
+        let (bytes, tree) = (self.left.image.bytes(), self.tree);
+        let it = look(bytes, sys::pe_c_resource_directory_at, &tree, offset)?.ok_or(Error::SHORT)?;
+        let sys::ResourceDirectory { characteristics, time_date_stamp, major_version, minor_version, .. } = it;
+        Ok(ResourceDirectory {
+            characteristics,
+            time_date_stamp,
+            major_version,
+            minor_version,
+            number_of_named_entries: it.number_of_named_entries,
+            number_of_id_entries: it.number_of_id_entries,
+            bytes,
+            tree,
+            entries: it.entries,
+        })
+    }
+}
 
 impl<'a> Image<'a> {
     /// All resources, each in each language. `None` where the directory is absent, and in permissive mode where its data is too
@@ -164,6 +266,7 @@ impl<'a> Image<'a> {
     /// directory names ends past the end of the file, and in strict mode where the root or its entries are not all inside the
     /// data.
     pub fn resource_leaves(&self) -> Result<Option<ResourceLeaves<'_, 'a>>, Error> {
-        Ok(self.ask(sys::pe_c_resource_leaves)?.map(|walk| ResourceLeaves(ImageList::new(self, walk))))
+        let walk: Option<sys::ResourceWalk> = self.ask(sys::pe_c_resource_leaves)?;
+        Ok(walk.map(|walk| ResourceLeaves { tree: walk.tree, left: ImageList::new(self, walk) }))
     }
 }

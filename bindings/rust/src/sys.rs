@@ -828,6 +828,32 @@ AddressTable, 48 {
     has_name: u32,
 });
 record!(
+/// The export directory itself, `IMAGE_EXPORT_DIRECTORY`.
+ExportFields, 40 {
+    /// Reserved.
+    characteristics: u32,
+    /// Seconds since the start of 1970, or a hash.
+    time_date_stamp: u32,
+    /// Of the directory.
+    major_version: u16,
+    /// Of the directory.
+    minor_version: u16,
+    /// RVA of the DLL's name, or 0.
+    name: u32,
+    /// Ordinal of the export with the index 0.
+    base: u32,
+    /// Entries of the table of RVAs.
+    number_of_functions: u32,
+    /// Entries of the table of names, and of that of indices.
+    number_of_names: u32,
+    /// RVA of the table of RVAs.
+    address_of_functions: u32,
+    /// RVA of the table of names.
+    address_of_names: u32,
+    /// RVA of the table of indices.
+    address_of_name_ordinals: u32,
+});
+record!(
 /// An export by its index. See [`Exported`](crate::Exported).
 Exported, 32 {
     /// A forwarder's text: UTF-8, without its final zero; empty unless `is_forwarder`, and where no text is there.
@@ -1313,6 +1339,34 @@ ResourceEntry, 8 {
     name_or_id: u32,
     /// With bit 31 the offset of a directory, else that of a data entry.
     offset_to_data_or_directory: u32,
+});
+record!(
+/// A directory of the tree, `IMAGE_RESOURCE_DIRECTORY`.
+ResourceDirectory, 32 {
+    /// Reserved.
+    characteristics: u32,
+    /// Seconds since the start of 1970, mostly 0.
+    time_date_stamp: u32,
+    /// Of the resources.
+    major_version: u16,
+    /// Of the resources.
+    minor_version: u16,
+    /// Which come first.
+    number_of_named_entries: u16,
+    /// Which follow them.
+    number_of_id_entries: u16,
+    /// A walk for [`pe_c_next_resource_item`].
+    entries: Range,
+});
+record!(
+/// An entry of a directory, by its name.
+ResourceItem, 32 {
+    /// What names it.
+    name: ResourceName,
+    /// Of the directory to which it leads, or of the data entry, from the start of the tree.
+    offset: u32,
+    /// 1 where it leads to a directory, else 0.
+    is_directory: u32,
 });
 record!(
 /// A walk over leaves. The ranges of entries, 8 bytes each, count from the start of the tree.
@@ -2569,6 +2623,10 @@ calls_of_bytes! {
     pe_c_next_guard_entry(walk: *mut GuardEntries) -> GuardEntry;
     /// Returns the next stream of CLR metadata.
     pe_c_next_metadata_stream(walk: *mut MetadataStreams) -> MetadataStream;
+    /// Returns the directory at an offset of a resource tree.
+    pe_c_resource_directory_at(tree: *const Range, offset: u32) -> ResourceDirectory;
+    /// Returns the next entry of a directory of a resource tree.
+    pe_c_next_resource_item(tree: *const Range, walk: *mut Range) -> ResourceItem;
     /// Returns the fixed file information in the content of a leaf.
     pe_c_fixed_version_in(content: *const Range) -> Version;
     /// Returns the value of a version name in the content of a leaf.
@@ -2718,6 +2776,8 @@ calls_of_an_image! {
     pe_c_export_tables() -> Exports;
     /// Returns the next export.
     pe_c_next_export(walk: *mut Exports) -> Export;
+    /// Returns the fields of the export directory.
+    pe_c_export_directory() -> ExportFields;
     /// Returns the export directory's table of RVAs.
     pe_c_export_addresses() -> AddressTable;
     /// Returns the export with an index.

@@ -13,7 +13,7 @@ use Rattle.pe_core.proofs.Splices.{length-splice, splice-splice}
 use Rattle.pe_core.specs.Bytes.{le, splice}
 use Rattle.pe_resource.proofs.Units.{unit_at}
 use Rattle.pe_resource.specs.VersionStrings.{units}
-use Rattle.pe_c.specs.EndedTexts.{cut_text, ended, second_of, utf16_text}
+use Rattle.pe_c.specs.EndedTexts.{truncated_text, ended, second_of, utf16_text}
 
 -- ---- code units
 
@@ -151,7 +151,7 @@ same_take : (text : List ℕ) (count k : ℕ) → count ≡ min (length text) k 
 same_take text count k e = same_lists _ _ (grind (arith, places)) (λ j d lt. grind (arith, places))
 
 -- a text that is cut where the room ends
-pub cut_is : (old text : List ℕ) (count : ℕ) → 0 < length old → count ≡ min (length text) (length old - 1) → splice old 0 (ended (take count text)) ≡ cut_text old text
+pub cut_is : (old text : List ℕ) (count : ℕ) → 0 < length old → count ≡ min (length text) (length old - 1) → splice old 0 (ended (take count text)) ≡ truncated_text old text
 cut_is old text count some e =
     let there : (length old == 0) ≡ false = grind (arith, nat_tests) in
     rw there (ap (λ (t : List ℕ). splice old 0 (ended t)) (same_take text count (length old - 1) e))

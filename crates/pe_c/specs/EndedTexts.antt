@@ -29,8 +29,8 @@ PutsText number old new before written (Ok text) = PutsIf (nat_lt (length text) 
 PutsText number old new before written (Err refusal) = (number ≡ result_number refusal) × (new ≡ old) × (written ≡ before)
 
 -- a room with as much of a text as it has bytes for before a zero; an empty one stays
-abbrev pub cut_text : List ℕ → List ℕ → List ℕ
-cut_text old text = if length old == 0 then old else splice old 0 (ended (take (length old - 1) text))
+abbrev pub truncated_text : List ℕ → List ℕ → List ℕ
+truncated_text old text = if length old == 0 then old else splice old 0 (ended (take (length old - 1) text))
 
 -- ---- GUIDs
 

@@ -3,10 +3,9 @@
 use Rattle.std.specs.Prelude.{ℕ, ◌==◌, List, take, Option, Some, None, if◌then◌else◌}
 use Rattle.pe_core.specs.Bytes.{range}
 use Rattle.pe_core.specs.Header.{HeaderView, OptionalHeaderView}
-use Rattle.pe_core.specs.declared.header.CoffHeader.{CoffHeader}
 use Rattle.pe_core.specs.declared.optional_header.StandardFields.{StandardFields}
 use Rattle.pe_core.specs.declared.optional_header.WindowsFields.{WindowsFields}
-use Rattle.pe_c.specs.declared.headers.CoffFields.{CoffFields}
+use Rattle.pe_c.specs.Coff.{coff_header_of}
 use Rattle.pe_c.specs.declared.headers.Headers.{Headers}
 use Rattle.pe_c.specs.declared.headers.OptionalFields.{OptionalFields}
 
@@ -48,17 +47,6 @@ windows_of x = record {
   number_of_rva_and_sizes = x.number_of_rva_and_sizes;
 }
 
-abbrev pub coff_of : CoffFields → CoffHeader
-coff_of x = record {
-  machine = x.machine;
-  number_of_sections = x.number_of_sections;
-  time_date_stamp = x.time_date_stamp;
-  pointer_to_symbol_table = x.pointer_to_symbol_table;
-  number_of_symbol_table = x.number_of_symbol_table;
-  size_of_optional_header = x.size_of_optional_header;
-  characteristics = x.characteristics;
-}
-
 -- the optional header, whose offset is 0 where there is none; it has so many of the sixteen directories
 abbrev pub optional_of : Headers → Option OptionalHeaderView
 optional_of x =
@@ -71,6 +59,6 @@ header_of b x = record {
   dos_header = record { signature = x.dos.signature; rest = range b 2 58; pe_pointer = x.dos.pe_pointer };
   dos_stub = range b x.dos_stub.offset x.dos_stub.length;
   signature = x.signature;
-  coff_header = coff_of x.coff;
+  coff_header = coff_header_of x.coff;
   optional_header = optional_of x;
 }

@@ -33,6 +33,7 @@ pub mod Versions
 pub mod Walks
 pub mod Directories
 pub mod DirectoryRuns
+pub mod DirectoryTables
 pub mod ResourceLeaves
 pub mod RichHeaders
 pub mod BoundImports

@@ -7,7 +7,7 @@ ghost use Rattle.std.specs.Option.{unwrap_or};
 ghost use Rattle.std.specs.Prelude.{◌≡◌, ◌+◌, ◌*◌, ◌<◌, ◌≤◌, ◌/◌, ◌%◌, ◌==◌, ◌∷◌, true, drop, length, nat_lt, position, slice_get};
 ghost use Rattle.pe_core.specs.Bytes.{splice};
 ghost use Rattle.pe_resource.specs.VersionStrings.{units};
-ghost use Rattle.pe_c.specs.EndedTexts.{PutsIf, PutsText, cut_text, ended, guid_text, second_of, hex_digit, hex_digits, hyphenated, one_if_zero, text_in, unhyphenated, utf16_text, utf16_text_at};
+ghost use Rattle.pe_c.specs.EndedTexts.{PutsIf, PutsText, truncated_text, ended, guid_text, second_of, hex_digit, hex_digits, hyphenated, one_if_zero, text_in, unhyphenated, utf16_text, utf16_text_at};
 ghost use Rattle.pe_c.specs.HandsOut.{HandsOut};
 ghost use Rattle.pe_core.specs.Refusals.{answer_of};
 
@@ -42,8 +42,8 @@ fn put_with_zero(text: &[u8], room: &mut [u8])
 
 /// Writes as much of a text as a room has bytes for before a zero.
 #[tactic(auto, using(crate::proofs::Utf16Texts::cut_is))]
-pub fn put_cut(text: &[u8], room: &mut [u8])
-    ensures { room.new ≡ cut_text room.old text.now }
+pub fn put_truncated(text: &[u8], room: &mut [u8])
+    ensures { room.new ≡ truncated_text room.old text.now }
 {
     if room.is_empty() {
         return;

@@ -23,6 +23,7 @@ mod debug_walks;
 mod delay_imports;
 mod directories;
 mod directory_failure;
+mod directory_tables;
 mod dump;
 mod ended_texts;
 mod entry_lists;

@@ -114,7 +114,7 @@ fn walk_at(tree: Range, position: &LeafPosition) -> ResourceLeaves
 }
 
 /// The name of an entry of data that start at a file offset. `Short` where it is truncated.
-fn name_in(start: u64, data: &[u8], entry: ResourceEntry) -> Result<ResourceName>
+pub fn name_in(start: u64, data: &[u8], entry: ResourceEntry) -> Result<ResourceName>
     requires { start ≤ 2 ^ 63 }
     ensures { answer_of result ≡ name_in start data.now entry }
 {

@@ -1,11 +1,11 @@
 //! The texts of the results of calls, for a caller's messages.
 
 ghost use Rattle.std.specs.Prelude.{◌≡◌, ◌≤◌, length};
-ghost use Rattle.pe_c.specs.EndedTexts.{cut_text};
+ghost use Rattle.pe_c.specs.EndedTexts.{truncated_text};
 ghost use Rattle.pe_c.specs.declared.results.TheConstants.{NOTHING};
 ghost use Rattle.pe_c.specs.Texts.{refusal_text, other_text, result_text, sign_text, directory_text, tree_text, edit_text, signature_text, dump_text};
 
-use crate::ended_texts::put_cut;
+use crate::ended_texts::put_truncated;
 use crate::results::{BAD_ADDRESS, BAD_OPERATION, LONG_CHAIN, MISSING, NOT_RISING, NOTHING, ROOM};
 
 /// The number of the first error of signing.
@@ -245,9 +245,9 @@ fn text_of(number: u32) -> &'static str
 #[unsafe(no_mangle)]
 pub extern "C" fn pe_c_text(number: u32, room: &mut [u8]) -> usize
     ensures whole { result ≡ length (result_text number) }
-    ensures put { room.new ≡ cut_text room.old (result_text number) }
+    ensures put { room.new ≡ truncated_text room.old (result_text number) }
 {
     let text = text_of(number).as_bytes();
-    put_cut(text, room);
+    put_truncated(text, room);
     text.len()
 }

@@ -5,6 +5,7 @@ pub mod LoadedReads
 pub mod WalkLists
 pub mod WordsLeft
 pub mod MovedWords
+pub mod OtherBytes
 pub mod DelayLists
 pub mod BoundTexts
 pub mod RelocationWalks

@@ -155,7 +155,7 @@ first_by read more zs (Ok y) e = let parts = after_one y zs (each_read read more
 first_by read more zs (Err r) e = absurd cc
 
 -- the first of what is read of items, and the others
-of_first : {X Y : Type 0} (read : X → Result Y DirectoryRefusal) (x : X) (more : List (Result X DirectoryRefusal)) (zs : List Y) → each_read read (Ok x ∷ more) ≡ Ok zs
+pub of_first : {X Y : Type 0} (read : X → Result Y DirectoryRefusal) (x : X) (more : List (Result X DirectoryRefusal)) (zs : List Y) → each_read read (Ok x ∷ more) ≡ Ok zs
     → (y : Y) × (rest : (ws : List Y) × Unit {0}) × ((read x ≡ Ok y) × (each_read read more ≡ Ok rest.0) × (zs ≡ y ∷ rest.0))
 unfolding each_read
 of_first {X} {Y} read x more zs e = first_by read more zs (read x) e

@@ -1,6 +1,7 @@
 -- Base relocations applied to an image as loaded. (PE format: base relocation types. A type that depends on the machine is refused;
 -- so is HIGHADJ, which no machine of today has.)
 use Rattle.std.specs.Prelude.{◌≡◌, ℕ, ◌+◌, ◌-◌, ◌*◌, ◌/◌, ◌%◌, ◌^◌, ◌<◌, ◌≤◌, ◌==◌, ◌||◌, ◌&&◌, Bool, true, List, [], ◌∷◌, ◌++◌, length, Option, Some, None, Result, Ok, Err, nat_le, nat_lt, if◌then◌else◌}
+use Rattle.std.specs.List.{AllByRecursion}
 use Rattle.pe_core.specs.Bytes.{bytes_of, le, splice}
 use Rattle.pe_core.specs.Refusals.{◌>>=◌}
 use Rattle.pe_directories.specs.BaseRelocations.{Block, first_block, first_relocation}
@@ -101,3 +102,7 @@ passes_by p w = nat_lt p w.rva || nat_le (w.rva + w.width) p
 abbrev pub AllPassBy : ℕ → ℕ → List Word → Type 0
 AllPassBy size p [] = Unit {0}
 AllPassBy size p (w ∷ ws) = (stands_in size w ≡ true) × (passes_by p w ≡ true) × AllPassBy size p ws
+
+-- the byte at an offset is none of the words of these blocks
+abbrev pub IsOutside : ℕ → List (List Word) → Type 0
+IsOutside p blocks = AllByRecursion (λ ws. AllByRecursion (λ w. passes_by p w ≡ true) ws) blocks

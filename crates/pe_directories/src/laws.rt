@@ -2,7 +2,7 @@
 
 pub mod constants;
 
-ghost use Rattle.std.specs.Prelude.{◌≡◌, ◌+◌, ◌<◌, ◌≤◌, ℕ, List, Bool, Option, Some, get_or, length, map, Result};
+ghost use Rattle.std.specs.Prelude.{◌≡◌, ◌+◌, ◌<◌, ◌≤◌, ℕ, List, Bool, Option, Some, Ok, get_or, length, map, Result};
 ghost use Rattle.pe_core.specs.Bytes.{AreBytes, range};
 ghost use Rattle.std.specs.Iterator.{Drains};
 ghost use Rattle.pe_directories.specs.DirectoryRefusals.{directory_answer};
@@ -13,7 +13,8 @@ ghost use Rattle.pe_directories.specs.Clr.{stream_view, first_stream, streams_le
 ghost use Rattle.pe_directories.specs.DelayImports.{first_delay_import, delay_imports_left};
 ghost use Rattle.pe_directories.specs.GuardTables.{guarded_view, first_guarded, flag_size_of, guarded_left};
 ghost use Rattle.pe_directories.specs.LoadedImages.{loaded};
-ghost use Rattle.pe_directories.specs.Relocated.{AllPassBy, AllStand, all_moved};
+ghost use Rattle.pe_directories.specs.DirectoryRefusals.{DirectoryRefusal};
+ghost use Rattle.pe_directories.specs.Relocated.{AllPassBy, AllStand, IsOutside, all_moved, relocated, words_of};
 ghost use Rattle.pe_directories.specs.declared.relocating.Word.{Word};
 ghost use Rattle.pe_directories.specs.VaTables.{first_va, vas_left, vas_are_64};
 ghost use Rattle.pe_directories.specs.declared.base_relocation.RelocationBlock.{RelocationBlock};
@@ -130,4 +131,14 @@ pub fn relocations_change_their_words_alone()
         get_or (all_moved difference words b) p 0 ≡ get_or b p 0 }
     ensures none { (words : List Word) (b : List ℕ) →
         AreBytes b → AllStand (length b) words → all_moved 0 words b ≡ b }
+{}
+
+/// What `relocate` makes of an image, by all blocks of a table and the relocation of the image base, is as long as it was and has
+/// the bytes that it had, but those of the numbers that these name.
+pub fn relocated_images_keep_their_other_bytes()
+    ensures long { (difference : ℕ) (base : Option BaseRelocation) (table b image : List ℕ) →
+        relocated difference base table b ≡ Ok image → length image ≡ length b }
+    ensures others { (difference p : ℕ) (base : Option BaseRelocation) (table b image : List ℕ) (words : List (List Word)) →
+        words_of (length b) base table ≡ Ok words → IsOutside p words →
+        relocated difference base table b ≡ Ok image → get_or image p 0 ≡ get_or b p 0 }
 {}

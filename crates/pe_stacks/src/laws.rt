@@ -74,7 +74,7 @@ pub fn full_stacks_are_walks()
 {}
 
 /// The registers of a thread are those of the exception, where it names the thread and they can be read (`raised`); and its own where
-/// they can not be read (`unread`), or where it does not name the thread (`own`).
+/// they cannot be read (`unread`), or where it does not name the thread (`own`).
 pub fn exceptions_come_first()
     ensures raised { (d : DumpView) (t : Thread) (l : Location) (c : ContextX64) →
         raised_at d t ≡ Some l → context_at context_x64 d l ≡ Ok c → thread_context context_x64 d t ≡ Ok c }

@@ -10,7 +10,7 @@ from typing import TYPE_CHECKING, Any
 
 from . import _core
 from ._core import (AllHeaders, Arm64Function, Arm64Packed, Arm64Record, BoundLibrary, Certificate, Checksum, ClrHeader, DebugEntry,
-                    DelayLibrary, EmbeddedPdb, Export, ExportTable, FixedVersion, Function, Headers, Library, LoadConfig, Metadata, Pdb20, PdbChecksum,
+                    DelayLibrary, EmbeddedPdb, Export, ExportDirectory, ExportTable, FixedVersion, Function, Headers, Library, LoadConfig, Metadata, Pdb20, PdbChecksum,
                     Pogo, RelocationBlock, Repro, Resource, RichHeader, Section, Symbol, SymbolKey, Tls, UnwindRecord, VcFeatures,
                     VersionBlock)
 from ._kinds import Kind
@@ -223,6 +223,12 @@ class Image(Reader):
     def export_table(self) -> ExportTable | None:
         """The DLL's own name, and the ordinal of its first export."""
         row: ExportTable | None = self._one("export_table")
+        return row
+
+    @property
+    def export_directory(self) -> ExportDirectory | None:
+        """The fields of the export directory, IMAGE_EXPORT_DIRECTORY."""
+        row: ExportDirectory | None = self._one("export_directory")
         return row
 
     @property

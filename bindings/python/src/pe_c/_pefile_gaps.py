@@ -4,7 +4,7 @@ STRUCTURE.FIELD.
 Such a name is an attribute that is missing: hasattr() is False, and the error says which name it is and why."""
 from __future__ import annotations
 
-EXPORT = "the library for C has no call for the fields of the export directory"
+EXPORT = "the library for C does not return where the numbers of an export stand"
 TREE = "the library for C lists resources, not their directories"
 LENGTHS = "the library for C returns version blocks without their lengths and offsets"
 CONFIG = "pefile joins the names of two fields of PE32; each has its own here"
@@ -27,8 +27,6 @@ def _all(reason: str, names: str, of: str = "") -> dict[str, str]:
 
 
 GAPS: dict[str, str] = {
-    **_all(EXPORT, "Characteristics TimeDateStamp MajorVersion MinorVersion Name NumberOfNames AddressOfFunctions "
-                   "AddressOfNames AddressOfNameOrdinals", "IMAGE_EXPORT_DIRECTORY."),
     **_all(EXPORT, "ordinal_offset address_offset name_offset forwarder_offset", "ExportData."),
     **_all(TREE, "Characteristics TimeDateStamp MajorVersion MinorVersion NumberOfNamedEntries NumberOfIdEntries",
            "IMAGE_RESOURCE_DIRECTORY."),

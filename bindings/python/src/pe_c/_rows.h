@@ -57,6 +57,7 @@ static PyObject *row_arm64_registers(Image *self, Rows *rows, const pe_c_arm64_r
 static PyObject *row_arm64_stack_walk(Image *self, Rows *rows, const pe_c_arm64_stack_walk *it);
 static PyObject *row_address_table(Image *self, Rows *rows, const pe_c_address_table *it);
 static PyObject *row_exported(Image *self, Rows *rows, const pe_c_exported *it, const pe_c_export *named);
+static PyObject *row_export_fields(Image *self, Rows *rows, const pe_c_export_fields *it);
 static PyObject *row_library(Image *self, Rows *rows, const pe_c_library *it);
 static PyObject *imports_of(Image *self, Rows *rows, const pe_c_library *it);
 static PyObject *row_import(Image *self, Rows *rows, const pe_c_import *it);
@@ -1329,6 +1330,40 @@ static PyObject *row_exported(Image *self, Rows *rows, const pe_c_exported *it, 
     return filled(self, ROW_EXPORTED, items, 5);
 }
 
+static PyStructSequence_Field row_export_fields_fields[] = {
+    {"characteristics", "reserved"},
+    {"time_date_stamp", "seconds since the start of 1970, or a hash"},
+    {"major_version", NULL},
+    {"minor_version", NULL},
+    {"name", "RVA of the DLL's name, or 0"},
+    {"base", "ordinal of the export with the index 0"},
+    {"number_of_functions", "entries of the table of RVAs"},
+    {"number_of_names", "entries of the table of names, and of that of indices"},
+    {"address_of_functions", "RVA of the table of RVAs"},
+    {"address_of_names", "RVA of the table of names"},
+    {"address_of_name_ordinals", "RVA of the table of indices"},
+    {NULL, NULL}};
+
+static PyObject *row_export_fields(Image *self, Rows *rows, const pe_c_export_fields *it)
+{
+    if (!takes(rows, 0))
+        return NULL;
+    PyObject *items[] = {
+        N(it->characteristics),
+        N(it->time_date_stamp),
+        N(it->major_version),
+        N(it->minor_version),
+        N(it->name),
+        N(it->base),
+        N(it->number_of_functions),
+        N(it->number_of_names),
+        N(it->address_of_functions),
+        N(it->address_of_names),
+        N(it->address_of_name_ordinals),
+    };
+    return filled(self, ROW_EXPORT_FIELDS, items, 11);
+}
+
 static PyStructSequence_Field row_library_fields[] = {
     {"name", "of the DLL: UTF-8, without its final zero"},
     {"imports", "a walk for pe_c_next_import, at its start"},
@@ -2285,6 +2320,7 @@ static const PyStructSequence_Desc row_kinds[] = {
     [ROW_ARM64_STACK_WALK] = {"pe_c._core.Arm64StackFrame", "A walk of a stack on ARM64, and the frame that was returned last, as pe_c_stack_walk.", row_arm64_stack_walk_fields, 6},
     [ROW_ADDRESS_TABLE] = {"pe_c._core.ExportTable", "The table of RVAs, which has all exports by their index, also those without a name.", row_address_table_fields, 4},
     [ROW_EXPORTED] = {"pe_c._core.Export", "An export by its index.", row_exported_fields, 5},
+    [ROW_EXPORT_FIELDS] = {"pe_c._core.ExportDirectory", "The export directory itself, IMAGE_EXPORT_DIRECTORY.", row_export_fields_fields, 11},
     [ROW_LIBRARY] = {"pe_c._core.Library", "IMAGE_IMPORT_DESCRIPTOR.", row_library_fields, 7},
     [ROW_IMPORT] = {"pe_c._core.Import", NULL, row_import_fields, 4},
     [ROW_DELAY_DESCRIPTOR] = {"pe_c._core.DelayDescriptor", "IMAGE_DELAYLOAD_DESCRIPTOR. Addresses are RVAs where bit 0 of the attributes is set, else virtual addresses, as linkers before Visual C++ 7 wrote them.", row_delay_descriptor_fields, 8},

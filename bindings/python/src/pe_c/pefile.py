@@ -435,9 +435,13 @@ def _read_exports(pe: PE) -> ExportDirData | None:
         return None
     symbols = [ExportData(pe=pe, ordinal=it.ordinal, address=it.rva, name=_bytes(it.name), forwarder=_bytes(it.forwarder))
                for it in pe._image.exports if it.rva]
-    return ExportDirData(struct=Structure("IMAGE_EXPORT_DIRECTORY", None, Base=table.ordinal_base,
-                                          NumberOfFunctions=table.number_of_functions),
-                         symbols=symbols, name=_bytes(table.name))
+    it = pe._value("export_directory")
+    directory = Structure("IMAGE_EXPORT_DIRECTORY", None, Characteristics=it.characteristics, TimeDateStamp=it.time_date_stamp,
+                          MajorVersion=it.major_version, MinorVersion=it.minor_version, Name=it.name, Base=it.base,
+                          NumberOfFunctions=it.number_of_functions, NumberOfNames=it.number_of_names,
+                          AddressOfFunctions=it.address_of_functions, AddressOfNames=it.address_of_names,
+                          AddressOfNameOrdinals=it.address_of_name_ordinals)
+    return ExportDirData(struct=directory, symbols=symbols, name=_bytes(table.name))
 
 
 def _pdb70(key: _rows.SymbolKey) -> Structure:

@@ -1,0 +1,86 @@
+-- The tables that head a directory with fields of their own: that of exports, and each directory of a resource tree.
+use Rattle.std.specs.Prelude.{ℕ, ◌+◌, ◌*◌, List, length, Option, Some, None, Result, Ok, if◌then◌else◌}
+use Rattle.std.specs.Option.{option_map}
+use Rattle.pe_core.specs.Bytes.{record_at}
+use Rattle.pe_core.specs.Records as records
+use Rattle.pe_core.specs.Refusals.{Refusal, ◌>>=◌}
+use Rattle.pe_core.specs.SectionMap.{mapped}
+use Rattle.pe_core.specs.declared.export.ExportDirectoryTable.{ExportDirectoryTable}
+use Rattle.pe_core.specs.declared.section_table.SectionTable.{SectionTable}
+use Rattle.pe_resource.specs.Directories.{count, directory_of, entries_at}
+use Rattle.pe_resource.specs.ResourceEntries.{directory_offset, entry_at, is_directory}
+use Rattle.pe_resource.specs.declared.directory.ImageResourceDirectory.{ImageResourceDirectory}
+use Rattle.pe_resource.specs.declared.entry.ResourceEntry as trees
+use Rattle.pe_c.specs.Images.{export_directory, is_absent, map_of_image}
+use Rattle.pe_c.specs.Ranges.{bytes_at}
+use Rattle.pe_c.specs.ResourceLeaves.{name_in}
+use Rattle.pe_c.specs.Walks.{next_of, walk_of}
+use Rattle.pe_c.specs.declared.directory_tables.ExportFields.{ExportFields}
+use Rattle.pe_c.specs.declared.directory_tables.ResourceDirectory.{ResourceDirectory}
+use Rattle.pe_c.specs.declared.directory_tables.ResourceItem.{ResourceItem}
+use Rattle.pe_c.specs.declared.image.Image.{Image}
+use Rattle.pe_c.specs.declared.ranges.Range.{Range}
+use Rattle.pe_c.specs.declared.resource_leaves.ResourceName.{ResourceName}
+
+-- ---- exports
+
+-- the fields of an export directory, by winnt.h's names
+abbrev pub export_fields : ExportDirectoryTable → ExportFields
+export_fields d = record {
+  characteristics = d.characteristics;
+  time_date_stamp = d.time_date_stamp;
+  major_version = d.major;
+  minor_version = d.minor;
+  name = d.name_rva;
+  base = d.ordinal_base;
+  number_of_functions = d.address_table_entries;
+  number_of_names = d.number_of_name_pointers;
+  address_of_functions = d.address_table_rva;
+  address_of_names = d.name_pointer_rva;
+  address_of_name_ordinals = d.ordinal_table_rva;
+}
+
+-- the fields of an image's export directory, if it has one; or what refuses its 40 bytes
+abbrev pub export_directory_at : List ℕ → Image → List SectionTable → Result (Option ExportFields) Refusal
+export_directory_at b image sections =
+    if is_absent (export_directory image) then Ok None
+    else mapped (map_of_image image sections (export_directory image).virtual_address) >>= λ p.
+    record_at b p 40 (Some (export_fields (records.export_directory b p)))
+
+-- ---- resources
+
+-- a directory at p of the tree, which has its entries after its 16 bytes
+abbrev pub directory_reported : Range → ℕ → ImageResourceDirectory → ResourceDirectory
+directory_reported tree p d = record {
+  characteristics = d.characteristics;
+  time_date_stamp = d.time_date_stamp;
+  major_version = d.major_version;
+  minor_version = d.minor_version;
+  number_of_named_entries = d.number_of_named_entries;
+  number_of_id_entries = d.number_of_id_entries;
+  entries = record { offset = tree.offset + (p + 16); length = 8 * count d };
+}
+
+-- the directory at p of a tree, or `Short` where the tree does not lie in the bytes, or the directory or its entries not in the tree
+abbrev pub resource_directory_at : List ℕ → Range → ℕ → Result ResourceDirectory Refusal
+resource_directory_at b tree p = do
+  d ← bytes_at b tree
+  directory ← record_at d p 16 (directory_of d p)
+  entries ← entries_at d (p + 16) directory
+  Ok (directory_reported tree p directory)
+
+-- an entry by its name or id; where it leads counts from the start of the tree
+abbrev pub item_reported : trees.ResourceEntry → ResourceName → ResourceItem
+item_reported e name = record { name = name; offset = directory_offset e; is_directory = if is_directory e then 1 else 0 }
+
+-- an entry that is read further: its name, in the data of the tree
+abbrev pub item_in : ℕ → List ℕ → Option trees.ResourceEntry → Result (Option ResourceItem) Refusal
+item_in start d None = Ok None
+item_in start d (Some e) = name_in start d e >>= λ name. Ok (Some (item_reported e name))
+
+-- the next entry of a directory; `Short` where the tree or the walk is not inside the bytes, an entry is truncated, or its name
+abbrev pub next_item_of : List ℕ → Range → Range → Result (Option ResourceItem) Refusal
+next_item_of b tree walk = do
+  d ← bytes_at b tree
+  entry ← next_of entry_at 8 b walk
+  item_in tree.offset d entry

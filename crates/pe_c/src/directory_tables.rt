@@ -1,0 +1,246 @@
+//! The tables that head a directory with fields of their own: the export directory, and each directory of a resource tree. Walks
+//! through exports and leaves return what these lead to; tools that show a file as it is show the fields too.
+//! https://learn.microsoft.com/windows/win32/debug/pe-format#export-directory-table,
+//! https://learn.microsoft.com/windows/win32/debug/pe-format#resource-directory-table
+
+ghost use Rattle.std.specs.Prelude.{◌≡◌, ◌+◌, ◌≤◌, ◌^◌, Some, length};
+ghost use Rattle.pe_core.specs.Records as records;
+ghost use Rattle.pe_core.specs.Refusals.{answer_by, answer_of};
+ghost use Rattle.pe_resource.specs.Directories.{directory_of};
+ghost use Rattle.pe_c.specs.DirectoryTables.{directory_reported, item_in, export_directory_at, export_fields, next_item_of, resource_directory_at};
+ghost use Rattle.pe_c.specs.HandsOut.{HandsOut, HandsOutIf};
+ghost use Rattle.pe_c.specs.Walks.{walk_of};
+
+use crate::image::{EXPORT_TABLE, directory, is_absent};
+use crate::ranges::{Range, slice_of};
+use crate::resource_leaves::{ResourceName, name_in};
+use crate::results::{hand_out, hand_out_some, options};
+use crate::view::View;
+use crate::walks::next_entry;
+use pe_core::{Result, TableEntry, mapped_offset, read_u16, read_u32, require_bytes};
+use pe_resource::{ImageResourceDirectory, ResourceEntry};
+
+// Sizes in bytes.
+const SIZE_OF_EXPORT_DIRECTORY: usize = 40;
+
+const SIZE_OF_RESOURCE_DIRECTORY: usize = 16;
+
+const SIZE_OF_RESOURCE_ENTRY: usize = 8;
+
+/// The export directory, `IMAGE_EXPORT_DIRECTORY`.
+#[repr(C)]
+#[derive(Clone, Copy)]
+pub struct ExportFields {
+    /// Reserved.
+    pub characteristics: u32,
+    /// Seconds since the start of 1970, or a hash.
+    pub time_date_stamp: u32,
+    pub major_version: u16,
+    pub minor_version: u16,
+    /// RVA of the DLL's name, or 0.
+    pub name: u32,
+    /// The ordinal of the first entry of the address table.
+    pub base: u32,
+    /// Entries of the address table.
+    pub number_of_functions: u32,
+    /// Entries of the name table, and of the table of indexes beside it.
+    pub number_of_names: u32,
+    /// RVA of the address table.
+    pub address_of_functions: u32,
+    /// RVA of the name table.
+    pub address_of_names: u32,
+    /// RVA of the table of indexes.
+    pub address_of_name_ordinals: u32,
+}
+
+/// A directory of a resource tree, `IMAGE_RESOURCE_DIRECTORY`.
+#[repr(C)]
+#[derive(Clone, Copy)]
+pub struct ResourceDirectory {
+    /// Reserved.
+    pub characteristics: u32,
+    /// Seconds since the start of 1970, mostly 0.
+    pub time_date_stamp: u32,
+    pub major_version: u16,
+    pub minor_version: u16,
+    /// Entries with a name, which come first.
+    pub number_of_named_entries: u16,
+    /// Entries with an id.
+    pub number_of_id_entries: u16,
+    /// The entries, as a walk.
+    pub entries: Range,
+}
+
+/// An entry of such a directory, by its name.
+#[repr(C)]
+#[derive(Clone, Copy)]
+pub struct ResourceItem {
+    /// What names it.
+    pub name: ResourceName,
+    /// Where the directory is to which it leads, or the data entry, from the start of the tree on.
+    pub offset: u32,
+    /// 1 where it leads to a directory, else 0.
+    pub is_directory: u32,
+}
+
+/// The fields of the export directory at an offset.
+#[tactic(auto, unfolding(pe_core::specs::Records::export_directory))]
+fn export_fields(bytes: &[u8], offset: usize) -> ExportFields
+    requires { offset + 40 ≤ length bytes.now }
+    ensures { result ≡ export_fields (records.export_directory bytes.now offset) }
+{
+    ExportFields {
+        characteristics: read_u32(bytes, offset),
+        time_date_stamp: read_u32(bytes, offset + 4),
+        major_version: read_u16(bytes, offset + 8),
+        minor_version: read_u16(bytes, offset + 10),
+        name: read_u32(bytes, offset + 12),
+        base: read_u32(bytes, offset + 16),
+        number_of_functions: read_u32(bytes, offset + 20),
+        number_of_names: read_u32(bytes, offset + 24),
+        address_of_functions: read_u32(bytes, offset + 28),
+        address_of_names: read_u32(bytes, offset + 32),
+        address_of_name_ordinals: read_u32(bytes, offset + 36),
+    }
+}
+
+fn export_directory_at(view: &View) -> Result<Option<ExportFields>>
+    ensures { answer_of result ≡ export_directory_at view.now.bytes.now view.now.image.now
+        view.now.sections.now }
+{
+    let directory = directory(view.image, EXPORT_TABLE);
+    if is_absent(directory) {
+        return Ok(None);
+    }
+    let (image, opts) = (view.image, options(view.image.mode));
+    let rva = directory.virtual_address;
+    let offset = mapped_offset(rva, view.sections, image.file_alignment, &opts)?;
+    require_bytes(view.bytes, offset, SIZE_OF_EXPORT_DIRECTORY)?;
+    Ok(Some(export_fields(view.bytes, offset)))
+}
+
+/// Returns the fields of an image's export directory, whatever its tables are: `NOTHING` where it is absent. Strict and permissive
+/// mode make no difference.
+///
+/// Errors: `UNMAPPED`, `SHORT` of its 40 bytes.
+#[unsafe(no_mangle)]
+pub extern "C" fn pe_c_export_directory(view: &View, out: &mut ExportFields) -> u32
+    ensures { HandsOutIf result out.old out.new (export_directory_at view.now.bytes.now view.now.image.now
+        view.now.sections.now) }
+{
+    hand_out_some(export_directory_at(view), out)
+}
+
+/// A directory at an offset of a tree, whose entries lie in it.
+fn directory_reported(
+    tree: &Range,
+    offset: usize,
+    directory: &ImageResourceDirectory,
+) -> ResourceDirectory
+    requires { tree.now.offset + (offset + 16) ≤ 2 ^ 63 }
+    ensures { result ≡ directory_reported tree.now offset directory.now }
+{
+    ResourceDirectory {
+        characteristics: directory.characteristics,
+        time_date_stamp: directory.time_date_stamp,
+        major_version: directory.major_version,
+        minor_version: directory.minor_version,
+        number_of_named_entries: directory.number_of_named_entries,
+        number_of_id_entries: directory.number_of_id_entries,
+        entries: Range {
+            offset: tree.offset + (offset as u64 + 16),
+            length: directory.entries_size() as u64,
+        },
+    }
+}
+
+/// The fields of the resource directory at an offset.
+#[tactic(auto, unfolding(pe_resource::specs::Directories::directory_of))]
+fn directory_fields(data: &[u8], offset: usize) -> ImageResourceDirectory
+    requires { offset + 16 ≤ length data.now }
+    ensures { result ≡ directory_of data.now offset }
+{
+    ImageResourceDirectory {
+        characteristics: read_u32(data, offset),
+        time_date_stamp: read_u32(data, offset + 4),
+        major_version: read_u16(data, offset + 8),
+        minor_version: read_u16(data, offset + 10),
+        number_of_named_entries: read_u16(data, offset + 12),
+        number_of_id_entries: read_u16(data, offset + 14),
+    }
+}
+
+fn resource_directory_at(bytes: &[u8], tree: &Range, offset: usize) -> Result<ResourceDirectory>
+    ensures { answer_of result ≡ resource_directory_at bytes.now tree.now offset }
+{
+    let data = slice_of(bytes, tree)?;
+    require_bytes(data, offset, SIZE_OF_RESOURCE_DIRECTORY)?;
+    let directory = directory_fields(data, offset);
+    require_bytes(
+        data,
+        offset + SIZE_OF_RESOURCE_DIRECTORY,
+        directory.entries_size(),
+    )?;
+    Ok(directory_reported(tree, offset, &directory))
+}
+
+/// Returns the directory at an offset of a resource tree: at 0 the first, whose entries are types, else one to which an entry
+/// leads. `tree` is that of the walk which `pe_c_resource_leaves` returns.
+///
+/// Errors: `SHORT` where `tree` is not inside the bytes, or the directory or its entries are not inside the tree.
+#[unsafe(no_mangle)]
+pub extern "C" fn pe_c_resource_directory_at(
+    bytes: &[u8],
+    tree: &Range,
+    offset: u32,
+    out: &mut ResourceDirectory,
+) -> u32
+    ensures { HandsOut result out.old out.new (resource_directory_at bytes.now tree.now offset) }
+{
+    hand_out(resource_directory_at(bytes, tree, offset as usize), out)
+}
+
+/// An entry by its name or id, in the data of a tree that start at a file offset.
+fn item_reported(start: u64, data: &[u8], entry: ResourceEntry) -> Result<ResourceItem>
+    requires { start ≤ 2 ^ 63 }
+    ensures { answer_by (λ e. Some e) result ≡ item_in start data.now (Some entry) }
+{
+    Ok(ResourceItem {
+        name: name_in(start, data, entry)?,
+        offset: entry.offset_to_directory(),
+        is_directory: u32::from(entry.data_is_directory()),
+    })
+}
+
+fn next_resource_item(bytes: &[u8], tree: &Range, walk: &mut Range) -> Result<Option<ResourceItem>>
+    ensures entry { answer_of result ≡ next_item_of bytes.now tree.now walk.old }
+    ensures walk { walk.new ≡ walk_of 8 bytes.now walk.old }
+{
+    let left = next_entry(bytes, walk, SIZE_OF_RESOURCE_ENTRY);
+    let data = slice_of(bytes, tree)?;
+    match left? {
+        Some(entry) => {
+            let entry = ResourceEntry::at(entry, 0);
+            Ok(Some(item_reported(tree.offset, data, entry)?))
+        }
+        None => Ok(None),
+    }
+}
+
+/// Reads the next entry of a resource directory, whose `entries` are the walk: `NOTHING` at its end. First come entries with a
+/// name. An entry leads to the directory at its offset, or else to a data entry, whose numbers `pe_c_next_resource_leaf` returns.
+///
+/// Errors: `SHORT` where `tree` or the walk is not inside the bytes, or an entry is truncated: then the walk is over; `SHORT` where a
+/// name is not inside the tree: then the walk is past its entry.
+#[unsafe(no_mangle)]
+pub extern "C" fn pe_c_next_resource_item(
+    bytes: &[u8],
+    tree: &Range,
+    walk: &mut Range,
+    out: &mut ResourceItem,
+) -> u32
+    ensures entry { HandsOutIf result out.old out.new (next_item_of bytes.now tree.now walk.old) }
+    ensures walk { walk.new ≡ walk_of 8 bytes.now walk.old }
+{
+    hand_out_some(next_resource_item(bytes, tree, walk), out)
+}
