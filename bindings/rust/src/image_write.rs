@@ -4,9 +4,11 @@
 use crate::image::{Error, Image};
 use crate::signing::file_of;
 use crate::sys::{self, Section};
+use alloc::vec::Vec;
 
 impl Image<'_> {
-    fn view_with<'a>(&'a self, sections: &'a [Section]) -> sys::View<'a> {
+    /// The view with these sections, which has to be used while they are lent.
+    fn view_with(&self, sections: &[Section]) -> sys::View {
         sys::View::of(self.bytes(), self.info(), sections, &[])
     }
 
