@@ -1355,7 +1355,8 @@ uint32_t pe_c_image_length(const pe_c_view *view, uint64_t *out) PE_C_RESULT(1, 
 /* Writes the image into the array: the DOS header, the stub, the PE signature, the COFF header and the optional header where the
  * headers have them; the sections of the view as pe_c_write_sections does, up to multiples of the file alignment, with their
  * headers in the section table; the certificates. Puts to `out` the greatest of three offsets: the start of the section table, the
- * end of the data of the last section with the greatest raw pointer, the end of the certificates.
+ * end of the data of the last section with the greatest raw pointer, the end of the certificates. Without a section the first may
+ * lie past the end of the array; pe_c_image_length says how many bytes were needed.
  * Errors: those of pe_c_image; in strict mode those of pe_c_next_certificate, of all certificates; PE_C_NO_OPTIONAL_HEADER;
  * PE_C_WRITE_ALIGNMENT where the file alignment is no power of two; PE_C_WRITE_SYMBOLS where the pointer to COFF symbols is not 0;
  * PE_C_WRITE_OVERLAP, PE_C_WRITE_SECTION and PE_C_WRITE_FIT as of pe_c_write_sections. */
@@ -1368,7 +1369,8 @@ uint32_t pe_c_whole_length(const pe_c_view *view, uint64_t *out) PE_C_RESULT(1, 
 
 /* Writes the whole file into the array, and over it what pe_c_write_image writes, but no zeros after sections. So COFF symbols and
  * bytes between sections and after them stay as they are in the file. An image without certificates whose sections are unchanged
- * comes back byte for byte. Puts to `out` the greater of the file's length and of what pe_c_write_image puts there.
+ * comes back byte for byte. Puts to `out` the greater of the file's length and of what pe_c_write_image puts there, which may lie
+ * past the end of the array as there; pe_c_whole_length says how many bytes were needed.
  * Errors: those of pe_c_write_image but for PE_C_WRITE_ALIGNMENT and PE_C_WRITE_SYMBOLS. */
 uint32_t pe_c_write_whole(const pe_c_view *view, uint8_t *room, size_t room_length, uint64_t *out) PE_C_RESULT(1, 4);
 

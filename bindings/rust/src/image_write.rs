@@ -60,8 +60,9 @@ impl Image<'_> {
 
     /// Writes the headers, these sections with zeros up to multiples of the file alignment, and the certificates into an array.
     /// Headers and certificates are those of the image's bytes, the data of the sections too. Bytes of the array that none of these
-    /// covers stay as they were. Returns the greatest of three offsets: the start of the section table, the end of the data of the
-    /// last section with the greatest raw pointer, the end of the certificates.
+    /// covers stay as they were. Returns the greatest of three offsets: the start of the section table, which without a section may
+    /// lie past the end of the array, the end of the data of the last section with the greatest raw pointer, the end of the
+    /// certificates.
     ///
     /// # Errors
     ///

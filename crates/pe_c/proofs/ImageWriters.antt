@@ -1,14 +1,12 @@
 -- What the calls that write an image read of it are its headers, its section headers and its certificates.
 use Rattle.std.proofs.Common.{◌≡◌, ℕ, true, List, Option, Some, None, Result, Ok, refl, sym, ap, ◌∙◌}
 use Rattle.pe_core.specs.Header.{HeaderView, OptionalHeaderView, header_at}
-use Rattle.pe_core.specs.Refusals.{Refusal, ◌>>=◌}
+use Rattle.pe_core.specs.Refusals.{Refusal}
 use Rattle.pe_core.specs.Sections.{sections_at, sections_of}
 use Rattle.pe_core.specs.declared.options.ParseOptions.{ParseOptions}
-use Rattle.pe_core.specs.declared.section_table.SectionTable.{SectionTable}
-use Rattle.pe_records.specs.Certificates.{CertificateView}
 use Rattle.pe_image.specs.Fields.{certificate_field, list_by_mode}
 use Rattle.pe_image.specs.Image.{ImageView, IsImage}
-use Rattle.pe_image.specs.Writing.{image_by, image_length, image_length_by, image_written, whole_by, whole_length, whole_length_by, whole_written}
+use Rattle.pe_image.specs.Writing.{image_length, image_written, whole_length, whole_written}
 use Rattle.pe_c.specs.ImageOfCalls.{mode_of}
 use Rattle.pe_c.specs.ImageWrites.{IsViewOf, certificates_of, image_length_at, image_written_at, parts_of, whole_length_at, whole_written_at}
 use Rattle.pe_c.specs.Images.{image_at, image_info_by, image_info_of}

@@ -64,7 +64,7 @@ fn write_image(view: &View, room: &mut [u8]) -> Result<u64>
 /// Writes the image to the room: the headers, the sections as `pe_c_write_sections` does, padded to the file alignment, with
 /// their headers in the section table, and the certificates from the offset of their directory on. Puts to `out` the greatest of
 /// three offsets: the start of the section table, the end of the data of the last section with the greatest raw pointer, the end
-/// of the certificates.
+/// of the certificates. Without a section the first may lie past the end of the room.
 ///
 /// Errors: those of `pe_c_image`; in strict mode those of the certificates, as `pe_c_next_certificate` returns them;
 /// `NO_OPTIONAL_HEADER`; `WRITE_ALIGNMENT` unless the file alignment is a power of two; `WRITE_SYMBOLS` unless the pointer to COFF

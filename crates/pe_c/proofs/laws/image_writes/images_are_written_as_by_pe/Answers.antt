@@ -1,4 +1,4 @@
-use Rattle.pe_c.proofs.ImageWriters.{PartsLaw, image_is, image_length_is, whole_is, whole_length_is}
+use Rattle.pe_c.proofs.ImageWriters.{image_is, image_length_is, whole_is, whole_length_is}
 use Rattle.pe_c.proofs.laws.image_writes.images_are_written_as_by_pe.Goals as goal
 
 pub returns-clause-image : goal.returns-clause-image
