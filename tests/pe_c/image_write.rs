@@ -7,7 +7,8 @@ use super::made::{
 };
 use crate::image::{pe_c_image, pe_c_sections};
 use crate::image_write::{
-    pe_c_image_length, pe_c_whole_length, pe_c_write_image, pe_c_write_whole,
+    pe_c_image_length, pe_c_whole_length, pe_c_write_certificates, pe_c_write_image,
+    pe_c_write_whole,
 };
 use crate::results::DONE;
 use pe_core::SectionTable;
@@ -155,6 +156,42 @@ fn changed_sections_are_written(rt: HostRuntime) -> Result<(), Fail> {
         assert!(rt; room[0x200..0x3F0] == bytes[0x200..0x3F0], "{writer:?}");
         assert!(rt; has(&room, 0x3F0, &[last; 16]), "{writer:?}");
         assert!(rt; room[0x400..] == bytes[0x400..], "{writer:?}");
+    }
+    Ok(())
+}
+
+#[test]
+fn certificates_are_written(rt: HostRuntime) -> Result<(), Fail> {
+    let alloc = rt.alloc();
+    let bytes = with_every_directory(alloc)?;
+    let truncated = having(alloc, 0xEC, &[0x11])?;
+    let low = pointer_below_64(alloc)?;
+    let without = having(alloc, 0xE8, &[0; 8])?;
+    for (bytes, mode, size, wanted, end) in [
+        (&bytes[..], STRICT, 0xA21, DONE, 0xA20),
+        (&bytes[..], STRICT, 0xA1F, WRITE_FIT, OLD_NUMBER),
+        (
+            &truncated[..],
+            STRICT,
+            LONGER,
+            CERTIFICATE_TABLE,
+            OLD_NUMBER,
+        ),
+        (&truncated[..], PERMISSIVE, LONGER, DONE, 0),
+        (&without[..], STRICT, LONGER, DONE, 0),
+        (&low[..], PERMISSIVE, LONGER, NO_OPTIONAL_HEADER, OLD_NUMBER),
+    ] {
+        let mut room = vec![in alloc; OLD; size]?;
+        let mut out = OLD_NUMBER;
+        let info = in_mode(&image(X64), mode);
+        let number = pe_c_write_certificates(&view(bytes, &info, &[]), &mut room, &mut out);
+        assert_eq!(rt; (number, out), (wanted, end));
+        if end == 0xA20 {
+            assert!(rt; room[0xA00..0xA20] == bytes[0xA00..]);
+            assert!(rt; is_old(&room[..0xA00]) && is_old(&room[0xA20..]));
+        } else {
+            assert!(rt; is_old(&room));
+        }
     }
     Ok(())
 }

@@ -45,6 +45,21 @@ impl Image<'_> {
         })
     }
 
+    /// Writes the certificates into an array, one after the other from the offset of their directory on, each with zeros up to a
+    /// multiple of 8 bytes. Returns the offset after the last one, 0 if none is written.
+    ///
+    /// # Errors
+    ///
+    /// In strict mode those of the first certificate that is invalid, and [`Error::CERTIFICATE_TABLE`] where the table is not in the
+    /// file; [`Error::NO_OPTIONAL_HEADER`]; [`Error::WRITE_FIT`] where a certificate does not fit. Then the array is unchanged.
+    pub fn write_certificates(&self, room: &mut [u8]) -> Result<u64, Error> {
+        let view = self.view();
+        let mut end = 0;
+        // SAFETY: the view is of what `self` lends for the call, and the room, borrowed apart from it, overlaps nothing.
+        Error::of(unsafe { sys::pe_c_write_certificates(&view, room.as_mut_ptr(), room.len(), &mut end) })?;
+        Ok(end)
+    }
+
     /// How many bytes [`write_image`](Self::write_image) needs with these sections.
     ///
     /// # Errors

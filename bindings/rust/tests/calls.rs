@@ -386,6 +386,10 @@ fn images_are_written() {
     assert_eq!((&room[..0x170], &room[0x200..0x410]), (&written[..0x170], &written[0x200..]));
     assert!(room[0x170..0x200].iter().chain(&room[0x410..]).all(|it| *it == 7));
     assert_eq!(image.write_image(&sections, &mut room[..0x40F]), Err(Error::WRITE_FIT));
+    room.fill(7);
+    assert_eq!(image.write_certificates(&mut room).unwrap(), 0x410);
+    assert_eq!((&room[0x3FF..0x400], &room[0x400..0x410], room[0x410]), (&[7][..], &SMALL[0x400..], 7));
+    assert_eq!(image.write_certificates(&mut room[..0x40F]), Err(Error::WRITE_FIT));
     sections.push(sections[0]);
     sections[1].pointer_to_raw_data = 0x3FF;
     assert_eq!(image.write_whole(&sections), Err(Error::WRITE_OVERLAP));
