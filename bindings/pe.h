@@ -1333,7 +1333,7 @@ uint32_t pe_c_detach(const pe_c_view *view, uint8_t *room, size_t room_length, u
  * The sections of an image changed: a caller reads them by pe_c_sections, changes a field, and writes them, by themselves or with
  * all of the image. Their data come from `bytes`, the whole file. Any number may be passed.
  * https://learn.microsoft.com/windows/win32/debug/pe-format#section-table-section-headers
- * pe_c_write_image and pe_c_write_whole read the headers and the certificates from the bytes, in the mode of the image: the other
+ * The calls after pe_c_write_sections read the headers and the certificates from the bytes, in the mode of the image: the other
  * fields of that make no difference, and a caller that wants another header changes it in the bytes. In strict mode a certificate
  * table that is invalid is an error, and in permissive mode no certificate of it is written. Certificates go where their directory
  * says, each with zeros up to a multiple of 8 bytes. Of all of these calls: offsets count from the start of the array, and where
@@ -1348,6 +1348,12 @@ uint32_t pe_c_detach(const pe_c_view *view, uint8_t *room, size_t room_length, u
 uint32_t pe_c_write_sections(const pe_c_view *view, uint32_t unit, uint8_t *room, size_t room_length, uint64_t *next)
     PE_C_RESULT(1, 5);
 
+/* Writes the certificates into the array, one after the other from the offset of their directory on. Puts the offset after the last
+ * one to `out`, 0 where none is written. The sections of the view make no difference.
+ * Errors: those of pe_c_image; in strict mode those of pe_c_next_certificate, of all certificates; PE_C_NO_OPTIONAL_HEADER;
+ * PE_C_WRITE_FIT where a certificate does not fit into the array. */
+uint32_t pe_c_write_certificates(const pe_c_view *view, uint8_t *room, size_t room_length, uint64_t *out) PE_C_RESULT(1, 4);
+
 /* Returns how many bytes of an array pe_c_write_image needs with these arguments: the greatest end of what it writes.
  * Errors: those of pe_c_write_image, but PE_C_WRITE_FIT only where no array is long enough. */
 uint32_t pe_c_image_length(const pe_c_view *view, uint64_t *out) PE_C_RESULT(1, 2);
@@ -1355,7 +1361,8 @@ uint32_t pe_c_image_length(const pe_c_view *view, uint64_t *out) PE_C_RESULT(1, 
 /* Writes the image into the array: the DOS header, the stub, the PE signature, the COFF header and the optional header where the
  * headers have them; the sections of the view as pe_c_write_sections does, up to multiples of the file alignment, with their
  * headers in the section table; the certificates. Puts to `out` the greatest of three offsets: the start of the section table, the
- * end of the data of the last section with the greatest raw pointer, the end of the certificates.
+ * end of the data of the last section with the greatest raw pointer, the end of the certificates. Without a section the first may
+ * lie past the end of the array; pe_c_image_length says how many bytes were needed.
  * Errors: those of pe_c_image; in strict mode those of pe_c_next_certificate, of all certificates; PE_C_NO_OPTIONAL_HEADER;
  * PE_C_WRITE_ALIGNMENT where the file alignment is no power of two; PE_C_WRITE_SYMBOLS where the pointer to COFF symbols is not 0;
  * PE_C_WRITE_OVERLAP, PE_C_WRITE_SECTION and PE_C_WRITE_FIT as of pe_c_write_sections. */
@@ -1368,7 +1375,8 @@ uint32_t pe_c_whole_length(const pe_c_view *view, uint64_t *out) PE_C_RESULT(1, 
 
 /* Writes the whole file into the array, and over it what pe_c_write_image writes, but no zeros after sections. So COFF symbols and
  * bytes between sections and after them stay as they are in the file. An image without certificates whose sections are unchanged
- * comes back byte for byte. Puts to `out` the greater of the file's length and of what pe_c_write_image puts there.
+ * comes back byte for byte. Puts to `out` the greater of the file's length and of what pe_c_write_image puts there, which may lie
+ * past the end of the array as there; pe_c_whole_length says how many bytes were needed.
  * Errors: those of pe_c_write_image but for PE_C_WRITE_ALIGNMENT and PE_C_WRITE_SYMBOLS. */
 uint32_t pe_c_write_whole(const pe_c_view *view, uint8_t *room, size_t room_length, uint64_t *out) PE_C_RESULT(1, 4);
 

@@ -246,6 +246,7 @@ test('images are written', () => {
   assert.deepEqual(part.subarray(0, headers), room.subarray(0, headers));
   assert.ok(part.subarray(headers, 0x200).every((it) => it === 0));
   assert.equal(refused(() => image.call('pe_c_write_whole', { room: room.subarray(1) })).constant, 'PE_C_WRITE_FIT');
+  assert.equal(image.call('pe_c_write_certificates', { room: part }), 0n);
 });
 
 // What `openssl asn1parse`, `openssl x509` and `osslsigncode verify` print of it, as tests/signatures.rs of the cargo crate has it.

@@ -448,6 +448,7 @@ static void certificates(const struct file *file)
         add_bytes(file->room, length);
     uint64_t next = file->image.sections_offset;
     CALL(pe_c_write_sections, next, VIEW, file->image.file_alignment, file->room, file->room_length, &next);
+    CALL(pe_c_write_certificates, length, VIEW, file->room, file->room_length, &length);
     /* Of an image its DOS header is added, and of a whole file as many bytes as the file has: others may be old ones. */
     CALL(pe_c_image_length, length, VIEW, &length);
     if (IS_DONE(pe_c_write_image, length, VIEW, file->room, file->room_length, &length))

@@ -7,7 +7,8 @@ use super::made::{
 };
 use crate::image::{pe_c_image, pe_c_sections};
 use crate::image_write::{
-    pe_c_image_length, pe_c_whole_length, pe_c_write_image, pe_c_write_whole,
+    pe_c_image_length, pe_c_whole_length, pe_c_write_certificates, pe_c_write_image,
+    pe_c_write_whole,
 };
 use crate::results::DONE;
 use pe_core::SectionTable;
@@ -88,6 +89,10 @@ fn having(alloc: Global, offset: usize, part: &[u8]) -> Result<Vec<u8>, AllocErr
     Ok(bytes)
 }
 
+fn has(bytes: &[u8], offset: usize, part: &[u8]) -> bool {
+    &bytes[offset..offset + part.len()] == part
+}
+
 fn is_old(bytes: &[u8]) -> bool {
     bytes.iter().all(|byte| *byte == OLD)
 }
@@ -135,8 +140,7 @@ fn images_are_written(rt: HostRuntime) -> Result<(), Fail> {
     Ok(())
 }
 
-/// A section of 0x1F0 bytes ends in 16 zeros that `pe_c_write_image` adds and `pe_c_write_whole` does not, so these needs are the
-/// same and the bytes are not.
+/// A section of 0x1F0 bytes is followed by 16 zeros that `pe_c_write_image` writes and `pe_c_write_whole` does not.
 #[test]
 fn changed_sections_are_written(rt: HostRuntime) -> Result<(), Fail> {
     let alloc = rt.alloc();
@@ -147,11 +151,47 @@ fn changed_sections_are_written(rt: HostRuntime) -> Result<(), Fail> {
     for (writer, last) in [(Writer::Image, 0), (Writer::Whole, 0x77)] {
         let (numbers, ends, room) = written_with(alloc, writer, &bytes, STRICT, &sections, SIZE)?;
         assert_eq!(rt; (numbers, ends), ([DONE; 2], [0x410; 2]), "{writer:?}");
-        assert!(rt; room[0x148..0x150] == *b".changed", "{writer:?}");
-        assert!(rt; room[0x158..0x15C] == [0xF0, 1, 0, 0], "{writer:?}");
+        assert!(rt; has(&room, 0x148, b".changed"), "{writer:?}");
+        assert!(rt; has(&room, 0x158, &[0xF0, 1, 0, 0]), "{writer:?}");
         assert!(rt; room[0x200..0x3F0] == bytes[0x200..0x3F0], "{writer:?}");
-        assert!(rt; room[0x3F0..0x400] == [last; 16], "{writer:?}");
+        assert!(rt; has(&room, 0x3F0, &[last; 16]), "{writer:?}");
         assert!(rt; room[0x400..] == bytes[0x400..], "{writer:?}");
+    }
+    Ok(())
+}
+
+#[test]
+fn certificates_are_written(rt: HostRuntime) -> Result<(), Fail> {
+    let alloc = rt.alloc();
+    let bytes = with_every_directory(alloc)?;
+    let truncated = having(alloc, 0xEC, &[0x11])?;
+    let low = pointer_below_64(alloc)?;
+    let without = having(alloc, 0xE8, &[0; 8])?;
+    for (bytes, mode, size, wanted, end) in [
+        (&bytes[..], STRICT, 0xA21, DONE, 0xA20),
+        (&bytes[..], STRICT, 0xA1F, WRITE_FIT, OLD_NUMBER),
+        (
+            &truncated[..],
+            STRICT,
+            LONGER,
+            CERTIFICATE_TABLE,
+            OLD_NUMBER,
+        ),
+        (&truncated[..], PERMISSIVE, LONGER, DONE, 0),
+        (&without[..], STRICT, LONGER, DONE, 0),
+        (&low[..], PERMISSIVE, LONGER, NO_OPTIONAL_HEADER, OLD_NUMBER),
+    ] {
+        let mut room = vec![in alloc; OLD; size]?;
+        let mut out = OLD_NUMBER;
+        let info = in_mode(&image(X64), mode);
+        let number = pe_c_write_certificates(&view(bytes, &info, &[]), &mut room, &mut out);
+        assert_eq!(rt; (number, out), (wanted, end));
+        if end == 0xA20 {
+            assert!(rt; room[0xA00..0xA20] == bytes[0xA00..]);
+            assert!(rt; is_old(&room[..0xA00]) && is_old(&room[0xA20..]));
+        } else {
+            assert!(rt; is_old(&room));
+        }
     }
     Ok(())
 }
@@ -178,7 +218,7 @@ fn certificates_are_read_by_mode(rt: HostRuntime) -> Result<(), Fail> {
     let (numbers, ends, room) = written(alloc, Writer::Whole, &bytes, STRICT, LONGER)?;
     assert_eq!(rt; (numbers, ends), ([DONE; 2], [0x410; 2]));
     assert!(rt; room[..0x409] == bytes[..]);
-    assert!(rt; room[0x409..SIZE] == [0; 7]);
+    assert!(rt; has(&room, 0x409, &[0; 7]));
     assert!(rt; is_old(&room[SIZE..]));
     Ok(())
 }

@@ -458,6 +458,7 @@ fn read_by_lies(bytes: &[u8], random: &mut Random, seen: &mut Seen) {
         assert!(written == 0 || written == needed && written <= size as u64);
         let mut next = index;
         sys::pe_c_write_sections(&view, few, first, size, &mut next);
+        sys::pe_c_write_certificates(&view, first, size, &mut left);
         sys::pe_c_image_length(&view, &mut needed);
         sys::pe_c_write_image(&view, first, size, &mut left);
         sys::pe_c_whole_length(&view, &mut needed);

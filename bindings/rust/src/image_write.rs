@@ -4,9 +4,11 @@
 use crate::image::{Error, Image};
 use crate::signing::file_of;
 use crate::sys::{self, Section};
+use alloc::vec::Vec;
 
 impl Image<'_> {
-    fn view_with<'a>(&'a self, sections: &'a [Section]) -> sys::View<'a> {
+    /// The view with these sections, which has to be used while they are lent.
+    fn view_with(&self, sections: &[Section]) -> sys::View {
         sys::View::of(self.bytes(), self.info(), sections, &[])
     }
 
@@ -43,6 +45,21 @@ impl Image<'_> {
         })
     }
 
+    /// Writes the certificates into an array, one after the other from the offset of their directory on, each with zeros up to a
+    /// multiple of 8 bytes. Returns the offset after the last one, 0 if none is written.
+    ///
+    /// # Errors
+    ///
+    /// In strict mode those of the first certificate that is invalid, and [`Error::CERTIFICATE_TABLE`] where the table is not in the
+    /// file; [`Error::NO_OPTIONAL_HEADER`]; [`Error::WRITE_FIT`] where a certificate does not fit. Then the array is unchanged.
+    pub fn write_certificates(&self, room: &mut [u8]) -> Result<u64, Error> {
+        let view = self.view();
+        let mut end = 0;
+        // SAFETY: the view is of what `self` lends for the call, and the room, borrowed apart from it, overlaps nothing.
+        Error::of(unsafe { sys::pe_c_write_certificates(&view, room.as_mut_ptr(), room.len(), &mut end) })?;
+        Ok(end)
+    }
+
     /// How many bytes [`write_image`](Self::write_image) needs with these sections.
     ///
     /// # Errors
@@ -58,8 +75,9 @@ impl Image<'_> {
 
     /// Writes the headers, these sections with zeros up to multiples of the file alignment, and the certificates into an array.
     /// Headers and certificates are those of the image's bytes, the data of the sections too. Bytes of the array that none of these
-    /// covers stay as they were. Returns the greatest of three offsets: the start of the section table, the end of the data of the
-    /// last section with the greatest raw pointer, the end of the certificates.
+    /// covers stay as they were. Returns the greatest of three offsets: the start of the section table, which without a section may
+    /// lie past the end of the array, the end of the data of the last section with the greatest raw pointer, the end of the
+    /// certificates.
     ///
     /// # Errors
     ///

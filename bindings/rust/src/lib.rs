@@ -13,7 +13,7 @@
 //! | headers, sections | [`info`](Image::info), [`headers`](Image::headers), [`sections`](Image::sections), [`offset`](Image::offset) | [PE Format] |
 //! | debug data | [`symbol_key`](Image::symbol_key), [`debug_entries`](Image::debug_entries), [`pogo`](Image::pogo), .. | [debug section] |
 //! | certificates | [`certificates`](Image::certificates); what a signature says [`Signature`] | [certificate table] |
-//! | sections and images written | [`write_sections`](Image::write_sections), [`write_whole`](Image::write_whole), [`write_image`](Image::write_image) | [section table] |
+//! | sections and images written | [`write_sections`](Image::write_sections), [`write_whole`](Image::write_whole), [`write_image`](Image::write_image), [`write_certificates`](Image::write_certificates) | [section table] |
 //! | signing | [`digest_ranges`](Image::digest_ranges), [`checksum`](Image::checksum), [`attach`](Image::attach), [`detach`](Image::detach) | [image hash] |
 //! | unwind data | [`functions`](Image::functions), [`arm64_functions`](Image::arm64_functions) | [x64], [ARM64] |
 //! | a stack walk | [`Frames`], on x64 and ARM64; one step of it [`Functions::step`], [`Registers::leaf`], over memory in pieces [`Functions::step_pieces`] | [x64] |

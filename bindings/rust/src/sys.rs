@@ -2474,6 +2474,8 @@ extern "C" {
     ) -> u32;
     /// Writes the sections of a view into an array, with their headers from an offset on, which moves.
     pub fn pe_c_write_sections(view: *const View, unit: u32, room: *mut u8, room_length: usize, next: *mut u64) -> u32;
+    /// Writes the certificates of an image into an array.
+    pub fn pe_c_write_certificates(view: *const View, room: *mut u8, room_length: usize, out: *mut u64) -> u32;
     /// Returns how many bytes [`pe_c_write_image`] needs.
     pub fn pe_c_image_length(view: *const View, out: *mut u64) -> u32;
     /// Writes the headers, sections and certificates of an image into an array.

@@ -370,6 +370,39 @@ fn checksums_are_calculated() {
     assert_eq!(strict(&bytes).checksum().unwrap(), sum);
 }
 
+/// The image has a certificate of 9 bytes at 0x400, headers up to 0x170 and a section from 0x200 on.
+#[test]
+fn images_are_written() {
+    let image = strict(SMALL);
+    assert_eq!(image.write_whole(image.sections()).unwrap(), SMALL);
+    let mut sections = image.sections().to_vec();
+    sections[0].virtual_size = 0x123;
+    let written = image.write_whole(&sections).unwrap();
+    assert_eq!((&written[..0x150], &written[0x150..0x154]), (&SMALL[..0x150], &[0x23, 1, 0, 0][..]));
+    assert_eq!(written[0x154..], SMALL[0x154..]);
+    let length = image.image_length(&sections).unwrap();
+    let mut room = vec![7; SMALL.len() + 1];
+    assert_eq!((image.write_image(&sections, &mut room).unwrap(), length), (0x410, 0x410));
+    assert_eq!((&room[..0x170], &room[0x200..0x410]), (&written[..0x170], &written[0x200..]));
+    assert!(room[0x170..0x200].iter().chain(&room[0x410..]).all(|it| *it == 7));
+    assert_eq!(image.write_image(&sections, &mut room[..0x40F]), Err(Error::WRITE_FIT));
+    room.fill(7);
+    assert_eq!(image.write_certificates(&mut room).unwrap(), 0x410);
+    assert_eq!((&room[0x3FF..0x400], &room[0x400..0x410], room[0x410]), (&[7][..], &SMALL[0x400..], 7));
+    assert_eq!(image.write_certificates(&mut room[..0x40F]), Err(Error::WRITE_FIT));
+    sections.push(sections[0]);
+    sections[1].pointer_to_raw_data = 0x3FF;
+    assert_eq!(image.write_whole(&sections), Err(Error::WRITE_OVERLAP));
+    // A pointer to COFF symbols, and an alignment that is no power of two.
+    for (offset, byte, error) in [(0x4C, 1, Error::WRITE_SYMBOLS), (0x7D, 3, Error::WRITE_ALIGNMENT)] {
+        let mut bytes = SMALL.to_vec();
+        bytes[offset] = byte;
+        let image = strict(&bytes);
+        assert_eq!(image.write_image(image.sections(), &mut room), Err(error));
+        assert_eq!(image.write_whole(image.sections()).unwrap(), bytes);
+    }
+}
+
 #[test]
 fn certificates_are_attached_and_detached() {
     let bytes = unsigned(&[0x55; 3]);

@@ -1,16 +1,14 @@
 -- What the calls that write an image read of it are its headers, its section headers and its certificates.
 use Rattle.std.proofs.Common.{◌≡◌, ℕ, true, List, Option, Some, None, Result, Ok, refl, sym, ap, ◌∙◌}
 use Rattle.pe_core.specs.Header.{HeaderView, OptionalHeaderView, header_at}
-use Rattle.pe_core.specs.Refusals.{Refusal, ◌>>=◌}
+use Rattle.pe_core.specs.Refusals.{Refusal}
 use Rattle.pe_core.specs.Sections.{sections_at, sections_of}
 use Rattle.pe_core.specs.declared.options.ParseOptions.{ParseOptions}
-use Rattle.pe_core.specs.declared.section_table.SectionTable.{SectionTable}
-use Rattle.pe_records.specs.Certificates.{CertificateView}
 use Rattle.pe_image.specs.Fields.{certificate_field, list_by_mode}
 use Rattle.pe_image.specs.Image.{ImageView, IsImage}
-use Rattle.pe_image.specs.Writing.{image_by, image_length, image_length_by, image_written, whole_by, whole_length, whole_length_by, whole_written}
+use Rattle.pe_image.specs.Writing.{certificates_written, image_length, image_written, whole_length, whole_written}
 use Rattle.pe_c.specs.ImageOfCalls.{mode_of}
-use Rattle.pe_c.specs.ImageWrites.{IsViewOf, certificates_of, image_length_at, image_written_at, parts_of, whole_length_at, whole_written_at}
+use Rattle.pe_c.specs.ImageWrites.{IsViewOf, certificates_of, certificates_written_at, image_length_at, image_written_at, parts_of, whole_length_at, whole_written_at}
 use Rattle.pe_c.specs.Images.{image_at, image_info_by, image_info_of}
 use Rattle.pe_c.specs.Modes.{mode_of_number, options_of}
 use Rattle.pe_c.specs.Signing.{headers_of}
@@ -65,6 +63,11 @@ parts_are law b o x v all is view =
     let header : headers_of v.bytes.now v.image.now ≡ Ok x.header = rw (view.bytes, view.mode, same_mode o) (law.header b o x is) in
     let certificates : certificates_of v x.header ≡ Ok x.certificates = rw (view.bytes, view.mode, same_mode o, same_field b o (mode_of o) x.header.optional_header all) (law.certificates b o x is) in
     rw (header, certificates) refl
+
+pub certificates_is : PartsLaw → (b old : List ℕ) (o : ParseOptions) (x : ImageView) (v : View) → o.parse_attribute_certificates ≡ true → IsImage b o (Ok x) → IsViewOf b (mode_of o) v → certificates_written_at v old ≡ certificates_written x old
+certificates_is law b old o x v all is view =
+    let of : IsOfImage b o x v = is_of_image law b o x v is view in
+    rw (parts_are law b o x v all is of) refl
 
 pub image_is : PartsLaw → (b old : List ℕ) (o : ParseOptions) (x : ImageView) (v : View) → o.parse_attribute_certificates ≡ true → IsImage b o (Ok x) → IsViewOf b (mode_of o) v → image_written_at v old ≡ image_written b x old
 image_is law b old o x v all is view =

@@ -6,7 +6,7 @@ use Rattle.pe_core.specs.Refusals.{Refusal, ◌>>=◌}
 use Rattle.pe_core.specs.Sections.{sections_at}
 use Rattle.pe_records.specs.Certificates.{CertificateView}
 use Rattle.pe_image.specs.Fields.{certificate_field, list_by_mode}
-use Rattle.pe_image.specs.Writing.{image_by, image_length_by, whole_by, whole_length_by}
+use Rattle.pe_image.specs.Writing.{certificates_by, image_by, image_length_by, whole_by, whole_length_by}
 use Rattle.pe_c.specs.Images.{image_at}
 use Rattle.pe_c.specs.Modes.{mode_of_number, options_of}
 use Rattle.pe_c.specs.Signing.{headers_of}
@@ -21,6 +21,10 @@ certificates_of v h =
 -- what is read of the bytes: the headers, then the certificates
 abbrev pub parts_of : View → Result (HeaderView × List CertificateView) Refusal
 parts_of v = headers_of v.bytes.now v.image.now >>= λ h. certificates_of v h >>= λ cs. Ok (h, cs)
+
+-- the certificates over the old bytes: as pe_image writes them
+abbrev pub certificates_written_at : View → List ℕ → Result (ℕ × List ℕ) Refusal
+certificates_written_at v old = parts_of v >>= λ p. certificates_by p.0.optional_header p.1 old
 
 -- the image over the old bytes, and how many bytes it needs: as pe_image writes them
 abbrev pub image_written_at : View → List ℕ → Result (ℕ × List ℕ) Refusal

@@ -9,7 +9,7 @@ ghost use Rattle.pe_core.specs.Refusals.{ReturnsAs, answer_of};
 ghost use Rattle.pe_image.specs.CertificateLists.{certificate_views};
 ghost use Rattle.pe_image.specs.Writing.{ReturnsWritten};
 ghost use Rattle.pe_c.specs.HandsOut.{HandsOut, HandsOutWritten};
-ghost use Rattle.pe_c.specs.ImageWrites.{certificates_of, image_length_at, image_written_at, whole_length_at, whole_written_at};
+ghost use Rattle.pe_c.specs.ImageWrites.{certificates_of, certificates_written_at, image_length_at, image_written_at, whole_length_at, whole_written_at};
 
 use crate::results::{hand_out, options};
 use crate::signing::headers_of;
@@ -23,6 +23,33 @@ fn certificates_of<'a>(view: &View<'a>, header: &Header<'_>) -> Result<Certifica
         (certificates_of view.now (header_view header.now)) }
 {
     CertificateList::of_image(view.bytes, header, &options(view.image.mode))
+}
+
+fn write_certificates(view: &View, room: &mut [u8]) -> Result<u64>
+    ensures { ReturnsWritten result
+        (certificates_written_at view.now room.old) room.old room.new }
+{
+    let header = headers_of(view)?;
+    let writer = ImageWriter {
+        source: view.bytes,
+        header: &header,
+        sections: view.sections,
+        certificates: certificates_of(view, &header)?,
+    };
+    Ok(writer.write_certificates(room)? as u64)
+}
+
+/// Writes the certificates to the room, one after the other from the offset of their directory on, each with zeros up to a multiple
+/// of 8 bytes. Puts the offset after the last one to `out`, 0 where none is written.
+///
+/// Errors: those of `pe_c_image`; in strict mode those of the certificates, as `pe_c_next_certificate` returns them;
+/// `NO_OPTIONAL_HEADER`; `WRITE_FIT`. After an error the room and `out` are unchanged.
+#[unsafe(no_mangle)]
+pub extern "C" fn pe_c_write_certificates(view: &View, room: &mut [u8], out: &mut u64) -> u32
+    ensures { HandsOutWritten result out.old out.new room.old room.new
+        (certificates_written_at view.now room.old) }
+{
+    hand_out(write_certificates(view, room), out)
 }
 
 fn image_length(view: &View) -> Result<u64>
@@ -64,7 +91,7 @@ fn write_image(view: &View, room: &mut [u8]) -> Result<u64>
 /// Writes the image to the room: the headers, the sections as `pe_c_write_sections` does, padded to the file alignment, with
 /// their headers in the section table, and the certificates from the offset of their directory on. Puts to `out` the greatest of
 /// three offsets: the start of the section table, the end of the data of the last section with the greatest raw pointer, the end
-/// of the certificates.
+/// of the certificates. Without a section the first may lie past the end of the room.
 ///
 /// Errors: those of `pe_c_image`; in strict mode those of the certificates, as `pe_c_next_certificate` returns them;
 /// `NO_OPTIONAL_HEADER`; `WRITE_ALIGNMENT` unless the file alignment is a power of two; `WRITE_SYMBOLS` unless the pointer to COFF

@@ -24,10 +24,9 @@ ghost use Rattle.pe_image.specs.Writing.{Moves, ReturnsWritten, certificates_wri
 
 use crate::pe::PE;
 use crate::write::certificate_list::CertificateList;
-use crate::write::certificates::write_table;
 use crate::write::image::ImageWriter;
 use crate::write::sections::SectionWriter;
-use pe_core::{Error, Reason, Result};
+use pe_core::Result;
 use std::alloc::Allocator;
 
 impl<'a, A: Allocator + Copy + Drop> PE<'a, A> {
@@ -41,17 +40,7 @@ impl<'a, A: Allocator + Copy + Drop> PE<'a, A> {
         ensures { ReturnsWritten result
             (certificates_written (image_view self.now) buffer.old) buffer.old buffer.new }
     {
-        match &self.header.optional_header {
-            None => Err(Error::Malformed(Reason::NoOptionalHeader)),
-            Some(optional) => {
-                let directory = optional.data_directories.get_certificate_table();
-                write_table(
-                    buffer,
-                    directory,
-                    &CertificateList::Values(&self.certificates),
-                )
-            }
-        }
+        self.writer().write_certificates(buffer)
     }
 
     /// Writes the sections: for each its data at the raw pointer, its header, and zeros after the data up to a multiple

@@ -3,16 +3,19 @@
 ghost use Rattle.std.specs.Prelude.{◌≡◌, ℕ, List, Ok, true};
 ghost use Rattle.pe_core.specs.declared.options.ParseOptions.{ParseOptions};
 ghost use Rattle.pe_image.specs.Image.{ImageView, IsImage};
-ghost use Rattle.pe_image.specs.Writing.{image_length, image_written, whole_length, whole_written};
+ghost use Rattle.pe_image.specs.Writing.{certificates_written, image_length, image_written, whole_length, whole_written};
 ghost use Rattle.pe_c.specs.ImageOfCalls.{mode_of};
-ghost use Rattle.pe_c.specs.ImageWrites.{IsViewOf, image_length_at, image_written_at, whole_length_at, whole_written_at};
+ghost use Rattle.pe_c.specs.ImageWrites.{IsViewOf, certificates_written_at, image_length_at, image_written_at, whole_length_at, whole_written_at};
 ghost use Rattle.pe_c.specs.declared.view.View.{View};
 
 /// Where `PE::parse_with_opts` of pe_image returns an image with its certificates, and a view has what `pe_c_image` and
-/// `pe_c_sections` return of the same bytes in the same mode, `pe_c_write_image` and `pe_c_write_whole` write what
-/// `PE::write_into` and `PE::write_whole` of that image write, with the same number or error, and `pe_c_image_length` and
-/// `pe_c_whole_length` return what `PE::written_len` and `PE::whole_len` return.
+/// `pe_c_sections` return of the same bytes in the same mode, `pe_c_write_certificates`, `pe_c_write_image` and `pe_c_write_whole`
+/// write what `PE::write_certificates`, `write_into` and `write_whole` of that image write, with the same number or error, and
+/// `pe_c_image_length` and `pe_c_whole_length` return what `PE::written_len` and `whole_len` return.
 pub fn images_are_written_as_by_pe()
+    ensures certificates { (b old : List ℕ) (o : ParseOptions) (x : ImageView) (v : View) →
+        o.parse_attribute_certificates ≡ true → IsImage b o (Ok x) → IsViewOf b (mode_of o) v →
+        certificates_written_at v old ≡ certificates_written x old }
     ensures image { (b old : List ℕ) (o : ParseOptions) (x : ImageView) (v : View) →
         o.parse_attribute_certificates ≡ true → IsImage b o (Ok x) → IsViewOf b (mode_of o) v →
         image_written_at v old ≡ image_written b x old }

@@ -12,10 +12,10 @@ ghost use Rattle.pe_image.specs.CertificateLists.{certificate_views};
 ghost use Rattle.pe_image.specs.Overlay.{all_fit, greatest_end};
 ghost use Rattle.pe_image.specs.Pieces.{all_section_pieces};
 ghost use Rattle.pe_image.specs.WritingSteps.{all_end, field_tests, own_end, own_pieces, own_tests, own_whole, possible, put_in_turn};
-ghost use Rattle.pe_image.specs.Writing.{ReturnsWritten, all_in_source, image_by, image_length_by, is_unit, section_tests, whole_by, whole_length_by};
+ghost use Rattle.pe_image.specs.Writing.{ReturnsWritten, all_in_source, certificates_by, image_by, image_length_by, is_unit, section_tests, whole_by, whole_length_by};
 
 use crate::write::certificate_list::CertificateList;
-use crate::write::certificates::{certificates_end, set_table};
+use crate::write::certificates::{certificates_end, set_table, write_table};
 use crate::write::headers::{headers_end, set_headers};
 use crate::write::overlaps::last_raw_end;
 use crate::write::sections::SectionWriter;
@@ -254,6 +254,22 @@ impl<'a> ImageWriter<'a> {
         let end = self.require_whole(buffer, optional)?;
         self.set_whole(buffer, optional);
         Ok(end)
+    }
+
+    /// Writes the certificates, as `PE::write_certificates` does. Errors: those of `PE::write_certificates`, in the same order; the
+    /// buffer is then unchanged.
+    pub fn write_certificates(&self, buffer: &mut [u8]) -> Result<usize>
+        ensures { ReturnsWritten result
+            (certificates_by (header_view self.now.header.now).optional_header
+            (certificate_views self.now.certificates) buffer.old) buffer.old buffer.new }
+    {
+        match &self.header.optional_header {
+            None => Err(Error::Malformed(Reason::NoOptionalHeader)),
+            Some(optional) => {
+                let directory = optional.data_directories.get_certificate_table();
+                write_table(buffer, directory, &self.certificates)
+            }
+        }
     }
 
     /// Writes the file, and over it the headers, sections and certificates, as `PE::write_whole` does. Errors: those of

@@ -1,5 +1,9 @@
-use Rattle.pe_c.proofs.ImageWriters.{PartsLaw, image_is, image_length_is, whole_is, whole_length_is}
+use Rattle.pe_c.proofs.ImageWriters.{certificates_is, image_is, image_length_is, whole_is, whole_length_is}
 use Rattle.pe_c.proofs.laws.image_writes.images_are_written_as_by_pe.Goals as goal
+
+pub returns-clause-certificates : goal.returns-clause-certificates
+returns-clause-certificates c =
+    certificates_is (record { header = c.parts_to_write_are_those_of_images.ensures.header; sections = c.parts_to_write_are_those_of_images.ensures.sections; certificates = c.parts_to_write_are_those_of_images.ensures.certificates })
 
 pub returns-clause-image : goal.returns-clause-image
 returns-clause-image c =
