@@ -4,7 +4,6 @@ use Rattle.std.specs.List.{list_all}
 use Rattle.pe_core.specs.Refusals.{Refusal}
 use Rattle.pe_frame.specs.FrameWalks.{Follows, FrameWalk, Process}
 use Rattle.pe_frame.specs.MemoryLists.{are_inside, ascend, listed_word, memory_of}
-use Rattle.pe_frame.specs.SearchedMemory.{searched_word}
 use Rattle.pe_frame.specs.declared.memory_list.MemoryPiece.{MemoryPiece}
 use Rattle.pe_frame.specs.declared.walk.WalkEnd.{WalkEnd}
 use Rattle.pe_frame.proofs.Searches.{words_listed}

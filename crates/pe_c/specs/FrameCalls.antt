@@ -1,5 +1,5 @@
 -- Walks of a stack, a frame a call, on any machine: the walk of pe_frame, with its state in a record of the caller.
-use Rattle.std.specs.Prelude.{◌≡◌, ◌<◌, ◌≤◌, ◌⊎◌, ℕ, zero, suc, ◌==◌, nat_lt, length, take, drop, Bool, true, false, if◌then◌else◌, List, [], ◌∷◌, Option, Some, None, Result, Ok, Err}
+use Rattle.std.specs.Prelude.{◌≡◌, ◌<◌, ◌≤◌, ◌⊎◌, ℕ, zero, suc, ◌==◌, nat_lt, length, take, drop, Bool, true, false, if◌then◌else◌, List, [], ◌∷◌, Option, None, Result, Ok, Err}
 use Rattle.std.specs.Option.{unwrap_or}
 use Rattle.pe_core.specs.Refusals.{Refusal, kind_of}
 use Rattle.pe_frame.specs.FrameWalks.{FrameWalk, Follows, Process}

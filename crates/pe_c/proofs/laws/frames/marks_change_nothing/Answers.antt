@@ -1,4 +1,4 @@
-use Rattle.std.proofs.Common.{◌≡◌, ℕ, nat_lt, length, List, if◌then◌else◌, rules}
+use Rattle.std.proofs.Common.{◌≡◌, nat_lt, length, if◌then◌else◌}
 use Rattle.pe_frame.specs.Arm64Walks as arm64
 use Rattle.pe_frame.specs.Walks.{Calls}
 use Rattle.pe_c.specs.Arm64StackWalks as arm64_walks
