@@ -178,6 +178,12 @@ module _ {W F : Type 0} (Calls : Process → F → Result F WalkEnd → Type 0) 
   HandsOutFrame views memory pieces number old new =
       OverProcess m (new ≡ old) number views memory pieces old (λ p w. HandsOutNext Calls m p number w new)
 
+  -- calls over these modules and pieces return these frames in turn, and then nothing; the walk is then as the last call left it
+  abbrev pub CallsReturn : List ModuleView → List ℕ → List MemoryPiece → W → List F → W → Type 0
+  CallsReturn views memory pieces w [] last = HandsOutFrame views memory pieces NOTHING w last
+  CallsReturn views memory pieces w (s ∷ frames) last =
+      (next : W) × HandsOutFrame views memory pieces DONE w next × (s ≡ m.frame next) × CallsReturn views memory pieces next frames last
+
   -- the same of several frames, with the slots and the count before the call and after it
   abbrev pub HandsOutFrames : List ModuleView → List ℕ → List MemoryPiece → ℕ → List W × ℕ → List W × ℕ → W → W → Type 0
   HandsOutFrames views memory pieces number slots filled old new =
