@@ -1,7 +1,7 @@
 -- Whole walks of stacks by calls, of which the first may set the mark that the pieces of memory were tested.
-use Rattle.std.proofs.Common.{◌≡◌, ℕ, zero, suc, Bool, true, false, List, [], ◌∷◌, Result, Ok, Err, ap, subst, sym, ◌∙◌, refl}
+use Rattle.std.proofs.Common.{◌≡◌, ℕ, zero, suc, Bool, true, false, List, [], ◌∷◌, Result, Ok, Err, ap, subst, ◌∙◌, refl}
 use Rattle.std.specs.List.{list_all}
-use Rattle.pe_frame.specs.FrameWalks.{Follows, FrameWalk, IsWalk, Process}
+use Rattle.pe_frame.specs.FrameWalks.{FrameWalk, IsWalk, Process}
 use Rattle.pe_frame.specs.MemoryLists.{are_inside, ascend, listed_word}
 use Rattle.pe_frame.specs.declared.memory_list.MemoryPiece.{MemoryPiece}
 use Rattle.pe_frame.specs.declared.walk.WalkEnd.{WalkEnd}
