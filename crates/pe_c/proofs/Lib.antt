@@ -32,6 +32,7 @@ pub mod RecordRanges
 pub mod Rings
 pub mod Rooms
 pub mod MarkedWalks
+pub mod CallWalks
 pub mod RunWalks
 pub mod Runs
 pub mod Steps

@@ -4,7 +4,6 @@ use Rattle.std.specs.List.{list_all}
 use Rattle.pe_core.specs.Refusals.{Refusal}
 use Rattle.pe_frame.specs.FrameWalks.{Follows, FrameWalk, Process}
 use Rattle.pe_frame.specs.MemoryLists.{are_inside, ascend, listed_word, memory_of}
-use Rattle.pe_frame.specs.SearchedMemory.{searched_word}
 use Rattle.pe_frame.specs.declared.memory_list.MemoryPiece.{MemoryPiece}
 use Rattle.pe_frame.specs.declared.walk.WalkEnd.{WalkEnd}
 use Rattle.pe_frame.proofs.Searches.{words_listed}
@@ -22,6 +21,9 @@ pub record KeepMarks {W F : Type 0} (m : WalkRecords W F) : Type 0 where
   pub state : (p : Process) (w : W) → state_in m p (m.marked w) ≡ state_in m p w
   pub framed : (w : W) (s : F) → m.after_frame (m.marked w) s ≡ m.marked (m.after_frame w s)
   pub ended : (w : W) (e : WalkEnd) → m.after_end (m.marked w) e ≡ m.marked (m.after_end w e)
+  pub ending : (w : W) → m.ending (m.marked w) ≡ m.ending w
+  pub after : (w : W) (s : F) → m.is_searched (m.after_frame w s) ≡ m.is_searched w
+  pub over : (w : W) (e : WalkEnd) → m.is_searched (m.after_end w e) ≡ m.is_searched w
 
 -- pieces that lie in the memory
 pub pieces_there : (memory : List ℕ) (pieces : List MemoryPiece) → are_inside memory pieces ≡ true → memory_of memory pieces ≡ Ok (memory, pieces)
@@ -36,7 +38,7 @@ unmarked n none = rw none refl
 
 -- ---- the mark changes nothing
 
-module _ {W F : Type 0} (m : WalkRecords W F) (keep : KeepMarks m) (number : ℕ) (views : List ModuleView) (memory : List ℕ) (pieces : List MemoryPiece) (w : W) (steps : Process → W → Type 0) (tables : list_all has_table views ≡ true) (inside : are_inside memory pieces ≡ true) (up : ascend pieces ≡ true) (without : m.is_searched w ≡ false) where
+module _ {W F : Type 0} (m : WalkRecords W F) (number : ℕ) (views : List ModuleView) (memory : List ℕ) (pieces : List MemoryPiece) (steps : Process → W → Type 0) (tables : list_all has_table views ≡ true) (inside : are_inside memory pieces ≡ true) where
   abbrev over : (ℕ → Option ℕ) → W → Type 0
   over word = steps (record { memory = word; modules = modules_of views })
 
@@ -47,37 +49,41 @@ module _ {W F : Type 0} (m : WalkRecords W F) (keep : KeepMarks m) (number : ℕ
   abbrev by_mark : Type 0 → W → Bool → Type 0
   by_mark unchanged v b = OverMemory m b unchanged number memory pieces v over
 
-  abbrev by_pieces : Type 0 → Result (List ℕ × List MemoryPiece) Refusal → Type 0
-  by_pieces unchanged = OverPieces unchanged number (λ word. over word (marked_if m (ascend pieces) w))
+  abbrev by_pieces : Type 0 → W → Result (List ℕ × List MemoryPiece) Refusal → Type 0
+  by_pieces unchanged v = OverPieces unchanged number (λ word. over word (marked_if m (ascend pieces) v))
 
-  from_marked : (unchanged : Type 0) → OverProcess m unchanged number views memory pieces (m.marked w) steps → over (listed_word memory pieces) (m.marked w)
-  from_marked unchanged given =
-      let it = subst (by_views unchanged (m.marked w)) (views_there views tables) given in
-      let searched = subst (by_mark unchanged (m.marked w)) (keep.has w) it in
-      subst (λ (word : ℕ → Option ℕ). over word (m.marked w)) (words_listed memory pieces inside up) searched
+  -- for a walk with the mark it is a call over the words of the list, where the pieces ascend
+  pub from_marked : (v : W) → m.is_searched v ≡ true → ascend pieces ≡ true → (unchanged : Type 0) → OverProcess m unchanged number views memory pieces v steps → over (listed_word memory pieces) v
+  from_marked v has up unchanged given =
+      let it = subst (by_views unchanged v) (views_there views tables) given in
+      let searched = subst (by_mark unchanged v) has it in
+      subst (λ (word : ℕ → Option ℕ). over word v) (words_listed memory pieces inside up) searched
 
-  to_marked : (unchanged : Type 0) → over (listed_word memory pieces) (m.marked w) → OverProcess m unchanged number views memory pieces (m.marked w) steps
-  to_marked unchanged given =
-      let searched = subst (λ (word : ℕ → Option ℕ). over word (m.marked w)) (sym (words_listed memory pieces inside up)) given in
-      let it = subst (by_mark unchanged (m.marked w)) (sym (keep.has w)) searched in
-      subst (by_views unchanged (m.marked w)) (sym (views_there views tables)) it
+  to_marked : (v : W) → m.is_searched v ≡ true → ascend pieces ≡ true → (unchanged : Type 0) → over (listed_word memory pieces) v → OverProcess m unchanged number views memory pieces v steps
+  to_marked v has up unchanged given =
+      let searched = subst (λ (word : ℕ → Option ℕ). over word v) (sym (words_listed memory pieces inside up)) given in
+      let it = subst (by_mark unchanged v) (sym has) searched in
+      subst (by_views unchanged v) (sym (views_there views tables)) it
 
-  from_unmarked : (unchanged : Type 0) → OverProcess m unchanged number views memory pieces w steps → over (listed_word memory pieces) (m.marked w)
-  from_unmarked unchanged given =
-      let it = subst (by_views unchanged w) (views_there views tables) given in
-      let tested = subst (by_mark unchanged w) without it in
-      let listed = subst (by_pieces unchanged) (pieces_there memory pieces inside) tested in
-      subst (λ (b : Bool). over (listed_word memory pieces) (marked_if m b w)) up listed
+  -- for one without it, it is one for the walk that has it if they ascend
+  pub from_unmarked : (v : W) → m.is_searched v ≡ false → (unchanged : Type 0) → OverProcess m unchanged number views memory pieces v steps → over (listed_word memory pieces) (marked_if m (ascend pieces) v)
+  from_unmarked v without unchanged given =
+      let it = subst (by_views unchanged v) (views_there views tables) given in
+      let tested = subst (by_mark unchanged v) without it in
+      subst (by_pieces unchanged v) (pieces_there memory pieces inside) tested
 
-  to_unmarked : (unchanged : Type 0) → over (listed_word memory pieces) (m.marked w) → OverProcess m unchanged number views memory pieces w steps
-  to_unmarked unchanged given =
-      let listed = subst (λ (b : Bool). over (listed_word memory pieces) (marked_if m b w)) (sym up) given in
-      let tested = subst (by_pieces unchanged) (sym (pieces_there memory pieces inside)) listed in
-      let it = subst (by_mark unchanged w) (sym without) tested in
-      subst (by_views unchanged w) (sym (views_there views tables)) it
+  to_unmarked : (v : W) → m.is_searched v ≡ false → (unchanged : Type 0) → over (listed_word memory pieces) (marked_if m (ascend pieces) v) → OverProcess m unchanged number views memory pieces v steps
+  to_unmarked v without unchanged given =
+      let tested = subst (by_pieces unchanged v) (sym (pieces_there memory pieces inside)) given in
+      let it = subst (by_mark unchanged v) (sym without) tested in
+      subst (by_views unchanged v) (sym (views_there views tables)) it
 
-  pub same_over : (unchanged other : Type 0) → (OverProcess m unchanged number views memory pieces (m.marked w) steps ↔ OverProcess m other number views memory pieces w steps)
-  same_over unchanged other = (λ given. to_unmarked other (from_marked unchanged given), λ given. to_marked unchanged (from_unmarked other given))
+  pub same_over : KeepMarks m → (w : W) → ascend pieces ≡ true → m.is_searched w ≡ false → (unchanged other : Type 0) → (OverProcess m unchanged number views memory pieces (m.marked w) steps ↔ OverProcess m other number views memory pieces w steps)
+  same_over keep w up without unchanged other =
+      let marked : marked_if m (ascend pieces) w ≡ m.marked w = ap (λ (b : Bool). marked_if m b w) up in (
+        λ given. to_unmarked w without other (subst (over (listed_word memory pieces)) (sym marked) (from_marked (m.marked w) (keep.has w) up unchanged given)),
+        λ given. to_marked (m.marked w) (keep.has w) up unchanged (subst (over (listed_word memory pieces)) marked (from_unmarked w without other given)),
+      )
 
 -- ---- a call for a walk with the mark and without it
 

@@ -2,7 +2,7 @@
 use Rattle.std.proofs.Common.{◌≡◌, ℕ, Bool, true, false, List, Option, Result, Ok, Err, refl, subst, sym}
 use Rattle.pe_core.specs.Refusals.{Refusal}
 use Rattle.pe_frame.specs.FrameWalks.{Process}
-use Rattle.pe_frame.specs.MemoryLists.{are_inside, ascend, listed_word, memory_of}
+use Rattle.pe_frame.specs.MemoryLists.{are_inside, ascend, listed_word}
 use Rattle.pe_frame.specs.declared.memory_list.MemoryPiece.{MemoryPiece}
 use Rattle.pe_frame.specs.declared.walk.WalkEnd.{WalkEnd}
 use Rattle.pe_stacks.proofs.FullMemory.{runs_word}

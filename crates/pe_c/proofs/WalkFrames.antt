@@ -88,4 +88,7 @@ keep_marks = record {
   state = λ p w. refl;
   framed = λ w s. refl;
   ended = λ w e. refl;
+  ending = λ w. refl;
+  after = λ w s. refl;
+  over = λ w e. refl;
 }

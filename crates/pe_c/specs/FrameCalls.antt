@@ -1,5 +1,5 @@
 -- Walks of a stack, a frame a call, on any machine: the walk of pe_frame, with its state in a record of the caller.
-use Rattle.std.specs.Prelude.{◌≡◌, ◌<◌, ◌≤◌, ◌⊎◌, ℕ, zero, suc, ◌==◌, nat_lt, length, take, drop, Bool, true, false, if◌then◌else◌, List, [], ◌∷◌, Option, Some, None, Result, Ok, Err}
+use Rattle.std.specs.Prelude.{◌≡◌, ◌<◌, ◌≤◌, ◌⊎◌, ℕ, zero, suc, ◌==◌, nat_lt, length, take, drop, Bool, true, false, if◌then◌else◌, List, [], ◌∷◌, Option, None, Result, Ok, Err}
 use Rattle.std.specs.Option.{unwrap_or}
 use Rattle.pe_core.specs.Refusals.{Refusal, kind_of}
 use Rattle.pe_frame.specs.FrameWalks.{FrameWalk, Follows, Process}
@@ -177,6 +177,12 @@ module _ {W F : Type 0} (Calls : Process → F → Result F WalkEnd → Type 0) 
   abbrev pub HandsOutFrame : List ModuleView → List ℕ → List MemoryPiece → ℕ → W → W → Type 0
   HandsOutFrame views memory pieces number old new =
       OverProcess m (new ≡ old) number views memory pieces old (λ p w. HandsOutNext Calls m p number w new)
+
+  -- calls over these modules and pieces return these frames in turn, and then nothing; the walk is then as the last call left it
+  abbrev pub CallsReturn : List ModuleView → List ℕ → List MemoryPiece → W → List F → W → Type 0
+  CallsReturn views memory pieces w [] last = HandsOutFrame views memory pieces NOTHING w last
+  CallsReturn views memory pieces w (s ∷ frames) last =
+      (next : W) × HandsOutFrame views memory pieces DONE w next × (s ≡ m.frame next) × CallsReturn views memory pieces next frames last
 
   -- the same of several frames, with the slots and the count before the call and after it
   abbrev pub HandsOutFrames : List ModuleView → List ℕ → List MemoryPiece → ℕ → List W × ℕ → List W × ℕ → W → W → Type 0

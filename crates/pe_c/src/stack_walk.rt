@@ -308,7 +308,8 @@ impl<'a> LoadedModules for ViewedModules<'a> {
     }
 }
 
-/// Writes a frame to a walk.
+/// Writes a frame to a walk. Inlined, as walks are compiled for tested and for searched memory, and each writes every frame.
+#[inline(always)]
 fn write_frame(frame: &StackFrame, walk: &mut StackWalk)
     requires { 0 < walk.old.remaining }
     ensures after { walk.new ≡ after_frame walk.old frame.now }
@@ -339,6 +340,7 @@ impl WalkRecord for StackWalk {
         }
     }
 
+    #[inline(always)]
     fn put_frame(&mut self, frame: &StackFrame) {
         write_frame(frame, self);
     }

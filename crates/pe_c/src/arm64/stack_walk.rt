@@ -38,7 +38,8 @@ pub struct Arm64StackWalk {
     pub is_searched: u32,
 }
 
-/// Writes a frame to a walk.
+/// Writes a frame to a walk. Inlined, as walks are compiled for tested and for searched memory, and each writes every frame.
+#[inline(always)]
 fn write_frame(frame: &Arm64StackFrame, walk: &mut Arm64StackWalk)
     requires { 0 < walk.old.remaining }
     ensures { walk.new ≡ after_frame walk.old frame.now }
@@ -68,6 +69,7 @@ impl WalkRecord for Arm64StackWalk {
         }
     }
 
+    #[inline(always)]
     fn put_frame(&mut self, frame: &Arm64StackFrame) {
         write_frame(frame, self);
     }

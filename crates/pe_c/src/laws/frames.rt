@@ -4,7 +4,7 @@ ghost use Rattle.std.specs.Prelude.{◌≡◌, ◌↔◌, ℕ, List, true};
 ghost use Rattle.std.specs.List.{list_all};
 ghost use Rattle.pe_frame.specs.Arm64Walks as arm64;
 ghost use Rattle.pe_frame.specs.FrameWalks.{IsWalk, Process};
-ghost use Rattle.pe_frame.specs.MemoryLists.{are_inside, ascend};
+ghost use Rattle.pe_frame.specs.MemoryLists.{are_inside, ascend, listed_word};
 ghost use Rattle.pe_frame.specs.Walks.{Calls};
 ghost use Rattle.pe_frame.specs.declared.arm64.walk.Arm64StackFrame.{Arm64StackFrame};
 ghost use Rattle.pe_frame.specs.declared.memory_list.MemoryPiece.{MemoryPiece};
@@ -12,9 +12,9 @@ ghost use Rattle.pe_frame.specs.declared.walk.StackFrame.{StackFrame};
 ghost use Rattle.pe_frame.specs.declared.walk.WalkEnd.{WalkEnd};
 ghost use Rattle.pe_c.specs.Arm64StackWalks.{arm64_stack_walks};
 ghost use Rattle.pe_c.specs.Arm64StackWalks as arm64_walks;
-ghost use Rattle.pe_c.specs.FrameCalls.{HandsOutFrame, HandsOutFrames, HasEnd, IsOpen, ReturnsFrames, state_in};
+ghost use Rattle.pe_c.specs.FrameCalls.{CallsReturn, HandsOutFrame, HandsOutFrames, HasEnd, IsOpen, ReturnsFrames, state_in};
 ghost use Rattle.pe_c.specs.StackWalks.{marked, stack_walks};
-ghost use Rattle.pe_c.specs.WalkModules.{has_table};
+ghost use Rattle.pe_c.specs.WalkModules.{has_table, modules_of};
 ghost use Rattle.pe_c.specs.declared.arm64.stack_walk.Arm64StackWalk.{Arm64StackWalk};
 ghost use Rattle.pe_c.specs.declared.stack_walk.ModuleView.{ModuleView};
 ghost use Rattle.pe_c.specs.declared.stack_walk.StackWalk.{StackWalk};
@@ -60,4 +60,25 @@ pub fn marks_change_nothing()
         ascend pieces ≡ true → w.is_searched ≡ 0 →
         (HandsOutFrames arm64.Calls arm64_stack_walks views memory pieces number slots filled (arm64_walks.marked w) new
         ↔ HandsOutFrames arm64.Calls arm64_stack_walks views memory pieces number slots filled w new) }
+{}
+
+/// Calls of `pe_c_next_frame` over the same modules and pieces, for a walk without the mark `is_searched`, return, in turn, exactly
+/// the frames of a walk over the memory of these pieces, and then nothing: also where the first call sets the mark, and the later
+/// ones search the pieces. The function table of each module lies in its bytes, and each piece in the memory (`x64`). So do calls of
+/// `pe_c_next_arm64_frame` (`arm64`).
+pub fn calls_give_the_frames()
+    ensures x64 { (views : List ModuleView) (memory : List ℕ) (pieces : List MemoryPiece) (w last : StackWalk) (frames : List StackFrame) →
+        list_all has_table views ≡ true → are_inside memory pieces ≡ true →
+        IsOpen stack_walks w → w.is_searched ≡ 0 →
+        CallsReturn Calls stack_walks views memory pieces w frames last →
+        (end : WalkEnd) × IsWalk Calls (state_in stack_walks
+        (record { memory = listed_word memory pieces; modules = modules_of views }) w) frames end
+        × HasEnd stack_walks last end }
+    ensures arm64 { (views : List ModuleView) (memory : List ℕ) (pieces : List MemoryPiece) (w last : Arm64StackWalk) (frames : List Arm64StackFrame) →
+        list_all has_table views ≡ true → are_inside memory pieces ≡ true →
+        IsOpen arm64_stack_walks w → w.is_searched ≡ 0 →
+        CallsReturn arm64.Calls arm64_stack_walks views memory pieces w frames last →
+        (end : WalkEnd) × IsWalk arm64.Calls (state_in arm64_stack_walks
+        (record { memory = listed_word memory pieces; modules = modules_of views }) w) frames end
+        × HasEnd arm64_stack_walks last end }
 {}
