@@ -1,7 +1,7 @@
 //! Memory by a list of its pieces that is not tested first. [`MemoryList`](crate::MemoryList) tests all pieces when it is made: that
 //! they lie in the bytes, and whether they ascend. Once it has said that they do, a caller that comes back with the same pieces for
-//! each frame of a walk need not have them tested again: here a piece is found by halving, and tested as it is used, so that each
-//! frame but the first takes log m steps over m pieces in place of m.
+//! each frame of a walk need not have them tested again: here a piece is found by halving, and tested as it is used, so that n frames
+//! over m pieces take n log m steps in place of n m.
 //!
 //! Nothing has to be believed of the list. In ascending pieces that lie in the bytes the memory is that of `MemoryList`. In any
 //! others a byte is one of some piece that has its address and lies in the bytes, or it is unknown.
