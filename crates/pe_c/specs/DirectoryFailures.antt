@@ -1,8 +1,9 @@
 -- Why the directories of an image are refused: by the refusal of the call that reads a directory.
 use Rattle.std.specs.Prelude.{◌≡◌, ℕ, ◌+◌, ◌-◌, ◌^◌, ◌==◌, ◌||◌, min, List, true, Option, Some, None, Result, if◌then◌else◌}
-use Rattle.pe_core.specs.Refusals.{Refusal, Short, CertificateTable, Unmapped, DebugBounds, ExceptionSize, ExceptionOffset, ExceptionBounds}
+use Rattle.pe_core.specs.Bytes.{holds, le}
+use Rattle.pe_core.specs.Refusals.{Refusal, Short, CertificateRevision, CertificateType, CertificateSize, CertificateTable, Unmapped, DebugBounds, ExceptionSize, ExceptionOffset, ExceptionBounds}
 use Rattle.pe_core.specs.declared.section_table.SectionTable.{SectionTable}
-use Rattle.pe_directories.specs.DirectoryRefusals.{DirectoryRefusal}
+use Rattle.pe_directories.specs.DirectoryRefusals.{DirectoryRefusal, ClrHeaderSize}
 use Rattle.pe_c.specs.BoundImports.{bound_imports_at}
 use Rattle.pe_c.specs.Certificates.{certificate_step}
 use Rattle.pe_c.specs.Clr.{clr_header_at}
@@ -52,25 +53,31 @@ directory_offset i image sections =
     if i == 4 || i == 11 then (directory image i).virtual_address
     else or_zero (map_of_image image sections (directory image i).virtual_address)
 
--- how many bytes it needs there: its first record, or all of it; what a load configuration needs is said in its bytes
+-- how many bytes it needs there: its first record, or all of it
 abbrev pub directory_needs : ℕ → Image → Option ℕ
 directory_needs i image =
     if i == 2 then Some 16
     else if i == 4 then Some 8
     else if i == 5 || i == 11 || i == 13 then Some (directory image i).size
     else if i == 9 then Some (if image.width == 64 then 40 else 24)
+    else if i == 10 then Some 4
     else if i == 14 then Some 72
     else None
 
+-- the first numbers there, of 4, 2 and 2 bytes: of a certificate its length, revision and type, of a CLR header first its size
+abbrev pub numbers_there : List ℕ → ℕ → ℕ × ℕ × ℕ
+numbers_there b p = if holds b p 8 then (le b p 4, le b (p + 4) 2, le b (p + 6) 2) else (0, 0, 0)
+
 -- where it is; not of exports, whose tables have RVAs of their own
-unfoldable pub directory_place : ℕ → Image → List SectionTable → Option Place
-directory_place i image sections =
+unfoldable pub directory_place : ℕ → List ℕ → Image → List SectionTable → Option Place
+directory_place i b image sections =
     if i == 0 then None
     else Some (record {
       rva = (directory image i).virtual_address;
       size = (directory image i).size;
       offset = directory_offset i image sections;
       needed = directory_needs i image;
+      head = numbers_there b (directory_offset i image sections);
     })
 
 abbrev pub with_numbers : Failure → ℕ → ℕ → ℕ → Failure
@@ -89,6 +96,10 @@ failure_at place f =
     else if f.result == result_number ExceptionOffset then with_numbers f place.offset 0 0
     else if f.result == result_number CertificateTable || f.result == result_number DebugBounds || f.result == result_number ExceptionBounds
     then with_numbers f (min (place.offset + place.size) (2 ^ 64 - 1)) 0 0
+    else if f.result == result_number CertificateSize then with_numbers f 0 place.head.0 0
+    else if f.result == result_number CertificateRevision then with_numbers f 0 0 place.head.1
+    else if f.result == result_number CertificateType then with_numbers f 0 0 place.head.2
+    else if f.result == directory_number ClrHeaderSize then with_numbers f 0 0 place.head.0
     else f
 
 abbrev pub placed : Option Place → Failure → Failure
