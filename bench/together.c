@@ -1,8 +1,12 @@
-/* Lists names of a file by the calls of the library for C: together FILE exports|libraries|imports|symbols alone|together
+/* Lists names of a file by the calls of the library for C: together FILE WHAT alone|together
  *
- * `together` lists them by one call with room for all, which reads the names together, `alone` by calls of 64 entries, or of symbols
- * by a call for each. Imports are those of all libraries; `alone` lists them library by library. How many there are is printed, and the
- * milliseconds of the processor that the calls took. */
+ * WHAT is exports, libraries, imports, symbols, addresses (all exports by their index, with the texts of forwarders), dlls (those
+ * whose imports are delayed), delayed (what is imported of the first of them), sections (their long names) or bound (bound imports and
+ * their forwarders).
+ *
+ * `together` lists them by one call with room for all, which reads the names together, `alone` by calls of 64 entries, or of symbols,
+ * sections and bound imports by a call for each. Imports are those of all libraries; `alone` lists them library by library. How many there are is
+ * printed, and the milliseconds of the processor that the calls took. */
 #include "pe.h"
 
 #include <stdio.h>
@@ -35,6 +39,83 @@ enum { ENTRIES = 64 };
 LISTS(list_exports, pe_c_exports, pe_c_export, pe_c_list_exports, pe_c_list_exports_together)
 LISTS(list_libraries, pe_c_libraries, pe_c_library, pe_c_list_libraries, pe_c_list_libraries_together)
 LISTS(list_imports, pe_c_imports, pe_c_import, pe_c_list_imports, pe_c_list_imports_together)
+LISTS(list_dlls, pe_c_range, pe_c_delay_import, pe_c_list_delay_imports, pe_c_list_delay_imports_together)
+LISTS(list_delayed, pe_c_delayed_functions, pe_c_delayed_function, pe_c_list_delayed_functions,
+      pe_c_list_delayed_functions_together)
+
+static uint64_t list_addresses(const pe_c_view *view, pe_c_run *runs, size_t number_of_runs)
+{
+    pe_c_address_table table = PE_C_EMPTY;
+    if (pe_c_export_addresses(view, &table) != PE_C_DONE)
+        return 0;
+    const size_t room = runs == NULL ? ENTRIES : (size_t)table.addresses.length / 4 + 1;
+    pe_c_exported *entries = calloc(room, sizeof *entries);
+    uint64_t next = 0, written = 1;
+    while (entries != NULL && written > 0) {
+        written = 0;
+        if ((runs == NULL ? pe_c_list_export_addresses(view, &table, &next, entries, room, &written)
+                          : pe_c_list_export_addresses_together(view, &table, &next, runs, number_of_runs, entries, room,
+                                                                &written)) != PE_C_DONE)
+            break;
+    }
+    free(entries);
+    return next;
+}
+
+static uint64_t list_bound(const pe_c_view *view, pe_c_run *runs, size_t number_of_runs)
+{
+    pe_c_range table = PE_C_EMPTY;
+    pe_c_bound_forwarder one = PE_C_EMPTY;
+    if (pe_c_bound_imports(view, &table) != PE_C_DONE)
+        return 0;
+    pe_c_range walk = table;
+    uint64_t count = 0;
+    if (runs == NULL) {
+        while (pe_c_next_bound_forwarder(view->bytes, view->length, &table, &walk, &one) == PE_C_DONE)
+            count++;
+        return count;
+    }
+    const size_t room = (size_t)table.length / 8 + 1;
+    pe_c_bound_forwarder *entries = calloc(room, sizeof *entries);
+    if (entries == NULL || pe_c_list_bound_forwarders(view->bytes, view->length, &table, &walk, runs, number_of_runs, entries,
+                                                      room, &count) != PE_C_DONE)
+        count = 0;
+    free(entries);
+    return count;
+}
+
+static uint64_t list_section_names(const pe_c_view *view, pe_c_run *runs, size_t number_of_runs)
+{
+    pe_c_range table = PE_C_EMPTY, name = PE_C_EMPTY;
+    if (pe_c_string_table(view, &table) != PE_C_DONE)
+        return 0;
+    uint64_t count = 0, next = 0, written = 0;
+    if (runs == NULL) {
+        for (size_t i = 0; i < view->count; i++)
+            count += pe_c_long_section_name(view->bytes, view->length, &table, &view->sections[i], &name) == PE_C_DONE;
+        return count;
+    }
+    pe_c_range *names = calloc(view->count + 1, sizeof *names);
+    if (names != NULL &&
+        pe_c_list_long_section_names(view, &table, &next, runs, number_of_runs, names, view->count + 1, &written) ==
+            PE_C_DONE)
+        for (size_t i = 0; i < written; i++)
+            count += names[i].offset > 0;
+    free(names);
+    return count;
+}
+
+static uint64_t list_delay_imports(const pe_c_view *view, const char *what, pe_c_run *runs, size_t number_of_runs)
+{
+    pe_c_range walk = PE_C_EMPTY;
+    pe_c_delay_import first = PE_C_EMPTY;
+    if (pe_c_delay_imports(view, &walk) != PE_C_DONE)
+        return 0;
+    if (strcmp(what, "dlls") == 0)
+        return list_dlls(view, &walk, (size_t)walk.length / 32, runs, number_of_runs);
+    return pe_c_next_delay_import(view, &walk, &first) != PE_C_DONE
+               ? 0 : list_delayed(view, &first.functions, view->length / 8, runs, number_of_runs);
+}
 
 static uint64_t list_symbols(const uint8_t *bytes, size_t length, pe_c_run *runs, size_t number_of_runs)
 {
@@ -97,6 +178,14 @@ static uint64_t list(const pe_c_view *view, const char *what, pe_c_run *runs, si
     if (strcmp(what, "exports") == 0)
         return pe_c_export_tables(view, &exports) != PE_C_DONE
                    ? 0 : list_exports(view, &exports, (size_t)exports.names.length / 4, runs, number_of_runs);
+    if (strcmp(what, "addresses") == 0)
+        return list_addresses(view, runs, number_of_runs);
+    if (strcmp(what, "bound") == 0)
+        return list_bound(view, runs, number_of_runs);
+    if (strcmp(what, "sections") == 0)
+        return list_section_names(view, runs, number_of_runs);
+    if (strcmp(what, "dlls") == 0 || strcmp(what, "delayed") == 0)
+        return list_delay_imports(view, what, runs, number_of_runs);
     if (pe_c_import_libraries(view, &libraries) != PE_C_DONE)
         return 0;
     if (strcmp(what, "libraries") == 0)

@@ -869,6 +869,11 @@ PE_C_SIZE(pe_c_failure, 32);
  * A number that is refused has its offset, and `needed` is how many bytes it has. PE_C_SHORT has `offset` and `needed`. */
 uint32_t pe_c_image_failure(const uint8_t *bytes, size_t length, uint32_t mode, pe_c_failure *out) PE_C_RESULT(4);
 
+/* Returns why pe_c_sections refuses the section headers of an image, whatever room it is given. PE_C_NOTHING where it does not. It
+ * never returns an error. The failure is PE_C_SHORT, with the offset of the headers and the bytes that they need. */
+uint32_t pe_c_sections_failure(const uint8_t *bytes, size_t length, const pe_c_image_info *image,
+                               pe_c_failure *out) PE_C_RESULT(3, 4);
+
 /* Returns why pe_c_te refuses the bytes. PE_C_NOTHING where it does not. It never returns an error. */
 uint32_t pe_c_te_failure(const uint8_t *bytes, size_t length, pe_c_failure *out) PE_C_RESULT(3);
 
@@ -884,6 +889,27 @@ uint32_t pe_c_te_failure(const uint8_t *bytes, size_t length, pe_c_failure *out)
  * PE_C_EXCEPTION_OFFSET `offset`; of PE_C_EXCEPTION_BOUNDS, PE_C_DEBUG_BOUNDS, PE_C_RESOURCE_BOUNDS and PE_C_CERTIFICATE_TABLE
  * `offset`, where the table ends. */
 uint32_t pe_c_directory_failure(const pe_c_view *view, uint32_t index, pe_c_failure *out) PE_C_RESULT(1, 3);
+
+/* What a debug record is read as: by which call. */
+enum {
+    PE_C_RECORD_SYMBOL_KEY = 0,     /* pe_c_symbol_key_of */
+    PE_C_RECORD_PDB20 = 1,          /* pe_c_pdb20_of */
+    PE_C_RECORD_VC_FEATURES = 2,    /* pe_c_vc_features_of */
+    PE_C_RECORD_CHARACTERISTICS = 3, /* pe_c_characteristics_of */
+    PE_C_RECORD_REPRO = 4,          /* pe_c_repro_of */
+    PE_C_RECORD_POGO = 5,           /* pe_c_pogo_of */
+    PE_C_RECORD_EMBEDDED_PDB = 6,   /* pe_c_embedded_pdb_of */
+    PE_C_RECORD_PDB_CHECKSUM = 7    /* pe_c_pdb_checksum_of */
+};
+
+/* Returns what is wrong with the record of an entry of the debug directory that is read as one of these: the result of the call that
+ * reads it, and the numbers of that error. PE_C_NOTHING where that call returns no error, and of a kind that is none of these. It
+ * never returns an error.
+ *
+ * The numbers: of PE_C_SHORT `offset` and `needed`; of PE_C_DEBUG_DATA `needed`; of PE_C_DEBUG_SIZE and PE_C_POGO_SIZE `value`, the
+ * size that the entry says; of PE_C_BAD_MAGIC `value`. */
+uint32_t pe_c_debug_failure(const uint8_t *bytes, size_t length, uint32_t mode, const pe_c_debug_entry *entry,
+                            uint32_t kind, pe_c_failure *out) PE_C_RESULT(4, 6);
 
 /* ---- certificates
  *
@@ -2868,6 +2894,22 @@ uint32_t pe_c_list_all_imports_together(const pe_c_view *view, pe_c_library_impo
                                         size_t number_of_runs, pe_c_library_import *entries, size_t number_of_entries,
                                         uint64_t *written) PE_C_RESULT(1, 2, 7);
 
+/* Lists what pe_c_list_export_addresses does, and reads the texts of forwarders together, with a run for each of the entries, or
+ * more.
+ * What is in `runs` after the call is left open. Errors: as pe_c_list_export_addresses. */
+uint32_t pe_c_list_export_addresses_together(const pe_c_view *view, const pe_c_address_table *table, uint64_t *next,
+                                             pe_c_run *runs, size_t number_of_runs, pe_c_exported *entries,
+                                             size_t number_of_entries, uint64_t *written) PE_C_RESULT(1, 2, 3, 8);
+
+/* Lists the long names of the sections of an image, from the index `next` on, which moves past them: what pe_c_long_section_name
+ * returns of each, and an empty range where that returns PE_C_NOTHING. `table` is the string table. Names are read together, with a
+ * run for each of the entries, or more: an image may have 65,535 sections, and one string for all of them.
+ * What is in `runs` after the call is left open.
+ * Errors: PE_C_ROOM; PE_C_SHORT where a section is left, and `table` is not inside the bytes. */
+uint32_t pe_c_list_long_section_names(const pe_c_view *view, const pe_c_range *table, uint64_t *next, pe_c_run *runs,
+                                      size_t number_of_runs, pe_c_range *entries, size_t number_of_entries,
+                                      uint64_t *written) PE_C_RESULT(1, 2, 3, 8);
+
 /* A COFF symbol with its name. */
 typedef struct {
     pe_c_symbol_entry symbol;
@@ -2918,6 +2960,33 @@ uint32_t pe_c_list_delay_imports(const pe_c_view *view, pe_c_range *walk, pe_c_d
 /* Lists what is imported of a DLL that is loaded later. Errors: PE_C_ROOM; those of pe_c_next_delayed_function. */
 uint32_t pe_c_list_delayed_functions(const pe_c_view *view, pe_c_delayed_functions *walk, pe_c_delayed_function *entries,
                                      size_t number_of_entries, uint64_t *written) PE_C_RESULT(1, 2, 5);
+
+/* Lists what pe_c_list_delay_imports does, and reads the names together, with a run for each of the entries, or more.
+ * What is in `runs` after the call is left open. Errors: as pe_c_list_delay_imports. */
+uint32_t pe_c_list_delay_imports_together(const pe_c_view *view, pe_c_range *walk, pe_c_run *runs,
+                                          size_t number_of_runs, pe_c_delay_import *entries, size_t number_of_entries,
+                                          uint64_t *written) PE_C_RESULT(1, 2, 7);
+
+/* Lists what pe_c_list_delayed_functions does, and reads the names together, with a run for each of the entries, or more.
+ * What is in `runs` after the call is left open. Errors: as pe_c_list_delayed_functions. */
+uint32_t pe_c_list_delayed_functions_together(const pe_c_view *view, pe_c_delayed_functions *walk, pe_c_run *runs,
+                                              size_t number_of_runs, pe_c_delayed_function *entries,
+                                              size_t number_of_entries, uint64_t *written) PE_C_RESULT(1, 2, 7);
+
+/* Lists bound imports as pe_c_next_bound_import returns them, and reads the names together, with a run for each of the entries, or
+ * more. `table` is the range of the directory.
+ * What is in `runs` after the call is left open. Errors: PE_C_ROOM; those of pe_c_next_bound_import. */
+uint32_t pe_c_list_bound_imports(const uint8_t *bytes, size_t length, const pe_c_range *table, pe_c_range *walk,
+                                 pe_c_run *runs, size_t number_of_runs, pe_c_bound_import *entries,
+                                 size_t number_of_entries, uint64_t *written) PE_C_RESULT(3, 4, 9);
+
+/* Lists the same of the DLLs that a DLL forwards to, as pe_c_next_bound_forwarder returns them. The 8 bytes of a DLL are read as those
+ * of a forwarder are: a walk through the whole directory, at first a copy of `table`, lists the names and time stamps of all DLLs and
+ * their forwarders, in their order, where to list the forwarders of each would cost a text that they share for each.
+ * What is in `runs` after the call is left open. Errors: PE_C_ROOM; those of pe_c_next_bound_forwarder. */
+uint32_t pe_c_list_bound_forwarders(const uint8_t *bytes, size_t length, const pe_c_range *table, pe_c_range *walk,
+                                    pe_c_run *runs, size_t number_of_runs, pe_c_bound_forwarder *entries,
+                                    size_t number_of_entries, uint64_t *written) PE_C_RESULT(3, 4, 9);
 
 /* Lists the entries of a POGO record. Errors: PE_C_ROOM; those of pe_c_next_pogo_entry. */
 uint32_t pe_c_list_pogo_entries(const pe_c_view *view, pe_c_range *walk, pe_c_pogo_entry *entries,

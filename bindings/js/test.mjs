@@ -471,6 +471,18 @@ test('why a directory is refused', () => {
   assert.deepEqual([offset, needed, value, results[result]], [0n, 0n, 0x7654321n, 'PE_C_UNMAPPED']);
 });
 
+test('why section headers and debug records are refused', () => {
+  const image = opened('debug'), header = image.info, mode = constants.PE_C_STRICT, kind = constants.PE_C_RECORD_SYMBOL_KEY;
+  const said = ({ offset, needed, value, result }) => [offset, needed, value, results[result]];
+  assert.equal(image.call('pe_c_sections_failure', { image: header }), null);
+  const past = { ...header, sections_offset: 0x12345678, number_of_sections: 3 };
+  assert.deepEqual(said(image.call('pe_c_sections_failure', { image: past })), [0x12345678n, 120n, 0n, 'PE_C_SHORT']);
+  const entry = image.debugEntry(2);
+  assert.equal(image.call('pe_c_debug_failure', { mode, entry, kind }), null);
+  assert.deepEqual(said(image.call('pe_c_debug_failure', { mode, entry: { ...entry, size_of_data: 23 }, kind })),
+    [0n, 0n, 23n, 'PE_C_DEBUG_SIZE']);
+});
+
 test('calls that take no file', () => {
   assert.deepEqual(library.call('pe_c_plan_from', { unwind: 7 }), { unwind: 7, is_over: 0, saved: 7, spare: 0, steps: 0n, limit: 1n });
 });
@@ -627,6 +639,9 @@ test('a list in one call has what its walk has, and starts where that is', () =>
   assert.deepEqual(listed(image, 'pe_c_list_imports', { walk: structuredClone(dll.imports) }), [...image.imports(dll)]);
   assert.deepEqual(listed(delayed, 'pe_c_list_delayed_functions', { walk: structuredClone(late.functions) }),
     [...delayed.delayedFunctions(late)]);
+  const read = (call, walk) => listed(delayed, `pe_c_list_${call}_together`, { walk, runs: [{}, {}] });
+  assert.deepEqual(read('delayed_functions', structuredClone(late.functions)), [...delayed.delayedFunctions(late)]);
+  assert.deepEqual(read('delay_imports', delayed.call('pe_c_delay_imports')), [...delayed.list('delayImports')]);
   const together = (call, walk) => listed(image, `pe_c_list_${call}_together`, { walk, runs: [{}, {}] });
   assert.deepEqual(together('libraries', image.call('pe_c_import_libraries')), [...image.list('libraries')]);
   assert.deepEqual(together('imports', structuredClone(dll.imports)), [...image.imports(dll)]);
@@ -643,6 +658,16 @@ test('a list in one call has what its walk has, and starts where that is', () =>
     [...moved.relocations(block)]);
   const exported = opened('exports'), table = exported.call('pe_c_export_addresses');
   assert.deepEqual(listed(exported, 'pe_c_list_export_addresses', { table, next: 0n }), [...exported.exportAddresses()]);
+  assert.deepEqual(listed(exported, 'pe_c_list_export_addresses_together', { table, next: 0n, runs: [{}, {}] }),
+    [...exported.exportAddresses()]);
+  const bound = opened('bound_imports'), range = bound.call('pe_c_bound_imports');
+  const dlls = [...bound.items('pe_c_next_bound_import', { ...range }, { table: range })];
+  assert.deepEqual(listed(bound, 'pe_c_list_bound_imports', { table: range, walk: { ...range }, runs: [{}] }), dlls);
+  assert.deepEqual(listed(bound, 'pe_c_list_bound_forwarders', { table: range, walk: { ...dlls[0].forwarders }, runs: [{}] }),
+    [...bound.items('pe_c_next_bound_forwarder', { ...dlls[0].forwarders }, { table: range })]);
+  const long = opened('long_section_name'), strings = long.call('pe_c_string_table');
+  assert.deepEqual(listed(long, 'pe_c_list_long_section_names', { table: strings, next: 0n, runs: [{}] }),
+    long.sections.map((section) => long.call('pe_c_long_section_name', { table: strings, section }) ?? { offset: 0n, length: 0n }));
   // the names of parts of code, in an image made by hand
   const entry = [0, 0, 0, 13, 16, 0x1020, 0x420], record = [0x4C544347, 0x1000, 0x10, 97];
   const it = library.open(madeImage(words32([...entry, 0, ...record]), [[6, 0x1000, 28]]));

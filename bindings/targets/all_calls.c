@@ -272,6 +272,7 @@ static void debug_record(const struct file *file, const pe_c_debug_entry *entry)
     pe_c_pogo pogo = PE_C_EMPTY;
     pe_c_embedded_pdb embedded = PE_C_EMPTY;
     pe_c_pdb_checksum checksum = PE_C_EMPTY;
+    pe_c_failure failure = PE_C_EMPTY;
     CALL(pe_c_codeview, key, BYTES, &record, &key);
     CALL(pe_c_symbol_key_of, key, BYTES, mode, entry, &key);
     CALL(pe_c_pdb20_of, pdb, BYTES, mode, entry, &pdb);
@@ -281,6 +282,8 @@ static void debug_record(const struct file *file, const pe_c_debug_entry *entry)
     CALL(pe_c_pogo_of, pogo, BYTES, mode, entry, &pogo);
     CALL(pe_c_embedded_pdb_of, embedded, BYTES, mode, entry, &embedded);
     CALL(pe_c_pdb_checksum_of, checksum, BYTES, mode, entry, &checksum);
+    for (uint32_t kind = 0; kind < 9; kind++)
+        CALL(pe_c_debug_failure, failure, BYTES, mode, entry, kind, &failure);
 }
 
 /* The first entry of each type whose record has a call, and of one that no image has. */
@@ -484,20 +487,29 @@ static void imports(const struct file *file)
     pe_c_delayed_function function = PE_C_EMPTY;
     pe_c_bound_import bound = PE_C_EMPTY;
     pe_c_bound_forwarder forwarder = PE_C_EMPTY;
+    pe_c_run runs[ROWS] = PE_C_EMPTY;
     if (IS_DONE(pe_c_import_libraries, libraries, VIEW, &libraries))
         WALK(LISTS, pe_c_next_library, library, VIEW, &libraries, &library)
             WALK(ITEMS, pe_c_next_import, import, VIEW, &library.imports, &import) {}
     if (IS_DONE(pe_c_delay_imports, walk, VIEW, &walk)) {
         pe_c_range dlls = walk;
         LIST(pe_c_list_delay_imports, pe_c_delay_import, VIEW, &dlls);
+        dlls = walk;
+        LIST(pe_c_list_delay_imports_together, pe_c_delay_import, VIEW, &dlls, runs, ROWS);
         WALK(LISTS, pe_c_next_delay_import, delayed, VIEW, &walk, &delayed) {
             pe_c_delayed_functions functions = delayed.functions;
             LIST(pe_c_list_delayed_functions, pe_c_delayed_function, VIEW, &functions);
+            functions = delayed.functions;
+            LIST(pe_c_list_delayed_functions_together, pe_c_delayed_function, VIEW, &functions, runs, ROWS);
             WALK(ITEMS, pe_c_next_delayed_function, function, VIEW, &delayed.functions, &function) {}
         }
     }
     if (!IS_DONE(pe_c_bound_imports, table, VIEW, &table))
         return;
+    walk = table;
+    LIST(pe_c_list_bound_imports, pe_c_bound_import, BYTES, &table, &walk, runs, ROWS);
+    walk = table;
+    LIST(pe_c_list_bound_forwarders, pe_c_bound_forwarder, BYTES, &table, &walk, runs, ROWS);
     walk = table;
     WALK(LISTS, pe_c_next_bound_import, bound, BYTES, &table, &walk, &bound)
         WALK(LISTS, pe_c_next_bound_forwarder, forwarder, BYTES, &table, &bound.forwarders, &forwarder) {}
@@ -657,8 +669,11 @@ static void lists_of_names(const struct file *file)
         LIST(pe_c_list_exports, pe_c_export, VIEW, &tables);
         LIST(pe_c_list_exports_together, pe_c_export, VIEW, &together, runs, ROWS);
     }
-    if (pe_c_export_addresses(VIEW, &table) == PE_C_DONE)
+    if (pe_c_export_addresses(VIEW, &table) == PE_C_DONE) {
+        uint64_t together = 0;
         LIST(pe_c_list_export_addresses, pe_c_exported, VIEW, &table, &next);
+        LIST(pe_c_list_export_addresses_together, pe_c_exported, VIEW, &table, &together, runs, ROWS);
+    }
     if (pe_c_import_libraries(VIEW, &libraries) != PE_C_DONE)
         return;
     pe_c_libraries walk = libraries;
@@ -751,9 +766,13 @@ static void headers(const struct file *file)
     for (size_t i = 0; i < file->view.count; i++)
         CALL(pe_c_section_range, range, VIEW, &sections[i], &range);
     CALL(pe_c_overlay, range, VIEW, &range);
-    if (IS_DONE(pe_c_string_table, table, VIEW, &table))
+    if (IS_DONE(pe_c_string_table, table, VIEW, &table)) {
+        pe_c_run runs[ROWS] = PE_C_EMPTY;
+        uint64_t next = 0;
         for (size_t i = 0; i < file->view.count; i++)
             CALL(pe_c_long_section_name, range, BYTES, &table, &sections[i], &range);
+        LIST(pe_c_list_long_section_names, pe_c_range, VIEW, &table, &next, runs, ROWS);
+    }
     if (IS_DONE(pe_c_rich_header, rich, BYTES, &rich))
         WALK(ITEMS, pe_c_next_rich_entry, entry, BYTES, rich.key, &rich.entries, &entry) {}
 }
@@ -808,6 +827,7 @@ static void in_mode(struct file *file, uint32_t mode)
         symbols(file, &all.coff);
     if (!IS_DONE(pe_c_image, file->image, BYTES, mode, &file->image))
         return;
+    CALL(pe_c_sections_failure, failure, BYTES, &file->image, &failure);
     size_t count = file->image.number_of_sections;
     if (count > SECTIONS || !IS_DONE(pe_c_sections, sections, BYTES, &file->image, sections, count))
         return;

@@ -1,10 +1,13 @@
 //! Why headers are refused: where, and by which number. Offsets are those of winnt.h, and every number is worked out by hand.
 
-use super::made::{BAD_MAGIC, HEADER_POINTER, MAPPED, PERMISSIVE, SHORT, STRICT, TE_SIZE, in_mode};
-use crate::failure::{Failure, pe_c_image_failure, pe_c_te_failure};
-use crate::image::{Image, pe_c_image};
+use super::made::{
+    BAD_MAGIC, HEADER_POINTER, MAPPED, PERMISSIVE, SHORT, STRICT, TE_SIZE, X64, image, in_mode,
+    sections,
+};
+use crate::failure::{Failure, pe_c_image_failure, pe_c_sections_failure, pe_c_te_failure};
+use crate::image::{Image, pe_c_image, pe_c_sections};
 use crate::results::{DONE, NOTHING};
-use pe_images::{headers_alone, pointer_below_64, put, te};
+use pe_images::{headers_alone, image as bytes_of, pointer_below_64, put, te};
 use std::test::Fail;
 
 const NO_FAILURE: Failure = Failure {
@@ -150,5 +153,37 @@ fn failures_of_te_images(rt: HostRuntime) -> Result<(), Fail> {
     put(&mut bytes, &[(1, &[0x4D])]);
     assert_eq!(rt; te_failure(&bytes), (DONE, BAD_MAGIC, [0, 2, 0x4D56]));
     assert_eq!(rt; te_failure(&[]), (DONE, SHORT, [0, 40, 0]));
+    Ok(())
+}
+
+/// Three section headers at 148h have 120 bytes. Without sections it does not matter where they would be.
+#[test]
+fn failures_of_section_headers(rt: HostRuntime) -> Result<(), Fail> {
+    let bytes = bytes_of(rt.alloc(), 0x148 + 120, &[])?;
+    let of = |number_of_sections, sections_offset| Image {
+        number_of_sections,
+        sections_offset,
+        ..image(X64)
+    };
+    let whole = bytes.len();
+    for (image, length, wanted) in [
+        (of(3, 0x148), whole, NONE),
+        (of(3, 0x148), whole - 1, (DONE, SHORT, [0x148, 120, 0])),
+        (of(3, 0x148), 0, (DONE, SHORT, [0x148, 120, 0])),
+        (of(3, 0x149), whole, (DONE, SHORT, [0x149, 120, 0])),
+        (of(0, 0x149), 0, NONE),
+        (of(u16::MAX, 0), whole, (DONE, SHORT, [0, 2_621_400, 0])),
+    ] {
+        let mut out = NO_FAILURE;
+        let answer = pe_c_sections_failure(&bytes[..length], &image, &mut out);
+        let found = (answer, out.result, [out.offset, out.needed, out.value]);
+        assert_eq!(rt; found, wanted);
+        assert_eq!(rt; out.spare, if answer == DONE { 0 } else { 9 });
+        if image.number_of_sections <= 3 {
+            let [section] = sections();
+            let answer = pe_c_sections(&bytes[..length], &image, &mut [section; 3]);
+            assert_eq!(rt; answer, if wanted.0 == DONE { SHORT } else { DONE });
+        }
+    }
     Ok(())
 }

@@ -266,6 +266,7 @@ fn read_by_lies(bytes: &[u8], random: &mut Random, seen: &mut Seen) {
     // SAFETY: as above.
     unsafe {
         sys::pe_c_sections(start, length, &image, room.as_mut_ptr(), room.len());
+        sys::pe_c_sections_failure(start, length, &image, &mut sys::Failure::default());
         let mut offset = 0;
         sys::pe_c_offset(&view, few, &mut offset);
         sys::pe_c_load_config_field(&view, few % 38, &mut offset);
@@ -329,7 +330,7 @@ fn read_by_lies(bytes: &[u8], random: &mut Random, seen: &mut Seen) {
     list!(pe_c_list_pogo_entries(; range), PogoEntry);
     list!(pe_c_list_guard_entries(; sys::GuardEntries { entries: range, count: index, flag_size: few, spare: 1 }), GuardEntry);
     macro_rules! together {
-        ($name:ident($walk:expr), $out:ident) => {{
+        ($name:ident($($more:expr),*; $walk:expr), $out:ident) => {{
             let mut walk = $walk;
             for room in (0..4).cycle().take(MOST) {
                 let mut runs = [sys::Run { start: index, end: 0, text: 9 }; 4];
@@ -337,7 +338,8 @@ fn read_by_lies(bytes: &[u8], random: &mut Random, seen: &mut Seen) {
                 let mut written = 0;
                 // SAFETY: as above.
                 let answer = unsafe {
-                    sys::$name(&view, &mut walk, runs.as_mut_ptr(), 4 - room, entries.as_mut_ptr(), room, &mut written)
+                    let (runs, items) = (runs.as_mut_ptr(), entries.as_mut_ptr());
+                    sys::$name(&view, $($more,)* &mut walk, runs, 4 - room, items, room, &mut written)
                 };
                 assert!(written <= room as u64 && (answer == 0 || written == 0));
                 assert!(entries[written as usize..].iter().all(|it| *it == sys::$out::default()));
@@ -347,13 +349,39 @@ fn read_by_lies(bytes: &[u8], random: &mut Random, seen: &mut Seen) {
             }
         }};
     }
-    together!(pe_c_list_exports_together(names), Export);
+    together!(pe_c_list_exports_together(; names), Export);
+    together!(pe_c_list_export_addresses_together(&table; index), Exported);
+    together!(pe_c_list_long_section_names(&range; index), Range);
+    together!(pe_c_list_delay_imports_together(; range), DelayImport);
+    let functions = sys::DelayedFunctions { left: range, attributes: few, spare: 1 };
+    together!(pe_c_list_delayed_functions_together(; functions), DelayedFunction);
     let libraries = sys::Libraries { next: range.offset, ..sys::Libraries::default() };
-    together!(pe_c_list_libraries_together(libraries), Library);
+    together!(pe_c_list_libraries_together(; libraries), Library);
     let imports = sys::Imports { left: range, rva: index };
-    together!(pe_c_list_imports_together(imports), Import);
+    together!(pe_c_list_imports_together(; imports), Import);
     let all = sys::LibraryImports { libraries, imports, library_name: range, begun: index };
-    together!(pe_c_list_all_imports_together(all), LibraryImport);
+    together!(pe_c_list_all_imports_together(; all), LibraryImport);
+    macro_rules! bound {
+        ($name:ident, $out:ident) => {{
+            let mut walk = range;
+            for room in (0..4).cycle().take(MOST) {
+                let mut runs = [sys::Run { start: index, end: 0, text: 9 }; 4];
+                let mut entries = [sys::$out::default(); 3];
+                let mut written = 0;
+                let (count, items) = (4 - room, entries.as_mut_ptr());
+                // SAFETY: as above.
+                let answer = unsafe {
+                    sys::$name(start, length, &part, &mut walk, runs.as_mut_ptr(), count, items, room, &mut written)
+                };
+                assert!(written <= room as u64 && (answer == 0 || written == 0));
+                if room > 0 && written == 0 {
+                    break;
+                }
+            }
+        }};
+    }
+    bound!(pe_c_list_bound_imports, BoundImport);
+    bound!(pe_c_list_bound_forwarders, BoundForwarder);
     let (mut record, mut codes, mut written) = (sys::Record::default(), [sys::Code::default(); 3], 0);
     let room = few as usize % 4;
     // SAFETY: as above.
@@ -375,6 +403,7 @@ fn read_by_lies(bytes: &[u8], random: &mut Random, seen: &mut Seen) {
         call!(pe_c_pogo_of(few, &entry), Pogo);
         call!(pe_c_embedded_pdb_of(few, &entry), EmbeddedPdb);
         call!(pe_c_pdb_checksum_of(few, &entry), PdbChecksum);
+        call!(pe_c_debug_failure(few, &entry, few % 9), Failure);
     }
     call!(pe_c_headers(few), Headers);
     let location = sys::DumpLocation { size: random.edge(number) as u32, rva: random.edge(number) as u32 };

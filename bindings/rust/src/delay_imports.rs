@@ -4,7 +4,7 @@
 
 use crate::image::{bytes_of, Error, Image};
 use crate::sys;
-use crate::walk::ImageList;
+use crate::walk::{ImageList, List, Together, MOST};
 use core::iter::FusedIterator;
 
 /// A DLL that is loaded when one of its functions is called first.
@@ -61,7 +61,11 @@ impl<'i, 'a> Iterator for DelayImports<'i, 'a> {
 
     fn next(&mut self) -> Option<Self::Item> {
         let image = self.0.image;
-        let found = self.0.step(sys::pe_c_list_delay_imports)?;
+        let (call, together) =
+            (sys::pe_c_list_delay_imports as List<_, _>, sys::pe_c_list_delay_imports_together as Together<_, _>);
+        // At most all that the walk has left, and four times as many as there were.
+        let most = |walk: &sys::Range, taken: usize| (walk.length / 32).min((4 * taken).min(MOST) as u64) as usize;
+        let found = self.0.step_together(call, together, 1, most, |it: &sys::DelayImport| it.name.length)?;
         Some(found.and_then(|raw| {
             let name = bytes_of(raw.name, image.bytes())?;
             Ok(DelayImport { image, name, raw })
@@ -93,7 +97,13 @@ impl<'a> Iterator for DelayedFunctions<'_, 'a> {
 
     fn next(&mut self) -> Option<Self::Item> {
         let bytes = self.0.image.bytes();
-        let found = self.0.step(sys::pe_c_list_delayed_functions)?;
+        let (call, together) = (
+            sys::pe_c_list_delayed_functions as List<_, _>,
+            sys::pe_c_list_delayed_functions_together as Together<_, _>,
+        );
+        // Nothing says how many are left: four times as many as there were.
+        let most = |_: &sys::DelayedFunctions, taken: usize| (4 * taken).min(MOST);
+        let found = self.0.step_together(call, together, 1, most, |it: &sys::DelayedFunction| it.name.length)?;
         Some(found.and_then(|found| {
             let name = bytes_of(found.name, bytes)?;
             Ok(DelayedFunction { name: (found.has_name != 0).then_some(name), ordinal: found.ordinal })

@@ -7,6 +7,7 @@
 use crate::coff::room_for;
 use crate::image::{bytes_of, Error, Image};
 use crate::sys;
+use crate::walk::MOST;
 use alloc::vec::Vec;
 use core::iter::FusedIterator;
 use core::ops::Range;
@@ -204,18 +205,66 @@ impl<'i, 'a> AddressTable<'i, 'a> {
     /// The export with an index, from 0, or `None` at [`len`](Self::len) and above.
     pub fn get(&self, index: u64) -> Option<Exported<'a>> {
         let found = self.image.look(sys::pe_c_export_at, &self.table, index).ok()??;
-        let sys::Exported { ordinal, rva, .. } = found;
-        let forwarder = found.forwarder.of(self.image.bytes()).filter(|_| found.is_forwarder != 0);
-        Some(Exported { ordinal, rva, forwarder })
+        Some(self.reported(found))
     }
 
-    /// The exports, in the order of the table.
+    fn reported(&self, found: sys::Exported) -> Exported<'a> {
+        let sys::Exported { ordinal, rva, .. } = found;
+        let forwarder = found.forwarder.of(self.image.bytes()).filter(|_| found.is_forwarder != 0);
+        Exported { ordinal, rva, forwarder }
+    }
+
+    /// The exports, in the order of the table. Texts of forwarders are read together, of many entries a call: a hostile file may
+    /// let all of them start in one long text.
     pub fn iter(&self) -> impl Iterator<Item = Exported<'a>> + 'i
     where
         'a: 'i,
     {
-        let table = *self;
-        (0..self.len()).map_while(move |index| table.get(index))
+        ExportedEntries { table: *self, next: 0, found: Vec::new(), left: 0..0 }
+    }
+
+    /// The next entries from an index on, as many as there is room for. `None` without memory for the runs.
+    fn list(&self, next: &mut u64, found: &mut [sys::Exported]) -> Option<usize> {
+        let (mut runs, view, mut written) = (room_for(found.len(), sys::Run::default()).ok()?, self.image.view(), 0);
+        let (room, more, items, count) = (runs.as_mut_ptr(), runs.len(), found.as_mut_ptr(), found.len());
+        // SAFETY: the view, the table and the numbers are lent for the call, the arrays have so many items, and none overlaps another.
+        let number = unsafe {
+            sys::pe_c_list_export_addresses_together(&view, &self.table, next, room, more, items, count, &mut written)
+        };
+        Error::of(number).ok().map(|()| written as usize)
+    }
+}
+
+/// The entries of an address table that are left.
+struct ExportedEntries<'i, 'a> {
+    table: AddressTable<'i, 'a>,
+    next: u64,
+    /// What the last call wrote, and those of it that are not returned yet.
+    found: Vec<sys::Exported>,
+    left: Range<usize>,
+}
+
+impl<'a> Iterator for ExportedEntries<'_, 'a> {
+    type Item = Exported<'a>;
+
+    fn next(&mut self) -> Option<Exported<'a>> {
+        if self.left.is_empty() {
+            let rest = self.table.len().saturating_sub(self.next);
+            // Few at first, and then four times as many as there were.
+            let count = rest.min((4 * self.next).clamp(ROOM as u64, MOST as u64)) as usize;
+            let room = room_for(count, sys::Exported::default());
+            match room.ok().and_then(|mut room| Some((self.table.list(&mut self.next, &mut room)?, room))) {
+                Some((written, room)) => (self.left, self.found) = (0..written, room),
+                // Without memory each is read by itself.
+                None => {
+                    let found = self.table.get(self.next)?;
+                    self.next += 1;
+                    return Some(found);
+                }
+            }
+        }
+        let i = self.left.next()?;
+        Some(self.table.reported(self.found[i]))
     }
 }
 

@@ -1,12 +1,12 @@
-//! Why headers and directories are refused: where, and by which number. An [`Error`] is one number, so that a caller can store
+//! Why headers, directories and debug records are refused: where, and by which number. An [`Error`] is one number, so that a caller can store
 //! it; this reads them again, and says the rest.
 
 use crate::image::{number_of, returned, DirectoryIndex, Error, Image, Layout, Mode};
-use crate::sys;
+use crate::sys::{self, DebugEntry, ImageInfo};
 use crate::te::Te;
 use core::fmt;
 
-/// What is wrong with the headers of an image, or with a directory.
+/// What is wrong with the headers of an image, with a directory, or with a debug record.
 ///
 /// ```
 /// use pe_c::{Error, Image, Layout, Mode};
@@ -37,17 +37,57 @@ impl From<sys::Failure> for Failure {
     }
 }
 
+/// What the record of an entry of the debug directory is read as: by which method.
+#[derive(Clone, Copy, Debug, PartialEq, Eq, Hash)]
+pub enum DebugRecord {
+    /// [`Image::symbol_key_of`].
+    SymbolKey = 0,
+    /// [`Image::pdb20_of`].
+    Pdb20 = 1,
+    /// [`Image::vc_features_of`].
+    VcFeatures = 2,
+    /// [`Image::debug_characteristics_of`].
+    Characteristics = 3,
+    /// [`Image::repro_of`].
+    Repro = 4,
+    /// [`Image::pogo_of`].
+    Pogo = 5,
+    /// [`Image::embedded_pdb_of`].
+    EmbeddedPdb = 6,
+    /// [`Image::pdb_checksum_of`].
+    PdbChecksum = 7,
+}
+
 /// What a call found, which returns no error.
 fn found(failure: Result<Option<sys::Failure>, Error>) -> Option<Failure> {
     failure.ok().flatten().map(Failure::from)
 }
 
 impl Image<'_> {
-    /// Why [`Image::parse_as`] refuses the headers, up to the section headers. `None` where it does not.
+    /// Why [`Image::parse_as`] refuses the headers or the section headers. `None` where it does not.
+    ///
+    /// ```
+    /// # let bytes: &[u8] = include_bytes!(concat!(env!("CARGO_MANIFEST_DIR"), "/../../crates/peinfo/data/i.bin"));
+    /// use pe_c::{Error, Image, Layout, Mode};
+    ///
+    /// let image = Image::parse(bytes, Mode::Strict)?;
+    /// let (start, size) = (image.info().sections_offset as usize, 40 * image.sections().len());
+    /// let truncated = &bytes[..start + size - 1];
+    /// assert_eq!(Image::parse(truncated, Mode::Strict).unwrap_err(), Error::SHORT);
+    /// let failure = Image::failure(truncated, Mode::Strict, Layout::File).unwrap();
+    /// assert_eq!((failure.offset, failure.needed), (start as u64, size as u64));
+    /// # Ok::<(), pe_c::Error>(())
+    /// ```
     pub fn failure(bytes: &[u8], mode: Mode, layout: Layout) -> Option<Failure> {
-        let (way, mut out) = (number_of(mode, layout), sys::Failure::default());
-        // SAFETY: the pointer and the length are those of one slice; the record is lent for the call.
-        let number = unsafe { sys::pe_c_image_failure(bytes.as_ptr(), bytes.len(), way, &mut out) };
+        let (way, mut out, mut info) = (number_of(mode, layout), sys::Failure::default(), ImageInfo::default());
+        let (start, length) = (bytes.as_ptr(), bytes.len());
+        // SAFETY: the pointer and the length are those of one slice; the records are lent for the calls.
+        let number = unsafe {
+            match sys::pe_c_image(start, length, way, &mut info) {
+                sys::DONE => sys::pe_c_sections_failure(start, length, &info, &mut out),
+                _ => sys::pe_c_image_failure(start, length, way, &mut out),
+            }
+        };
         found(returned(number, out))
     }
 
@@ -82,6 +122,31 @@ impl Image<'_> {
             return None;
         }
         found(self.ask_with(sys::pe_c_directory_failure, index as u32))
+    }
+
+    /// What is wrong with the record of an entry that is read as one of these: the error of the method that reads it, with its
+    /// numbers. `None` where that method returns no error.
+    ///
+    /// ```
+    /// # #[path = "../tests/made/mod.rs"] mod made;
+    /// # let bytes = made::with_debug();
+    /// use pe_c::{DebugRecord, Error, Image, Mode};
+    ///
+    /// let image = Image::parse(&bytes, Mode::Strict)?;
+    /// let mut entry = image.debug_entries()?.expect("it has debug data").next().expect("it has an entry")?;
+    /// assert_eq!(image.debug_failure(&entry, DebugRecord::SymbolKey), None);
+    /// entry.size_of_data = 23;
+    /// assert_eq!(image.symbol_key_of(&entry).unwrap_err(), Error::DEBUG_SIZE);
+    /// let failure = image.debug_failure(&entry, DebugRecord::SymbolKey).unwrap();
+    /// assert_eq!((failure.error, failure.value), (Error::DEBUG_SIZE, Some(23)));
+    /// # Ok::<(), pe_c::Error>(())
+    /// ```
+    pub fn debug_failure(&self, entry: &DebugEntry, record: DebugRecord) -> Option<Failure> {
+        let (bytes, mode, mut out) = (self.bytes(), self.info().mode, sys::Failure::default());
+        // SAFETY: the pointer and the length are those of one slice; the records are lent for the call.
+        let number =
+            unsafe { sys::pe_c_debug_failure(bytes.as_ptr(), bytes.len(), mode, entry, record as u32, &mut out) };
+        found(returned(number, out))
     }
 }
 

@@ -134,7 +134,7 @@ pub use debug::{DebugEntries, EmbeddedPdb, Pdb20, PdbChecksum, Pogo, PogoEntries
 pub use delay_imports::{DelayImport, DelayImports, DelayedFunction, DelayedFunctions};
 pub use dump::{Dump, DumpContext, DumpMemory64, DumpRecords, DumpRegisters};
 pub use exports::{AddressTable, Export, Exported, Exports};
-pub use failure::Failure;
+pub use failure::{DebugRecord, Failure};
 pub use frames::{MemoryList, Stack, StepError};
 pub use guard_tables::{GuardEntries, GuardEntry, GuardTable};
 pub use image::{DirectoryIndex, Error, Image, Layout, Mode};

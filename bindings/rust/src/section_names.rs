@@ -2,8 +2,10 @@
 //! string table. Images of mingw-w64 have such names for their debug sections. See
 //! <https://learn.microsoft.com/windows/win32/debug/pe-format#section-table-section-headers>.
 
+use crate::coff::room_for;
 use crate::image::{bytes_of, Error, Image};
 use crate::sys::{self, Section};
+use alloc::vec::Vec;
 
 impl<'a> Image<'a> {
     /// The COFF string table, from its size field on. `None` where the image has no COFF symbols, where the bytes end after
@@ -44,5 +46,43 @@ impl<'a> Image<'a> {
             Some(name) => Ok(Some(bytes_of(name, bytes)?)),
             None => Ok(None),
         }
+    }
+
+    /// The same of each section, in the order of the sections. The names are read together: [`Image::long_section_name`] reads one
+    /// to its end each time, and a hostile file may let those of all sections start in one long string.
+    ///
+    /// ```
+    /// # #[path = "../tests/made/mod.rs"] mod made;
+    /// # let bytes = made::with_long_section_name();
+    /// use pe_c::{Image, Mode};
+    ///
+    /// let image = Image::parse(&bytes, Mode::Strict)?;
+    /// let names = image.long_section_names()?;
+    /// assert_eq!(names[0], image.long_section_name(&image.sections()[0])?);
+    /// # Ok::<(), pe_c::Error>(())
+    /// ```
+    ///
+    /// # Errors
+    ///
+    /// Those of [`Image::string_table`]; [`Error::MEMORY`].
+    pub fn long_section_names(&self) -> Result<Vec<Option<&'a [u8]>>, Error> {
+        let (count, bytes) = (self.sections().len(), self.bytes());
+        let mut names = room_for(count, None)?;
+        let Some(table) = self.string_table_range()? else { return Ok(names) };
+        if count == 0 {
+            return Ok(names);
+        }
+        let (mut runs, mut found) = (room_for(count, sys::Run::default())?, room_for(count, sys::Range::default())?);
+        let (view, mut next, mut written) = (self.view(), 0, 0);
+        let (room, ranges) = (runs.as_mut_ptr(), found.as_mut_ptr());
+        // SAFETY: the view, the table and the numbers are lent for the call, the arrays have so many items, and none overlaps another.
+        let number = unsafe {
+            sys::pe_c_list_long_section_names(&view, &table, &mut next, room, count, ranges, count, &mut written)
+        };
+        Error::of(number)?;
+        for (name, range) in names.iter_mut().zip(&found) {
+            *name = if range.offset == 0 { None } else { Some(bytes_of(*range, bytes)?) };
+        }
+        Ok(names)
     }
 }

@@ -2297,6 +2297,28 @@ extern "C" {
         number_of_entries: usize,
         written: *mut u64,
     ) -> u32;
+    /// Lists the next exports of an address table, from an index on, and reads the texts of forwarders together.
+    pub fn pe_c_list_export_addresses_together(
+        view: *const View,
+        table: *const AddressTable,
+        next: *mut u64,
+        runs: *mut Run,
+        number_of_runs: usize,
+        entries: *mut Exported,
+        number_of_entries: usize,
+        written: *mut u64,
+    ) -> u32;
+    /// Lists the long names of the next sections, from an index on, and reads them together.
+    pub fn pe_c_list_long_section_names(
+        view: *const View,
+        table: *const Range,
+        next: *mut u64,
+        runs: *mut Run,
+        number_of_runs: usize,
+        entries: *mut Range,
+        number_of_entries: usize,
+        written: *mut u64,
+    ) -> u32;
     /// Lists the next COFF symbols with their names, which are read together where they share much.
     pub fn pe_c_list_symbols(
         bytes: *const u8,
@@ -2337,6 +2359,50 @@ extern "C" {
         view: *const View,
         walk: *mut DelayedFunctions,
         entries: *mut DelayedFunction,
+        number_of_entries: usize,
+        written: *mut u64,
+    ) -> u32;
+    /// Lists the next DLLs of a delay import directory, and reads the names together.
+    pub fn pe_c_list_delay_imports_together(
+        view: *const View,
+        walk: *mut Range,
+        runs: *mut Run,
+        number_of_runs: usize,
+        entries: *mut DelayImport,
+        number_of_entries: usize,
+        written: *mut u64,
+    ) -> u32;
+    /// Lists the next functions of a DLL that is loaded later, and reads the names together.
+    pub fn pe_c_list_delayed_functions_together(
+        view: *const View,
+        walk: *mut DelayedFunctions,
+        runs: *mut Run,
+        number_of_runs: usize,
+        entries: *mut DelayedFunction,
+        number_of_entries: usize,
+        written: *mut u64,
+    ) -> u32;
+    /// Lists the next bound imports, and reads the names together.
+    pub fn pe_c_list_bound_imports(
+        bytes: *const u8,
+        length: usize,
+        table: *const Range,
+        walk: *mut Range,
+        runs: *mut Run,
+        number_of_runs: usize,
+        entries: *mut BoundImport,
+        number_of_entries: usize,
+        written: *mut u64,
+    ) -> u32;
+    /// Lists the next DLLs that a DLL forwards to, and reads the names together.
+    pub fn pe_c_list_bound_forwarders(
+        bytes: *const u8,
+        length: usize,
+        table: *const Range,
+        walk: *mut Range,
+        runs: *mut Run,
+        number_of_runs: usize,
+        entries: *mut BoundForwarder,
         number_of_entries: usize,
         written: *mut u64,
     ) -> u32;
@@ -2667,6 +2733,10 @@ calls_of_bytes! {
     pe_c_te_first_debug_entry(te: *const TeHeader, data_type: u32) -> DebugEntry;
     /// Returns why `pe_c_image` refuses the bytes in a mode.
     pe_c_image_failure(mode: u32) -> Failure;
+    /// Returns why `pe_c_sections` refuses the section headers of an image.
+    pe_c_sections_failure(image: *const ImageInfo) -> Failure;
+    /// Returns why the record of an entry is refused that is read as one of a kind.
+    pe_c_debug_failure(mode: u32, entry: *const DebugEntry, kind: u32) -> Failure;
     /// Returns why `pe_c_te` refuses the bytes.
     pe_c_te_failure() -> Failure;
     /// Returns the next block of base relocations.

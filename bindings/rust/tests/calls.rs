@@ -981,3 +981,20 @@ fn many_names_in_one_text_are_read_together() {
     assert_eq!((imports[0].ordinal, imports[1].ordinal, imports[2].ordinal), (0, 0x6100, 0x6161));
     assert_eq!(imports[299].rva, imports[0].rva + 8 * 299);
 }
+
+#[test]
+fn many_late_names_in_one_text_are_read_together() {
+    let bytes = with_late_names_in_one_text();
+    let image = strict(&bytes);
+    let text = [b'a'; 400];
+    let wanted: Vec<_> = (0..300).map(|i| &text[i..]).collect();
+    let table = image.export_addresses().unwrap().unwrap();
+    let forwarders: Vec<_> = table.iter().map(|it| it.forwarder.unwrap()).collect();
+    assert_eq!(forwarders, wanted);
+    assert_eq!(table.iter().map(|it| it.ordinal).collect::<Vec<_>>(), (5..305).collect::<Vec<_>>());
+    let libraries: Vec<_> = image.delay_imports().unwrap().unwrap().map(Result::unwrap).collect();
+    assert_eq!(libraries.iter().map(|it| it.name).collect::<Vec<_>>(), wanted);
+    let functions: Vec<_> = libraries[299].functions().map(Result::unwrap).collect();
+    assert_eq!(functions.iter().map(|it| it.name.unwrap()).collect::<Vec<_>>(), wanted);
+    assert_eq!((functions[0].ordinal, functions[1].ordinal, functions[2].ordinal), (0, 0x6100, 0x6161));
+}

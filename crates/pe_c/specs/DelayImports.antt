@@ -1,7 +1,7 @@
 -- Delay imports: a walk over the DLLs of the directory, and a walk over what is imported of each.
-use Rattle.std.specs.Prelude.{ℕ, ◌+◌, ◌-◌, List, length, Result, Ok}
+use Rattle.std.specs.Prelude.{ℕ, ◌+◌, ◌-◌, ◌%◌, ◌^◌, Bool, List, length, nat_le, Option, Some, None, Result, Ok, if◌then◌else◌}
 use Rattle.pe_core.specs.Refusals.{◌>>=◌}
-use Rattle.pe_directories.specs.DelayImports.{Function, Ordinal, Name, delay_dll, first_delay_import, hint_offset, imported_by, offset_in_entry}
+use Rattle.pe_directories.specs.DelayImports.{Function, Ordinal, Name, delay_dll, delay_name, first_delay_import, hint_offset, imported_by, offset_in_entry, ordinal_flag}
 use Rattle.pe_directories.specs.DirectoryRefusals.{DirectoryRefusal}
 use Rattle.pe_directories.specs.ImageParts.{ImageView}
 use Rattle.pe_directories.specs.Walks.{First}
@@ -15,6 +15,10 @@ use Rattle.pe_c.specs.declared.image.Image as images
 use Rattle.pe_c.specs.declared.ranges.Range.{Range}
 
 -- ---- DLLs; `i` is the image as pe_directories takes it
+
+-- the range of the name at an offset
+abbrev pub name_range : ImageView → ℕ → Result Range DirectoryRefusal
+name_range i p = delay_name i p >>= λ name. Ok (record { offset = p; length = length name })
 
 -- the range of the name of an entry's DLL
 abbrev pub dll_range : ImageView → DelayImport → Result Range DirectoryRefusal
@@ -47,6 +51,10 @@ entry_with attributes = record {
   unload_information_table = 0;
   time_date_stamp = 0;
 }
+
+-- the ordinal that a number is, if it is one. Only a private contract cites this
+abbrev pub ordinal_in : Bool → ℕ → Option ℕ
+ordinal_in is_64 number = if nat_le (ordinal_flag is_64) number then Some (number % 2 ^ 16) else None
 
 -- what a number of the table imports, as callers get it: a name follows a hint of 2 bytes
 abbrev pub function_reported : ImageView → DelayImport → ℕ → Function → Result DelayedFunction DirectoryRefusal

@@ -7,13 +7,14 @@ use Rattle.pe_core.specs.declared.error.Error.{Error}
 use Rattle.pe_core.specs.declared.error.Error.TheVariants as errors
 use Rattle.pe_core.specs.declared.error.Reason.{Reason}
 use Rattle.pe_core.specs.declared.error.Reason.TheVariants as reasons
-use Rattle.pe_directories.specs.DirectoryRefusals.{DirectoryRefusal}
+use Rattle.pe_directories.specs.DirectoryRefusals.{DirectoryRefusal, Image, directory_kind_of}
 use Rattle.pe_directories.specs.declared.error.DirectoryError.{DirectoryError}
 use Rattle.pe_directories.specs.declared.error.DirectoryError.TheVariants as directories
 use Rattle.pe_c.specs.Directories.{directory_number}
 use Rattle.pe_c.specs.HandsOut.{result_number}
 use Rattle.pe_c.specs.declared.failure.Failure.{Failure}
 use Rattle.pe_c.specs.declared.failure_numbers.ErrorNumbers.{ErrorNumbers}
+use Rattle.pe_c.specs.declared.results.TheConstants.{DONE, NOTHING}
 
 -- ---- the numbers of errors
 
@@ -89,19 +90,34 @@ failure_with number n = record { offset = n.offset; needed = n.needed; value = n
 abbrev pub failure_of : Error → Failure
 failure_of e = failure_with (result_number (kind_of e)) (error_numbers e)
 
--- ---- the number that a call returns where it refuses what it reads
+-- the failure that an error of a directory is
+abbrev pub directory_failure_of : DirectoryError → Failure
+directory_failure_of e = failure_with (directory_number (directory_kind_of e)) (directory_numbers e)
 
-abbrev pub refused : {X : Type 0} → Result X Refusal → Option ℕ
+-- the failure of an error of this kind: its result is the number of the kind, and each number that such an error lacks is 0
+pub record IsFailureOf (refusal : DirectoryRefusal) (f : Failure) : Type 0 where
+  pub error : DirectoryError
+  pub kind : directory_kind_of error ≡ refusal
+  pub failure : f ≡ directory_failure_of error
+
+-- ---- the refusal of a call, if it refuses what it reads
+
+abbrev pub refused : {X : Type 0} → Result X Refusal → Option DirectoryRefusal
 refused (Ok x) = None
-refused (Err refusal) = Some (result_number refusal)
+refused (Err refusal) = Some (Image refusal)
 
-abbrev pub directory_refused : {X : Type 0} → Result X DirectoryRefusal → Option ℕ
+abbrev pub directory_refused : {X : Type 0} → Result X DirectoryRefusal → Option DirectoryRefusal
 directory_refused (Ok x) = None
-directory_refused (Err refusal) = Some (directory_number refusal)
+directory_refused (Err refusal) = Some refusal
 
--- there is a failure exactly where a call refuses, and it has the number of the refusal
-abbrev pub IsWhy : Option Failure → Option ℕ → Type 0
+-- there is a failure exactly where a call refuses, and it is that of an error of this kind
+abbrev pub IsWhy : Option Failure → Option DirectoryRefusal → Type 0
 IsWhy None None = Unit {0}
-IsWhy None (Some number) = ⊥
+IsWhy None (Some refusal) = ⊥
 IsWhy (Some f) None = ⊥
-IsWhy (Some f) (Some number) = (f.result ≡ number) × (f.spare ≡ 0)
+IsWhy (Some f) (Some refusal) = IsFailureOf refusal f
+
+-- DONE and that failure, or NOTHING where there is none: then `out` is unchanged
+abbrev pub SaysWhy : ℕ → Failure → Failure → Option DirectoryRefusal → Type 0
+SaysWhy number old new None = (number ≡ NOTHING) × (new ≡ old)
+SaysWhy number old new (Some refusal) = (number ≡ DONE) × IsFailureOf refusal new

@@ -9,6 +9,7 @@ use Rattle.pe_core.specs.declared.options.ParseMode.{ParseMode}
 use Rattle.pe_c.specs.HandsOut.{result_number}
 use Rattle.pe_c.specs.Modes.{mode_of_number}
 use Rattle.pe_c.specs.declared.failure.Failure.{Failure}
+use Rattle.pe_c.specs.declared.image.Image.{Image}
 use Rattle.pe_core.specs.declared.header.TheConstants.{DOS_MAGIC, PE_MAGIC, TE_MAGIC}
 use Rattle.pe_core.specs.declared.optional_header.TheConstants.{MAGIC_32}
 
@@ -79,6 +80,15 @@ header_failure b mode =
 
 abbrev pub image_failure : List ℕ → ℕ → Option Failure
 image_failure b mode = header_failure b (mode_of_number mode)
+
+-- ---- the section headers of an image
+
+-- 40 bytes for each section, from the offset on that the record of the image has; without sections it may be any
+abbrev pub section_failures : List ℕ → Image → List (Bool × Failure)
+section_failures b image =
+    let size = 40 * image.number_of_sections in
+    (image.number_of_sections == 0 || holds b image.sections_offset size, truncated_at image.sections_offset size)
+    ∷ []
 
 -- ---- the header of a TE image
 

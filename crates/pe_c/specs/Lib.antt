@@ -50,6 +50,7 @@ pub mod Te
 pub mod Failures
 pub mod FailureNumbers
 pub mod DirectoryFailures
+pub mod DebugFailures
 pub mod ResourceEdits
 pub mod VersionWrites
 pub mod Dumps

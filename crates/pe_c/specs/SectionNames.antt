@@ -1,5 +1,6 @@
 -- What calls return of the COFF string table, and of section names in it.
-use Rattle.std.specs.Prelude.{ℕ, ◌+◌, List, length, Option, None, Result, Ok, if◌then◌else◌}
+use Rattle.std.specs.Prelude.{ℕ, ◌+◌, List, length, Option, Some, None, Result, Ok, if◌then◌else◌}
+use Rattle.std.specs.List.{slice_get}
 use Rattle.std.specs.Option.{option_map}
 use Rattle.pe_core.specs.Bytes.{record_at}
 use Rattle.pe_core.specs.Records.{coff_header, dos_header}
@@ -9,7 +10,7 @@ use Rattle.pe_core.specs.declared.section_table.SectionTable.{SectionTable}
 use Rattle.pe_directories.specs.SectionNames.{long_section_name, string_offset}
 use Rattle.pe_c.specs.Exports.{or_zero}
 use Rattle.pe_c.specs.Modes.{resolves}
-use Rattle.pe_c.specs.Ranges.{bytes_at}
+use Rattle.pe_c.specs.Ranges.{bytes_at, or_no_bytes}
 use Rattle.pe_c.specs.declared.image.Image.{Image}
 use Rattle.pe_c.specs.declared.ranges.Range.{Range}
 
@@ -29,3 +30,16 @@ abbrev pub long_name_at : List ℕ → Range → SectionTable → Result (Option
 long_name_at b table section =
     bytes_at b table >>= λ strings.
     Ok (option_map (λ name. record { offset = table.offset + or_zero (string_offset section); length = length name }) (long_section_name section strings))
+
+-- the range of a name as an entry of a list, which is empty without one
+abbrev pub reported_name : Result (Option Range) Refusal → Result (Option Range) Refusal
+reported_name given = given >>= λ name. Ok (Some (or_no_bytes name))
+
+-- that of a section, if there is one
+abbrev pub long_name_or_none : List ℕ → Range → Option SectionTable → Result (Option Range) Refusal
+long_name_or_none b table None = Ok None
+long_name_or_none b table (Some section) = reported_name (long_name_at b table section)
+
+-- that of the section with an index
+abbrev pub long_name_by_index : List ℕ → Range → List SectionTable → ℕ → Result (Option Range) Refusal
+long_name_by_index b table sections i = long_name_or_none b table (slice_get sections i)

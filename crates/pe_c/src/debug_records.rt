@@ -207,7 +207,11 @@ pub fn pogo_of(bytes: &[u8], mode: u32, entry: &ImageDebugDirectory) -> Result<O
 }
 
 /// The embedded PDB of an entry.
-fn embedded_of(bytes: &[u8], mode: u32, entry: &ImageDebugDirectory) -> Result<Option<EmbeddedPdb>>
+pub fn embedded_of(
+    bytes: &[u8],
+    mode: u32,
+    entry: &ImageDebugDirectory,
+) -> Result<Option<EmbeddedPdb>>
     ensures { answer_of result ≡ embedded_of bytes.now mode entry.now }
 {
     let info = pe_records::EmbeddedPdb::parse_with_opts(bytes, entry, &options(mode))?;
@@ -219,7 +223,11 @@ fn embedded_of(bytes: &[u8], mode: u32, entry: &ImageDebugDirectory) -> Result<O
 }
 
 /// The checksum of the PDB of an entry. A zero stands between the name of the algorithm and the checksum.
-fn checksum_of(bytes: &[u8], mode: u32, entry: &ImageDebugDirectory) -> Result<Option<PdbChecksum>>
+pub fn checksum_of(
+    bytes: &[u8],
+    mode: u32,
+    entry: &ImageDebugDirectory,
+) -> Result<Option<PdbChecksum>>
     ensures { answer_of result ≡ checksum_of bytes.now mode entry.now }
 {
     let info = pe_records::PdbChecksum::parse_with_opts(bytes, entry, &options(mode))?;

@@ -3,21 +3,24 @@
 //! is imported of each.
 //! https://learn.microsoft.com/windows/win32/debug/pe-format#delay-load-import-tables-image-only
 
-ghost use Rattle.std.specs.Prelude.{◌≡◌};
+ghost use Rattle.std.specs.Prelude.{◌≡◌, ◌≤◌, length};
 ghost use Rattle.pe_directories.specs.DirectoryRefusals.{directory_answer};
 ghost use Rattle.pe_directories.specs.ImageParts.{image_view};
-ghost use Rattle.pe_c.specs.DelayImports.{library_of, dll_range, entry_with, first_library_in, first_function_in, first_of_walk, function_of, functions_after, functions_of};
+ghost use Rattle.pe_c.specs.DelayImports.{library_of, dll_range, entry_with, first_library_in, first_function_in, first_of_walk, function_of, functions_after, functions_of, name_range, ordinal_in};
 ghost use Rattle.pe_c.specs.Directories.{DirectoryHandsOut, image_parts, left_after, step_of, table_at};
 
 use crate::directories::{Result, image_bytes, range_left, table_at};
 use crate::image::DELAY_IMPORT_DESCRIPTOR;
+use crate::named_view::NamedView;
 use crate::ranges::{NO_BYTES, Range, slice_of};
 use crate::results::hand_out_found;
+use crate::text_runs::Run;
 use crate::view::View;
-use pe_directories::{DelayImport, DelayImports, DelayedFunction as Function, ImageBytes, VaTable};
+use pe_core::u16_at;
+use pe_directories::{DelayImport, DelayImports, DirectoryError, ImageBytes, VaTable};
 
 /// The size of the hint before a function's name in bytes.
-const SIZE_OF_HINT: u64 = 2;
+const SIZE_OF_HINT: usize = 2;
 
 /// A walk over what is imported of a DLL.
 #[repr(C)]
@@ -67,16 +70,30 @@ pub extern "C" fn pe_c_delay_imports(view: &View, out: &mut Range) -> u32
     hand_out_found(table_at(view, DELAY_IMPORT_DESCRIPTOR), out)
 }
 
-/// The range of the name of an entry's DLL.
-fn dll_range(image: &ImageBytes<'_>, entry: &DelayImport) -> Result<Range>
-    ensures { directory_answer (λ r. r) result ≡ dll_range (image_view image.now) entry.now }
+/// The range of the name at an offset.
+#[tactic(auto, unfolding(pe_directories::specs::DelayImports::delay_name))]
+fn name_range(names: &NamedView<'_>, offset: usize) -> Result<Range>
+    ensures { directory_answer (λ r. r) result ≡ name_range
+        (image_parts names.now.view.now.bytes.now names.now.view.now.image.now
+        names.now.view.now.sections.now) offset }
 {
-    let name = entry.dll(image)?;
-    let offset = entry.offset_of(image, entry.name)?;
-    Ok(Range {
-        offset: offset as u64,
-        length: name.len() as u64,
-    })
+    match names.text_at(offset) {
+        Some(name) => Ok(Range {
+            offset: offset as u64,
+            length: name.len() as u64,
+        }),
+        None => Err(DirectoryError::DelayImportName(offset)),
+    }
+}
+
+/// The range of the name of an entry's DLL.
+fn dll_range(names: &NamedView<'_>, entry: &DelayImport) -> Result<Range>
+    ensures { directory_answer (λ r. r) result ≡ dll_range
+        (image_parts names.now.view.now.bytes.now names.now.view.now.image.now
+        names.now.view.now.sections.now) entry.now }
+{
+    let offset = entry.offset_of(&image_bytes(names.view), entry.name)?;
+    name_range(names, offset)
 }
 
 /// A walk over what is imported of an entry's DLL.
@@ -95,33 +112,61 @@ fn functions_of(image: &ImageBytes<'_>, entry: &DelayImport) -> Result<DelayedFu
 }
 
 /// An entry as callers get it.
-fn library_of(image: &ImageBytes<'_>, entry: DelayImport) -> Result<DelayLibrary>
-    ensures { directory_answer (λ x. x) result ≡ library_of (image_view image.now) entry }
+fn library_of(names: &NamedView<'_>, entry: DelayImport) -> Result<DelayLibrary>
+    ensures { directory_answer (λ x. x) result ≡ library_of
+        (image_parts names.now.view.now.bytes.now names.now.view.now.image.now
+        names.now.view.now.sections.now) entry }
 {
     Ok(DelayLibrary {
-        name: dll_range(image, &entry)?,
-        functions: functions_of(image, &entry)?,
+        name: dll_range(names, &entry)?,
+        functions: functions_of(&image_bytes(names.view), &entry)?,
         descriptor: entry,
     })
 }
 
 /// The next DLL of a walk. It is over after an error.
-pub fn next_library(view: &View, walk: &mut Range) -> Result<Option<DelayLibrary>>
+pub fn next_library(names: &NamedView<'_>, walk: &mut Range) -> Result<Option<DelayLibrary>>
     ensures library { directory_answer (λ x. x) result ≡ step_of (λ x. x) (first_library_in
-        (image_parts view.now.bytes.now view.now.image.now view.now.sections.now) walk.old) }
+        (image_parts names.now.view.now.bytes.now names.now.view.now.image.now
+        names.now.view.now.sections.now) walk.old) }
     ensures walk { walk.new ≡ left_after walk.old (first_library_in
-        (image_parts view.now.bytes.now view.now.image.now view.now.sections.now) walk.old) }
+        (image_parts names.now.view.now.bytes.now names.now.view.now.image.now
+        names.now.view.now.sections.now) walk.old) }
 {
     let range = *walk;
     *walk = NO_BYTES;
-    let mut entries = DelayImports::new(slice_of(view.bytes, &range)?);
+    let mut entries = DelayImports::new(slice_of(names.view.bytes, &range)?);
     let Some(entry) = entries.next() else {
         *walk = range;
         return Ok(None);
     };
-    let library = library_of(&image_bytes(view), entry?)?;
+    let library = library_of(names, entry?)?;
     *walk = range_left(range, entries.rest());
     Ok(Some(library))
+}
+
+/// Writes the offsets of the names of the next DLLs to a room, as starts, of as many as it has room for, and returns how many they
+/// are.
+pub fn put_dll_names(view: &View, walk: &Range, room: &mut [Run]) -> usize
+    ensures { result ≤ length room.new }
+{
+    let mut count = 0;
+    let Ok(bytes) = slice_of(view.bytes, walk) else {
+        return count;
+    };
+    let image = image_bytes(view);
+    let mut entries = DelayImports::new(bytes);
+    for i in 0..room.len() {
+        let Some(Ok(entry)) = entries.next() else {
+            break;
+        };
+        let Ok(offset) = entry.offset_of(&image, entry.name) else {
+            break;
+        };
+        room[i] = Run::at(offset);
+        count = i + 1;
+    }
+    count
 }
 
 /// Steps through the DLLs of the delay import directory: returns the next one, and moves `walk` past it. `NOTHING` where no
@@ -143,7 +188,7 @@ pub extern "C" fn pe_c_next_delay_import(
         (first_library_in (image_parts view.now.bytes.now view.now.image.now view.now.sections.now)
         walk.old) }
 {
-    hand_out_found(next_library(view, walk), out)
+    hand_out_found(next_library(&NamedView::alone(view), walk), out)
 }
 
 /// An entry of which the attributes alone are known.
@@ -162,45 +207,57 @@ fn entry_with(attributes: u32) -> DelayImport
     }
 }
 
-/// What a number of the table imports, as callers get it.
-#[tactic(auto, unfolding(crate::specs::DelayImports::function_of, pe_directories::specs::DelayImports::imported_by, pe_directories::specs::DelayImports::hint_and_name))]
-fn function_of(image: &ImageBytes<'_>, entry: &DelayImport, lookup: u64) -> Result<DelayedFunction>
-    ensures { directory_answer (λ x. x) result
-        ≡ function_of (image_view image.now) entry.now lookup }
+/// The ordinal that a number of the table is: its low 16 bits, if its highest bit is set.
+fn ordinal_in(lookup: u64, is_64: bool) -> Option<u32>
+    ensures { result ≡ ordinal_in is_64 lookup }
 {
-    match entry.imported(image, lookup)? {
-        Function::Ordinal(ordinal) => Ok(DelayedFunction {
-            name: NO_BYTES,
-            ordinal: u32::from(ordinal),
-            has_name: 0,
-        }),
-        Function::Name { hint, name } => {
-            let offset = entry.offset_of_hint(image, lookup)?;
-            Ok(DelayedFunction {
-                name: Range {
-                    offset: offset as u64 + SIZE_OF_HINT,
-                    length: name.len() as u64,
-                },
-                ordinal: u32::from(hint),
-                has_name: 1,
-            })
-        }
+    let flag = if is_64 { 1 << 63 } else { 1 << 31 };
+    if lookup < flag {
+        return None;
     }
+    Some((lookup % (1 << 16)) as u32)
+}
+
+/// What a number of the table imports, as callers get it.
+#[tactic(auto, unfolding(crate::specs::DelayImports::function_of, pe_directories::specs::DelayImports::imported_by, pe_directories::specs::DelayImports::hint_and_name, pe_directories::specs::DelayImports::delay_name))]
+fn function_of(names: &NamedView<'_>, entry: &DelayImport, lookup: u64) -> Result<DelayedFunction>
+    ensures { directory_answer (λ x. x) result ≡ function_of
+        (image_parts names.now.view.now.bytes.now names.now.view.now.image.now
+        names.now.view.now.sections.now) entry.now lookup }
+{
+    let image = image_bytes(names.view);
+    if let Some(ordinal) = ordinal_in(lookup, image.is_64) {
+        return Ok(DelayedFunction {
+            name: NO_BYTES,
+            ordinal,
+            has_name: 0,
+        });
+    }
+    let offset = entry.offset_of_hint(&image, lookup)?;
+    let hint = u16_at(image.bytes, offset)?;
+    let name = name_range(names, offset + SIZE_OF_HINT)?;
+    Ok(DelayedFunction {
+        name,
+        ordinal: u32::from(hint),
+        has_name: 1,
+    })
 }
 
 /// The next function of a walk, whose attributes and bytes left are these. It is over after an error.
 pub fn next_function(
-    view: &View,
+    names: &NamedView<'_>,
     attributes: u32,
     left: &mut Range,
 ) -> Result<Option<DelayedFunction>>
     ensures function { directory_answer (λ x. x) result ≡ step_of (λ x. x)
-        (first_function_in view.now.image.now (image_parts view.now.bytes.now view.now.image.now
-        view.now.sections.now)
+        (first_function_in names.now.view.now.image.now
+        (image_parts names.now.view.now.bytes.now names.now.view.now.image.now
+        names.now.view.now.sections.now)
         attributes left.old) }
     ensures left { left.new ≡ left_after left.old
-        (first_function_in view.now.image.now (image_parts view.now.bytes.now view.now.image.now
-        view.now.sections.now)
+        (first_function_in names.now.view.now.image.now
+        (image_parts names.now.view.now.bytes.now names.now.view.now.image.now
+        names.now.view.now.sections.now)
         attributes left.old) }
 {
     let range = *left;
@@ -208,15 +265,41 @@ pub fn next_function(
         return Ok(None);
     }
     *left = NO_BYTES;
+    let view = names.view;
     let mut table = VaTable::new(slice_of(view.bytes, &range)?, view.image.width == 64);
     let Some(lookup) = table.next() else {
         *left = range;
         return Ok(None);
     };
-    let parts = image_bytes(view);
-    let function = function_of(&parts, &entry_with(attributes), lookup?)?;
+    let function = function_of(names, &entry_with(attributes), lookup?)?;
     *left = range_left(range, table.rest());
     Ok(Some(function))
+}
+
+/// Writes the offsets of the names of what is imported next of a DLL to a room, as starts, of as many numbers of its table as the
+/// room has entries, and returns how many they are.
+pub fn put_function_names(view: &View, walk: &DelayedFunctions, room: &mut [Run]) -> usize
+    ensures { result ≤ length room.new }
+{
+    let mut count = 0;
+    let Ok(bytes) = slice_of(view.bytes, &walk.left) else {
+        return count;
+    };
+    let image = image_bytes(view);
+    let mut table = VaTable::new(bytes, image.is_64);
+    for i in 0..room.len() {
+        let Some(Ok(lookup)) = table.next() else {
+            break;
+        };
+        // An ordinal, and a name that is not mapped, cost a run that is not asked for.
+        let offset = match entry_with(walk.attributes).offset_of_hint(&image, lookup) {
+            Ok(offset) => offset,
+            Err(_) => 0,
+        };
+        room[i] = Run::at(offset.saturating_add(SIZE_OF_HINT));
+        count = i + 1;
+    }
+    count
 }
 
 /// Steps through what is imported of a DLL: returns the next function, and moves `walk` past it. `NOTHING` where the table
@@ -239,5 +322,8 @@ pub extern "C" fn pe_c_next_delayed_function(
         view.now.sections.now) walk.old) }
 {
     let attributes = walk.attributes;
-    hand_out_found(next_function(view, attributes, &mut walk.left), out)
+    hand_out_found(
+        next_function(&NamedView::alone(view), attributes, &mut walk.left),
+        out,
+    )
 }

@@ -2,7 +2,7 @@
 //! unmapped. The result of a call is one number. This call reads the directory again, and says the rest.
 
 ghost use Rattle.std.specs.Prelude.{◌≡◌};
-ghost use Rattle.pe_c.specs.DirectoryFailures.{SaysWhy, certificate_table, directory_refusal};
+ghost use Rattle.pe_c.specs.DirectoryFailures.{IsWhyAt, SaysWhyAt, certificate_table, directory_needs, directory_offset, directory_place, directory_refusal, failure_at, numbers_there, placed};
 ghost use Rattle.pe_c.specs.FailureNumbers.{IsWhy, refused};
 ghost use Rattle.pe_c.specs.ImageParts.{function_table};
 ghost use Rattle.pe_c.specs.ResourceLeaves.{leaves_start};
@@ -13,7 +13,7 @@ use crate::failure::{Failure, hand_out_failure};
 use crate::failure_numbers::{why, why_of_directory};
 use crate::image::{
     BASE_RELOCATION_TABLE, CERTIFICATE_TABLE, DELAY_IMPORT_DESCRIPTOR, Image, RESOURCE_TABLE,
-    directory, is_absent,
+    directory, is_absent, offset_of,
 };
 use crate::ranges::Range;
 use crate::resource_leaves::leaf_position;
@@ -21,7 +21,146 @@ use crate::view::View;
 use crate::{
     bound_imports, certificates, clr, debug, exports, imports, load_config, tls, unwinding,
 };
-use pe_core::COFF_MACHINE_X86_64;
+use pe_core::{COFF_MACHINE_X86_64, read_u16, read_u32, require_bytes};
+
+// The results of which a directory says the numbers, as `results` has them.
+const SHORT: u32 = 2;
+
+const CERTIFICATE_REVISION: u32 = 7;
+
+const CERTIFICATE_TYPE: u32 = 8;
+
+const CERTIFICATE_SIZE: u32 = 9;
+
+const CERTIFICATE_TABLE_END: u32 = 10;
+
+const UNMAPPED: u32 = 11;
+
+const DEBUG_BOUNDS: u32 = 12;
+
+const EXCEPTION_SIZE: u32 = 17;
+
+const EXCEPTION_OFFSET: u32 = 18;
+
+const EXCEPTION_BOUNDS: u32 = 19;
+
+const CLR_HEADER_SIZE: u32 = 305;
+
+/// Where a directory is, and how many bytes it needs. The numbers of its error are these, where they can be: of what reads it the
+/// contract says the kind of an error, and no number.
+#[derive(Clone, Copy)]
+pub struct Place {
+    /// The RVA of the directory. Of certificates and of bound imports it is a file offset.
+    pub rva: u32,
+    /// In bytes.
+    pub size: u32,
+    /// File offset.
+    pub offset: u64,
+    /// How many bytes it needs there.
+    pub needed: Option<u64>,
+    /// The first numbers there: of a certificate its length, revision and type, of a CLR header first its size.
+    pub head: (u32, u16, u16),
+}
+
+/// The file offset of the directory with an index. 0 where it is unmapped.
+fn directory_offset(view: &View, index: u32) -> u64
+    ensures { result ≡ directory_offset index view.now.image.now view.now.sections.now }
+{
+    let rva = directory(view.image, index as usize).virtual_address;
+    if index == 4 || index == 11 {
+        return u64::from(rva);
+    }
+    offset_of(rva, view.image, view.sections).unwrap_or(0) as u64
+}
+
+/// How many bytes it needs there.
+fn directory_needs(image: &Image, index: u32) -> Option<u64>
+    ensures { result ≡ directory_needs index image.now }
+{
+    match index {
+        2 => Some(16),
+        4 => Some(8),
+        5 | 11 | 13 => Some(u64::from(directory(image, index as usize).size)),
+        9 => Some(if image.width == 64 { 40 } else { 24 }),
+        10 => Some(4),
+        14 => Some(72),
+        _ => None,
+    }
+}
+
+/// The first numbers at an offset. Zeros where its 8 bytes are not there.
+fn numbers_there(bytes: &[u8], offset: usize) -> (u32, u16, u16)
+    ensures { result ≡ numbers_there bytes.now offset }
+{
+    match require_bytes(bytes, offset, 8) {
+        Ok(()) => (
+            read_u32(bytes, offset),
+            read_u16(bytes, offset + 4),
+            read_u16(bytes, offset + 6),
+        ),
+        Err(_) => (0, 0, 0),
+    }
+}
+
+/// The place of the directory with an index. `None` of exports, whose tables have RVAs of their own.
+#[tactic(auto, unfolding(crate::specs::DirectoryFailures::directory_place))]
+fn directory_place(view: &View, index: u32) -> Option<Place>
+    ensures { result ≡ directory_place index view.now.bytes.now view.now.image.now
+        view.now.sections.now }
+{
+    if index == 0 {
+        return None;
+    }
+    let directory = directory(view.image, index as usize);
+    let offset = directory_offset(view, index);
+    Some(Place {
+        rva: directory.virtual_address,
+        size: directory.size,
+        offset,
+        needed: directory_needs(view.image, index),
+        head: numbers_there(view.bytes, offset as usize),
+    })
+}
+
+/// A failure with the numbers that a place says of it.
+#[tactic(auto, unfolding(crate::specs::DirectoryFailures::failure_at))]
+fn failure_at(place: &Place, failure: Failure) -> Failure
+    ensures { result ≡ failure_at place.now failure }
+{
+    let end = place.offset.saturating_add(u64::from(place.size));
+    let own = (failure.offset, failure.needed, failure.value);
+    let (offset, needed, value) = match failure.result {
+        SHORT => match place.needed {
+            Some(needed) => (place.offset, needed, 0),
+            None => own,
+        },
+        UNMAPPED => (0, 0, u64::from(place.rva)),
+        EXCEPTION_SIZE => (0, 0, u64::from(place.size)),
+        EXCEPTION_OFFSET => (place.offset, 0, 0),
+        CERTIFICATE_TABLE_END | DEBUG_BOUNDS | EXCEPTION_BOUNDS => (end, 0, 0),
+        CERTIFICATE_SIZE => (0, u64::from(place.head.0), 0),
+        CERTIFICATE_REVISION => (0, 0, u64::from(place.head.1)),
+        CERTIFICATE_TYPE => (0, 0, u64::from(place.head.2)),
+        CLR_HEADER_SIZE => (0, 0, u64::from(place.head.0)),
+        _ => own,
+    };
+    Failure {
+        offset,
+        needed,
+        value,
+        ..failure
+    }
+}
+
+/// The same, without a place its own numbers.
+fn placed(place: Option<Place>, failure: Failure) -> Failure
+    ensures { result ≡ placed place failure }
+{
+    match place {
+        Some(place) => failure_at(&place, failure),
+        None => failure,
+    }
+}
 
 /// The certificate table as a walk at its start.
 fn certificate_table(image: &Image) -> Range
@@ -81,6 +220,18 @@ fn directory_failure(view: &View, index: u32) -> Option<Failure>
     }
 }
 
+/// The same with the numbers that the directory says.
+#[tactic(auto, using(crate::proofs::FailureNumbers::at_place))]
+fn failure_in_place(view: &View, index: u32) -> Option<Failure>
+    ensures { IsWhyAt (directory_place index view.now.bytes.now view.now.image.now view.now.sections.now) result
+        (directory_refusal index view.now.bytes.now view.now.image.now view.now.sections.now) }
+{
+    match directory_failure(view, index) {
+        Some(failure) => Some(placed(directory_place(view, index), failure)),
+        None => None,
+    }
+}
+
 /// Returns what is wrong with a directory, by its index, `IMAGE_DIRECTORY_ENTRY_*` of winnt.h: the result of the call that
 /// reads it, and the numbers of that error. `NOTHING` where that call returns no error, and of a directory that no call
 /// reads: those with the indices 7, 8, 12 and 15.
@@ -90,8 +241,9 @@ fn directory_failure(view: &View, index: u32) -> Option<Failure>
 /// `pe_c_tls`, `pe_c_load_config`, `pe_c_bound_imports`, `pe_c_delay_imports` and `pe_c_clr_header`.
 #[unsafe(no_mangle)]
 pub extern "C" fn pe_c_directory_failure(view: &View, index: u32, out: &mut Failure) -> u32
-    ensures { SaysWhy result out.old out.new
+    ensures { SaysWhyAt (directory_place index view.now.bytes.now view.now.image.now view.now.sections.now)
+        result out.old out.new
         (directory_refusal index view.now.bytes.now view.now.image.now view.now.sections.now) }
 {
-    hand_out_failure(directory_failure(view, index), out)
+    hand_out_failure(failure_in_place(view, index), out)
 }

@@ -13,10 +13,11 @@ ghost use Rattle.pe_c.specs.Images.{export_directory, map_of_image};
 
 use crate::exports::{export_data, export_table};
 use crate::image::{EXPORT_TABLE, directory, is_absent, offset_of};
+use crate::named_view::NamedView;
 use crate::ranges::{NO_BYTES, Range, slice_of};
 use crate::results::hand_out_some;
 use crate::view::{View, map_by};
-use pe_core::{DataDirectory, ExportAddress, ExportAddresses, ExportData, Result, text_at};
+use pe_core::{DataDirectory, ExportAddress, ExportAddresses, ExportData, Result};
 
 /// The address table of an export directory, and what it takes to read it.
 #[repr(C)]
@@ -49,11 +50,11 @@ pub struct Exported {
 }
 
 /// The range of the text at an offset, if there is an offset and a text is there.
-fn text_from(bytes: &[u8], offset: Option<usize>) -> Option<Range>
-    ensures { result ≡ text_from bytes.now offset }
+fn text_from(names: &NamedView<'_>, offset: Option<usize>) -> Option<Range>
+    ensures { result ≡ text_from names.now.view.now.bytes.now offset }
 {
     let offset = offset?;
-    let text = text_at(bytes, offset)?;
+    let text = names.text_at(offset)?;
     Some(Range {
         offset: offset as u64,
         length: text.len() as u64,
@@ -68,7 +69,10 @@ fn dll_name(view: &View, rva: u32) -> Option<Range>
     if rva == 0 {
         return None;
     }
-    text_from(view.bytes, offset_of(rva, view.image, view.sections))
+    text_from(
+        &NamedView::alone(view),
+        offset_of(rva, view.image, view.sections),
+    )
 }
 
 /// The address table of export data.
@@ -115,11 +119,12 @@ pub extern "C" fn pe_c_export_addresses(view: &View, out: &mut AddressTable) -> 
 }
 
 /// The entry of an export, with the range of a forwarder's text.
-fn exported_with(view: &View, address: ExportAddress) -> Exported
-    ensures { result ≡ exported_with (map_of view.now) view.now.bytes.now address }
+fn exported_with(names: &NamedView<'_>, address: ExportAddress) -> Exported
+    ensures { result ≡ exported_with
+        (map_of names.now.view.now) names.now.view.now.bytes.now address }
 {
     let forwarder = if address.is_forwarder {
-        text_from(view.bytes, map_by(view, address.rva))
+        text_from(names, map_by(names.view, address.rva))
     } else {
         None
     };
@@ -131,19 +136,23 @@ fn exported_with(view: &View, address: ExportAddress) -> Exported
     }
 }
 
-pub fn exported_at(view: &View, table: &AddressTable, index: u64) -> Result<Option<Exported>>
+pub fn exported_at(
+    names: &NamedView<'_>,
+    table: &AddressTable,
+    index: u64,
+) -> Result<Option<Exported>>
     ensures { answer_of result ≡ exported_at
-        (map_of view.now) view.now.bytes.now table.now index }
+        (map_of names.now.view.now) names.now.view.now.bytes.now table.now index }
 {
     let addresses = ExportAddresses {
-        addresses: slice_of(view.bytes, &table.addresses)?,
+        addresses: slice_of(names.view.bytes, &table.addresses)?,
         names: &[],
         ordinals: &[],
         directory: table.directory,
         ordinal_base: table.ordinal_base,
     };
     match addresses.at(index as usize) {
-        Some(address) => Ok(Some(exported_with(view, address))),
+        Some(address) => Ok(Some(exported_with(names, address))),
         None => Ok(None),
     }
 }
@@ -162,5 +171,5 @@ pub extern "C" fn pe_c_export_at(
     ensures { HandsOutIf result out.old out.new
         (exported_at (map_of view.now) view.now.bytes.now table.now index) }
 {
-    hand_out_some(exported_at(view, table, index), out)
+    hand_out_some(exported_at(&NamedView::alone(view), table, index), out)
 }

@@ -6,10 +6,11 @@
 
 ghost use Rattle.std.specs.Prelude.{◌≡◌, ◌+◌, ◌≤◌, ◌<◌, ◌^◌, length, IfNone, Ok, if◌then◌else◌, Some, None};
 ghost use Rattle.pe_core.specs.Bytes.{holds};
-ghost use Rattle.pe_c.specs.Failures.{dos_failures, failure_at, first_failure, image_failure, optional_failure, optional_failures, pe_failures, te_failures, truncated_at};
+ghost use Rattle.pe_c.specs.Failures.{dos_failures, failure_at, first_failure, image_failure, optional_failure, optional_failures, pe_failures, section_failures, te_failures, truncated_at};
 ghost use Rattle.pe_c.specs.HandsOut.{HandsOutIf};
 ghost use Rattle.pe_c.specs.Modes.{mode_of_number};
 
+use crate::image::Image;
 use crate::results::{DONE, NOTHING, options};
 use pe_core::{
     DOS_MAGIC, MAGIC_32, MAGIC_64, PE_MAGIC, ParseMode, SIZE_OF_TE_HEADER, TE_MAGIC, read_u16,
@@ -171,6 +172,27 @@ pub extern "C" fn pe_c_image_failure(bytes: &[u8], mode: u32, out: &mut Failure)
     ensures { HandsOutIf result out.old out.new (Ok (image_failure bytes.now mode)) }
 {
     hand_out_failure(image_failure(bytes, mode), out)
+}
+
+/// The failure of the section headers of an image.
+fn section_failure(bytes: &[u8], image: &Image) -> Option<Failure>
+    ensures { result ≡ first_failure (section_failures bytes.now image.now) }
+{
+    let count = usize::from(image.number_of_sections);
+    if count == 0 {
+        return None;
+    }
+    truncated(bytes, image.sections_offset as usize, 40 * count)
+}
+
+/// Returns what is wrong with the section headers that `pe_c_sections` refuses, where it has room for them: the same result, the
+/// offset of the headers and how many bytes they need. `NOTHING` where it does not refuse them.
+#[unsafe(no_mangle)]
+pub extern "C" fn pe_c_sections_failure(bytes: &[u8], image: &Image, out: &mut Failure) -> u32
+    ensures { HandsOutIf result out.old out.new
+        (Ok (first_failure (section_failures bytes.now image.now))) }
+{
+    hand_out_failure(section_failure(bytes, image), out)
 }
 
 #[tactic(auto, unfolding(crate::specs::Failures::te_failures))]

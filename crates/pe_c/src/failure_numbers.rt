@@ -5,7 +5,7 @@
 ghost use Rattle.std.specs.Prelude.{◌≡◌};
 ghost use Rattle.pe_core.specs.Refusals.{answer_of};
 ghost use Rattle.pe_directories.specs.DirectoryRefusals.{directory_answer};
-ghost use Rattle.pe_c.specs.FailureNumbers.{IsWhy, directory_numbers, directory_refused, error_numbers, failure_of, failure_with, numbers, reason_numbers, refused};
+ghost use Rattle.pe_c.specs.FailureNumbers.{IsWhy, directory_failure_of, directory_numbers, directory_refused, error_numbers, failure_of, failure_with, numbers, reason_numbers, refused};
 
 use crate::failure::Failure;
 use crate::results::{number_of, number_of_directory};
@@ -120,13 +120,21 @@ fn failure_with(number: u32, numbers: ErrorNumbers) -> Failure
 }
 
 /// The failure that an error is.
-pub fn failure_of(error: &Error) -> Failure
+fn failure_of(error: &Error) -> Failure
     ensures { result ≡ failure_of error.now }
 {
     failure_with(number_of(error), error_numbers(error))
 }
 
+/// The failure that an error of a directory is.
+fn directory_failure_of(error: &DirectoryError) -> Failure
+    ensures { result ≡ directory_failure_of error.now }
+{
+    failure_with(number_of_directory(error), directory_numbers(error))
+}
+
 /// The failure of what was read, if it was refused.
+#[tactic(auto, using(crate::proofs::FailureNumbers::of_error))]
 pub fn why<T: Copy>(given: Result<T>) -> Option<Failure>
     ensures { IsWhy result (refused (answer_of given)) }
 {
@@ -137,11 +145,12 @@ pub fn why<T: Copy>(given: Result<T>) -> Option<Failure>
 }
 
 /// The same of a directory.
+#[tactic(auto, using(crate::proofs::FailureNumbers::of_directory_error))]
 pub fn why_of_directory<T: Copy>(given: std::result::Result<T, DirectoryError>) -> Option<Failure>
     ensures { IsWhy result (directory_refused (directory_answer (λ x. x) given)) }
 {
     match given {
         Ok(_) => None,
-        Err(error) => Some(failure_with(number_of_directory(&error), directory_numbers(&error))),
+        Err(error) => Some(directory_failure_of(&error)),
     }
 }

@@ -18,6 +18,7 @@ mod certificates;
 mod clr;
 mod coff;
 mod debug;
+mod debug_failure;
 mod debug_records;
 mod debug_walks;
 mod delay_imports;

@@ -2,22 +2,27 @@
 //! table. Images of mingw-w64 have such names for their debug sections.
 //! https://learn.microsoft.com/windows/win32/debug/pe-format#section-table-section-headers
 
-ghost use Rattle.std.specs.Prelude.{◌≡◌};
+ghost use Rattle.std.specs.Prelude.{◌≡◌, ◌≤◌, Ok, length};
 ghost use Rattle.pe_core.specs.Refusals.{answer_of};
 ghost use Rattle.pe_c.specs.HandsOut.{HandsOutIf};
+ghost use Rattle.pe_c.specs.Ranges.{bytes_at};
 ghost use Rattle.pe_c.specs.SectionNames.{long_name_at, strings_at, strings_in};
 
 use crate::ranges::{Range, slice_of};
 use crate::results::{hand_out_some, options};
+use crate::text_runs::{Run, Texts};
 use crate::view::View;
-use pe_core::{CoffHeader, DosHeader, Result, SectionTable, Strtab};
-use pe_directories::{long_section_name, string_offset};
+use pe_core::{CoffHeader, DosHeader, Result, SectionTable};
+use pe_directories::string_offset;
 
 /// Bytes from the PE signature to the COFF header.
 const SIZE_OF_SIGNATURE: usize = 4;
 
 /// The size of an entry of the COFF symbol table in bytes.
 const SIZE_OF_SYMBOL: u64 = 18;
+
+/// The size of the size field at the start of a string table in bytes.
+const SIZE_FIELD: u32 = 4;
 
 fn strings_in(bytes: &[u8]) -> Result<Option<Range>>
     ensures { answer_of result ≡ strings_in bytes.now }
@@ -55,24 +60,57 @@ pub extern "C" fn pe_c_string_table(view: &View, out: &mut Range) -> u32
     hand_out_some(strings_at(view), out)
 }
 
-fn long_name_at(bytes: &[u8], table: &Range, section: &SectionTable) -> Result<Option<Range>>
+/// The string that the name of a section leads to, by the texts of the string table.
+#[tactic(auto, unfolding(pe_directories::specs::SectionNames::long_section_name))]
+pub fn long_name_by(
+    bytes: &[u8],
+    table: &Range,
+    section: &SectionTable,
+    texts: &Texts<'_>,
+) -> Result<Option<Range>>
+    requires { bytes_at bytes.now table.now ≡ Ok texts.now.bytes.now }
     ensures { answer_of result ≡ long_name_at bytes.now table.now section.now }
 {
-    let strings = Strtab {
-        bytes: slice_of(bytes, table)?,
-    };
-    let Some(name) = long_section_name(section, &strings) else {
+    slice_of(bytes, table)?;
+    let Some(offset) = string_offset(section) else {
         return Ok(None);
     };
-    // There is an offset where there is a string.
-    let offset = match string_offset(section) {
-        Some(offset) => offset,
-        None => 0,
+    if offset < SIZE_FIELD {
+        return Ok(None);
+    }
+    let Some(name) = texts.at(offset as usize) else {
+        return Ok(None);
     };
     Ok(Some(Range {
         offset: table.offset + u64::from(offset),
         length: name.len() as u64,
     }))
+}
+
+/// The same, read by itself.
+pub fn long_name_at(bytes: &[u8], table: &Range, section: &SectionTable) -> Result<Option<Range>>
+    ensures { answer_of result ≡ long_name_at bytes.now table.now section.now }
+{
+    let texts = Texts::alone(slice_of(bytes, table)?);
+    long_name_by(bytes, table, section, &texts)
+}
+
+/// Writes where in the string table the long names of sections start to a room, as starts, of as many sections as it has room for,
+/// and returns how many they are.
+pub fn put_long_names(sections: &[SectionTable], room: &mut [Run]) -> usize
+    ensures { result ≤ length room.new }
+{
+    let mut count = 0;
+    for i in 0..sections.len() {
+        if count == room.len() {
+            break;
+        }
+        if let Some(offset) = string_offset(&sections[i]) {
+            room[count] = Run::at(offset as usize);
+            count += 1;
+        }
+    }
+    count
 }
 
 /// Returns the string that the name of a section leads to, in UTF-8 without its final zero. `table` is the string table.

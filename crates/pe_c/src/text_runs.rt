@@ -133,6 +133,12 @@ pub fn end_of_next(next: u64, most: usize, count: usize) -> usize
     (next as usize).saturating_add(most).min(count)
 }
 
+/// The runs at the start of a room, so many at most.
+pub fn first_runs(room: &mut [Run], most: usize) -> &mut [Run] {
+    let count = room.len().min(most);
+    &mut room[..count]
+}
+
 /// The run that starts at an offset.
 fn run_from(bytes: &[u8], start: usize) -> Run
     ensures { IsTextRun bytes.now result }

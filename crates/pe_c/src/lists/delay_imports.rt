@@ -6,25 +6,22 @@ ghost use Rattle.pe_c.specs.DirectoryRuns.{StepsDelayLibraries, StepsDelayedFunc
 ghost use Rattle.pe_c.specs.Lists.{HandsOutList, Numbered};
 
 use crate::delay_imports::{
-    DelayLibrary, DelayedFunction, DelayedFunctions, next_function, next_library,
+    DelayLibrary, DelayedFunction, DelayedFunctions, next_function, next_library, put_dll_names,
+    put_function_names,
 };
 use crate::lists::{Steps, hand_out_list};
+use crate::named_view::NamedView;
 use crate::ranges::Range;
 use crate::results::number_of_directory;
+use crate::text_runs::{Run, first_runs};
 use crate::view::View;
 
-/// Steps over the DLLs of a delay import directory.
-#[derive(Clone, Copy)]
-struct Libraries<'a> {
-    view: &'a View<'a>,
-}
-
-impl<'a> Steps<Range, DelayLibrary> for Libraries<'a> {
+impl<'a> Steps<Range, DelayLibrary> for NamedView<'a> {
     ghost steps = { λ s. Numbered directory_number (StepsDelayLibraries
         (image_parts s.view.now.bytes.now s.view.now.image.now s.view.now.sections.now)) };
 
     fn step(&self, walk: &mut Range) -> Result<Option<DelayLibrary>, u32> {
-        match next_library(self.view, walk) {
+        match next_library(self, walk) {
             Ok(library) => Ok(library),
             Err(error) => Err(number_of_directory(&error)),
         }
@@ -45,21 +42,39 @@ pub extern "C" fn pe_c_list_delay_imports(
         (image_parts view.now.bytes.now view.now.image.now view.now.sections.now)))
         result walk.old walk.new entries.old entries.new written.old written.new }
 {
-    hand_out_list(&Libraries { view }, walk, entries, written)
+    let libraries = NamedView::alone(view);
+    hand_out_list(&libraries, walk, entries, written)
 }
 
-/// Steps over what is imported of a DLL.
-#[derive(Clone, Copy)]
-struct Functions<'a> {
-    view: &'a View<'a>,
+/// Lists what `pe_c_list_delay_imports` does, and reads the names together: with one of `runs` for each of `entries`, or more, a
+/// call takes about as long as to sort these and to read each byte a few times, however many of the names share a text. With less
+/// room further names are read to their end each. What is in `runs` after the call is left open.
+///
+/// Errors: as `pe_c_list_delay_imports`.
+#[unsafe(no_mangle)]
+pub extern "C" fn pe_c_list_delay_imports_together(
+    view: &View,
+    walk: &mut Range,
+    runs: &mut [Run],
+    entries: &mut [DelayLibrary],
+    written: &mut u64,
+) -> u32
+    ensures { HandsOutList (Numbered directory_number (StepsDelayLibraries
+        (image_parts view.now.bytes.now view.now.image.now view.now.sections.now)))
+        result walk.old walk.new entries.old entries.new written.old written.new }
+{
+    let room = first_runs(runs, entries.len());
+    let count = put_dll_names(view, walk, room);
+    let named_libraries = NamedView::together(view, &mut room[..count]);
+    hand_out_list(&named_libraries, walk, entries, written)
 }
 
-impl<'a> Steps<DelayedFunctions, DelayedFunction> for Functions<'a> {
+impl<'a> Steps<DelayedFunctions, DelayedFunction> for NamedView<'a> {
     ghost steps = { λ s. Numbered directory_number (StepsDelayedFunctions s.view.now.image.now
         (image_parts s.view.now.bytes.now s.view.now.image.now s.view.now.sections.now)) };
 
     fn step(&self, walk: &mut DelayedFunctions) -> Result<Option<DelayedFunction>, u32> {
-        match next_function(self.view, walk.attributes, &mut walk.left) {
+        match next_function(self, walk.attributes, &mut walk.left) {
             Ok(function) => Ok(function),
             Err(error) => Err(number_of_directory(&error)),
         }
@@ -81,5 +96,29 @@ pub extern "C" fn pe_c_list_delayed_functions(
         (image_parts view.now.bytes.now view.now.image.now view.now.sections.now)))
         result walk.old walk.new entries.old entries.new written.old written.new }
 {
-    hand_out_list(&Functions { view }, walk, entries, written)
+    let functions = NamedView::alone(view);
+    hand_out_list(&functions, walk, entries, written)
+}
+
+/// Lists what `pe_c_list_delayed_functions` does, and reads the names together: with one of `runs` for each of `entries`, or more, a
+/// call takes about as long as to sort these and to read each byte a few times, however many of the names share a text. With less
+/// room further names are read to their end each. What is in `runs` after the call is left open.
+///
+/// Errors: as `pe_c_list_delayed_functions`.
+#[unsafe(no_mangle)]
+pub extern "C" fn pe_c_list_delayed_functions_together(
+    view: &View,
+    walk: &mut DelayedFunctions,
+    runs: &mut [Run],
+    entries: &mut [DelayedFunction],
+    written: &mut u64,
+) -> u32
+    ensures { HandsOutList (Numbered directory_number (StepsDelayedFunctions view.now.image.now
+        (image_parts view.now.bytes.now view.now.image.now view.now.sections.now)))
+        result walk.old walk.new entries.old entries.new written.old written.new }
+{
+    let room = first_runs(runs, entries.len());
+    let count = put_function_names(view, walk, room);
+    let named_functions = NamedView::together(view, &mut room[..count]);
+    hand_out_list(&named_functions, walk, entries, written)
 }

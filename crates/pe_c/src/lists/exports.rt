@@ -83,7 +83,10 @@ impl<'a> Steps<u64, Exported> for Addresses<'a> {
         (map_of s.view.now) s.view.now.bytes.now s.table.now)) };
 
     fn step(&self, index: &mut u64) -> Result<Option<Exported>, u32> {
-        next_index(exported_at(self.view, self.table, *index), index)
+        next_index(
+            exported_at(&NamedView::alone(self.view), self.table, *index),
+            index,
+        )
     }
 }
 

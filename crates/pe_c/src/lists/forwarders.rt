@@ -1,0 +1,99 @@
+//! The list of all exports by their index, of which the texts of forwarders are read together: `KERNEL32.DLL` has some hundred, and a
+//! hostile file lets all its exports be forwarders with one text.
+
+ghost use Rattle.std.specs.Prelude.{◌≡◌, ◌≤◌, length};
+ghost use Rattle.pe_c.specs.ExportAddresses.{exported_at};
+ghost use Rattle.pe_c.specs.HandsOut.{result_number};
+ghost use Rattle.pe_c.specs.Lists.{HandsOutList, Numbered, StepsByIndex};
+ghost use Rattle.pe_c.specs.Views.{map_of};
+
+use crate::export_addresses::{AddressTable, Exported, exported_at};
+use crate::lists::{Steps, hand_out_list, next_index};
+use crate::named_view::NamedView;
+use crate::ranges::slice_of;
+use crate::text_runs::{Run, end_of_next};
+use crate::view::{View, map_by};
+use pe_core::{lies_in, read_u32};
+
+/// Steps over the entries of an address table, of which the texts of forwarders may be read together.
+#[derive(Clone, Copy)]
+struct NamedAddresses<'a, 'b> {
+    names: NamedView<'a>,
+    table: &'b AddressTable,
+}
+
+impl<'a, 'b> Steps<u64, Exported> for NamedAddresses<'a, 'b> {
+    ghost steps = { λ s. Numbered result_number (StepsByIndex (exported_at
+        (map_of s.names.view.now) s.names.view.now.bytes.now s.table.now)) };
+
+    fn step(&self, index: &mut u64) -> Result<Option<Exported>, u32> {
+        next_index(exported_at(&self.names, self.table, *index), index)
+    }
+}
+
+/// Writes the offsets of the texts of the forwarders among the next entries, of so many at most, to a room, as starts, as far as it
+/// has room, and returns how many they are.
+fn put_forwarders(
+    view: &View,
+    table: &AddressTable,
+    next: u64,
+    most: usize,
+    room: &mut [Run],
+) -> usize
+    ensures { result ≤ length room.new }
+{
+    let mut count = 0;
+    let Ok(addresses) = slice_of(view.bytes, &table.addresses) else {
+        return count;
+    };
+    for i in next as usize..end_of_next(next, most, addresses.len() / 4) {
+        if count == room.len() {
+            break;
+        }
+        let rva = read_u32(addresses, 4 * i);
+        if !lies_in(table.directory, rva) {
+            continue;
+        }
+        if let Some(offset) = map_by(view, rva) {
+            room[count] = Run::at(offset);
+            count += 1;
+        }
+    }
+    count
+}
+
+/// An image of which the texts of the forwarders among the next entries, of so many at most, are read together.
+fn named_forwarders<'a>(
+    view: &'a View<'a>,
+    table: &AddressTable,
+    next: u64,
+    most: usize,
+    room: &'a mut [Run],
+) -> NamedView<'a>
+    ensures { result.view.now ≡ view.entry.now }
+{
+    let count = put_forwarders(view, table, next, most, room);
+    NamedView::together(view, &mut room[..count])
+}
+
+/// Lists what `pe_c_list_export_addresses` does, and reads the texts of forwarders together: with one of `runs` for each of `entries`,
+/// or more, a call takes about as long as to sort these and to read each byte a few times, however many of the forwarders share a
+/// text. With less room further ones are read to their end each. What is in `runs` after the call is left open.
+///
+/// Errors: as `pe_c_list_export_addresses`.
+#[unsafe(no_mangle)]
+pub extern "C" fn pe_c_list_export_addresses_together(
+    view: &View,
+    table: &AddressTable,
+    next: &mut u64,
+    runs: &mut [Run],
+    entries: &mut [Exported],
+    written: &mut u64,
+) -> u32
+    ensures { HandsOutList (Numbered result_number (StepsByIndex (exported_at
+        (map_of view.now) view.now.bytes.now table.now)))
+        result next.old next.new entries.old entries.new written.old written.new }
+{
+    let names = named_forwarders(view, table, *next, entries.len(), runs);
+    hand_out_list(&NamedAddresses { names, table }, next, entries, written)
+}
