@@ -30,6 +30,7 @@ mod loaded;
 mod made;
 mod maps;
 mod memory_runs;
+mod near_map;
 mod overlay;
 mod plan;
 mod resource_edit;

@@ -83,3 +83,5 @@ pub mod OneImports
 pub mod OneDebugData
 pub mod OneResources
 pub mod OneImage
+pub mod NearMaps
+pub mod NearLists

@@ -73,3 +73,6 @@ pub mod ImageDebug
 pub mod ImageOfCalls
 pub mod HeadersRead
 pub mod SectionWrites
+pub mod NearMaps
+pub mod ExportWindows
+pub mod NearLists
