@@ -1,8 +1,9 @@
 /* Reads lists of an image by the calls of the library for C, a number of times: lists WHAT WAY TIMES FILE
  *
  * WHAT is functions, records (of all functions), codes (the records with their codes), lookups (of an RVA in each function),
- * exports, imports (the libraries and their imports), symbols (with their names) or key (of a symbol server). WAY is steps, a call
- * for each item; lists, by calls with room for 1,024 items; or together, which reads names together, by one call with room for all.
+ * exports, addresses (of exports, by their index), imports (the libraries and their imports), symbols (with their names) or key
+ * (of a symbol server). WAY is steps, a call for each item; lists, by calls with room for 1,024 items; or together, which reads
+ * names together, by one call with room for all.
  * It prints how many items there are. The table of functions is read once, so that what one of the times costs is the items alone. */
 #include "pe.h"
 
@@ -144,6 +145,30 @@ static uint64_t read_exports(void)
     return exports_of(&walk, exports, most);
 }
 
+static uint64_t read_addresses(void)
+{
+    static pe_c_exported *exported;
+    pe_c_address_table addresses = PE_C_EMPTY;
+    uint64_t next = 0, written = 1;
+    if (pe_c_export_addresses(&view, &addresses) != PE_C_DONE)
+        return 0;
+    uint64_t most = addresses.addresses.length / 4 + 1;
+    if (exported == NULL)
+        exported = room_for((size_t)most, sizeof *exported);
+    if (way == STEPS) {
+        while (pe_c_export_at(&view, &addresses, next, &exported[next]) == PE_C_DONE)
+            next++;
+        return next;
+    }
+    while (written > 0) {
+        size_t room = (size_t)(most - next);
+        if (pe_c_list_export_addresses(&view, &addresses, &next, exported + next, room > ROOM ? ROOM : room, &written) !=
+            PE_C_DONE)
+            break;
+    }
+    return next;
+}
+
 static uint64_t read_imports(void)
 {
     static pe_c_library libraries[ROOM];
@@ -198,7 +223,8 @@ static const struct {
     const char *name;
     uint64_t (*read)(void);
 } PARTS[] = {{"functions", read_functions}, {"records", read_records}, {"codes", read_codes}, {"lookups", read_lookups},
-             {"exports", read_exports},     {"imports", read_imports}, {"symbols", read_symbols}, {"key", read_key}};
+             {"exports", read_exports},     {"addresses", read_addresses}, {"imports", read_imports},
+             {"symbols", read_symbols},     {"key", read_key}};
 
 int main(int argc, char **argv)
 {
@@ -210,7 +236,7 @@ int main(int argc, char **argv)
     read_image(argv[4]);
     number_of_functions = read_functions();
     uint64_t count = 0;
-    for (int i = 0; i < 8; i++)
+    for (int i = 0; i < 9; i++)
         for (int times = atoi(argv[3]); strcmp(argv[1], PARTS[i].name) == 0 && times > 0; times--)
             count = PARTS[i].read();
     printf("%llu\n", (unsigned long long)count);

@@ -1,6 +1,7 @@
 //! Reads lists of an image by goblin 0.2.1, a number of times, for bench/lists: `lists_bench WHAT TIMES FILE`.
 //!
-//! It prints how many items there are. WHAT is as in bench/lists.c; goblin has no symbols of images. The image is parsed once, before.
+//! It prints how many items there are. WHAT is as in bench/lists.c; goblin has no symbols of images, and no exports by their index.
+//! The image is parsed once, before.
 
 use goblin::pe::{debug::DebugData, exception::RuntimeFunction, export, import, PE};
 use std::hint::black_box;
@@ -57,7 +58,7 @@ fn main() {
             "records" => records(&pe).count(),
             "codes" => codes(&pe),
             "lookups" => lookups(&pe),
-            "symbols" => 0,
+            "symbols" | "addresses" => 0,
             what => directory(&pe, &bytes, what).unwrap_or(0),
         };
     }

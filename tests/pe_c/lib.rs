@@ -34,6 +34,7 @@ mod made;
 mod maps;
 mod memory_runs;
 mod names_together;
+mod near_map;
 mod overlay;
 mod plan;
 mod resource_edit;

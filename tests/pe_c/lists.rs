@@ -6,8 +6,8 @@ use super::exports::{walk_over, with_exports};
 use super::imports::{NO_IMPORT, NO_LIBRARY, with_imports};
 use super::made::{
     ARM64_CUT, DIRECTORY_NO_ARGUMENT, IMPORT_NAME, OVER, RESOURCE_STRING, SHORT,
-    TREE_NOT_DIRECTORY, UNWIND_CODE, X64, directory, having, image, lies, of_range, range,
-    sections, untouched, view,
+    TREE_NOT_DIRECTORY, UNMAPPED, UNWIND_CODE, X64, directory, having, image, lies, of_range,
+    range, sections, untouched, view,
 };
 use super::resource_leaves::{NO_LEAF, of_size, with_tree};
 use super::version_blocks::BLOCKS;
@@ -394,6 +394,7 @@ fn imports_in_lists(rt: HostRuntime) -> Result<(), Fail> {
     };
     for (answer, count, rvas, left) in [
         (DONE, 1, [0x2000, 1], [0x68, 8]),
+        // shows: pe_c/src/near_imports.rt named_near ImportName
         (IMPORT_NAME, UNWRITTEN, [1, 1], OVER),
         (DONE, 0, [1, 1], OVER),
     ] {
@@ -411,6 +412,31 @@ fn imports_in_lists(rt: HostRuntime) -> Result<(), Fail> {
         );
         assert_eq!(rt; entries.map(|entry| entry.rva), rvas);
     }
+    Ok(())
+}
+
+/// The only import is by a name at an RVA that no section maps.
+#[test]
+fn unmapped_imports_in_lists(rt: HostRuntime) -> Result<(), Fail> {
+    let mut bytes = with_imports(rt.alloc())?;
+    put(&mut bytes, &[(0x60, &[0, 0x50, 0, 0, 0, 0, 0, 0])]);
+    let (image, sections) = (image(X64), sections());
+    let mut walk = Imports {
+        left: range(0x60, 8),
+        rva: 0x2000,
+    };
+    let (mut entries, mut written) = ([NO_IMPORT; 2], UNWRITTEN);
+    let number = pe_c_list_imports(
+        &view(&bytes, &image, &sections),
+        &mut walk,
+        &mut entries,
+        &mut written,
+    );
+    // shows: pe_c/src/near_imports.rt require_near Unmapped
+    assert_eq!(rt;
+        (number, written, of_range(walk.left)),
+        (UNMAPPED, UNWRITTEN, OVER)
+    );
     Ok(())
 }
 

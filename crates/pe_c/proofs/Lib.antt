@@ -87,3 +87,5 @@ pub mod OneDebugData
 pub mod OneResources
 pub mod OneImage
 pub mod ImageWriters
+pub mod NearMaps
+pub mod NearLists

@@ -1,11 +1,15 @@
 -- The range of a symbol's name is the name.
-use Rattle.std.proofs.Common.{◌≡◌, ℕ, zero, suc, ◌+◌, ◌-◌, ◌*◌, ◌<◌, ◌≤◌, Bool, true, false, List, [], ◌∷◌, length, take, drop, Option, Some, None, Result, Ok, Err, refl, sym, ap, subst, ◌∙◌, arith}
-use Rattle.std.specs.Prelude.{◌==◌, nat_le, nat_lt, slice_index, if◌then◌else◌}
-use Rattle.std.specs.List.{before_first, position_or_len}
+use Rattle.std.proofs.Common.{◌≡◌, ℕ, zero, suc, ◌+◌, ◌-◌, ◌*◌, ◌<◌, ◌≤◌, Bool, true, false, List, [], ◌∷◌, length, get_or, take, drop, Option, Some, None, Result, Ok, Err, refl, sym, ap, subst, ◌∙◌, arith}
+use Rattle.std.specs.Prelude.{◌==◌, ◌&&◌, nat_le, nat_lt, position, slice_index, if◌then◌else◌}
+use Rattle.std.specs.List.{before_first, list_all, position_or_len}
 use Rattle.std.specs.Str.{is_utf8}
 use Rattle.std.proofs.lemmas.Bool.Decides.{nat_tests}
-use Rattle.std.proofs.lemmas.List.{places}
+use Rattle.std.proofs.lemmas.List.{length-take-le, places, take_all}
+use Rattle.std.proofs.lemmas.List.Quantifiers.{position-Some}
+use Rattle.std.proofs.lemmas.Str.{IsUtf8-from_ascii}
 use Rattle.pe_core.proofs.Ranges.{range_in_range}
+use Rattle.pe_core.proofs.TextEnds.{text_of-text}
+use Rattle.pe_core.proofs.Texts.{before_first-found, before_first-missing}
 use Rattle.pe_core.specs.Bytes.{holds, range}
 use Rattle.pe_core.specs.Refusals.{Refusal, StringTable, ◌>>=◌}
 use Rattle.pe_core.specs.Symbols.{or_no_text, row_count, string_at, string_offset, symbol, symbol_in, symbol_name}
@@ -13,7 +17,7 @@ use Rattle.pe_core.specs.Text.{text_at, text_of}
 use Rattle.pe_core.specs.declared.symbol.Symbol.{Symbol}
 use Rattle.pe_c.proofs.ExportParts.{text_stands}
 use Rattle.pe_c.proofs.LeftBytes.{size_of, there}
-use Rattle.pe_c.specs.Coff.{name_range, symbol_name_at, symbol_name_in}
+use Rattle.pe_c.specs.Coff.{IsNameOf, name_range, name_range_by, symbol_name_at, symbol_name_in}
 use Rattle.pe_c.specs.Ranges.{IsRange, bytes_at}
 use Rattle.pe_c.specs.declared.ranges.Range.{Range}
 
@@ -106,3 +110,53 @@ pub names_are_parts : (b : List ℕ) (table strings : Range) (index : ℕ) (t s 
 names_are_parts b table strings index t s r e f is =
     let there : symbol_name_at b table strings index ≡ symbol_name_in table strings index t s = rw e (rw f refl) in
     by_index b table strings index t s r (nat_lt index (row_count t)) e f refl (sym there ∙ is)
+
+-- ---- a name that is ASCII
+
+byte_is : (c : ℕ) (rest low : Bool) → nat_lt c 128 ≡ low → (low && rest) ≡ true → (c < 128) × (rest ≡ true)
+byte_is c rest true h e = (grind (arith, nat_tests), e)
+byte_is c rest false h e = absurd cc
+
+front_low : (xs : List ℕ) (n i : ℕ) → list_all (λ c. nat_lt c 128) xs ≡ true → get_or (take n xs) i 0 < 128
+front_low xs zero i e = omega arith
+front_low [] (suc n) i e = omega arith
+front_low (x ∷ xs) (suc n) zero e = (byte_is x (list_all (λ c. nat_lt c 128) xs) (nat_lt x 128) refl e).0
+front_low (x ∷ xs) (suc n) (suc i) e = front_low xs n i (byte_is x (list_all (λ c. nat_lt c 128) xs) (nat_lt x 128) refl e).1
+
+front_text : (xs : List ℕ) (n : ℕ) → list_all (λ c. nat_lt c 128) xs ≡ true → text_of (take n xs) ≡ Some (take n xs)
+front_text xs n e = text_of-text (take n xs) (IsUtf8-from_ascii (take n xs) (λ i. front_low xs n i e))
+
+pub ascii_to_zero : (xs : List ℕ) (n : ℕ) → list_all (λ c. nat_lt c 128) xs ≡ true → position (λ c. c == 0) xs ≡ Some n → IsNameOf xs n
+ascii_to_zero xs n e found =
+    let inside : (n < length xs) × ((get_or xs n 0 == 0) ≡ true) × ((k : ℕ) → k < n → (get_or xs k 0 == 0) ≡ false) = position-Some (λ c. c == 0) xs n 0 found in
+    let same : before_first (λ c. c == 0) xs ≡ take n xs = sym (before_first-found (λ c. c == 0) xs n found) in
+    (take n xs, ap text_of same ∙ front_text xs n e, length-take-le n xs (omega (arith, inside.0)))
+
+pub ascii_alone : (xs : List ℕ) → list_all (λ c. nat_lt c 128) xs ≡ true → position (λ c. c == 0) xs ≡ None → IsNameOf xs (length xs)
+ascii_alone xs e none =
+    let all : take (length xs) xs ≡ xs = take_all (length xs) xs (omega arith) in
+    let same : before_first (λ c. c == 0) xs ≡ xs = sym (before_first-missing (λ c. c == 0) xs none) in
+    (xs, ap text_of same ∙ ap text_of (sym all) ∙ front_text xs (length xs) e ∙ ap (λ (ys : List ℕ). Some ys) all, refl)
+
+-- the range of such a name
+abbrev range_if : Range → Range → ℕ → Symbol → Bool → List ℕ → Range
+range_if table strings index x is_long name = record { offset = if is_long then strings.offset + string_offset x else table.offset + 18 * index; length = length name }
+
+by_name : (table strings : Range) (index n : ℕ) (x : Symbol) (s : List ℕ) (is_long : Bool) → is_long ≡ false → IsNameOf x.name n →
+    ((or_no_text (if is_long then string_at s (string_offset x) else (if is_long then None else text_of (before_first (λ c. c == 0) x.name)))) >>= λ name. Ok (Some (range_if table strings index x is_long name)))
+    ≡ Ok (Some (record { offset = table.offset + 18 * index; length = n }))
+by_name table strings index n x s false e (text, is, size) = rw is (rw size refl)
+by_name table strings index n x s true e short = absurd cc
+
+name_ranged : (table strings : Range) (index n : ℕ) (x : Symbol) (s : List ℕ) → (slice_index x.name 0 == 0) ≡ false → IsNameOf x.name n →
+    name_range_by table strings index x s ≡ Ok (Some (record { offset = table.offset + 18 * index; length = n }))
+unfolding symbol_name
+name_ranged table strings index n x s e short = by_name table strings index n x s (slice_index x.name 0 == 0) e short
+
+not_zero : (n : ℕ) → (n ≡ 0 → ⊥) → (n == 0) ≡ false
+not_zero n h = grind (arith, nat_tests, h)
+
+pub ascii_found : (table strings : Range) (index : ℕ) (x y : Symbol) (s : List ℕ) (r : Range) → (slice_index x.name 0 ≡ 0 → ⊥) → x ≡ y → IsNameOf y.name r.length → r.offset ≡ table.offset + 18 * index →
+    Ok (Some r) ≡ name_range_by table strings index x s
+ascii_found table strings index x y s r first same short offset =
+    ap (λ (p : ℕ). Ok (Some (record { offset = p; length = r.length }))) offset ∙ sym (name_ranged table strings index r.length x s (not_zero (slice_index x.name 0) first) (subst (λ (z : Symbol). IsNameOf z.name r.length) (sym same) short))

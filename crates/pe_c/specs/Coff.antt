@@ -1,5 +1,6 @@
 -- What calls return of COFF objects, and of the COFF symbols of images.
 use Rattle.std.specs.Prelude.{◌≡◌, ℕ, ◌+◌, ◌-◌, ◌*◌, ◌==◌, min, List, length, nat_lt, slice_index, Option, Some, None, Result, Ok, Err, if◌then◌else◌}
+use Rattle.std.specs.List.{before_first}
 use Rattle.std.specs.Option.{option_map}
 use Rattle.pe_core.specs.Bytes.{record_at}
 use Rattle.pe_core.specs.Records.{coff_header}
@@ -7,6 +8,7 @@ use Rattle.pe_core.specs.Refusals.{Refusal, ◌>>=◌}
 use Rattle.pe_core.specs.Strings.{strings_of, strings_offset}
 use Rattle.pe_core.specs.Symbols.{SymbolItem, row_count, symbol_in, symbol_name, symbols_of}
 use Rattle.pe_core.specs.Symbols as symbols
+use Rattle.pe_core.specs.Text.{text_of}
 use Rattle.pe_core.specs.declared.header.CoffHeader.{CoffHeader}
 use Rattle.pe_core.specs.declared.section_table.SectionTable.{SectionTable}
 use Rattle.pe_core.specs.declared.symbol.Symbol as core
@@ -108,12 +110,17 @@ name_range table strings index s name = record {
   length = length name;
 }
 
+-- the name in these bytes, before their first zero, is a text of so many bytes
+abbrev pub IsNameOf : List ℕ → ℕ → Type 0
+IsNameOf name n = (text : List ℕ) × (text_of (before_first (λ c. c == 0) name) ≡ Some text) × (length text ≡ n)
+
+-- the same, or what refuses the name
+abbrev pub name_range_by : Range → Range → ℕ → core.Symbol → List ℕ → Result (Option Range) Refusal
+name_range_by table strings index x s = symbol_name x s >>= λ name. Ok (Some (name_range table strings index x name))
+
 -- the range of the name of the symbol in an entry, if the table has so many entries
 abbrev pub symbol_name_in : Range → Range → ℕ → List ℕ → List ℕ → Result (Option Range) Refusal
-symbol_name_in table strings index t s =
-    if nat_lt index (row_count t)
-    then (symbol_name (symbol_in t index) s >>= λ name. Ok (Some (name_range table strings index (symbol_in t index) name)))
-    else Ok None
+symbol_name_in table strings index t s = if nat_lt index (row_count t) then name_range_by table strings index (symbol_in t index) s else Ok None
 
 -- the same by the ranges of both tables
 abbrev pub symbol_name_at : List ℕ → Range → Range → ℕ → Result (Option Range) Refusal

@@ -62,6 +62,10 @@ exported_with offset b x = record {
 abbrev pub addresses_in : AddressTable → List ℕ → AddressesView
 addresses_in t table = record { addresses = table; names = []; ordinals = []; directory = t.directory; ordinal_base = t.ordinal_base }
 
+-- the entry of such a table with an index, if it has one
+abbrev pub exported_in : (ℕ → Option ℕ) → List ℕ → AddressesView → ℕ → Option Exported
+exported_in offset b table i = option_map (exported_with offset b) (address_at table i)
+
 -- the entry with an index, if the table has it
 abbrev pub exported_at : (ℕ → Option ℕ) → List ℕ → AddressTable → ℕ → Result (Option Exported) Refusal
-exported_at offset b t i = bytes_at b t.addresses >>= λ table. Ok (option_map (exported_with offset b) (address_at (addresses_in t table) i))
+exported_at offset b t i = bytes_at b t.addresses >>= λ table. Ok (exported_in offset b (addresses_in t table) i)

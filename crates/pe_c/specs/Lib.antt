@@ -76,3 +76,6 @@ pub mod ImageOfCalls
 pub mod HeadersRead
 pub mod SectionWrites
 pub mod ImageWrites
+pub mod NearMaps
+pub mod ExportWindows
+pub mod NearLists

@@ -6,10 +6,11 @@
 //! A linker or a symbol dumper starts with the header: of an object by `pe_c_coff`, of an image by `pe_c_headers`. Sections,
 //! symbols and strings are a call each, so that one damaged table does not cost the others.
 
-ghost use Rattle.std.specs.Prelude.{◌≡◌, ◌+◌, ◌*◌, ◌≤◌, ◌<◌, ◌^◌, IfOk, IfSome, Ok, length};
+ghost use Rattle.std.specs.Prelude.{◌≡◌, ◌+◌, ◌*◌, ◌≤◌, ◌<◌, ◌^◌, IfOk, IfSome, Ok, length, nat_lt};
+ghost use Rattle.std.specs.List.{list_all};
 ghost use Rattle.pe_core.specs.Refusals.{ReturnsAs, answer_of};
-ghost use Rattle.pe_core.specs.Symbols.{symbol_name};
-ghost use Rattle.pe_c.specs.Coff.{PutsObjectSections, coff_header_of, coff_strings_at, name_range, object_at, symbol_at, symbol_name_at, symbol_with, symbols_after, symbols_at};
+ghost use Rattle.pe_core.specs.Symbols.{symbol_in, symbol_name};
+ghost use Rattle.pe_c.specs.Coff.{PutsObjectSections, coff_header_of, coff_strings_at, name_range, name_range_by, IsNameOf, object_at, symbol_at, symbol_name_at, symbol_with, symbols_after, symbols_at};
 ghost use Rattle.pe_c.specs.HandsOut.{HandsOut, HandsOutIf};
 ghost use Rattle.pe_c.specs.Ranges.{bytes_at};
 
@@ -17,7 +18,7 @@ use crate::headers::{CoffFields, coff_fields};
 use crate::image::sections_into;
 use crate::ranges::{NO_BYTES, Range, slice_of};
 use crate::results::{hand_out, hand_out_some};
-use crate::text_runs::{Run, TextCosts, Texts, end_of_next};
+use crate::text_runs::{Run, TextCosts, Texts, end_of_next, first_zero};
 use pe_core::{CoffHeader, Error, Reason, Result, SIZE_OF_SYMBOL, SectionTable, Strtab, read_u32};
 
 /// The size of a COFF header in bytes.
@@ -25,6 +26,9 @@ const SIZE_OF_COFF_HEADER: usize = 20;
 
 /// The size of the size of a string table, which is at its start.
 const SIZE_OF_STRINGS_SIZE: u32 = 4;
+
+/// The size of the name in a symbol in bytes.
+const SIZE_OF_NAME: usize = 8;
 
 /// A COFF symbol, `IMAGE_SYMBOL` of winnt.h, with what its entry says of others.
 #[repr(C)]
@@ -162,7 +166,8 @@ pub extern "C" fn pe_c_coff_strings(bytes: &[u8], coff: &CoffFields, out: &mut R
 }
 
 /// The symbol in an entry of a table that has so many entries.
-fn symbol_with(table: &Range, rows: u64, index: u64, symbol: &pe_core::Symbol) -> Symbol
+#[inline(always)]
+pub fn symbol_with(table: &Range, rows: u64, index: u64, symbol: &pe_core::Symbol) -> Symbol
     requires inside { index < rows }
     requires small { table.now.offset + 18 * rows ≤ 2 ^ 63 }
     ensures { result ≡ symbol_with table.now rows index symbol.now }
@@ -247,6 +252,7 @@ pub extern "C" fn pe_c_next_symbol(bytes: &[u8], walk: &mut SymbolWalk, out: &mu
 }
 
 /// The range of the name of the symbol in an entry.
+#[inline(always)]
 fn name_range(
     table: &Range,
     strings: &Range,
@@ -270,6 +276,7 @@ fn name_range(
 }
 
 /// The name of a symbol by texts of its string table.
+#[inline(always)]
 #[tactic(auto, unfolding(pe_core::specs::Symbols::symbol_name))]
 fn name_by<'a>(symbol: &'a pe_core::Symbol, texts: Texts<'a>) -> Result<&'a str>
     ensures { ReturnsAs (λ s. s.now) result (symbol_name symbol.entry.now texts.entry.bytes.now) }
@@ -284,6 +291,83 @@ fn name_by<'a>(symbol: &'a pe_core::Symbol, texts: Texts<'a>) -> Result<&'a str>
         texts.at(offset as usize)
     };
     name.ok_or(Error::Malformed(Reason::StringTable(offset)))
+}
+
+/// The range of the name of the symbol that is in an entry, by texts of the string table at a range.
+#[inline(always)]
+pub fn name_range_by(
+    table: &Range,
+    strings: &Range,
+    index: u64,
+    symbol: &pe_core::Symbol,
+    texts: Texts<'_>,
+) -> Result<Option<Range>>
+    requires inside { table.now.offset + 18 * index ≤ 2 ^ 63 }
+    requires small { strings.now.offset ≤ 2 ^ 63 }
+    ensures { answer_of result ≡ name_range_by table.now strings.now index symbol.now
+        texts.entry.bytes.now }
+{
+    let name = name_by(symbol, texts)?;
+    Ok(Some(name_range(table, strings, index, symbol, name)))
+}
+
+/// Whether all bytes are ASCII.
+#[inline(always)]
+fn is_ascii(bytes: &[u8]) -> bool
+    ensures { result ≡ list_all (λ c. nat_lt c 128) bytes.now }
+{
+    bytes.iter().all(|byte| *byte < 128)
+}
+
+/// The length of the name in the 8 bytes of an entry, if they are ASCII: as nearly all are, and such a name needs no test of UTF-8.
+#[inline(always)]
+#[tactic(auto, using(crate::proofs::SymbolTexts::ascii_to_zero, crate::proofs::SymbolTexts::ascii_alone))]
+fn ascii_length(name: &[u8]) -> Option<usize>
+    ensures { IfSome result (IsNameOf name.now) }
+{
+    if !is_ascii(name) {
+        return None;
+    }
+    match first_zero(name) {
+        Some(length) => Some(length),
+        None => Some(name.len()),
+    }
+}
+
+/// The range of the name in an entry, if its bytes are ASCII.
+#[inline(always)]
+#[tactic(auto, unfolding(pe_core::specs::Symbols::symbol))]
+pub fn ascii_range(entries: &[u8], table: &Range, index: u64) -> Option<Range>
+    requires entry { 18 * index + 18 ≤ length entries.now }
+    requires inside { table.now.offset + 18 * index ≤ 2 ^ 63 }
+    ensures offset { IfSome result (λ r. r.offset ≡ table.now.offset + 18 * index) }
+    ensures length { IfSome result (λ r. IsNameOf (symbol_in entries.now index).name r.length) }
+{
+    let at = SIZE_OF_SYMBOL * index as usize;
+    let length = ascii_length(&entries[at..at + SIZE_OF_NAME])?;
+    Some(Range {
+        offset: table.offset + at as u64,
+        length: length as u64,
+    })
+}
+
+/// The range of the name in an entry, whatever it is. Out of line: few names are not ASCII.
+#[inline(never)]
+pub fn any_range(
+    entries: &[u8],
+    table: &Range,
+    strings: &Range,
+    index: u64,
+    texts: Texts<'_>,
+) -> Result<Option<Range>>
+    requires entry { 18 * index + 18 ≤ length entries.now }
+    requires inside { table.now.offset + 18 * index ≤ 2 ^ 63 }
+    requires small { strings.now.offset ≤ 2 ^ 63 }
+    ensures { answer_of result ≡ name_range_by table.now strings.now index (symbol_in entries.now index)
+        texts.entry.bytes.now }
+{
+    let symbol = pe_core::Symbol::parse(entries, SIZE_OF_SYMBOL * index as usize)?;
+    name_range_by(table, strings, index, &symbol, texts)
 }
 
 /// The range of the name of the symbol in an entry, by texts of the string table at a range.
@@ -302,8 +386,7 @@ pub fn symbol_name_by(
         return Ok(None);
     }
     let symbol = pe_core::Symbol::parse(entries, SIZE_OF_SYMBOL * index as usize)?;
-    let name = name_by(&symbol, texts)?;
-    Ok(Some(name_range(table, strings, index, &symbol, name)))
+    name_range_by(table, strings, index, &symbol, texts)
 }
 
 /// The same, read by itself.

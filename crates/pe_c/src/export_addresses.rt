@@ -3,10 +3,12 @@
 //! `NTDLL.RtlAllocateHeap`: the name of another DLL's export.
 //! https://learn.microsoft.com/windows/win32/debug/pe-format#export-address-table
 
-ghost use Rattle.std.specs.Prelude.{◌≡◌};
+ghost use Rattle.std.specs.Prelude.{◌≡◌, ◌<◌, ◌-◌, ◌^◌, IfSome};
+ghost use Rattle.pe_core.specs.ExportAddresses.{addresses_view};
 ghost use Rattle.pe_core.specs.Exports.{export_data_view};
 ghost use Rattle.pe_core.specs.Refusals.{answer_of};
-ghost use Rattle.pe_c.specs.ExportAddresses.{address_table, address_table_at, dll_name, exported_with, exported_at, text_from};
+ghost use Rattle.pe_c.specs.ExportAddresses.{address_table, address_table_at, addresses_in, dll_name, exported_with, exported_at, exported_in, text_from, text_range};
+ghost use Rattle.pe_c.specs.Ranges.{or_no_bytes};
 ghost use Rattle.pe_c.specs.HandsOut.{HandsOutIf};
 ghost use Rattle.pe_c.specs.Views.{map_of};
 ghost use Rattle.pe_c.specs.Images.{export_directory, map_of_image};
@@ -118,21 +120,63 @@ pub extern "C" fn pe_c_export_addresses(view: &View, out: &mut AddressTable) -> 
     hand_out_some(table_at(view), out)
 }
 
+/// The range of a forwarder's text, empty where no text is there. Out of line, since few exports are forwarders.
+#[cold]
+#[inline(never)]
+fn forwarder_of(names: &NamedView<'_>, rva: u32) -> Range
+    ensures { result ≡ or_no_bytes (text_range
+        (map_of names.now.view.now) names.now.view.now.bytes.now rva) }
+{
+    text_from(names, map_by(names.view, rva)).unwrap_or(NO_BYTES)
+}
+
 /// The entry of an export, with the range of a forwarder's text.
+#[inline(always)]
 fn exported_with(names: &NamedView<'_>, address: ExportAddress) -> Exported
     ensures { result ≡ exported_with
         (map_of names.now.view.now) names.now.view.now.bytes.now address }
 {
-    let forwarder = if address.is_forwarder {
-        text_from(names, map_by(names.view, address.rva))
+    let (forwarder, is_forwarder) = if address.is_forwarder {
+        (forwarder_of(names, address.rva), 1)
     } else {
-        None
+        (NO_BYTES, 0)
     };
     Exported {
-        forwarder: forwarder.unwrap_or(NO_BYTES),
+        forwarder,
         ordinal: address.ordinal,
         rva: address.rva,
-        is_forwarder: u32::from(address.is_forwarder),
+        is_forwarder,
+    }
+}
+
+/// An address table whose bytes are these. It has no names.
+#[inline(always)]
+pub fn addresses_in<'a>(table: &AddressTable, addresses: &'a [u8]) -> ExportAddresses<'a>
+    ensures { addresses_view result ≡ addresses_in table.now addresses.entry.now }
+{
+    ExportAddresses {
+        addresses,
+        names: &[],
+        ordinals: &[],
+        directory: table.directory,
+        ordinal_base: table.ordinal_base,
+    }
+}
+
+/// The entry of such a table with an index, if it has one.
+#[inline(always)]
+pub fn exported_in(
+    names: &NamedView<'_>,
+    addresses: &ExportAddresses<'_>,
+    index: u64,
+) -> Option<Exported>
+    ensures entry { result ≡ exported_in (map_of names.now.view.now)
+        names.now.view.now.bytes.now (addresses_view addresses.now) index }
+    ensures small { IfSome result (λ _. index < 2 ^ 64 - 1) }
+{
+    match addresses.at(index as usize) {
+        Some(address) => Some(exported_with(names, address)),
+        None => None,
     }
 }
 
@@ -144,17 +188,8 @@ pub fn exported_at(
     ensures { answer_of result ≡ exported_at
         (map_of names.now.view.now) names.now.view.now.bytes.now table.now index }
 {
-    let addresses = ExportAddresses {
-        addresses: slice_of(names.view.bytes, &table.addresses)?,
-        names: &[],
-        ordinals: &[],
-        directory: table.directory,
-        ordinal_base: table.ordinal_base,
-    };
-    match addresses.at(index as usize) {
-        Some(address) => Ok(Some(exported_with(names, address))),
-        None => Ok(None),
-    }
+    let addresses = slice_of(names.view.bytes, &table.addresses)?;
+    Ok(exported_in(names, &addresses_in(table, addresses), index))
 }
 
 /// Reads the entry with an index, from 0: `NOTHING` where the table has no such entry. Strict and permissive mode make no

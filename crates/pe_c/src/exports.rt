@@ -13,6 +13,7 @@ ghost use Rattle.pe_c.specs.Views.{map_of};
 
 use crate::image::{EXPORT_TABLE, directory, is_absent, offset_of};
 use crate::named_view::NamedView;
+use crate::near_map::{NO_WINDOW, map_near};
 use crate::ranges::{NO_BYTES, Range, range_from, slice_of};
 use crate::results::{hand_out_some, options};
 use crate::text_runs::{Run, TextCosts, end_of_next};
@@ -115,10 +116,10 @@ pub extern "C" fn pe_c_export_tables(view: &View, out: &mut Exports) -> u32
 
 /// The three tables of a walk.
 #[derive(Clone, Copy)]
-struct Tables<'a> {
-    names: &'a [u8],
-    ordinals: &'a [u8],
-    addresses: &'a [u8],
+pub struct Tables<'a> {
+    pub names: &'a [u8],
+    pub ordinals: &'a [u8],
+    pub addresses: &'a [u8],
 }
 
 /// The export of entry `i` of the name table, if its name is mapped and is text, and its ordinal is in the address
@@ -160,7 +161,7 @@ fn find_next(names: &NamedView<'_>, tables: &Tables<'_>, from: usize) -> Option<
 }
 
 /// The tables of a walk. `Short` where one is not inside the bytes.
-fn tables_of<'a>(bytes: &'a [u8], walk: &Exports) -> Result<Tables<'a>>
+pub fn tables_of<'a>(bytes: &'a [u8], walk: &Exports) -> Result<Tables<'a>>
     ensures { ReturnsAs view_of result (tables_or_short bytes.entry.now walk.now) }
 {
     Ok(Tables {
@@ -171,13 +172,15 @@ fn tables_of<'a>(bytes: &'a [u8], walk: &Exports) -> Result<Tables<'a>>
 }
 
 /// Whether the next names, so many at most, have more bytes than twice the view, each read by itself: many of them share a text.
+#[tactic(auto, using(crate::proofs::NearMaps::no_window))]
 pub fn names_cost_much(view: &View, walk: &Exports, most: usize) -> bool {
     let Ok(names) = slice_of(view.bytes, &walk.names) else {
         return false;
     };
     let mut costs = TextCosts::of(view.bytes);
+    let mut near = NO_WINDOW;
     for i in walk.next as usize..end_of_next(walk.next, most, names.len() / 4) {
-        if let Some(offset) = map_by(view, read_u32(names, 4 * i)) {
+        if let Some(offset) = map_near(view, read_u32(names, 4 * i), &mut near) {
             if costs.are_over(view.bytes, offset) {
                 return true;
             }
@@ -187,6 +190,7 @@ pub fn names_cost_much(view: &View, walk: &Exports, most: usize) -> bool {
 }
 
 /// Writes the offsets of the next names to a room, as starts, of as many entries as it has room for, and returns how many they are.
+#[tactic(auto, using(crate::proofs::NearMaps::no_window))]
 pub fn put_name_offsets(view: &View, walk: &Exports, room: &mut [Run]) -> usize
     ensures { result ≤ length room.new }
 {
@@ -194,11 +198,12 @@ pub fn put_name_offsets(view: &View, walk: &Exports, room: &mut [Run]) -> usize
     let Ok(names) = slice_of(view.bytes, &walk.names) else {
         return count;
     };
+    let mut near = NO_WINDOW;
     for i in walk.next as usize..end_of_next(walk.next, room.len(), names.len() / 4) {
         if count == room.len() {
             break;
         }
-        if let Some(offset) = map_by(view, read_u32(names, 4 * i)) {
+        if let Some(offset) = map_near(view, read_u32(names, 4 * i), &mut near) {
             room[count] = Run::at(offset);
             count += 1;
         }

@@ -15,6 +15,7 @@ ghost use Rattle.pe_c.specs.Imports.{import_at, import_step, libraries_at, libra
 
 use crate::image::{IMPORT_TABLE, Image, directory, is_absent};
 use crate::named_view::NamedView;
+use crate::near_map::{NO_WINDOW, map_near};
 use crate::ranges::{NO_BYTES, Range, range_from, slice_of};
 use crate::results::{hand_out_some, options};
 use crate::section_index::sections_by;
@@ -30,7 +31,7 @@ use pe_core::{
 const SIZE_OF_RECORD: u64 = 20;
 
 /// The size of the hint before an import's name in bytes.
-const SIZE_OF_HINT: usize = 2;
+pub const SIZE_OF_HINT: usize = 2;
 
 /// A walk over the libraries of an import directory.
 #[repr(C)]
@@ -344,18 +345,20 @@ pub fn put_library_lists(view: &View, walk: &Libraries, room: &mut [Run]) -> usi
 
 /// The same of the offsets of the names of imports, of which these are the entries. An ordinal counts as the RVA of a name, which
 /// costs a run that is not asked for.
+#[tactic(auto, using(crate::proofs::NearMaps::no_window))]
 pub fn put_entry_names(view: &View, entries: &[u8], room: &mut [Run]) -> usize
     ensures { result ≤ length room.new }
 {
     let mut count = 0;
     let is_64 = view.image.width == 64;
     let size = lookup_size(is_64);
+    let mut near = NO_WINDOW;
     for i in 0..entries.len() / size {
         if count == room.len() {
             break;
         }
         let rva = (lookup_number(entries, size * i, is_64) % 0x8000_0000) as u32;
-        if let Some(offset) = map_by(view, rva) {
+        if let Some(offset) = map_near(view, rva, &mut near) {
             room[count] = Run::at(offset.saturating_add(SIZE_OF_HINT));
             count += 1;
         }

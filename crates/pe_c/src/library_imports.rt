@@ -8,13 +8,16 @@ ghost use Rattle.pe_core.specs.Imports.{entry_size};
 ghost use Rattle.pe_core.specs.Refusals.{answer_of};
 ghost use Rattle.pe_c.specs.HandsOut.{HandsOutIf};
 ghost use Rattle.pe_c.specs.LibraryImports.{StepsLibraryImports, all_over, at_library, library_imports_at, next_library, turn, with_library};
+ghost use Rattle.pe_c.specs.NearMaps.{IsWindow};
 ghost use Rattle.pe_c.specs.Views.{map_of};
 
 use crate::imports::{
-    Import, Imports, Libraries, Library, NO_LIBRARIES, entries_left, import_step, libraries_at,
-    library_step, put_entry_names, record_left,
+    Import, Imports, Libraries, Library, NO_LIBRARIES, entries_left, libraries_at, library_step,
+    put_entry_names, record_left,
 };
 use crate::named_view::NamedView;
+use crate::near_imports::step_near;
+use crate::near_map::Window;
 use crate::ranges::{NO_BYTES, Range};
 use crate::results::hand_out_some;
 use crate::text_runs::Run;
@@ -136,13 +139,16 @@ fn at_library(walk: &LibraryImports, rest: Libraries, library: &Library) -> Libr
 fn turn(
     names: &NamedView<'_>,
     walk: LibraryImports,
+    hints: &mut Window,
 ) -> (Option<Result<Option<LibraryImport>>>, LibraryImports)
+    requires { IsWindow (map_of names.now.view.now) hints.old }
     ensures turn { (option_map answer_of result.0, result.1) ≡ turn (map_of names.now.view.now)
         (entry_size (names.now.view.now.image.now.width == 64)) names.now.view.now.bytes.now walk }
     ensures onward { IfNone result.0 (walk.libraries.next < result.1.libraries.next) }
+    ensures near { IsWindow (map_of names.now.view.now) hints.new }
 {
     let mut imports = walk.imports;
-    match import_step(names, &mut imports) {
+    match step_near(names, &mut imports, hints) {
         Ok(Some(import)) => {
             let found = with_library(names.view, &walk, import);
             (Some(Ok(Some(found))), LibraryImports { imports, ..walk })
@@ -176,13 +182,19 @@ fn next_library(
 }
 
 /// One step: the next import, of whichever library.
-pub fn step(names: &NamedView<'_>, walk: &mut LibraryImports) -> Result<Option<LibraryImport>>
-    ensures { StepsLibraryImports (map_of names.now.view.now)
+pub fn step(
+    names: &NamedView<'_>,
+    walk: &mut LibraryImports,
+    hints: &mut Window,
+) -> Result<Option<LibraryImport>>
+    requires { IsWindow (map_of names.now.view.now) hints.old }
+    ensures step { StepsLibraryImports (map_of names.now.view.now)
         (entry_size (names.now.view.now.image.now.width == 64)) names.now.view.now.bytes.now
         walk.old (answer_of result) walk.new }
+    ensures near { IsWindow (map_of names.now.view.now) hints.new }
 {
     loop {
-        let (given, after) = turn(names, *walk);
+        let (given, after) = turn(names, *walk, hints);
         *walk = after;
         match given {
             Some(given) => return given,

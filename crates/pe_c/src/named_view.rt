@@ -61,6 +61,7 @@ impl<'a> NamedView<'a> {
     }
 
     /// The text at a file offset.
+    #[inline(always)]
     pub fn text_at(&self, offset: usize) -> Option<&'a str>
         ensures { option_map (λ s. s.now) result ≡ text_at self.now.view.now.bytes.now offset }
     {

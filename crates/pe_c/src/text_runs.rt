@@ -78,7 +78,8 @@ fn from_offset(bytes: &[u8], offset: usize) -> &[u8]
 }
 
 /// The index of the first zero.
-fn first_zero(bytes: &[u8]) -> Option<usize>
+#[inline(always)]
+pub fn first_zero(bytes: &[u8]) -> Option<usize>
     ensures { result ≡ position (λ c. c == 0) bytes.now }
 {
     bytes.iter().position(|byte| *byte == 0)
@@ -252,16 +253,29 @@ impl<'a> Texts<'a> {
     }
 
     /// The text at an offset: by the run in which it lies, or by itself if it lies in none.
+    #[inline(always)]
     pub fn at(&self, offset: usize) -> Option<&'a str>
         ensures { option_map (λ s. s.now) result ≡ text_at self.now.bytes.now offset }
     {
-        let after = self.runs.partition_point(|run| run.start <= offset as u64);
-        if 0 < after {
-            let run = &self.runs[after - 1];
-            if run.start <= offset as u64 && offset as u64 <= run.end {
-                return text_of_run(self.bytes, run, offset);
-            }
+        if self.runs.is_empty() {
+            return text_at(self.bytes, offset);
         }
-        text_at(self.bytes, offset)
+        text_by_runs(self.bytes, self.runs, offset)
     }
+}
+
+/// The text at an offset by runs. Out of line, since mostly there are none.
+#[inline(never)]
+fn text_by_runs<'a>(bytes: &'a [u8], runs: &[Run], offset: usize) -> Option<&'a str>
+    requires { All (IsTextRun bytes.now) runs.now }
+    ensures { option_map (λ s. s.now) result ≡ text_at bytes.entry.now offset }
+{
+    let after = runs.partition_point(|run| run.start <= offset as u64);
+    if 0 < after {
+        let run = &runs[after - 1];
+        if run.start <= offset as u64 && offset as u64 <= run.end {
+            return text_of_run(bytes, run, offset);
+        }
+    }
+    text_at(bytes, offset)
 }

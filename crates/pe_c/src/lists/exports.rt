@@ -1,18 +1,24 @@
 //! Lists of exports: those that have a name, and all by their index.
 
-ghost use Rattle.std.specs.Prelude.{◌≡◌};
-ghost use Rattle.pe_c.specs.ExportAddresses.{exported_at};
-ghost use Rattle.pe_c.specs.Exports.{StepsExports};
+ghost use Rattle.std.specs.Prelude.{◌≡◌, Ok};
+ghost use Rattle.pe_core.specs.ExportAddresses.{addresses_view};
+ghost use Rattle.pe_c.specs.ExportAddresses.{exported_at, exported_in};
+ghost use Rattle.pe_c.specs.Exports.{StepsExports, tables_or_short, view_of};
 ghost use Rattle.pe_c.specs.HandsOut.{result_number};
 ghost use Rattle.pe_c.specs.Lists.{HandsOutList, Numbered, StepsByIndex};
+ghost use Rattle.pe_c.specs.NearLists.{StepsNearExports};
 ghost use Rattle.pe_c.specs.Views.{map_of};
 
-use crate::export_addresses::{AddressTable, Exported, exported_at};
-use crate::exports::{Export, Exports, names_cost_much, put_name_offsets, step};
+use crate::export_addresses::{AddressTable, Exported, addresses_in, exported_at, exported_in};
+use crate::exports::{Export, Exports, Tables, names_cost_much, put_name_offsets, step, tables_of};
 use crate::lists::{Steps, hand_out_list, next_index, numbered};
 use crate::named_view::NamedView;
+use crate::near_exports::{ExportWindows, NearExports, find_near};
+use crate::near_map::NO_WINDOW;
+use crate::ranges::slice_of;
 use crate::text_runs::Run;
 use crate::view::View;
+use pe_core::ExportAddresses;
 
 impl<'a> Steps<Exports, Export> for NamedView<'a> {
     ghost steps = { λ s. Numbered result_number (StepsExports
@@ -20,6 +26,109 @@ impl<'a> Steps<Exports, Export> for NamedView<'a> {
 
     fn step(&self, walk: &mut Exports) -> Result<Option<Export>, u32> {
         numbered(step(self, walk))
+    }
+}
+
+/// One step of a walk whose tables are inside the bytes.
+#[inline(always)]
+fn next_near(near: &mut NearExports<'_>) -> Option<Export>
+    ensures { StepsNearExports near.old (Ok result) near.new }
+{
+    let NearExports {
+        names,
+        tables,
+        walk,
+        mut windows,
+        ..
+    } = *near;
+    let count = walk.names.length / 4;
+    if count <= walk.next {
+        return None;
+    }
+    let (export, next) = match find_near(&names, &tables, walk.next as usize, &mut windows) {
+        Some((export, next)) => (Some(export), next),
+        None => (None, count),
+    };
+    *near = NearExports {
+        names,
+        tables,
+        walk: Exports { next, ..walk },
+        windows,
+    };
+    export
+}
+
+/// Steps over exports in a list.
+#[derive(Clone, Copy)]
+struct InTables;
+
+impl<'a> Steps<NearExports<'a>, Export> for InTables {
+    ghost steps = { λ s. Numbered result_number StepsNearExports };
+
+    fn step(&self, near: &mut NearExports<'a>) -> Result<Option<Export>, u32> {
+        Ok(next_near(near))
+    }
+}
+
+/// Lists the exports of a walk with these tables.
+#[inline(always)]
+fn list_near(
+    names: &NamedView<'_>,
+    tables: &Tables<'_>,
+    walk: &mut Exports,
+    entries: &mut [Export],
+    written: &mut u64,
+) -> u32
+    requires { tables_or_short names.now.view.now.bytes.now walk.old ≡ Ok (view_of tables.now) }
+    ensures { HandsOutList (Numbered result_number
+        (StepsExports (map_of names.now.view.now) names.now.view.now.bytes.now))
+        result walk.old walk.new entries.old entries.new written.old written.new }
+{
+    let mut near = NearExports {
+        names: *names,
+        tables: *tables,
+        walk: *walk,
+        windows: ExportWindows {
+            names: NO_WINDOW,
+            exported: NO_WINDOW,
+        },
+    };
+    let number = hand_out_list(&InTables, &mut near, entries, written);
+    *walk = near.walk;
+    number
+}
+
+/// Lists the exports of a walk step by step. Out of line: it is for a walk whose tables are not inside the bytes, whose first step is
+/// refused.
+#[cold]
+#[inline(never)]
+fn list_outside(
+    names: &NamedView<'_>,
+    walk: &mut Exports,
+    entries: &mut [Export],
+    written: &mut u64,
+) -> u32
+    ensures { HandsOutList (Numbered result_number
+        (StepsExports (map_of names.now.view.now) names.now.view.now.bytes.now))
+        result walk.old walk.new entries.old entries.new written.old written.new }
+{
+    hand_out_list(names, walk, entries, written)
+}
+
+/// Lists the exports of a walk.
+fn list_exports(
+    names: &NamedView<'_>,
+    walk: &mut Exports,
+    entries: &mut [Export],
+    written: &mut u64,
+) -> u32
+    ensures { HandsOutList (Numbered result_number
+        (StepsExports (map_of names.now.view.now) names.now.view.now.bytes.now))
+        result walk.old walk.new entries.old entries.new written.old written.new }
+{
+    match tables_of(names.view.bytes, walk) {
+        Ok(tables) => list_near(names, &tables, walk, entries, written),
+        Err(_) => list_outside(names, walk, entries, written),
     }
 }
 
@@ -37,7 +146,7 @@ pub extern "C" fn pe_c_list_exports(
         (StepsExports (map_of view.now) view.now.bytes.now))
         result walk.old walk.new entries.old entries.new written.old written.new }
 {
-    hand_out_list(&NamedView::alone(view), walk, entries, written)
+    list_exports(&NamedView::alone(view), walk, entries, written)
 }
 
 /// An image of which the next names are read together, if they cost much else.
@@ -68,25 +177,103 @@ pub extern "C" fn pe_c_list_exports_together(
         (StepsExports (map_of view.now) view.now.bytes.now))
         result walk.old walk.new entries.old entries.new written.old written.new }
 {
-    hand_out_list(&names_of(view, walk, runs), walk, entries, written)
+    list_exports(&names_of(view, walk, runs), walk, entries, written)
 }
 
 /// Steps over the entries of an address table.
 #[derive(Clone, Copy)]
-struct Addresses<'a> {
-    view: &'a View<'a>,
-    table: &'a AddressTable,
+struct Addresses<'a, 'b> {
+    names: NamedView<'a>,
+    table: &'b AddressTable,
 }
 
-impl<'a> Steps<u64, Exported> for Addresses<'a> {
+impl<'a, 'b> Steps<u64, Exported> for Addresses<'a, 'b> {
     ghost steps = { λ s. Numbered result_number (StepsByIndex (exported_at
-        (map_of s.view.now) s.view.now.bytes.now s.table.now)) };
+        (map_of s.names.view.now) s.names.view.now.bytes.now s.table.now)) };
 
     fn step(&self, index: &mut u64) -> Result<Option<Exported>, u32> {
-        next_index(
-            exported_at(&NamedView::alone(self.view), self.table, *index),
-            index,
-        )
+        next_index(exported_at(&self.names, self.table, *index), index)
+    }
+}
+
+/// Steps over the entries of an address table whose bytes are there.
+#[derive(Clone, Copy)]
+struct InAddresses<'a> {
+    names: NamedView<'a>,
+    table: ExportAddresses<'a>,
+}
+
+impl<'a> Steps<u64, Exported> for InAddresses<'a> {
+    ghost steps = { λ s. Numbered result_number (StepsByIndex (λ i. Ok (exported_in
+        (map_of s.names.view.now) s.names.view.now.bytes.now (addresses_view s.table) i))) };
+
+    #[inline(always)]
+    fn step(&self, index: &mut u64) -> Result<Option<Exported>, u32> {
+        match exported_in(&self.names, &self.table, *index) {
+            Some(exported) => {
+                *index += 1;
+                Ok(Some(exported))
+            }
+            None => Ok(None),
+        }
+    }
+}
+
+/// Lists the entries of an address table whose bytes are there.
+#[inline(always)]
+fn list_inside(
+    addresses: &InAddresses<'_>,
+    next: &mut u64,
+    entries: &mut [Exported],
+    written: &mut u64,
+) -> u32
+    ensures { HandsOutList (Numbered result_number (StepsByIndex (λ i. Ok (exported_in
+        (map_of addresses.now.names.view.now) addresses.now.names.view.now.bytes.now
+        (addresses_view addresses.now.table) i))))
+        result next.old next.new entries.old entries.new written.old written.new }
+{
+    let mut index = *next;
+    let number = hand_out_list(addresses, &mut index, entries, written);
+    *next = index;
+    number
+}
+
+/// Lists the entries of a table that is not inside the bytes: the first step is refused.
+#[cold]
+#[inline(never)]
+fn list_addresses_outside(
+    addresses: &Addresses<'_, '_>,
+    next: &mut u64,
+    entries: &mut [Exported],
+    written: &mut u64,
+) -> u32
+    ensures { HandsOutList (Numbered result_number (StepsByIndex (exported_at
+        (map_of addresses.now.names.view.now) addresses.now.names.view.now.bytes.now
+        addresses.now.table.now)))
+        result next.old next.new entries.old entries.new written.old written.new }
+{
+    hand_out_list(addresses, next, entries, written)
+}
+
+/// Lists the entries of an address table from an index on.
+pub fn list_addresses(
+    names: &NamedView<'_>,
+    table: &AddressTable,
+    next: &mut u64,
+    entries: &mut [Exported],
+    written: &mut u64,
+) -> u32
+    ensures { HandsOutList (Numbered result_number (StepsByIndex (exported_at
+        (map_of names.now.view.now) names.now.view.now.bytes.now table.now)))
+        result next.old next.new entries.old entries.new written.old written.new }
+{
+    let names = *names;
+    match slice_of(names.view.bytes, &table.addresses) {
+        Ok(addresses) => {
+            let table = addresses_in(table, addresses);
+            list_inside(&InAddresses { names, table }, next, entries, written)
+        }
+        Err(_) => list_addresses_outside(&Addresses { names, table }, next, entries, written),
     }
 }
 
@@ -105,5 +292,5 @@ pub extern "C" fn pe_c_list_export_addresses(
         (map_of view.now) view.now.bytes.now table.now)))
         result next.old next.new entries.old entries.new written.old written.new }
 {
-    hand_out_list(&Addresses { view, table }, next, entries, written)
+    list_addresses(&NamedView::alone(view), table, next, entries, written)
 }

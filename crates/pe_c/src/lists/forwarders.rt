@@ -7,29 +7,13 @@ ghost use Rattle.pe_c.specs.HandsOut.{result_number};
 ghost use Rattle.pe_c.specs.Lists.{HandsOutList, Numbered, StepsByIndex};
 ghost use Rattle.pe_c.specs.Views.{map_of};
 
-use crate::export_addresses::{AddressTable, Exported, exported_at};
-use crate::lists::{Steps, hand_out_list, next_index};
+use crate::export_addresses::{AddressTable, Exported};
+use crate::lists::exports::list_addresses;
 use crate::named_view::NamedView;
 use crate::ranges::slice_of;
 use crate::text_runs::{Run, end_of_next};
 use crate::view::{View, map_by};
 use pe_core::{lies_in, read_u32};
-
-/// Steps over the entries of an address table, of which the texts of forwarders may be read together.
-#[derive(Clone, Copy)]
-struct NamedAddresses<'a, 'b> {
-    names: NamedView<'a>,
-    table: &'b AddressTable,
-}
-
-impl<'a, 'b> Steps<u64, Exported> for NamedAddresses<'a, 'b> {
-    ghost steps = { λ s. Numbered result_number (StepsByIndex (exported_at
-        (map_of s.names.view.now) s.names.view.now.bytes.now s.table.now)) };
-
-    fn step(&self, index: &mut u64) -> Result<Option<Exported>, u32> {
-        next_index(exported_at(&self.names, self.table, *index), index)
-    }
-}
 
 /// Writes the offsets of the texts of the forwarders among the next entries, of so many at most, to a room, as starts, as far as it
 /// has room, and returns how many they are.
@@ -95,5 +79,5 @@ pub extern "C" fn pe_c_list_export_addresses_together(
         result next.old next.new entries.old entries.new written.old written.new }
 {
     let names = named_forwarders(view, table, *next, entries.len(), runs);
-    hand_out_list(&NamedAddresses { names, table }, next, entries, written)
+    list_addresses(&names, table, next, entries, written)
 }

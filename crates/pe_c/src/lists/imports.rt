@@ -5,14 +5,17 @@ ghost use Rattle.pe_core.specs.Imports.{entry_size};
 ghost use Rattle.pe_c.specs.HandsOut.{result_number};
 ghost use Rattle.pe_c.specs.Imports.{StepsImports, StepsLibraries};
 ghost use Rattle.pe_c.specs.Lists.{HandsOutList, Numbered};
+ghost use Rattle.pe_c.specs.NearLists.{StepsNearImports};
 ghost use Rattle.pe_c.specs.Views.{map_of};
 
 use crate::imports::{
-    Import, Imports, Libraries, Library, entries_left, import_step, library_step, put_entry_names,
+    Import, Imports, Libraries, Library, entries_left, library_step, put_entry_names,
     put_library_lists, put_library_names,
 };
 use crate::lists::{Steps, hand_out_list, numbered};
 use crate::named_view::NamedView;
+use crate::near_imports::{NearImports, step_near};
+use crate::near_map::NO_WINDOW;
 use crate::text_runs::Run;
 use crate::view::View;
 
@@ -80,14 +83,48 @@ pub extern "C" fn pe_c_list_libraries_together(
     hand_out_list(&named_libraries(view, walk, runs), walk, entries, written)
 }
 
-impl<'a> Steps<Imports, Import> for NamedView<'a> {
-    ghost steps = { λ s. Numbered result_number (StepsImports
-        (map_of s.view.now)
-        (entry_size (s.view.now.image.now.width == 64)) s.view.now.bytes.now) };
+/// Steps over imports in a list.
+#[derive(Clone, Copy)]
+struct InLibrary;
 
-    fn step(&self, walk: &mut Imports) -> Result<Option<Import>, u32> {
-        numbered(import_step(self, walk))
+impl<'a> Steps<NearImports<'a>, Import> for InLibrary {
+    ghost steps = { λ s. Numbered result_number StepsNearImports };
+
+    #[inline(always)]
+    fn step(&self, near: &mut NearImports<'a>) -> Result<Option<Import>, u32> {
+        let NearImports {
+            names,
+            mut walk,
+            mut hints,
+            ..
+        } = *near;
+        let given = step_near(&names, &mut walk, &mut hints);
+        *near = NearImports { names, walk, hints };
+        numbered(given)
     }
+}
+
+/// Lists the imports of a walk.
+#[tactic(auto, using(crate::proofs::NearMaps::no_window))]
+fn list_imports(
+    names: &NamedView<'_>,
+    walk: &mut Imports,
+    entries: &mut [Import],
+    written: &mut u64,
+) -> u32
+    ensures { HandsOutList (Numbered result_number (StepsImports
+        (map_of names.now.view.now)
+        (entry_size (names.now.view.now.image.now.width == 64)) names.now.view.now.bytes.now))
+        result walk.old walk.new entries.old entries.new written.old written.new }
+{
+    let mut near = NearImports {
+        names: *names,
+        walk: *walk,
+        hints: NO_WINDOW,
+    };
+    let number = hand_out_list(&InLibrary, &mut near, entries, written);
+    *walk = near.walk;
+    number
 }
 
 /// Lists the imports of a library, as `pe_c_next_import` returns them, and moves the walk past them.
@@ -105,7 +142,7 @@ pub extern "C" fn pe_c_list_imports(
         (entry_size (view.now.image.now.width == 64)) view.now.bytes.now))
         result walk.old walk.new entries.old entries.new written.old written.new }
 {
-    hand_out_list(&NamedView::alone(view), walk, entries, written)
+    list_imports(&NamedView::alone(view), walk, entries, written)
 }
 
 /// Lists what `pe_c_list_imports` does, and reads the names together: with one of `runs` for each import that is left, or more,
@@ -128,5 +165,5 @@ pub extern "C" fn pe_c_list_imports_together(
 {
     let count = put_entry_names(view, entries_left(view, walk), runs);
     let names = NamedView::together(view, &mut runs[..count]);
-    hand_out_list(&names, walk, entries, written)
+    list_imports(&names, walk, entries, written)
 }

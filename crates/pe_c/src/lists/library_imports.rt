@@ -5,22 +5,58 @@ ghost use Rattle.pe_core.specs.Imports.{entry_size};
 ghost use Rattle.pe_c.specs.HandsOut.{result_number};
 ghost use Rattle.pe_c.specs.LibraryImports.{StepsLibraryImports};
 ghost use Rattle.pe_c.specs.Lists.{HandsOutList, Numbered};
+ghost use Rattle.pe_c.specs.NearLists.{StepsNearLibraryImports};
 ghost use Rattle.pe_c.specs.Views.{map_of};
 
 use crate::library_imports::{LibraryImport, LibraryImports, put_names, step};
 use crate::lists::{Steps, hand_out_list, numbered};
 use crate::named_view::NamedView;
+use crate::near_imports::NearLibraryImports;
+use crate::near_map::NO_WINDOW;
 use crate::text_runs::Run;
 use crate::view::View;
 
-impl<'a> Steps<LibraryImports, LibraryImport> for NamedView<'a> {
-    ghost steps = { λ s. Numbered result_number (StepsLibraryImports
-        (map_of s.view.now)
-        (entry_size (s.view.now.image.now.width == 64)) s.view.now.bytes.now) };
+/// Steps over the imports of all libraries in a list.
+#[derive(Clone, Copy)]
+struct InLibraries;
 
-    fn step(&self, walk: &mut LibraryImports) -> Result<Option<LibraryImport>, u32> {
-        numbered(step(self, walk))
+impl<'a> Steps<NearLibraryImports<'a>, LibraryImport> for InLibraries {
+    ghost steps = { λ s. Numbered result_number StepsNearLibraryImports };
+
+    fn step(&self, near: &mut NearLibraryImports<'a>) -> Result<Option<LibraryImport>, u32> {
+        let NearLibraryImports {
+            names,
+            mut walk,
+            mut hints,
+            ..
+        } = *near;
+        let given = step(&names, &mut walk, &mut hints);
+        *near = NearLibraryImports { names, walk, hints };
+        numbered(given)
     }
+}
+
+/// Lists the imports of a walk.
+#[tactic(auto, using(crate::proofs::NearMaps::no_window))]
+fn list_library_imports(
+    names: &NamedView<'_>,
+    walk: &mut LibraryImports,
+    entries: &mut [LibraryImport],
+    written: &mut u64,
+) -> u32
+    ensures { HandsOutList (Numbered result_number (StepsLibraryImports
+        (map_of names.now.view.now)
+        (entry_size (names.now.view.now.image.now.width == 64)) names.now.view.now.bytes.now))
+        result walk.old walk.new entries.old entries.new written.old written.new }
+{
+    let mut near = NearLibraryImports {
+        names: *names,
+        walk: *walk,
+        hints: NO_WINDOW,
+    };
+    let number = hand_out_list(&InLibraries, &mut near, entries, written);
+    *walk = near.walk;
+    number
 }
 
 /// Lists the imports of all libraries, as `pe_c_next_library` returns these and `pe_c_next_import` the imports of each, one library
@@ -48,5 +84,5 @@ pub extern "C" fn pe_c_list_all_imports_together(
 {
     let count = put_names(view, walk, entries.len(), runs);
     let names = NamedView::together(view, &mut runs[..count]);
-    hand_out_list(&names, walk, entries, written)
+    list_library_imports(&names, walk, entries, written)
 }

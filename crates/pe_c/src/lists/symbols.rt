@@ -1,21 +1,23 @@
 //! Lists of COFF symbols with their names.
 
-ghost use Rattle.std.specs.Prelude.{◌≡◌, ◌<◌, ◌^◌, IfOk, IfSome, Ok};
+ghost use Rattle.std.specs.Prelude.{◌≡◌, ◌+◌, ◌*◌, ◌<◌, ◌≤◌, ◌^◌, IfOk, IfSome, Ok, length};
+ghost use Rattle.pe_core.specs.Symbols.{symbol_in};
 ghost use Rattle.pe_core.specs.Refusals.{answer_of};
+ghost use Rattle.pe_c.specs.Coff.{name_range_by};
 ghost use Rattle.pe_c.specs.HandsOut.{result_number};
 ghost use Rattle.pe_c.specs.Lists.{HandsOutList, Numbered, by_number};
 ghost use Rattle.pe_c.specs.NamedSymbols.{StepsNamedSymbols, named_after, named_at, named_by};
 ghost use Rattle.pe_c.specs.Ranges.{bytes_at};
 
 use crate::coff::{
-    Symbol, SymbolWalk, put_string_offsets, strings_cost_much, symbol_at, symbol_name_at,
-    symbol_name_by,
+    Symbol, SymbolWalk, any_range, ascii_range, name_range_by, put_string_offsets,
+    strings_cost_much, symbol_at, symbol_name_at, symbol_with,
 };
 use crate::lists::{Steps, hand_out_list};
 use crate::ranges::{NO_BYTES, Range, slice_of};
 use crate::results::{DONE, NOTHING, number_of};
 use crate::text_runs::{Run, Texts};
-use pe_core::Result;
+use pe_core::{Result, SIZE_OF_SYMBOL};
 
 /// A COFF symbol with its name.
 #[repr(C)]
@@ -41,6 +43,7 @@ pub struct NamedSymbolWalk {
 }
 
 /// A symbol with what a call for its name returns.
+#[inline(always)]
 fn named_by(symbol: Symbol, given: Result<Option<Range>>) -> NamedSymbol
     ensures { result ≡ named_by symbol (answer_of given) }
 {
@@ -58,6 +61,7 @@ fn named_by(symbol: Symbol, given: Result<Option<Range>>) -> NamedSymbol
 }
 
 /// What a step returns, by what is read at the walk, which moves past it.
+#[inline(always)]
 fn next_named(
     walk: &mut SymbolWalk,
     given: Result<Option<NamedSymbol>>,
@@ -122,20 +126,47 @@ struct Together<'a> {
 }
 
 impl<'a> Together<'a> {
+    /// The range of the name of the symbol in an entry of a table.
+    #[inline(always)]
+    fn name_of(
+        &self,
+        entries: &[u8],
+        table: &Range,
+        index: u64,
+        symbol: &pe_core::Symbol,
+    ) -> Result<Option<Range>>
+        requires entry { 18 * index + 18 ≤ length entries.now }
+        requires inside { table.now.offset + 18 * index ≤ 2 ^ 63 }
+        requires symbol { symbol.now ≡ symbol_in entries.now index }
+        ensures { answer_of result ≡ name_range_by table.now self.now.strings index symbol.now
+            self.now.texts.bytes.now }
+    {
+        if symbol.name[0] == 0 {
+            return name_range_by(table, &self.strings, index, symbol, self.texts);
+        }
+        match ascii_range(entries, table, index) {
+            Some(range) => Ok(Some(range)),
+            None => any_range(entries, table, &self.strings, index, self.texts),
+        }
+    }
+
+    #[inline(always)]
     #[tactic(auto, unfolding(crate::specs::NamedSymbols::named_at))]
     fn named_at(&self, walk: &SymbolWalk) -> Result<Option<NamedSymbol>>
         ensures named { answer_of result
             ≡ named_at self.now.bytes.now walk.now.table self.now.strings walk.now.next }
         ensures small { IfOk result (λ o. IfSome o (λ x. walk.now.next < 2 ^ 62)) }
     {
-        match symbol_at(self.bytes, &walk.table, walk.next)? {
-            Some(symbol) => {
-                let Together { bytes, strings, .. } = self;
-                let name = symbol_name_by(bytes, &walk.table, strings, walk.next, self.texts);
-                Ok(Some(named_by(symbol, name)))
-            }
-            None => Ok(None),
+        let SymbolWalk { table, next } = *walk;
+        let entries = slice_of(self.bytes, &table)?;
+        let rows = (entries.len() / SIZE_OF_SYMBOL) as u64;
+        if rows <= next {
+            return Ok(None);
         }
+        // The entry is read once.
+        let symbol = pe_core::Symbol::parse(entries, SIZE_OF_SYMBOL * next as usize)?;
+        let name = self.name_of(entries, &table, next, &symbol);
+        Ok(Some(named_by(symbol_with(&table, rows, next, &symbol), name)))
     }
 }
 
@@ -148,7 +179,25 @@ impl<'a> Steps<SymbolWalk, NamedSymbol> for Together<'a> {
     }
 }
 
-/// The texts of a string table, those of the next symbols read together, if they cost much else.
+/// Lists symbols whose names are read by themselves. Out of line: it is for a string table that is not inside the bytes.
+#[cold]
+#[inline(never)]
+fn list_alone(
+    names: &Alone<'_>,
+    walk: &mut SymbolWalk,
+    entries: &mut [NamedSymbol],
+    written: &mut u64,
+) -> u32
+    ensures { HandsOutList (Numbered result_number
+        (StepsNamedSymbols names.now.bytes.now names.now.strings))
+        result walk.old walk.new entries.old entries.new written.old written.new }
+{
+    hand_out_list(names, walk, entries, written)
+}
+
+/// The texts of a string table, those of the next symbols read together, if they cost much else. Out of line, so that the list has
+/// all registers.
+#[inline(never)]
 fn texts_of<'a>(
     bytes: &[u8],
     walk: &SymbolWalk,
@@ -184,22 +233,20 @@ pub extern "C" fn pe_c_list_symbols(
     ensures strings { walk.new.strings ≡ walk.old.strings }
 {
     let strings = walk.strings;
-    match slice_of(bytes, &strings) {
+    let mut symbols = walk.symbols;
+    let number = match slice_of(bytes, &strings) {
         Ok(table) => {
-            let texts = texts_of(bytes, &walk.symbols, table, runs);
+            let texts = texts_of(bytes, &symbols, table, runs);
             let names = Together {
                 bytes,
                 strings,
                 texts,
             };
-            hand_out_list(&names, &mut walk.symbols, entries, written)
+            hand_out_list(&names, &mut symbols, entries, written)
         }
         // Each name is refused.
-        Err(_) => hand_out_list(
-            &Alone { bytes, strings },
-            &mut walk.symbols,
-            entries,
-            written,
-        ),
-    }
+        Err(_) => list_alone(&Alone { bytes, strings }, &mut symbols, entries, written),
+    };
+    walk.symbols = symbols;
+    number
 }

@@ -15,4 +15,7 @@ loop-given-preserved c =
     let b = c.args.names.now.view.now.bytes.now in
     let next = c.turn-given.result.1 in
     let begun = subst (λ o. (option_map answer_of o, next) ≡ turn offset w b c.loop-given.walk) c.in-None.is c.turn-given.ensures.turn in
-    record { onward = λ answer v s. c.loop-given.invariant.onward answer v (one_more_turn offset w b c.loop-given.walk next answer v begun s) }
+    record {
+      onward = λ answer v s. c.loop-given.invariant.onward answer v (one_more_turn offset w b c.loop-given.walk next answer v begun s);
+      near = c.turn-given.ensures.near;
+    }

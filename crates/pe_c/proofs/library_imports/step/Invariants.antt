@@ -3,6 +3,7 @@ use Rattle.std.specs.Prelude.{◌==◌}
 use Rattle.pe_core.specs.Imports.{entry_size}
 use Rattle.pe_core.specs.Refusals.{Refusal}
 use Rattle.pe_c.specs.LibraryImports.{StepsLibraryImports}
+use Rattle.pe_c.specs.NearMaps.{IsWindow}
 use Rattle.pe_c.specs.Views.{map_of}
 use Rattle.pe_c.specs.declared.library_imports.LibraryImport.{LibraryImport}
 use Rattle.pe_c.specs.declared.library_imports.LibraryImports.{LibraryImports}
@@ -14,6 +15,7 @@ invariant-loop-given l = record {
   onward : (answer : Result (Option LibraryImport) Refusal) (v : LibraryImports) →
       StepsLibraryImports (map_of l.names.view.now) (entry_size (l.names.view.now.image.now.width == 64)) l.names.view.now.bytes.now l.walk answer v →
       StepsLibraryImports (map_of l.names.view.now) (entry_size (l.names.view.now.image.now.width == 64)) l.names.view.now.bytes.now l.initial.walk answer v;
+  near : IsWindow (map_of l.names.view.now) l.hints;
 }
 
 -- each library has its record after that of the one before

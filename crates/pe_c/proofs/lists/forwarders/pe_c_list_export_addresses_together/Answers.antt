@@ -10,6 +10,6 @@ use Rattle.pe_c.proofs.lists.forwarders.pe_c_list_export_addresses_together.Goal
 pub returns : goal.returns
 returns c =
     subst
-    (λ (v : View). HandsOutList (Numbered result_number (StepsByIndex (exported_at (map_of v) v.bytes.now c.args.table.now))) c.hand_out_list.result c.args.next.now c.hand_out_list.new.walk c.args.entries.now c.hand_out_list.new.entries c.args.written.now c.hand_out_list.new.written)
+    (λ (v : View). HandsOutList (Numbered result_number (StepsByIndex (exported_at (map_of v) v.bytes.now c.args.table.now))) c.list_addresses.result c.args.next.now c.list_addresses.new.next c.args.entries.now c.list_addresses.new.entries c.args.written.now c.list_addresses.new.written)
     c.named_forwarders-names.ensures
-    c.hand_out_list.ensures
+    c.list_addresses.ensures

@@ -1,0 +1,64 @@
+-- Lists that keep windows of the section map, or read a table once.
+use Rattle.std.proofs.Common.{◌≡◌, ℕ, List, length, Option, Result, Ok, sym, subst, ◌∙◌, ◌==◌}
+use Rattle.pe_core.specs.ExportAddresses.{AddressesView}
+use Rattle.pe_core.specs.Imports.{entry_size}
+use Rattle.pe_core.specs.Refusals.{Refusal, ◌>>=◌}
+use Rattle.pe_c.proofs.FilledLists.{StepsAs, hands_out_as, numbered_as}
+use Rattle.pe_c.specs.ExportAddresses.{addresses_in, exported_at, exported_in}
+use Rattle.pe_c.specs.Exports.{StepsExports}
+use Rattle.pe_c.specs.HandsOut.{result_number}
+use Rattle.pe_c.specs.Imports.{StepsImports}
+use Rattle.pe_c.specs.LibraryImports.{StepsLibraryImports}
+use Rattle.pe_c.specs.Lists.{HandsOutList, Numbered, StepsByIndex}
+use Rattle.pe_c.specs.NearLists.{StepsNear, StepsNearExports, StepsNearImports, StepsNearLibraryImports}
+use Rattle.pe_c.specs.Ranges.{bytes_at}
+use Rattle.pe_c.specs.Views.{map_of}
+use Rattle.pe_c.specs.declared.export_addresses.AddressTable.{AddressTable}
+use Rattle.pe_c.specs.declared.export_addresses.Exported.{Exported}
+use Rattle.pe_c.specs.declared.exports.Export.{Export}
+use Rattle.pe_c.specs.declared.imports.Import.{Import}
+use Rattle.pe_c.specs.declared.library_imports.LibraryImport.{LibraryImport}
+use Rattle.pe_c.specs.declared.near_exports.NearExports.{NearExports}
+use Rattle.pe_c.specs.declared.near_imports.NearImports.{NearImports}
+use Rattle.pe_c.specs.declared.near_imports.NearLibraryImports.{NearLibraryImports}
+use Rattle.pe_c.specs.declared.view.View.{View}
+
+near_steps : {S W X R : Type 0} (view : S → View) (walk : S → W) (Steps : View → W → Result (Option X) R → W → Type 0) (v : View)
+    → StepsAs (λ (s : S). view s ≡ v) walk (StepsNear view walk Steps) (Steps v)
+near_steps view walk Steps v s t answer k h = (h.1 ∙ k, subst (λ (u : View). Steps u (walk s) answer (walk t)) k h.0)
+
+-- a list of a walk that is kept with its image is a list of the walk
+pub near_lists : {S W X R : Type 0} (number_of : R → ℕ) (view : S → View) (walk : S → W) (Steps : View → W → Result (Option X) R → W → Type 0) (v : View)
+    (number : ℕ) (s t : S) (old new : List X) (before written : ℕ) → view s ≡ v →
+    HandsOutList (Numbered number_of (StepsNear view walk Steps)) number s t old new before written → HandsOutList (Numbered number_of (Steps v)) number (walk s) (walk t) old new before written
+near_lists {S} number_of view walk Steps v number s t old new before written k h =
+    (hands_out_as (λ (s : S). view s ≡ v) walk (Numbered number_of (StepsNear view walk Steps)) (Numbered number_of (Steps v))
+    (numbered_as number_of (λ (s : S). view s ≡ v) walk (StepsNear view walk Steps) (Steps v) (near_steps view walk Steps v)) (length old == 0) number s t old new before written k h).1
+
+-- a list by windows is a list of the walk
+pub lists_exports : (v : View) (number : ℕ) (s t : NearExports) (old new : List Export) (before written : ℕ) → s.names.view.now ≡ v →
+    HandsOutList (Numbered result_number StepsNearExports) number s t old new before written →
+    HandsOutList (Numbered result_number (StepsExports (map_of v) v.bytes.now)) number s.walk t.walk old new before written
+lists_exports v number s t old new before written k h =
+    near_lists result_number (λ (s : NearExports). s.names.view.now) (λ (s : NearExports). s.walk) (λ (v : View). StepsExports (map_of v) v.bytes.now) v number s t old new before written k h
+
+-- the entries of an address table are those of its bytes
+pub lists_addresses : (offset : ℕ → Option ℕ) (b table : List ℕ) (t : AddressTable) (addresses : AddressesView) (number next after : ℕ) (old new : List Exported) (before written : ℕ) → bytes_at b t.addresses ≡ Ok table → addresses ≡ addresses_in t table →
+    HandsOutList (Numbered result_number (StepsByIndex (λ i. Ok (exported_in offset b addresses i)))) number next after old new before written →
+    HandsOutList (Numbered result_number (StepsByIndex (exported_at offset b t))) number next after old new before written
+lists_addresses offset b table t addresses number next after old new before written e same h =
+    subst (λ (r : Result (List ℕ) Refusal). HandsOutList (Numbered result_number (StepsByIndex (λ i. r >>= λ es. Ok (exported_in offset b (addresses_in t es) i)))) number next after old new before written) (sym e)
+    (subst (λ (x : AddressesView). HandsOutList (Numbered result_number (StepsByIndex (λ i. Ok (exported_in offset b x i)))) number next after old new before written) same h)
+
+-- a list by a window is a list of the walk
+pub lists_imports : (v : View) (number : ℕ) (s t : NearImports) (old new : List Import) (before written : ℕ) → s.names.view.now ≡ v →
+    HandsOutList (Numbered result_number StepsNearImports) number s t old new before written →
+    HandsOutList (Numbered result_number (StepsImports (map_of v) (entry_size (v.image.now.width == 64)) v.bytes.now)) number s.walk t.walk old new before written
+lists_imports v number s t old new before written k h =
+    near_lists result_number (λ (s : NearImports). s.names.view.now) (λ (s : NearImports). s.walk) (λ (v : View). StepsImports (map_of v) (entry_size (v.image.now.width == 64)) v.bytes.now) v number s t old new before written k h
+
+pub lists_library_imports : (v : View) (number : ℕ) (s t : NearLibraryImports) (old new : List LibraryImport) (before written : ℕ) → s.names.view.now ≡ v →
+    HandsOutList (Numbered result_number StepsNearLibraryImports) number s t old new before written →
+    HandsOutList (Numbered result_number (StepsLibraryImports (map_of v) (entry_size (v.image.now.width == 64)) v.bytes.now)) number s.walk t.walk old new before written
+lists_library_imports v number s t old new before written k h =
+    near_lists result_number (λ (s : NearLibraryImports). s.names.view.now) (λ (s : NearLibraryImports). s.walk) (λ (v : View). StepsLibraryImports (map_of v) (entry_size (v.image.now.width == 64)) v.bytes.now) v number s t old new before written k h
