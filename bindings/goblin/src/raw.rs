@@ -68,6 +68,20 @@ fn returned<T>(number: u32, value: T) -> Result<Option<T>, Refusal> {
     }
 }
 
+/// What a call returned and wrote.
+///
+/// # Safety
+///
+/// The call that returned this number writes `out` where it is done.
+#[inline(always)]
+unsafe fn written_by<T>(number: u32, out: MaybeUninit<T>) -> Result<Option<T>, Refusal> {
+    if number == sys::DONE {
+        // SAFETY: the caller says so.
+        return Ok(Some(unsafe { out.assume_init() }));
+    }
+    returned(number, ()).map(|_| None)
+}
+
 /// The bytes of a range that a call returned. They are all there, by the contract of that call.
 #[inline]
 pub(crate) fn slice(bytes: &[u8], range: Range) -> error::Result<&[u8]> {
@@ -380,15 +394,19 @@ pub(crate) fn section_of(it: &SectionTable) -> &Section {
 pub(crate) fn first_around<'s>(sections: &'s [SectionTable], rva: u32) -> Option<&'s Section> {
     let may_cover = |it: &&SectionTable| rva.wrapping_sub(it.virtual_address) & !0xfff < it.size_of_raw_data;
     // Of most images it is among the first four or eight, which are tested without counting: much of a record's time is this.
-    let of_four = |four: &'s [SectionTable; 4]| four.iter().find(may_cover);
     let (mut rest, mut found) = (sections, None);
-    if let Some((four, more)) = sections.split_first_chunk() {
-        (rest, found) = (more, of_four(four));
-        if let (None, Some((four, more))) = (found, more.split_first_chunk()) {
-            (rest, found) = (more, of_four(four));
+    if let Some((four, more)) = first_four(rest) {
+        (rest, found) = (more, four.iter().find(may_cover));
+        if let (None, Some((four, more))) = (found, first_four(rest)) {
+            (rest, found) = (more, four.iter().find(may_cover));
         }
     }
     found.or_else(|| rest.iter().find(may_cover)).map(section_of)
+}
+
+#[inline(always)]
+fn first_four(sections: &[SectionTable]) -> Option<(&[SectionTable; 4], &[SectionTable])> {
+    Some((sections.get(..4)?.try_into().ok()?, sections.get(4..)?))
 }
 
 pub(crate) fn mode_of(opts: &ParseOptions) -> u32 {
@@ -572,11 +590,13 @@ macro_rules! calls_of_bytes {
     ($($name:ident: $call:ident($($more:ident: $kind:ty),*) -> $out:ty;)*) => { $(
         #[inline]
         pub(crate) fn $name(bytes: &[u8], $($more: $kind),*) -> Result<Option<$out>, Refusal> {
-            let mut out = <$out>::default();
+            let mut out = MaybeUninit::<$out>::uninit();
             // SAFETY: the pointer and the length are those of one slice; the other arguments and `out` are lent for the
-            // call, and the library requires nothing else.
-            let number = unsafe { sys::$call(bytes.as_ptr(), bytes.len(), $($more,)* &mut out) };
-            returned(number, out)
+            // call, and the library requires nothing else. A call that is done has written `out`.
+            unsafe {
+                let number = sys::$call(bytes.as_ptr(), bytes.len(), $($more,)* out.as_mut_ptr());
+                written_by(number, out)
+            }
         }
     )* };
 }
@@ -715,11 +735,13 @@ macro_rules! calls_of_an_image {
     ($($name:ident: $call:ident($($more:ident: $kind:ty),*) -> $out:ty;)*) => { impl View<'_, '_> { $(
         #[inline]
         pub fn $name(&self, $($more: $kind),*) -> Result<Option<$out>, Refusal> {
-            let (view, mut out) = (self.lent(), <$out>::default());
+            let mut out = MaybeUninit::<$out>::uninit();
             // SAFETY: the view is of what is borrowed for the call; the other arguments and `out` are lent for it, and the
-            // library requires nothing else.
-            let number = unsafe { sys::$call(&view, $($more,)* &mut out) };
-            returned(number, out)
+            // library requires nothing else. A call that is done has written `out`.
+            unsafe {
+                let number = sys::$call(&self.lent(), $($more,)* out.as_mut_ptr());
+                written_by(number, out)
+            }
         }
     )* } };
 }

@@ -24,8 +24,8 @@ use crate::results::{DONE, NOTHING, hand_out, hand_out_some, number_of, options}
 use crate::view::View;
 use crate::walks::next_entry;
 use pe_core::{
-    ByteRange, COFF_MACHINE_X86_64, CountedTable, Result, SectionTable, TableEntry, mapped_offset, read_u8,
-    read_u32,
+    ByteRange, COFF_MACHINE_X86_64, CountedTable, Result, SectionTable, TableEntry, mapped_offset,
+    read_u8, read_u32,
 };
 use pe_unwind::{
     ExceptionData, Register, RuntimeFunction, ScopeTableEntry, StackFrameOffset, UnwindCode,

@@ -11,4 +11,4 @@ returns-in-2 c = rw (c.plain-in-2.ensures, c.from.ensures) (allocated c.args.byt
 pub returns-in-1 : goal.returns-in-1
 returns-in-1 c =
     rw (c.plain-in-1.ensures, c.from-in-1.ensures, c.read_u16.ensures)
-        (allocated_more c.args.bytes.now (omega (arith, c.if-bytes.true)) (omega (arith, c.in-1.is)) (omega (arith, c.if-info-eq0.true)))
+    (allocated_more c.args.bytes.now (omega (arith, c.if-bytes.true)) (omega (arith, c.in-1.is)) (omega (arith, c.if-info-eq0.true)))
