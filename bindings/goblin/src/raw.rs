@@ -391,7 +391,7 @@ pub(crate) fn section_of(it: &SectionTable) -> &Section {
 /// The first section that may cover an RVA, by a test that each passes that does, and that the library's own map makes first: from
 /// the section's start to the page of the RVA it is less than the raw size. Where it maps the RVA, the others make no difference.
 #[inline(always)]
-pub(crate) fn first_around<'s>(sections: &'s [SectionTable], rva: u32) -> Option<&'s Section> {
+pub(crate) fn first_around(sections: &[SectionTable], rva: u32) -> Option<&Section> {
     let may_cover = |it: &&SectionTable| rva.wrapping_sub(it.virtual_address) & !0xfff < it.size_of_raw_data;
     // Of most images it is among the first four or eight, which are tested without counting: much of a record's time is this.
     let (mut rest, mut found) = (sections, None);

@@ -4,7 +4,7 @@
 //! https://learn.microsoft.com/cpp/build/exception-handling-x64
 
 ghost use Rattle.std.specs.Int.{is_power_of_two};
-ghost use Rattle.std.specs.Prelude.{◌≡◌, ◌+◌, ◌^◌, ◌≤◌, length, true, IfSome, Some, Ok};
+ghost use Rattle.std.specs.Prelude.{◌≡◌, ◌+◌, ◌^◌, ◌<◌, ◌≤◌, length, true, IfSome, Some, Ok};
 ghost use Rattle.pe_core.specs.Refusals.{answer_of};
 ghost use Rattle.pe_core.specs.SectionMap.{offset_of};
 ghost use Rattle.pe_unwind.specs.Offsets.{UnwindPartsStand};
@@ -14,7 +14,7 @@ ghost use Rattle.pe_c.specs.HandsOut.{HandsOut, HandsOutIf};
 ghost use Rattle.pe_c.specs.Ranges.{bytes_at};
 ghost use Rattle.pe_frame.specs.Undoing.{bytes_above};
 ghost use Rattle.pe_c.specs.Exports.{one_if_some};
-ghost use Rattle.pe_c.specs.NearRecords.{PutsRecord};
+ghost use Rattle.pe_c.specs.NearRecords.{PutsRecord, codes_after};
 ghost use Rattle.pe_c.specs.Unwinding.{exception_table_at, LocatesIn, HandsOutFound, function_in, or_no_function, handler_kind, handler_address, handler_range, flat_record, flat_record_at, FindsOffset, FollowsToRecord, HandsOutRecord, links_at, from_frame, saving, plain, flat, StepsOver, WalksIn, HandsOutCode, scopes_at};
 ghost use Rattle.pe_c.specs.Walks.{next_of, walk_of};
 
@@ -223,6 +223,23 @@ fn handler_of(info: &UnwindInfo, bytes: &[u8], offset: usize) -> (u8, u32, Range
     }
 }
 
+/// A walk over the codes of a record, which follow its header.
+#[inline(always)]
+fn codes_after(offset: usize, size: usize, version: u8, frame_register: u8) -> CodeWalk
+    requires { offset + 4 < 2 ^ 64 }
+    ensures { result ≡ codes_after offset size version frame_register }
+{
+    CodeWalk {
+        left: Range {
+            offset: offset as u64 + 4,
+            length: size as u64,
+        },
+        version,
+        frame_register,
+        spare: [0; 6],
+    }
+}
+
 /// The record at a file offset, as numbers and ranges.
 #[inline(always)]
 fn flat_record(info: &UnwindInfo, bytes: &[u8], offset: usize) -> UnwindRecord
@@ -231,16 +248,9 @@ fn flat_record(info: &UnwindInfo, bytes: &[u8], offset: usize) -> UnwindRecord
 {
     let (is_chained, chained) = chained_of(info);
     let (handler_kind, handler, handler_data) = handler_of(info, bytes, offset);
+    let size = info.code_bytes().len();
     UnwindRecord {
-        codes: CodeWalk {
-            left: Range {
-                offset: offset as u64 + 4,
-                length: info.code_bytes().len() as u64,
-            },
-            version: info.version,
-            frame_register: info.frame_register.0,
-            spare: [0; 6],
-        },
+        codes: codes_after(offset, size, info.version, info.frame_register.0),
         handler_data,
         handler,
         chained,
@@ -367,15 +377,7 @@ fn put_plain(bytes: &[u8], offset: usize, out: &mut UnwindRecord) -> bool
     }
     let frame = read_u8(bytes, offset + 3);
     *out = UnwindRecord {
-        codes: CodeWalk {
-            left: Range {
-                offset: offset as u64 + 4,
-                length: size as u64,
-            },
-            version,
-            frame_register: frame % 16,
-            spare: [0; 6],
-        },
+        codes: codes_after(offset, size, version, frame % 16),
         handler_data: NO_BYTES,
         handler: 0,
         chained: NO_FUNCTION,
@@ -405,15 +407,7 @@ fn put_handled(bytes: &[u8], offset: usize, out: &mut UnwindRecord) -> bool
     }
     let frame = read_u8(bytes, offset + 3);
     *out = UnwindRecord {
-        codes: CodeWalk {
-            left: Range {
-                offset: offset as u64 + 4,
-                length: 2 * count as u64,
-            },
-            version: first % 8,
-            frame_register: frame % 16,
-            spare: [0; 6],
-        },
+        codes: codes_after(offset, 2 * count, first % 8, frame % 16),
         handler_data: last_range(bytes.len(), bytes.len() - offset - data),
         handler: read_u32(bytes, offset + data - 4),
         chained: NO_FUNCTION,
