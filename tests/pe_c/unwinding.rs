@@ -304,21 +304,81 @@ fn records_of_sections(rt: HostRuntime) -> Result<(), Fail> {
     let loaded = in_mode(&file, MAPPED);
     let other = section(0x5000, 0x1000, 0, 0x1000);
     for (image, sections, unwind, number) in [
-        (&file, [section(0x2000, 0x1000, 0, 0x1000), other], 0x2030, DONE),
-        (&file, [other, section(0x2000, 0x1000, 0, 0x1000)], 0x2030, DONE),
-        (&file, [other, section(0x2000, 0x1000, 0, 0x1000)], 0x5030, DONE),
+        (
+            &file,
+            [section(0x2000, 0x1000, 0, 0x1000), other],
+            0x2030,
+            DONE,
+        ),
+        (
+            &file,
+            [other, section(0x2000, 0x1000, 0, 0x1000)],
+            0x2030,
+            DONE,
+        ),
+        (
+            &file,
+            [other, section(0x2000, 0x1000, 0, 0x1000)],
+            0x5030,
+            DONE,
+        ),
         // a raw pointer is rounded down to 512 bytes
-        (&file, [section(0x2000, 0x1000, 0x1FF, 0x1000), other], 0x2030, DONE),
-        (&file, [section(0x2000, 0x1000, 0x200, 0x1000), other], 0x2030, SHORT),
+        (
+            &file,
+            [section(0x2000, 0x1000, 0x1FF, 0x1000), other],
+            0x2030,
+            DONE,
+        ),
+        (
+            &file,
+            [section(0x2000, 0x1000, 0x200, 0x1000), other],
+            0x2030,
+            SHORT,
+        ),
         // a virtual size counts in pages, and one of 0 not at all
-        (&file, [section(0x2000, 0x20, 0, 0x1000), other], 0x2030, DONE),
+        (
+            &file,
+            [section(0x2000, 0x20, 0, 0x1000), other],
+            0x2030,
+            DONE,
+        ),
         (&file, [section(0x2000, 0, 0, 0x1000), other], 0x2030, DONE),
-        (&file, [section(0x1000, 0x1000, 0, 0x2000), other], 0x2030, UNMAPPED),
-        (&file, [section(0x1000, 0x2000, 0, 0x1000), other], 0x2030, UNMAPPED),
-        (&file, [section(0x2031, 0x1000, 0, 0x1000), other], 0x2030, UNMAPPED),
-        (&odd, [section(0x2000, 0x1000, 0, 0x1000), other], 0x2030, UNMAPPED),
-        (&loaded, [section(0x2000, 0x1000, 0, 0x1000), other], 0x2030, SHORT),
-        (&loaded, [section(0, 0x1000, 0x200, 0x1000), other], 0x30, DONE),
+        (
+            &file,
+            [section(0x1000, 0x1000, 0, 0x2000), other],
+            0x2030,
+            UNMAPPED,
+        ),
+        (
+            &file,
+            [section(0x1000, 0x2000, 0, 0x1000), other],
+            0x2030,
+            UNMAPPED,
+        ),
+        (
+            &file,
+            [section(0x2031, 0x1000, 0, 0x1000), other],
+            0x2030,
+            UNMAPPED,
+        ),
+        (
+            &odd,
+            [section(0x2000, 0x1000, 0, 0x1000), other],
+            0x2030,
+            UNMAPPED,
+        ),
+        (
+            &loaded,
+            [section(0x2000, 0x1000, 0, 0x1000), other],
+            0x2030,
+            SHORT,
+        ),
+        (
+            &loaded,
+            [section(0, 0x1000, 0x200, 0x1000), other],
+            0x30,
+            DONE,
+        ),
     ] {
         let mut out = no_record();
         let table = range(0, 0x30);
@@ -329,7 +389,11 @@ fn records_of_sections(rt: HostRuntime) -> Result<(), Fail> {
             UNTOUCHED_FIELDS
         };
         let first = sections[0].virtual_address;
-        assert_eq!(rt; (answer, fields_of(out)), (number, want), "at {unwind:#x} by {first:#x}");
+        assert_eq!(rt;
+            (answer, fields_of(out)),
+            (number, want),
+            "at {unwind:#x} by {first:#x}"
+        );
     }
     Ok(())
 }
