@@ -622,7 +622,6 @@ calls_of_bytes! {
     pogo_of: pe_c_pogo_of(mode: u32, entry: &sys::DebugEntry) -> sys::Pogo;
     next_pogo_entry: pe_c_next_pogo_entry(walk: &mut Range) -> sys::PogoEntry;
     next_certificate: pe_c_next_certificate(walk: &mut Range) -> sys::Certificate;
-    find_function: pe_c_find_function(table: &Range, rva: u32) -> sys::Function;
     function_at: pe_c_function_at(table: &Range, index: u64) -> sys::Function;
     scope_table: pe_c_scope_table(handler_data: &Range) -> Range;
     next_scope: pe_c_next_scope(walk: &mut Range) -> sys::Scope;
@@ -634,6 +633,23 @@ calls_of_bytes! {
     version_text_in: pe_c_version_text_in(content: &Range, name: u32) -> Range;
     next_relocation_block: pe_c_next_relocation_block(walk: &mut Range) -> sys::RelocationBlock;
     text_in: pe_c_text_in(range: &Range) -> sys::TextInBytes;
+}
+
+/// The function that covers an RVA, in this room: as the other calls of bytes, but that nothing is moved.
+#[inline(always)]
+pub(crate) fn find_function<'r>(
+    bytes: &[u8],
+    table: &Range,
+    rva: u32,
+    room: &'r mut MaybeUninit<sys::Function>,
+) -> Result<Option<&'r sys::Function>, Refusal> {
+    // SAFETY: the pointer and the length are those of one slice; the table and the room are lent for the call, and the library
+    // requires nothing else.
+    match unsafe { sys::pe_c_find_function(bytes.as_ptr(), bytes.len(), table, rva, room.as_mut_ptr()) } {
+        // SAFETY: a call that is done has written the function.
+        sys::DONE => Ok(Some(unsafe { room.assume_init_ref() })),
+        number => returned(number, ()).map(|_| None),
+    }
 }
 
 #[cfg(feature = "te")]

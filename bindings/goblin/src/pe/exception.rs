@@ -454,8 +454,7 @@ impl<'a> IntoIterator for &'_ UnwindInfo<'a> {
 /// The function table of an image. It can be read with entries of x64 or of ARM64, whichever it was parsed for.
 pub struct ExceptionData<'a> {
     bytes: &'a [u8],
-    offset: usize,
-    size: usize,
+    table: sys::Range,
     file_alignment: u32,
     /// What calls on a record in a file take: made once for all functions.
     in_a_file: sys::ImageInfo,
@@ -513,35 +512,34 @@ impl<'a> ExceptionData<'a> {
         let Some(table) = found.map_err(|it| directory_error(view, it))? else { return Ok(None) };
         Ok(Some(ExceptionData {
             bytes: view.bytes,
-            offset: raw::narrow(table.offset)?,
-            size: raw::narrow(table.length)?,
+            table,
             file_alignment: view.info.file_alignment,
             in_a_file: image_of_records(view.info.file_alignment, &ParseOptions::default()),
         }))
     }
 
-    #[inline]
-    fn table(&self) -> sys::Range {
-        sys::Range { offset: self.offset as u64, length: self.size as u64 }
+    /// In bytes.
+    fn size(&self) -> usize {
+        self.table.length as usize
     }
 
     fn data(&self) -> &'a [u8] {
-        raw::left(self.bytes, Some(self.table()))
+        raw::left(self.bytes, Some(self.table))
     }
 
     /// The number of x64 functions.
     pub fn len(&self) -> usize {
-        self.size / RUNTIME_FUNCTION_SIZE
+        self.size() / RUNTIME_FUNCTION_SIZE
     }
 
     /// The number of ARM64 functions.
     pub fn len_arm64(&self) -> usize {
-        self.size / size_of::<Arm64RuntimeFunction>()
+        self.size() / size_of::<Arm64RuntimeFunction>()
     }
 
     /// Whether the table is empty.
     pub fn is_empty(&self) -> bool {
-        self.size == 0
+        self.table.length == 0
     }
 
     /// The x64 functions, sorted by their start RVAs.
@@ -551,7 +549,7 @@ impl<'a> ExceptionData<'a> {
 
     /// The x64 function with an index. Error: `Malformed` where there is none.
     pub fn get_function(&self, index: usize) -> error::Result<RuntimeFunction> {
-        let found = raw::function_at(self.bytes, &self.table(), index as u64)?;
+        let found = raw::function_at(self.bytes, &self.table, index as u64)?;
         Ok(found.ok_or(Refusal::SHORT)?.into())
     }
 
@@ -562,14 +560,14 @@ impl<'a> ExceptionData<'a> {
 
     /// The ARM64 function with an index. Error: `Malformed` where there is none.
     pub fn get_function_arm64(&self, index: usize) -> error::Result<Arm64RuntimeFunction> {
-        let found = raw::arm64_function_at(self.bytes, &self.table(), index as u64)?;
+        let found = raw::arm64_function_at(self.bytes, &self.table, index as u64)?;
         Ok(found.ok_or(Refusal::SHORT)?.into())
     }
 
     /// The x64 function that covers an RVA.
     pub fn find_function(&self, rva: u32) -> error::Result<Option<RuntimeFunction>> {
-        match raw::find_function(self.bytes, &self.table(), rva) {
-            Ok(found) => Ok(found.map(RuntimeFunction::from)),
+        match raw::find_function(self.bytes, &self.table, rva, &mut MaybeUninit::uninit()) {
+            Ok(found) => Ok(found.map(|it| (*it).into())),
             Err(refusal) => Err(refusal.into()),
         }
     }
@@ -632,7 +630,7 @@ impl<'a> ExceptionData<'a> {
         sections: &[SectionTable],
     ) -> error::Result<UnwindInfo<'a>> {
         let sections = raw::sections_of(sections)?;
-        UnwindInfo::by(View::of(self.bytes, info, &sections), &self.table(), unwind)
+        UnwindInfo::by(View::of(self.bytes, info, &sections), &self.table, unwind)
     }
 
     /// The unwind record of an ARM64 function, or `None` where it is packed. Errors: `Malformed` where the record is unmapped,
@@ -679,8 +677,8 @@ impl fmt::Debug for ExceptionData<'_> {
     fn fmt(&self, f: &mut fmt::Formatter<'_>) -> fmt::Result {
         f.debug_struct("ExceptionData")
             .field("file_alignment", &self.file_alignment)
-            .field("offset", &format_args!("{:#x}", self.offset))
-            .field("size", &format_args!("{:#x}", self.size))
+            .field("offset", &format_args!("{:#x}", self.table.offset))
+            .field("size", &format_args!("{:#x}", self.table.length))
             .field("len", &self.len())
             .finish()
     }
