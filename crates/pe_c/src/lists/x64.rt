@@ -133,7 +133,8 @@ fn frequent_code(bytes: &[u8]) -> Option<(Code, usize)>
     match bytes[1] % 16 {
         UWOP_PUSH_NONVOL => Some((plain(bytes[0], 0, info, 0), SIZE_OF_SLOT)),
         UWOP_ALLOC_SMALL => Some((plain(bytes[0], 1, 0, u32::from(info) * 8 + 8), SIZE_OF_SLOT)),
-        UWOP_ALLOC_LARGE if info == 0 && bytes.len() >= 2 * SIZE_OF_SLOT => Some((
+        // Its info is 0 where one more slot has the size.
+        _ if bytes[1] == UWOP_ALLOC_LARGE && bytes.len() >= 2 * SIZE_OF_SLOT => Some((
             plain(bytes[0], 1, 0, u32::from(read_u16(bytes, SIZE_OF_SLOT)) * 8),
             2 * SIZE_OF_SLOT,
         )),
