@@ -149,6 +149,29 @@ fn codes_in_lists(rt: HostRuntime) {
     }
 }
 
+/// Three codes, and one that is truncated: `push rbx` at 2, an allocation of 32,760 bytes as a number of 8 bytes each, one of
+/// 0x12345678 as it is, and one whose number has one byte.
+#[test]
+fn large_allocations_in_lists(rt: HostRuntime) {
+    let bytes = [
+        2, 0x30, 4, 0x01, 0xFF, 0x0F, 6, 0x11, 0x78, 0x56, 0x34, 0x12, 1, 0x01, 5,
+    ];
+    let mut walk = walk_of_codes(range(0, 15), 1);
+    for want in [
+        (DONE, 1, [2, 13], [0, 3, 0]),
+        (DONE, 1, [6, 9], [1, 0, 32_760]),
+        (DONE, 1, [12, 3], [1, 0, 0x1234_5678]),
+        (SHORT, UNWRITTEN, [15, 0], [7; 3]),
+    ] {
+        assert_eq!(rt; codes(&bytes, &mut walk, 1), want);
+    }
+    let mut walk = walk_of_codes(range(0, 15), 1);
+    let all = codes(&bytes, &mut walk, 4);
+    assert_eq!(rt; all, (DONE, 3, [12, 3], [0, 3, 0]));
+    let after = codes(&bytes, &mut walk, 4);
+    assert_eq!(rt; after, (SHORT, UNWRITTEN, [15, 0], [7; 3]));
+}
+
 /// 255 slots of `push rbx`, the most that a record has, with room for all, for one less and for more.
 #[test]
 fn all_slots_in_lists(rt: HostRuntime) {

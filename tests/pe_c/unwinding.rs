@@ -1,9 +1,9 @@
 //! The functions of x64 images, their unwind records and scope tables.
 
 use super::made::{
-    ARM64, FUNCTION_CYCLE, FUNCTION_INDEX, FUNCTION_LINK, OVER, PERMISSIVE, SHORT, STRICT,
+    ARM64, FUNCTION_CYCLE, FUNCTION_INDEX, FUNCTION_LINK, MAPPED, OVER, PERMISSIVE, SHORT, STRICT,
     UNMAPPED, UNTOUCHED, UNWIND_VERSION, X64, directory, having, image, images_without_tables,
-    in_mode, lies, of_range, range, sections, untouched, view, words,
+    in_mode, lies, of_range, range, section, sections, untouched, view, words,
 };
 use crate::image::Image;
 use crate::lists::x64::pe_c_record_codes;
@@ -288,6 +288,113 @@ fn records_are_read(rt: HostRuntime) -> Result<(), Fail> {
         function(0x5000, 0x5010, 0x1030),
     );
     assert_eq!(rt; record_of(&bytes, &table, 0x1060), (DONE, chained));
+    Ok(())
+}
+
+/// The record at offset 0x30, or its errors, by sections of which the first covers its RVA, another one does, or none.
+#[test]
+fn records_of_sections(rt: HostRuntime) -> Result<(), Fail> {
+    let bytes = with_records(rt.alloc())?;
+    let plain = ([0x34, 4, 1, 0], [0, 0, 0, 4, 0, 0], OVER, NO_FUNCTION);
+    let file = image(X64);
+    let odd = Image {
+        file_alignment: 3,
+        ..file
+    };
+    let loaded = in_mode(&file, MAPPED);
+    let other = section(0x5000, 0x1000, 0, 0x1000);
+    for (image, sections, unwind, number) in [
+        (
+            &file,
+            [section(0x2000, 0x1000, 0, 0x1000), other],
+            0x2030,
+            DONE,
+        ),
+        (
+            &file,
+            [other, section(0x2000, 0x1000, 0, 0x1000)],
+            0x2030,
+            DONE,
+        ),
+        (
+            &file,
+            [other, section(0x2000, 0x1000, 0, 0x1000)],
+            0x5030,
+            DONE,
+        ),
+        // a raw pointer is rounded down to 512 bytes
+        (
+            &file,
+            [section(0x2000, 0x1000, 0x1FF, 0x1000), other],
+            0x2030,
+            DONE,
+        ),
+        (
+            &file,
+            [section(0x2000, 0x1000, 0x200, 0x1000), other],
+            0x2030,
+            SHORT,
+        ),
+        // a virtual size counts in pages, and one of 0 not at all
+        (
+            &file,
+            [section(0x2000, 0x20, 0, 0x1000), other],
+            0x2030,
+            DONE,
+        ),
+        (&file, [section(0x2000, 0, 0, 0x1000), other], 0x2030, DONE),
+        (
+            &file,
+            [section(0x1000, 0x1000, 0, 0x2000), other],
+            0x2030,
+            UNMAPPED,
+        ),
+        (
+            &file,
+            [section(0x1000, 0x2000, 0, 0x1000), other],
+            0x2030,
+            UNMAPPED,
+        ),
+        (
+            &file,
+            [section(0x2031, 0x1000, 0, 0x1000), other],
+            0x2030,
+            UNMAPPED,
+        ),
+        (
+            &odd,
+            [section(0x2000, 0x1000, 0, 0x1000), other],
+            0x2030,
+            UNMAPPED,
+        ),
+        (
+            &loaded,
+            [section(0x2000, 0x1000, 0, 0x1000), other],
+            0x2030,
+            SHORT,
+        ),
+        (
+            &loaded,
+            [section(0, 0x1000, 0x200, 0x1000), other],
+            0x30,
+            DONE,
+        ),
+    ] {
+        let mut out = no_record();
+        let table = range(0, 0x30);
+        let answer = pe_c_unwind_record(&view(&bytes, image, &sections), &table, unwind, &mut out);
+        let want = if number == DONE {
+            plain
+        } else {
+            UNTOUCHED_FIELDS
+        };
+        let first = sections[0].virtual_address;
+        assert_eq!(rt;
+            (answer, fields_of(out)),
+            (number, want),
+            "at {unwind:#x} by {first:#x}"
+        );
+    }
     Ok(())
 }
 

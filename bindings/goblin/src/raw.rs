@@ -20,7 +20,7 @@ use crate::pe::data_directories::DataDirectory;
 use crate::pe::debug::ImageDebugDirectory;
 use crate::pe::options::{ParseMode, ParseOptions};
 use crate::pe::section_table::SectionTable;
-use core::mem::MaybeUninit;
+use core::mem::{align_of, offset_of, size_of, MaybeUninit};
 use pe_c::sys::{self, ImageInfo, Range, Section};
 
 /// A result of the library that is neither DONE nor NOTHING.
@@ -66,6 +66,20 @@ fn returned<T>(number: u32, value: T) -> Result<Option<T>, Refusal> {
         sys::NOTHING => Ok(None),
         number => Err(Refusal(number)),
     }
+}
+
+/// What a call returned and wrote.
+///
+/// # Safety
+///
+/// The call that returned this number writes `out` where it is done.
+#[inline(always)]
+unsafe fn written_by<T>(number: u32, out: MaybeUninit<T>) -> Result<Option<T>, Refusal> {
+    if number == sys::DONE {
+        // SAFETY: the caller says so.
+        return Ok(Some(unsafe { out.assume_init() }));
+    }
+    returned(number, ()).map(|_| None)
 }
 
 /// The bytes of a range that a call returned. They are all there, by the contract of that call.
@@ -141,22 +155,45 @@ pub(crate) fn step<W, T>(
     Some(item.map_err(error::Error::from))
 }
 
+/// Room for the items that a call lists. What no call has written is nothing.
+pub(crate) type Room<T> = [MaybeUninit<T>];
+
+/// A room, which takes no time to make.
+#[inline(always)]
+pub(crate) fn room<T, const COUNT: usize>() -> [MaybeUninit<T>; COUNT] {
+    // SAFETY: items that may not be there need not be written.
+    unsafe { MaybeUninit::uninit().assume_init() }
+}
+
+/// The first so many items of a room.
+///
+/// # Safety
+///
+/// A call has written them.
+#[inline(always)]
+unsafe fn written<T>(room: &Room<T>, count: usize) -> &[T] {
+    let items = room.get(..count).unwrap_or_default();
+    // SAFETY: of each of them the caller says that it was written, and a number that may not be there is laid out as the number.
+    unsafe { &*(core::ptr::from_ref(items) as *const [T]) }
+}
+
 /// A walk that takes several items a call: they are those of its steps, one after the other. It is over after its end and after
 /// an error.
 #[derive(Clone, Copy)]
-pub(crate) struct Batch<W, T, const ROOM: usize> {
+pub(crate) struct Batch<W, T: Copy, const ROOM: usize> {
     walk: W,
     is_over: bool,
-    items: [T; ROOM],
+    /// Those before `end` are written.
+    items: [MaybeUninit<T>; ROOM],
     /// Of the items those that are not returned yet: the index of the first, and the index after the last.
     next: usize,
     end: usize,
 }
 
-impl<W, T: Copy + Default, const ROOM: usize> Batch<W, T, ROOM> {
+impl<W, T: Copy, const ROOM: usize> Batch<W, T, ROOM> {
     #[inline]
     pub fn new(walk: W) -> Self {
-        Batch { walk, is_over: false, items: [T::default(); ROOM], next: 0, end: 0 }
+        Batch { walk, is_over: false, items: room(), next: 0, end: 0 }
     }
 
     /// The walk after the items that were taken, or `None` where it is over.
@@ -175,36 +212,82 @@ impl<W, T: Copy + Default, const ROOM: usize> Batch<W, T, ROOM> {
         if self.next == self.end {
             return None;
         }
-        let item = self.items.get(self.next);
+        let item = self.items.get(self.next)?;
         self.next += 1;
-        item
+        // SAFETY: it is before `end`.
+        Some(unsafe { item.assume_init_ref() })
     }
 
     /// All items that were taken and are not returned yet.
     #[inline(always)]
     pub fn rest(&mut self) -> &[T] {
-        let items = self.items.get(self.next..self.end).unwrap_or_default();
-        self.next = self.end;
-        items
+        let (next, end) = (self.next, self.end);
+        self.next = end;
+        // SAFETY: those before `end` are written.
+        unsafe { written(&self.items, end) }.get(next..).unwrap_or_default()
     }
 
-    /// Takes more once all are returned, and returns them: `call` fills an array and says how many items it wrote, 0 at the end.
+    /// Takes more once all are returned, and returns them: `call` is a call that lists items in a room, and returns those, none at
+    /// the end.
     #[inline(always)]
-    pub fn fill(&mut self, call: impl FnOnce(&mut W, &mut [T]) -> Result<usize, Refusal>) -> Result<&[T], Refusal> {
+    pub fn fill<F>(&mut self, call: F) -> Result<&[T], Refusal>
+    where
+        F: for<'r> FnOnce(&mut W, &'r mut Room<T>) -> Result<&'r [T], Refusal>,
+    {
+        (self.next, self.end) = (0, 0);
         if self.is_over {
             return Ok(&[]);
         }
-        let written = call(&mut self.walk, &mut self.items);
-        (self.next, self.end) = (0, *written.as_ref().unwrap_or(&0));
-        self.is_over = self.end == 0;
-        Ok(self.items.get(..written?).unwrap_or(&self.items))
+        self.is_over = true;
+        let found = call(&mut self.walk, &mut self.items)?;
+        // What a call returns starts at the start of its room.
+        self.end = found.len();
+        self.is_over = found.is_empty();
+        Ok(found)
     }
 }
 
-impl<W: core::fmt::Debug, T, const ROOM: usize> core::fmt::Debug for Batch<W, T, ROOM> {
+impl<W: core::fmt::Debug, T: Copy, const ROOM: usize> core::fmt::Debug for Batch<W, T, ROOM> {
     fn fmt(&self, f: &mut core::fmt::Formatter<'_>) -> core::fmt::Result {
         let walk = (!self.is_over).then_some(&self.walk);
         f.debug_struct("Batch").field("walk", &walk).field("taken", &(self.end - self.next)).finish()
+    }
+}
+
+/// A few items that a call has listed and that are not returned yet, the next one first. Each moves up by one: where no index varies, a
+/// compiler keeps them in registers, or makes nothing of them where there are none.
+#[derive(Clone, Copy, Debug, Default)]
+pub(crate) struct Few<T> {
+    items: [T; FEW],
+    count: usize,
+}
+
+/// How many items are few.
+pub(crate) const FEW: usize = 4;
+
+impl<T: Copy> Few<T> {
+    /// Those that a call has listed, at most so many.
+    #[inline]
+    pub fn set(&mut self, items: &[T]) {
+        self.count = items.len().min(FEW);
+        for (to, from) in self.items.iter_mut().zip(items) {
+            *to = *from;
+        }
+    }
+
+    /// How many there are.
+    pub fn count(&self) -> usize {
+        self.count
+    }
+
+    #[inline(always)]
+    pub fn next(&mut self) -> Option<T> {
+        if self.count == 0 {
+            return None;
+        }
+        let [first, second, third, fourth] = self.items;
+        *self = Few { items: [second, third, fourth, fourth], count: self.count - 1 };
+        Some(first)
     }
 }
 
@@ -264,49 +347,66 @@ pub(crate) fn text_with_room(count: usize) -> error::Result<String> {
 /// Section headers as the library takes them.
 pub(crate) fn sections_of(sections: &[SectionTable]) -> error::Result<Vec<Section>> {
     let mut found = list(sections.len())?;
-    found.extend(sections.iter().map(section_of));
+    found.extend(sections.iter().map(|it| *section_of(it)));
     Ok(found)
 }
 
-/// The first section that may cover an RVA, by a test that each passes that does, and that the library's own map makes first: from
-/// the section's start to the page of the RVA it is less than the raw size. Where it maps the RVA, the others make no difference,
-/// and need no copy.
-#[inline]
-pub(crate) fn first_around(sections: &[SectionTable], rva: u32) -> Option<Section> {
-    let may_cover = |it: &SectionTable| rva.wrapping_sub(it.virtual_address) & !0xfff < it.size_of_raw_data;
-    let (mut rest, mut found) = (sections, None);
-    // Four at a time: the more sections come first, the more of a record's time is this.
-    while let [a, b, c, d, more @ ..] = rest {
-        found = if may_cover(a) {
-            Some(a)
-        } else if may_cover(b) {
-            Some(b)
-        } else if may_cover(c) {
-            Some(c)
-        } else if may_cover(d) {
-            Some(d)
-        } else {
-            rest = more;
-            continue;
-        };
-        break;
-    }
-    found.or_else(|| rest.iter().find(|it| may_cover(it))).map(section_of)
+/// Where in a `SectionTable` the header starts that it has.
+const HEADER: usize = offset_of!(SectionTable, name);
+
+/// Whether the fields named have the same place in the header as in the library's.
+macro_rules! stand_alike {
+    ($($field:ident),*) => { $(offset_of!(SectionTable, $field) - HEADER == offset_of!(Section, $field))&&* };
 }
 
-pub(crate) fn section_of(it: &SectionTable) -> Section {
-    Section {
-        name: it.name,
-        virtual_size: it.virtual_size,
-        virtual_address: it.virtual_address,
-        size_of_raw_data: it.size_of_raw_data,
-        pointer_to_raw_data: it.pointer_to_raw_data,
-        pointer_to_relocations: it.pointer_to_relocations,
-        pointer_to_linenumbers: it.pointer_to_linenumbers,
-        number_of_relocations: it.number_of_relocations,
-        number_of_linenumbers: it.number_of_linenumbers,
-        characteristics: it.characteristics,
+const _: () = assert!(
+    stand_alike!(name, virtual_size, virtual_address, size_of_raw_data, pointer_to_raw_data, pointer_to_relocations)
+        && stand_alike!(pointer_to_linenumbers, number_of_relocations, number_of_linenumbers, characteristics)
+        && HEADER + size_of::<Section>() <= size_of::<SectionTable>()
+        && HEADER % align_of::<Section>() == 0
+        && align_of::<Section>() <= align_of::<SectionTable>()
+);
+
+/// Their types are the same.
+const _: fn(&SectionTable) -> Section = |it| Section {
+    name: it.name,
+    virtual_size: it.virtual_size,
+    virtual_address: it.virtual_address,
+    size_of_raw_data: it.size_of_raw_data,
+    pointer_to_raw_data: it.pointer_to_raw_data,
+    pointer_to_relocations: it.pointer_to_relocations,
+    pointer_to_linenumbers: it.pointer_to_linenumbers,
+    number_of_relocations: it.number_of_relocations,
+    number_of_linenumbers: it.number_of_linenumbers,
+    characteristics: it.characteristics,
+};
+
+/// A section header as the library takes it, where it stands.
+#[inline(always)]
+pub(crate) fn section_of(it: &SectionTable) -> &Section {
+    // SAFETY: from `HEADER` on there are the fields of a `Section` in `it`, each with its type and in its place, as is asserted above.
+    unsafe { &*core::ptr::from_ref(it).byte_add(HEADER).cast() }
+}
+
+/// The first section that may cover an RVA, by a test that each passes that does, and that the library's own map makes first: from
+/// the section's start to the page of the RVA it is less than the raw size. Where it maps the RVA, the others make no difference.
+#[inline(always)]
+pub(crate) fn first_around(sections: &[SectionTable], rva: u32) -> Option<&Section> {
+    let may_cover = |it: &&SectionTable| rva.wrapping_sub(it.virtual_address) & !0xfff < it.size_of_raw_data;
+    // Of most images it is among the first four or eight, which are tested without counting: much of a record's time is this.
+    let (mut rest, mut found) = (sections, None);
+    if let Some((four, more)) = first_four(rest) {
+        (rest, found) = (more, four.iter().find(may_cover));
+        if let (None, Some((four, more))) = (found, first_four(rest)) {
+            (rest, found) = (more, four.iter().find(may_cover));
+        }
     }
+    found.or_else(|| rest.iter().find(may_cover)).map(section_of)
+}
+
+#[inline(always)]
+fn first_four(sections: &[SectionTable]) -> Option<(&[SectionTable; 4], &[SectionTable])> {
+    Some((sections.get(..4)?.try_into().ok()?, sections.get(4..)?))
 }
 
 pub(crate) fn mode_of(opts: &ParseOptions) -> u32 {
@@ -396,6 +496,7 @@ impl<'a, 's> View<'a, 's> {
     }
 
     /// Of bytes alone, for a list that takes no more.
+    #[inline(always)]
     pub fn of_bytes(bytes: &'a [u8]) -> Self {
         Self::of(bytes, &NO_IMAGE, &[])
     }
@@ -444,13 +545,19 @@ impl<'a> View<'a, '_> {
         sys::View::of(self.bytes, self.info, self.sections, self.index)
     }
 
-    /// The unwind record of an unwind RVA, which is written to `out`: as the other calls of an image, but that nothing is moved.
-    #[inline]
-    pub fn unwind_record(&self, table: &Range, unwind: u32, out: &mut sys::Record) -> Result<(), Refusal> {
-        // SAFETY: the view is of what is borrowed for the call; the table and `out` are lent for it, and the library requires
+    /// The unwind record of an unwind RVA, in this room: as the other calls of an image, but that nothing is moved.
+    #[inline(always)]
+    pub fn unwind_record<'r>(
+        &self,
+        table: &Range,
+        unwind: u32,
+        room: &'r mut MaybeUninit<sys::Record>,
+    ) -> Result<&'r sys::Record, Refusal> {
+        // SAFETY: the view is of what is borrowed for the call; the table and the room are lent for it, and the library requires
         // nothing else.
-        match unsafe { sys::pe_c_unwind_record(&self.lent(), table, unwind, out) } {
-            sys::DONE => Ok(()),
+        match unsafe { sys::pe_c_unwind_record(&self.lent(), table, unwind, room.as_mut_ptr()) } {
+            // SAFETY: a call that is done has written the record.
+            sys::DONE => Ok(unsafe { room.assume_init_ref() }),
             number => Err(Refusal(number)),
         }
     }
@@ -483,11 +590,13 @@ macro_rules! calls_of_bytes {
     ($($name:ident: $call:ident($($more:ident: $kind:ty),*) -> $out:ty;)*) => { $(
         #[inline]
         pub(crate) fn $name(bytes: &[u8], $($more: $kind),*) -> Result<Option<$out>, Refusal> {
-            let mut out = <$out>::default();
+            let mut out = MaybeUninit::<$out>::uninit();
             // SAFETY: the pointer and the length are those of one slice; the other arguments and `out` are lent for the
-            // call, and the library requires nothing else.
-            let number = unsafe { sys::$call(bytes.as_ptr(), bytes.len(), $($more,)* &mut out) };
-            returned(number, out)
+            // call, and the library requires nothing else. A call that is done has written `out`.
+            unsafe {
+                let number = sys::$call(bytes.as_ptr(), bytes.len(), $($more,)* out.as_mut_ptr());
+                written_by(number, out)
+            }
         }
     )* };
 }
@@ -513,7 +622,6 @@ calls_of_bytes! {
     pogo_of: pe_c_pogo_of(mode: u32, entry: &sys::DebugEntry) -> sys::Pogo;
     next_pogo_entry: pe_c_next_pogo_entry(walk: &mut Range) -> sys::PogoEntry;
     next_certificate: pe_c_next_certificate(walk: &mut Range) -> sys::Certificate;
-    find_function: pe_c_find_function(table: &Range, rva: u32) -> sys::Function;
     function_at: pe_c_function_at(table: &Range, index: u64) -> sys::Function;
     scope_table: pe_c_scope_table(handler_data: &Range) -> Range;
     next_scope: pe_c_next_scope(walk: &mut Range) -> sys::Scope;
@@ -527,23 +635,56 @@ calls_of_bytes! {
     text_in: pe_c_text_in(range: &Range) -> sys::TextInBytes;
 }
 
+/// The function that covers an RVA, in this room: as the other calls of bytes, but that nothing is moved.
+#[inline(always)]
+pub(crate) fn find_function<'r>(
+    bytes: &[u8],
+    table: &Range,
+    rva: u32,
+    room: &'r mut MaybeUninit<sys::Function>,
+) -> Result<Option<&'r sys::Function>, Refusal> {
+    // SAFETY: the pointer and the length are those of one slice; the table and the room are lent for the call, and the library
+    // requires nothing else.
+    match unsafe { sys::pe_c_find_function(bytes.as_ptr(), bytes.len(), table, rva, room.as_mut_ptr()) } {
+        // SAFETY: a call that is done has written the function.
+        sys::DONE => Ok(Some(unsafe { room.assume_init_ref() })),
+        number => returned(number, ()).map(|_| None),
+    }
+}
+
 #[cfg(feature = "te")]
 calls_of_bytes! {
     te: pe_c_te() -> sys::TeHeader;
     te_failure: pe_c_te_failure() -> sys::Failure;
 }
 
-/// Makes methods of calls that write the next items of a walk to an array. They return how many they wrote, 0 at the end.
+/// What a list is whose call is not done.
+#[cold]
+fn listed_none<'r, T>(number: u32) -> Result<&'r [T], Refusal> {
+    returned(number, &[][..]).map(Option::unwrap_or_default)
+}
+
+/// Makes methods of calls that write the next items of a walk to a room. They return these, none at the end.
 macro_rules! lists_of_an_image {
     ($($name:ident: $call:ident($($more:ident: $kind:ty),*) over $walk:ty => $item:ty;)*) => { impl View<'_, '_> { $(
-        #[inline]
-        pub fn $name(&self, $($more: $kind,)* walk: &mut $walk, room: &mut [$item]) -> Result<usize, Refusal> {
-            let (view, mut written) = (self.lent(), 0);
+        #[inline(always)]
+        pub fn $name<'r>(
+            &self,
+            $($more: $kind,)*
+            walk: &mut $walk,
+            room: &'r mut Room<$item>,
+        ) -> Result<&'r [$item], Refusal> {
+            let mut count = 0;
             // SAFETY: the view is of what is borrowed for the call; the pointer and the length are those of one array; the walk and
             // the other arguments are lent for it, and the library requires nothing else.
-            let number =
-                unsafe { sys::$call(&view, $($more,)* walk, room.as_mut_ptr(), room.len(), &mut written) };
-            Ok(returned(number, written)?.unwrap_or(0) as usize)
+            let number = unsafe {
+                sys::$call(&self.lent(), $($more,)* walk, room.as_mut_ptr().cast(), room.len(), &mut count)
+            };
+            if number != sys::DONE {
+                return listed_none(number);
+            }
+            // SAFETY: a call that is done has written so many.
+            Ok(unsafe { written(room, count as usize) })
         }
     )* } };
 }
@@ -554,7 +695,6 @@ lists_of_an_image! {
     list_export_addresses: pe_c_list_export_addresses(table: &sys::AddressTable) over u64 => sys::Exported;
     list_relocations: pe_c_list_relocations(page_rva: u32) over Range => sys::Relocation;
     list_arm64_codes: pe_c_list_arm64_codes() over sys::Arm64Walk => sys::Arm64Code;
-    list_imports: pe_c_list_imports() over sys::Imports => sys::Import;
 }
 
 /// The same of two calls that write the same: the first reads each name by itself, the second names together, with room for runs.
@@ -581,6 +721,14 @@ lists_of_names! {
 }
 
 impl View<'_, '_> {
+    /// The same of imports of one library, each name by itself.
+    fn list_imports(&self, walk: &mut sys::Imports, room: &mut [sys::Import]) -> Result<usize, Refusal> {
+        let (view, mut written) = (self.lent(), 0);
+        // SAFETY: as above.
+        let number = unsafe { sys::pe_c_list_imports(&view, walk, room.as_mut_ptr(), room.len(), &mut written) };
+        Ok(returned(number, written)?.unwrap_or(0) as usize)
+    }
+
     /// The same of imports of all libraries, whose names are read together.
     fn list_all_imports(
         &self,
@@ -603,11 +751,13 @@ macro_rules! calls_of_an_image {
     ($($name:ident: $call:ident($($more:ident: $kind:ty),*) -> $out:ty;)*) => { impl View<'_, '_> { $(
         #[inline]
         pub fn $name(&self, $($more: $kind),*) -> Result<Option<$out>, Refusal> {
-            let (view, mut out) = (self.lent(), <$out>::default());
+            let mut out = MaybeUninit::<$out>::uninit();
             // SAFETY: the view is of what is borrowed for the call; the other arguments and `out` are lent for it, and the
-            // library requires nothing else.
-            let number = unsafe { sys::$call(&view, $($more,)* &mut out) };
-            returned(number, out)
+            // library requires nothing else. A call that is done has written `out`.
+            unsafe {
+                let number = sys::$call(&self.lent(), $($more,)* out.as_mut_ptr());
+                written_by(number, out)
+            }
         }
     )* } };
 }

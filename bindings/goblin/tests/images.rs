@@ -487,6 +487,37 @@ fn codes_of_a_record_end_at_the_first_that_is_none() {
 }
 
 #[test]
+fn codes_go_on_by_folding_where_they_were() {
+    // Version 1 and 21 slots: pushes of rax to r15 and rax to rbx, and an operation that no version has.
+    let slots = (0..20u8).flat_map(|at| [at, at << 4]).chain([20, 0x0f, 0, 0]);
+    let record = [1, 20, 21, 0].into_iter().chain(slots).collect::<Vec<_>>();
+    let info = UnwindInfo::parse(&record, 0).unwrap();
+    let push = |at| UnwindCode { code_offset: at, operation: UnwindOperation::PushNonVolatile(Register(at % 16)) };
+    let pushes = (0..20).map(push).collect::<Vec<_>>();
+    for taken in 0..=22 {
+        let mut codes = info.unwind_codes();
+        let mut found = codes.by_ref().take(taken).map(|it| it.ok()).collect::<Vec<_>>();
+        let (least, most) = codes.clone().size_hint();
+        let left = codes.clone().count();
+        assert!(least <= left && left <= most.unwrap(), "after {taken}");
+        found = codes.fold(found, |mut all, it| {
+            all.push(it.ok());
+            all
+        });
+        assert_eq!(found.pop(), Some(None), "after {taken}");
+        assert_eq!(found.into_iter().collect::<Option<Vec<_>>>().as_ref(), Some(&pushes), "after {taken}");
+    }
+}
+
+#[test]
+fn a_section_header_is_shown_in_the_order_of_goblins_fields() {
+    let section = SectionTable { name: *b".text\0\0\0", virtual_address: 0x1000, ..Default::default() };
+    let shown = format!("{section:?}");
+    assert!(shown.starts_with("SectionTable { name: [46, 116, 101, 120, 116, 0, 0, 0], real_name: None, virtual_size: 0, virtual_address: 4096,"));
+    assert!(shown.ends_with("number_of_linenumbers: 0, characteristics: 0 }"));
+}
+
+#[test]
 fn string_tables_end_their_texts_by_any_byte() {
     assert_eq!(Strtab::new(b"ab|c", b'|').to_vec().unwrap(), ["ab", "c"]);
     assert_eq!(Strtab::new(b"ab\0c", 0).to_vec().unwrap(), ["ab", "c"]);

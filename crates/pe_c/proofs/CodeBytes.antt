@@ -5,7 +5,8 @@ use Rattle.std.proofs.lemmas.List.{drop-drop}
 use Rattle.std.proofs.Math.Seq.{drop-length}
 use Rattle.pe_core.specs.Refusals.{Refusal, ◌>>=◌}
 use Rattle.pe_core.specs.declared.error.Error.{Error}
-use Rattle.pe_unwind.proofs.SpellingLengths.{starts_2}
+use Rattle.pe_core.specs.Bytes.{le}
+use Rattle.pe_unwind.proofs.SpellingLengths.{starts_2, starts_4, word_at_2}
 use Rattle.pe_unwind.specs.CodeStream.{CodeStream, ReturnsCode, stream_of, with_left}
 use Rattle.pe_unwind.specs.ExceptionTable.{function_of}
 use Rattle.pe_unwind.specs.UnwindCodes.{integer}
@@ -27,11 +28,22 @@ use Rattle.pe_c.specs.declared.unwinding.CodeWalk.{CodeWalk}
 
 -- ---- frequent codes
 
-pub pushed : (b : List ℕ) → 2 ≤ length b → slice_index b 1 % 16 ≡ 0 → IsFrequent b (plain (slice_index b 0) 0 (slice_index b 1 / 16) 0)
-pushed b some op = (some, λ v f. (record { code_offset = get_or b 0 0; operation = PushNonVolatile (integer (get_or b 1 0 / 16)) }, starts_2 v f b _ some (inl (op, refl)), refl))
+pub pushed : (b : List ℕ) → 2 ≤ length b → slice_index b 1 % 16 ≡ 0 → IsFrequent b (plain (slice_index b 0) 0 (slice_index b 1 / 16) 0) 2
+pushed b some op = (omega arith, some, λ v f. (record { code_offset = get_or b 0 0; operation = PushNonVolatile (integer (get_or b 1 0 / 16)) }, starts_2 v f b _ some (inl (op, refl)), refl))
 
-pub allocated : (b : List ℕ) → 2 ≤ length b → slice_index b 1 % 16 ≡ 2 → IsFrequent b (plain (slice_index b 0) 1 0 (slice_index b 1 / 16 * 8 + 8))
-allocated b some op = (some, λ v f. (record { code_offset = get_or b 0 0; operation = Alloc (get_or b 1 0 / 16 * 8 + 8) }, starts_2 v f b _ some (inr (inl (op, refl))), refl))
+pub allocated : (b : List ℕ) → 2 ≤ length b → slice_index b 1 % 16 ≡ 2 → IsFrequent b (plain (slice_index b 0) 1 0 (slice_index b 1 / 16 * 8 + 8)) 2
+allocated b some op = (omega arith, some, λ v f. (record { code_offset = get_or b 0 0; operation = Alloc (get_or b 1 0 / 16 * 8 + 8) }, starts_2 v f b _ some (inr (inl (op, refl))), refl))
+
+pub allocated_more : (b : List ℕ) → 4 ≤ length b → slice_index b 1 % 16 ≡ 1 → slice_index b 1 / 16 ≡ 0 → IsFrequent b (plain (slice_index b 0) 1 0 (le b 2 2 * 8)) 4
+allocated_more b some op info = (
+  omega arith,
+  some,
+  λ v f. (
+    record { code_offset = get_or b 0 0; operation = Alloc ((get_or b 2 0 + 256 * get_or b 3 0) * 8) },
+    starts_4 v f b _ some (inl (op, info, refl)),
+    ap (λ (n : ℕ). plain (get_or b 0 0) 1 0 (n * 8)) (word_at_2 b),
+  ),
+)
 
 -- ---- what a step leaves is the last part of its bytes
 
@@ -61,11 +73,11 @@ any_returns s i j given x same r e =
 
 -- ---- steps
 
-pub frequent_step : (s t : CodeBytes) (x : Code) → IsFrequent s.left.now x → t.left.now ≡ drop 2 s.left.now → t.version ≡ s.version → t.frame_register ≡ s.frame_register →
+pub frequent_step : (s t : CodeBytes) (x : Code) (n : ℕ) → IsFrequent s.left.now x n → t.left.now ≡ drop n s.left.now → t.version ≡ s.version → t.frame_register ≡ s.frame_register →
     Numbered result_number StepsBytes s (Ok (Some x)) t
-frequent_step s t x is left version frame =
-    let c = is.1 s.version s.frame_register in
-    (Ok (Some x), (Some (Ok c.0), (2, c.1, omega arith, same_stream (stream_in t) (with_left (stream_in s) (drop 2 s.left.now)) left version frame), ap (λ (y : Code). Ok (Some y)) c.2), refl)
+frequent_step s t x n is left version frame =
+    let c = is.2 s.version s.frame_register in
+    (Ok (Some x), (Some (Ok c.0), (n, c.1, is.0, same_stream (stream_in t) (with_left (stream_in s) (drop n s.left.now)) left version frame), ap (λ (y : Code). Ok (Some y)) c.2), refl)
 
 nothing : (x : List ℕ) → length x ≡ 0 → x ≡ []
 nothing [] e = refl

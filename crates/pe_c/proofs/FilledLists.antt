@@ -1,7 +1,7 @@
 -- Lists that are filled by the steps of a walk.
-use Rattle.std.proofs.Common.{◌≡◌, ℕ, ◌+◌, ◌<◌, inl, inr, Bool, true, false, List, [], ◌∷◌, ◌++◌, length, take, drop, slice_set, Option, Some, None, Result, Ok, Err, refl, sym, ap, subst, ◌∙◌, arith}
+use Rattle.std.proofs.Common.{◌≡◌, ℕ, ◌+◌, ◌<◌, ◌≤◌, inl, inr, Bool, true, false, List, [], ◌∷◌, ◌++◌, length, take, drop, slice_set, Option, Some, None, Result, Ok, Err, refl, sym, ap, subst, ◌∙◌, arith}
 use Rattle.std.proofs.lemmas.Grind.{drop_more_same}
-use Rattle.std.proofs.lemmas.List.{drop-set-lt, take_more_set}
+use Rattle.std.proofs.lemmas.List.{drop-set-lt, length-take-le, take-append-drop, take_more_set}
 use Rattle.pe_c.specs.Lists.{HandsOutListIf, Lists, Numbered, PutsList, Stops, Takes}
 
 -- ---- the loop
@@ -19,6 +19,24 @@ written_more {X = X} Steps w u v entries n x lt t s =
 -- what is kept of the array, and how long it is
 pub kept_more : {X : Type 0} (xs ys : List X) (i : ℕ) (y : X) → drop i xs ≡ drop i ys → drop (i + 1) (slice_set xs i y) ≡ drop (i + 1) ys
 kept_more xs ys i y e = rw (drop-set-lt (i + 1) xs i y (omega arith)) (drop_more_same xs ys i e)
+
+-- a list that ends before there is no more room: the walk is at its end, or the next step is an error
+ends_list : {W X : Type 0} (Steps : W → Result (Option X) ℕ → W → Type 0) (w u v : W) (entries initial : List X) (n : ℕ) → n ≤ length entries → drop n entries ≡ drop n initial →
+    Takes Steps w (take n entries) u → Stops Steps (length initial) (take n entries) u v → PutsList Steps w v initial entries (Ok n)
+ends_list {X = X} Steps w u v entries initial n inside kept t stops =
+    (take n entries, (u, t, stops), sym (length-take-le n entries inside), sym (take-append-drop n entries) ∙ ap (λ (xs : List X). take n entries ++ xs) kept)
+
+pub ends_at_end : {W X : Type 0} (Steps : W → Result (Option X) ℕ → W → Type 0) (w u v : W) (entries initial : List X) (n : ℕ) → n < length entries → length entries ≡ length initial → drop n entries ≡ drop n initial →
+    Takes Steps w (take n entries) u → Steps u (Ok None) v → PutsList Steps w v initial entries (Ok n)
+ends_at_end Steps w u v entries initial n room same kept t s =
+    let size = length-take-le n entries (omega (arith, room)) in
+    ends_list Steps w u v entries initial n (omega (arith, room)) kept t (inr (inl (omega (arith, size, room, same), s)))
+
+pub ends_before_error : {W X : Type 0} (Steps : W → Result (Option X) ℕ → W → Type 0) (w u next : W) (entries initial : List X) (n e : ℕ) → 0 < n → n < length entries → length entries ≡ length initial → drop n entries ≡ drop n initial →
+    Takes Steps w (take n entries) u → Steps u (Err e) next → PutsList Steps w u initial entries (Ok n)
+ends_before_error Steps w u next entries initial n e some room same kept t s =
+    let size = length-take-le n entries (omega (arith, room)) in
+    ends_list Steps w u u entries initial n (omega (arith, room)) kept t (inr (inr (omega (arith, size, some), omega (arith, size, room, same), refl, (e, next, s))))
 
 -- ---- what a call hands out
 

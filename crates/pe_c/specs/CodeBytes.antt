@@ -1,5 +1,5 @@
 -- What a list of unwind codes reads: bytes of codes, and how they are read. Only contracts of private functions cite it.
-use Rattle.std.specs.Prelude.{◌≡◌, ℕ, ◌-◌, ◌≤◌, List, length, drop, Option, Result}
+use Rattle.std.specs.Prelude.{◌≡◌, ℕ, ◌-◌, ◌<◌, ◌≤◌, List, length, drop, Option, Result}
 use Rattle.pe_core.specs.Refusals.{Refusal}
 use Rattle.pe_core.specs.declared.error.Error.{Error}
 use Rattle.pe_unwind.specs.CodeStream.{CodeStream, ReturnsCode, with_left}
@@ -27,6 +27,6 @@ stream_last c n = with_left (stream_in c) (drop (length c.left.now - n) c.left.n
 abbrev pub ReturnsAny : CodeBytes → Result (Option Code) ℕ → ℕ → Type 0
 ReturnsAny c answer n = (given : Option (Result UnwindCode Error)) × ReturnsCode (stream_in c) given (stream_last c n) × (answer ≡ by_number result_number (flat_answer given))
 
--- the code of one slot with which the bytes start, whatever record it is of
-abbrev pub IsFrequent : List ℕ → Code → Type 0
-IsFrequent bytes code = (2 ≤ length bytes) × ((v f : ℕ) → (c : UnwindCode) × StartsWithCode v f bytes c 2 × (code ≡ flat c))
+-- the code of n bytes with which the bytes start, whatever record it is of
+abbrev pub IsFrequent : List ℕ → Code → ℕ → Type 0
+IsFrequent bytes code n = (0 < n) × (n ≤ length bytes) × ((v f : ℕ) → (c : UnwindCode) × StartsWithCode v f bytes c n × (code ≡ flat c))

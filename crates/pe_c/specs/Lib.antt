@@ -62,6 +62,7 @@ pub mod DumpContexts
 pub mod DumpLaws
 pub mod RecordCodes
 pub mod CodeBytes
+pub mod NearRecords
 pub mod SectionIndexes
 pub mod Views
 pub mod WalkStarts

@@ -3,8 +3,10 @@
 //! find the caller's frame.
 //! https://learn.microsoft.com/cpp/build/exception-handling-x64
 
-ghost use Rattle.std.specs.Prelude.{◌≡◌, ◌+◌, ◌^◌, ◌≤◌, length};
+ghost use Rattle.std.specs.Int.{is_power_of_two};
+ghost use Rattle.std.specs.Prelude.{◌≡◌, ◌+◌, ◌^◌, ◌<◌, ◌≤◌, length, true, IfSome, Some, Ok};
 ghost use Rattle.pe_core.specs.Refusals.{answer_of};
+ghost use Rattle.pe_core.specs.SectionMap.{offset_of};
 ghost use Rattle.pe_unwind.specs.Offsets.{UnwindPartsStand};
 ghost use Rattle.pe_unwind.specs.ScopeTable.{scope_at};
 ghost use Rattle.pe_unwind.specs.UnwindRecord.{unwind_view};
@@ -12,6 +14,7 @@ ghost use Rattle.pe_c.specs.HandsOut.{HandsOut, HandsOutIf};
 ghost use Rattle.pe_c.specs.Ranges.{bytes_at};
 ghost use Rattle.pe_frame.specs.Undoing.{bytes_above};
 ghost use Rattle.pe_c.specs.Exports.{one_if_some};
+ghost use Rattle.pe_c.specs.NearRecords.{PutsRecord, codes_after};
 ghost use Rattle.pe_c.specs.Unwinding.{exception_table_at, LocatesIn, HandsOutFound, function_in, or_no_function, handler_kind, handler_address, handler_range, flat_record, flat_record_at, FindsOffset, FollowsToRecord, HandsOutRecord, links_at, from_frame, saving, plain, flat, StepsOver, WalksIn, HandsOutCode, scopes_at};
 ghost use Rattle.pe_c.specs.Walks.{next_of, walk_of};
 
@@ -20,7 +23,10 @@ use crate::ranges::{NO_BYTES, Range, last_range, range_of, slice_of};
 use crate::results::{DONE, NOTHING, hand_out, hand_out_some, number_of, options};
 use crate::view::View;
 use crate::walks::next_entry;
-use pe_core::{ByteRange, COFF_MACHINE_X86_64, CountedTable, Result, TableEntry, mapped_offset};
+use pe_core::{
+    ByteRange, COFF_MACHINE_X86_64, CountedTable, Result, SectionTable, TableEntry, mapped_offset,
+    read_u8, read_u32,
+};
 use pe_unwind::{
     ExceptionData, Register, RuntimeFunction, ScopeTableEntry, StackFrameOffset, UnwindCode,
     UnwindCodeIterator, UnwindHandler, UnwindInfo, UnwindOperation, scope_table_size, search,
@@ -28,6 +34,11 @@ use pe_unwind::{
 
 /// The size of an entry of a scope table in bytes.
 const SIZE_OF_SCOPE: usize = 16;
+
+/// Raw pointers are rounded down to a multiple of this, and sizes up to one of the next.
+const SECTOR: usize = 512;
+
+const PAGE: usize = 4096;
 
 /// A walk over unwind codes, and what else it takes to read them.
 #[repr(C)]
@@ -212,6 +223,23 @@ fn handler_of(info: &UnwindInfo, bytes: &[u8], offset: usize) -> (u8, u32, Range
     }
 }
 
+/// A walk over the codes of a record, which follow its header.
+#[inline(always)]
+fn codes_after(offset: usize, size: usize, version: u8, frame_register: u8) -> CodeWalk
+    requires { offset + 4 < 2 ^ 64 }
+    ensures { result ≡ codes_after offset size version frame_register }
+{
+    CodeWalk {
+        left: Range {
+            offset: offset as u64 + 4,
+            length: size as u64,
+        },
+        version,
+        frame_register,
+        spare: [0; 6],
+    }
+}
+
 /// The record at a file offset, as numbers and ranges.
 #[inline(always)]
 fn flat_record(info: &UnwindInfo, bytes: &[u8], offset: usize) -> UnwindRecord
@@ -220,16 +248,9 @@ fn flat_record(info: &UnwindInfo, bytes: &[u8], offset: usize) -> UnwindRecord
 {
     let (is_chained, chained) = chained_of(info);
     let (handler_kind, handler, handler_data) = handler_of(info, bytes, offset);
+    let size = info.code_bytes().len();
     UnwindRecord {
-        codes: CodeWalk {
-            left: Range {
-                offset: offset as u64 + 4,
-                length: info.code_bytes().len() as u64,
-            },
-            version: info.version,
-            frame_register: info.frame_register.0,
-            spare: [0; 6],
-        },
+        codes: codes_after(offset, size, info.version, info.frame_register.0),
         handler_data,
         handler,
         chained,
@@ -294,12 +315,148 @@ pub fn read_record(view: &View, table: &Range, unwind: u32) -> Result<UnwindReco
     record_at(view.bytes, offset)
 }
 
+/// The file offset of an RVA by the first section, where that covers it, by the tests of `find_offset`. That is out of line; a caller
+/// who knows the section of its records passes it alone.
+#[inline(always)]
+fn offset_by_first(sections: &[SectionTable], alignment: u32, rva: usize) -> Option<usize>
+    requires { is_power_of_two alignment ≡ true }
+    ensures { IfSome result (λ p. offset_of true alignment sections.now rva ≡ Some p) }
+{
+    let section = sections.first()?;
+    let start = section.virtual_address as usize;
+    if rva < start {
+        return None;
+    }
+    let within = rva - start;
+    let page = within / PAGE * PAGE;
+    let virtual_size = section.virtual_size as usize;
+    if section.size_of_raw_data as usize <= page || virtual_size != 0 && virtual_size <= page {
+        return None;
+    }
+    let raw = section.pointer_to_raw_data as usize;
+    let offset = within + raw / SECTOR * SECTOR;
+    if raw + section.size_of_raw_data as usize <= offset / alignment as usize * alignment as usize {
+        return None;
+    }
+    Some(offset)
+}
+
+/// The file offset of the record of an even unwind RVA, where the first section covers it.
+#[inline(always)]
+#[tactic(auto, using(crate::proofs::EvenRecords::near_offset))]
+fn near_offset(view: &View, table: &Range, unwind: u32) -> Option<usize>
+    ensures { IfSome result (λ p. FindsOffset (links_at view.now.bytes.now view.now.image.now
+        view.now.sections.now table.now) unwind
+        (Ok p)) }
+{
+    let image = view.image;
+    if unwind % 2 == 1 || image.mode / 2 % 2 == 1 {
+        return None;
+    }
+    let _entries = slice_of(view.bytes, table).ok()?;
+    let alignment = image.file_alignment;
+    if !alignment.is_power_of_two() {
+        return None;
+    }
+    offset_by_first(view.sections, alignment, unwind as usize)
+}
+
+/// Writes the record at a file offset to `out`, where it is one of codes alone and passes all tests; else `out` is unchanged.
+#[inline(always)]
+#[tactic(auto, unfolding(pe_unwind::specs::UnwindRecord::unwind_tests, pe_unwind::specs::UnwindRecord::unwind_record, pe_unwind::specs::UnwindRecord::ending_at, pe_unwind::specs::UnwindRecord::ending_holds))]
+fn put_plain(bytes: &[u8], offset: usize, out: &mut UnwindRecord) -> bool
+    ensures { PutsRecord bytes.now offset result out.old out.new }
+{
+    if bytes.len() < 4 || bytes.len() - 4 < offset {
+        return false;
+    }
+    let version = read_u8(bytes, offset);
+    let size = 2 * usize::from(read_u8(bytes, offset + 2));
+    if version != 1 && version != 2 || bytes.len() - 4 - offset < size {
+        return false;
+    }
+    let frame = read_u8(bytes, offset + 3);
+    *out = UnwindRecord {
+        codes: codes_after(offset, size, version, frame % 16),
+        handler_data: NO_BYTES,
+        handler: 0,
+        chained: NO_FUNCTION,
+        is_chained: 0,
+        frame_register_offset: u32::from(frame / 16) * 16,
+        size_of_prolog: read_u8(bytes, offset + 1),
+        handler_kind: 0,
+        spare: [0; 6],
+    };
+    true
+}
+
+/// The same of a record that has a handler.
+#[inline(always)]
+#[tactic(auto, unfolding(pe_unwind::specs::UnwindRecord::unwind_tests, pe_unwind::specs::UnwindRecord::unwind_record, pe_unwind::specs::UnwindRecord::ending_at, pe_unwind::specs::UnwindRecord::ending_holds))]
+fn put_handled(bytes: &[u8], offset: usize, out: &mut UnwindRecord) -> bool
+    ensures { PutsRecord bytes.now offset result out.old out.new }
+{
+    if bytes.len() < 4 || bytes.len() - 4 < offset {
+        return false;
+    }
+    let first = read_u8(bytes, offset);
+    let count = usize::from(read_u8(bytes, offset + 2));
+    let data = 8 + 2 * (count + count % 2);
+    if first < 8 || first >= 32 || first % 8 != 1 && first % 8 != 2 || bytes.len() - offset < data {
+        return false;
+    }
+    let frame = read_u8(bytes, offset + 3);
+    *out = UnwindRecord {
+        codes: codes_after(offset, 2 * count, first % 8, frame % 16),
+        handler_data: last_range(bytes.len(), bytes.len() - offset - data),
+        handler: read_u32(bytes, offset + data - 4),
+        chained: NO_FUNCTION,
+        is_chained: 0,
+        frame_register_offset: u32::from(frame / 16) * 16,
+        size_of_prolog: read_u8(bytes, offset + 1),
+        handler_kind: if first / 8 % 2 == 1 { 1 } else { 2 },
+        spare: [0; 6],
+    };
+    true
+}
+
+/// Any other record at a file offset.
+#[inline(never)]
+fn hand_out_at(bytes: &[u8], offset: usize, out: &mut UnwindRecord) -> u32
+    ensures { HandsOut result out.old out.new (flat_record_at bytes.now offset) }
+{
+    hand_out(record_at(bytes, offset), out)
+}
+
+/// A record at a file offset. Out of line, as each of these is: a record of codes alone needs no room for what the others take.
+#[inline(never)]
+fn hand_out_handled(bytes: &[u8], offset: usize, out: &mut UnwindRecord) -> u32
+    ensures { HandsOut result out.old out.new (flat_record_at bytes.now offset) }
+{
+    if put_handled(bytes, offset, out) {
+        DONE
+    } else {
+        hand_out_at(bytes, offset, out)
+    }
+}
+
+/// Any record of an unwind RVA.
+#[inline(never)]
+fn hand_out_far(view: &View, table: &Range, unwind: u32, out: &mut UnwindRecord) -> u32
+    ensures { HandsOutRecord view.now.bytes.now (links_at view.now.bytes.now view.now.image.now
+        view.now.sections.now table.now) unwind
+        result out.old out.new }
+{
+    hand_out(read_record(view, table, unwind), out)
+}
+
 /// Reads the unwind record of an unwind RVA, which is a field of a function of the table at this range. An odd RVA is a
 /// link to another entry of the table; links are followed to their end.
 ///
 /// Errors: `SHORT` where the table is not inside the bytes; `UNMAPPED`, `FUNCTION_LINK` where a link leads to no entry,
 /// `FUNCTION_CYCLE` where the links never end; `UNMAPPED` of the record's RVA; `SHORT`, `UNWIND_VERSION` of the record.
 #[unsafe(no_mangle)]
+#[tactic(auto, using(crate::proofs::EvenRecords::near_done, crate::proofs::EvenRecords::near_any))]
 pub extern "C" fn pe_c_unwind_record(
     view: &View,
     table: &Range,
@@ -310,7 +467,16 @@ pub extern "C" fn pe_c_unwind_record(
         view.now.sections.now table.now) unwind
         result out.old out.new }
 {
-    hand_out(read_record(view, table, unwind), out)
+    match near_offset(view, table, unwind) {
+        Some(offset) => {
+            if put_plain(view.bytes, offset, out) {
+                DONE
+            } else {
+                hand_out_handled(view.bytes, offset, out)
+            }
+        }
+        None => hand_out_far(view, table, unwind, out),
+    }
 }
 
 /// Whether an offset counts from the frame register, and the offset in bytes.

@@ -12,7 +12,7 @@ use super::options::ParseOptions;
 use super::section_table::SectionTable;
 use crate::error;
 use crate::raw::{self, Index, Refusal, View};
-use core::{fmt, iter::FusedIterator, mem::size_of};
+use core::{fmt, iter::FusedIterator, mem::size_of, mem::MaybeUninit};
 use pe_c::sys;
 use scroll::{Pread, Pwrite, SizeWith};
 
@@ -223,17 +223,29 @@ pub struct UnwindCode {
 }
 
 impl UnwindCode {
-    // Out of line it writes each operation where the result goes, and in line it puts it together of pieces.
-    #[inline(never)]
+    #[inline(always)]
     fn of(it: &sys::Code) -> error::Result<Self> {
+        add_code(it, (), |(), code| code)
+    }
+
+    fn pushing(it: &sys::Code) -> Self {
+        UnwindCode { code_offset: it.code_offset, operation: UnwindOperation::PushNonVolatile(Register(it.operand)) }
+    }
+
+    fn allocating(it: &sys::Code) -> Self {
+        UnwindCode { code_offset: it.code_offset, operation: UnwindOperation::Alloc(it.value) }
+    }
+
+    #[inline(never)]
+    fn of_any(it: &sys::Code) -> error::Result<Self> {
         let register = Register(it.operand);
         let offset = match it.from_frame {
             0 => StackFrameOffset::RSP(it.value),
             _ => StackFrameOffset::FP(it.value),
         };
         let operation = match it.operation {
-            0 => UnwindOperation::PushNonVolatile(register),
-            1 => UnwindOperation::Alloc(it.value),
+            0 => return Ok(Self::pushing(it)),
+            1 => return Ok(Self::allocating(it)),
             2 => UnwindOperation::SetFPRegister,
             3 => UnwindOperation::SaveNonVolatile(register, offset),
             4 => UnwindOperation::SaveXMM(register, offset),
@@ -248,11 +260,24 @@ impl UnwindCode {
     }
 }
 
+/// Hands on a code. Nearly all push a register or allocate: in an arm of its own each is written where it goes, and else it is put
+/// together of pieces.
+#[inline(always)]
+fn add_code<A, B>(it: &sys::Code, all: A, mut add: impl FnMut(A, error::Result<UnwindCode>) -> B) -> B {
+    match it.operation {
+        0 => add(all, Ok(UnwindCode::pushing(it))),
+        1 => add(all, Ok(UnwindCode::allocating(it))),
+        _ => add(all, UnwindCode::of_any(it)),
+    }
+}
+
 /// The codes of an unwind record, one after the other.
 #[derive(Clone, Debug)]
 pub struct UnwindCodeIterator<'a> {
     bytes: &'a [u8],
-    batch: raw::Batch<sys::Walk, sys::Code, TAKEN>,
+    /// What is left after those that were taken.
+    walk: sys::Walk,
+    taken: raw::Few<sys::Code>,
 }
 
 impl Iterator for UnwindCodeIterator<'_> {
@@ -260,51 +285,55 @@ impl Iterator for UnwindCodeIterator<'_> {
 
     #[inline]
     fn next(&mut self) -> Option<Self::Item> {
-        match self.batch.next() {
-            Some(it) => Some(UnwindCode::of(it)),
+        match self.taken.next() {
+            Some(it) => Some(UnwindCode::of(&it)),
             None => self.after_more(),
         }
     }
 
-    fn fold<B, F: FnMut(B, Self::Item) -> B>(mut self, mut all: B, mut add: F) -> B {
-        let mut part = self.batch.rest();
-        loop {
-            for it in part {
-                all = add(all, UnwindCode::of(it));
-            }
-            part = match self.more() {
-                Ok([]) => return all,
-                Ok(more) => more,
-                Err(refusal) => return add(all, Err(refusal.into())),
-            };
+    #[inline]
+    fn fold<B, F: FnMut(B, Self::Item) -> B>(self, mut all: B, mut add: F) -> B {
+        let UnwindCodeIterator { bytes, mut walk, mut taken } = self;
+        while let Some(it) = taken.next() {
+            all = add_code(&it, all, &mut add);
         }
+        let mut room = raw::room::<_, TAKEN>();
+        while walk.left.length != 0 {
+            match View::of_bytes(bytes).list_codes(&mut walk, &mut room) {
+                Ok(codes) => {
+                    for it in codes {
+                        all = add_code(it, all, &mut add);
+                    }
+                }
+                Err(refusal) => return add(all, Err(refusal.into())),
+            }
+        }
+        all
     }
 
     fn size_hint(&self) -> (usize, Option<usize>) {
-        let left = raw::left(self.bytes, self.batch.walk().map(|it| it.left));
-        let (slots, taken) = (raw::items_left(left, UNWIND_CODE_SIZE).0, self.batch.taken());
+        let left = raw::left(self.bytes, Some(self.walk.left));
+        let (slots, taken) = (raw::items_left(left, UNWIND_CODE_SIZE).0, self.taken.count());
         (taken + slots.min(1), Some(taken + slots))
     }
 }
 
 impl UnwindCodeIterator<'_> {
-    /// The next codes, once all that were taken are returned.
-    #[inline(always)]
-    fn more(&mut self) -> Result<&[sys::Code], Refusal> {
-        let bytes = self.bytes;
-        self.batch.fill(|walk, room| match walk.left.length {
-            // Most records have fewer codes than an iterator takes: the call that says so is spared.
-            0 => Ok(0),
-            _ => View::of_bytes(bytes).list_codes(walk, room),
-        })
-    }
-
+    /// The next code, once all that were taken are returned. After an error there are no more.
     #[inline(never)]
     fn after_more(&mut self) -> Option<error::Result<UnwindCode>> {
-        if let Err(refusal) = self.more() {
-            return Some(Err(refusal.into()));
+        if self.walk.left.length == 0 {
+            return None;
         }
-        Some(UnwindCode::of(self.batch.next()?))
+        let mut room = raw::room::<_, { raw::FEW }>();
+        match View::of_bytes(self.bytes).list_codes(&mut self.walk, &mut room) {
+            Ok(codes) => self.taken.set(codes),
+            Err(refusal) => {
+                self.walk.left.length = 0;
+                return Some(Err(refusal.into()));
+            }
+        }
+        Some(UnwindCode::of(&self.taken.next()?))
     }
 }
 
@@ -348,9 +377,8 @@ impl<'a> UnwindInfo<'a> {
 
     /// The record of an unwind RVA.
     fn by(view: View<'a, '_>, table: &sys::Range, unwind: u32) -> error::Result<Self> {
-        let mut found = sys::Record::default();
-        match view.unwind_record(table, unwind, &mut found) {
-            Ok(()) => Self::of(view.bytes, &found),
+        match view.unwind_record(table, unwind, &mut MaybeUninit::uninit()) {
+            Ok(found) => Self::of(view.bytes, found),
             Err(Refusal::UNMAPPED) => Err(unmapped("unwind", unwind)),
             Err(other) => Err(other.into()),
         }
@@ -358,10 +386,11 @@ impl<'a> UnwindInfo<'a> {
 
     #[inline(always)]
     fn of(bytes: &'a [u8], it: &sys::Record) -> error::Result<Self> {
+        let code_bytes = raw::slice(bytes, it.codes.left)?;
         let handler = match it.handler_kind {
+            0 => None,
             1 => Some(UnwindHandler::ExceptionHandler(it.handler, raw::slice(bytes, it.handler_data)?)),
-            2 => Some(UnwindHandler::TerminationHandler(it.handler, raw::slice(bytes, it.handler_data)?)),
-            _ => None,
+            _ => Some(UnwindHandler::TerminationHandler(it.handler, raw::slice(bytes, it.handler_data)?)),
         };
         Ok(UnwindInfo {
             version: it.codes.version,
@@ -370,7 +399,7 @@ impl<'a> UnwindInfo<'a> {
             frame_register_offset: it.frame_register_offset,
             chained_info: (it.is_chained != 0).then(|| it.chained.into()),
             handler,
-            code_bytes: raw::slice(bytes, it.codes.left)?,
+            code_bytes,
         })
     }
 
@@ -383,7 +412,7 @@ impl<'a> UnwindInfo<'a> {
             frame_register: self.frame_register.0,
             ..Default::default()
         };
-        UnwindCodeIterator { bytes: self.code_bytes, batch: raw::Batch::new(walk) }
+        UnwindCodeIterator { bytes: self.code_bytes, walk, taken: raw::Few::default() }
     }
 
     /// The scope table of an exception handler of C, or `None` where the data are no such table. Of another handler, for
@@ -425,8 +454,7 @@ impl<'a> IntoIterator for &'_ UnwindInfo<'a> {
 /// The function table of an image. It can be read with entries of x64 or of ARM64, whichever it was parsed for.
 pub struct ExceptionData<'a> {
     bytes: &'a [u8],
-    offset: usize,
-    size: usize,
+    table: sys::Range,
     file_alignment: u32,
     /// What calls on a record in a file take: made once for all functions.
     in_a_file: sys::ImageInfo,
@@ -484,35 +512,34 @@ impl<'a> ExceptionData<'a> {
         let Some(table) = found.map_err(|it| directory_error(view, it))? else { return Ok(None) };
         Ok(Some(ExceptionData {
             bytes: view.bytes,
-            offset: raw::narrow(table.offset)?,
-            size: raw::narrow(table.length)?,
+            table,
             file_alignment: view.info.file_alignment,
             in_a_file: image_of_records(view.info.file_alignment, &ParseOptions::default()),
         }))
     }
 
-    #[inline]
-    fn table(&self) -> sys::Range {
-        sys::Range { offset: self.offset as u64, length: self.size as u64 }
+    /// In bytes.
+    fn size(&self) -> usize {
+        self.table.length as usize
     }
 
     fn data(&self) -> &'a [u8] {
-        raw::left(self.bytes, Some(self.table()))
+        raw::left(self.bytes, Some(self.table))
     }
 
     /// The number of x64 functions.
     pub fn len(&self) -> usize {
-        self.size / RUNTIME_FUNCTION_SIZE
+        self.size() / RUNTIME_FUNCTION_SIZE
     }
 
     /// The number of ARM64 functions.
     pub fn len_arm64(&self) -> usize {
-        self.size / size_of::<Arm64RuntimeFunction>()
+        self.size() / size_of::<Arm64RuntimeFunction>()
     }
 
     /// Whether the table is empty.
     pub fn is_empty(&self) -> bool {
-        self.size == 0
+        self.table.length == 0
     }
 
     /// The x64 functions, sorted by their start RVAs.
@@ -522,7 +549,7 @@ impl<'a> ExceptionData<'a> {
 
     /// The x64 function with an index. Error: `Malformed` where there is none.
     pub fn get_function(&self, index: usize) -> error::Result<RuntimeFunction> {
-        let found = raw::function_at(self.bytes, &self.table(), index as u64)?;
+        let found = raw::function_at(self.bytes, &self.table, index as u64)?;
         Ok(found.ok_or(Refusal::SHORT)?.into())
     }
 
@@ -533,14 +560,14 @@ impl<'a> ExceptionData<'a> {
 
     /// The ARM64 function with an index. Error: `Malformed` where there is none.
     pub fn get_function_arm64(&self, index: usize) -> error::Result<Arm64RuntimeFunction> {
-        let found = raw::arm64_function_at(self.bytes, &self.table(), index as u64)?;
+        let found = raw::arm64_function_at(self.bytes, &self.table, index as u64)?;
         Ok(found.ok_or(Refusal::SHORT)?.into())
     }
 
     /// The x64 function that covers an RVA.
     pub fn find_function(&self, rva: u32) -> error::Result<Option<RuntimeFunction>> {
-        match raw::find_function(self.bytes, &self.table(), rva) {
-            Ok(found) => Ok(found.map(RuntimeFunction::from)),
+        match raw::find_function(self.bytes, &self.table, rva, &mut MaybeUninit::uninit()) {
+            Ok(found) => Ok(found.map(|it| (*it).into())),
             Err(refusal) => Err(refusal.into()),
         }
     }
@@ -585,10 +612,10 @@ impl<'a> ExceptionData<'a> {
         // A link leads to other RVAs.
         let first = if unwind % 2 == 0 { raw::first_around(sections, unwind) } else { None };
         if let Some(section) = first {
-            let view = View::of(self.bytes, info, core::slice::from_ref(&section));
-            let mut found = sys::Record::default();
-            if view.unwind_record(&self.table(), unwind, &mut found).is_ok() {
-                return UnwindInfo::of(self.bytes, &found);
+            let view = View::of(self.bytes, info, core::slice::from_ref(section));
+            // One that is no link needs none of the table.
+            if let Ok(found) = view.unwind_record(&NO_TABLE, unwind, &mut MaybeUninit::uninit()) {
+                return UnwindInfo::of(self.bytes, found);
             }
         }
         self.unwind_info_by_all(info, unwind, sections)
@@ -603,7 +630,7 @@ impl<'a> ExceptionData<'a> {
         sections: &[SectionTable],
     ) -> error::Result<UnwindInfo<'a>> {
         let sections = raw::sections_of(sections)?;
-        UnwindInfo::by(View::of(self.bytes, info, &sections), &self.table(), unwind)
+        UnwindInfo::by(View::of(self.bytes, info, &sections), &self.table, unwind)
     }
 
     /// The unwind record of an ARM64 function, or `None` where it is packed. Errors: `Malformed` where the record is unmapped,
@@ -622,6 +649,9 @@ impl<'a> ExceptionData<'a> {
         Some(offset.ok_or_else(|| unmapped("unwind", rva)).and_then(|at| Arm64UnwindInfo::parse(self.bytes, at)))
     }
 }
+
+/// No function table.
+static NO_TABLE: sys::Range = sys::Range { offset: 0, length: 0 };
 
 /// An image whose records are read, by an RVA alone.
 fn image_of_records(file_alignment: u32, opts: &ParseOptions) -> sys::ImageInfo {
@@ -647,8 +677,8 @@ impl fmt::Debug for ExceptionData<'_> {
     fn fmt(&self, f: &mut fmt::Formatter<'_>) -> fmt::Result {
         f.debug_struct("ExceptionData")
             .field("file_alignment", &self.file_alignment)
-            .field("offset", &format_args!("{:#x}", self.offset))
-            .field("size", &format_args!("{:#x}", self.size))
+            .field("offset", &format_args!("{:#x}", self.table.offset))
+            .field("size", &format_args!("{:#x}", self.table.length))
             .field("len", &self.len())
             .finish()
     }
@@ -1128,7 +1158,7 @@ impl Arm64UnwindCodeIterator<'_> {
     fn after_more(&mut self) -> Option<error::Result<Arm64UnwindCodeData>> {
         let bytes = self.bytes;
         let filled = self.batch.fill(|walk, room| match walk.left.length {
-            0 => Ok(0),
+            0 => Ok(&[]),
             _ => View::of_bytes(bytes).list_arm64_codes(walk, room),
         });
         if let Err(refusal) = filled {

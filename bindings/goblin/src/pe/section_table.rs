@@ -6,18 +6,20 @@ use super::relocation::Relocations;
 use crate::error;
 use crate::raw;
 use crate::strtab::Strtab;
+use core::fmt;
 use pe_c::sys;
 use scroll::{ctx, Pwrite};
 use std::borrow::Cow;
 
-/// A section header, `IMAGE_SECTION_HEADER`, and the name that it leads to.
+/// A section header, `IMAGE_SECTION_HEADER`, and the name that it leads to. The fields of the header stand one after the other, as the
+/// library takes them.
 #[repr(C)]
-#[derive(Debug, PartialEq, Clone, Default)]
+#[derive(PartialEq, Clone, Default)]
 pub struct SectionTable {
-    /// Padded with zeros; a slash and a number where the name is in the string table.
-    pub name: [u8; 8],
     /// The name in the string table.
     pub real_name: Option<String>,
+    /// Padded with zeros; a slash and a number where the name is in the string table.
+    pub name: [u8; 8],
     /// Bytes in memory.
     pub virtual_size: u32,
     /// RVA of its first byte.
@@ -36,6 +38,25 @@ pub struct SectionTable {
     pub number_of_linenumbers: u16,
     /// `IMAGE_SCN_` flags.
     pub characteristics: u32,
+}
+
+impl fmt::Debug for SectionTable {
+    /// In the order of goblin's fields.
+    fn fmt(&self, f: &mut fmt::Formatter<'_>) -> fmt::Result {
+        f.debug_struct("SectionTable")
+            .field("name", &self.name)
+            .field("real_name", &self.real_name)
+            .field("virtual_size", &self.virtual_size)
+            .field("virtual_address", &self.virtual_address)
+            .field("size_of_raw_data", &self.size_of_raw_data)
+            .field("pointer_to_raw_data", &self.pointer_to_raw_data)
+            .field("pointer_to_relocations", &self.pointer_to_relocations)
+            .field("pointer_to_linenumbers", &self.pointer_to_linenumbers)
+            .field("number_of_relocations", &self.number_of_relocations)
+            .field("number_of_linenumbers", &self.number_of_linenumbers)
+            .field("characteristics", &self.characteristics)
+            .finish()
+    }
 }
 
 /// Bytes of a section header in a file.

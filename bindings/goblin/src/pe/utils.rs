@@ -21,7 +21,8 @@ pub fn find_offset(rva: usize, sections: &[SectionTable], file_alignment: u32, o
     let rva = u32::try_from(rva).ok()?;
     let info = raw::image_with(Index::Export, DataDirectory::default(), file_alignment, opts);
     let by = |sections: &[_]| View::of(&[], &info, sections).offset(rva);
-    by(raw::first_around(sections, rva).as_slice()).or_else(|| by(&raw::sections_of(sections).ok()?))
+    let first = raw::first_around(sections, rva).map_or(&[][..], core::slice::from_ref);
+    by(first).or_else(|| by(&raw::sections_of(sections).ok()?))
 }
 
 /// The same, and an error with a text in place of `None`.

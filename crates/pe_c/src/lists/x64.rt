@@ -1,28 +1,31 @@
 //! Lists of functions of x64 images, and of the codes of unwind records. The range of what is listed is tested once a call, not
 //! once an entry.
 
-ghost use Rattle.std.specs.Prelude.{◌≡◌, ◌+◌, ◌^◌, ◌≤◌, List, ℕ, Ok, IfSome, length};
+ghost use Rattle.std.specs.Prelude.{◌≡◌, ◌+◌, ◌^◌, ◌<◌, ◌≤◌, List, ℕ, Ok, IfSome, length};
 ghost use Rattle.pe_unwind.specs.ExceptionTable.{function_of};
 ghost use Rattle.pe_c.specs.CodeBytes.{ReturnsAny, IsFrequent, StepsBytes};
 ghost use Rattle.pe_c.specs.HandsOut.{result_number};
-ghost use Rattle.pe_c.specs.Lists.{HandsOutList, Numbered, StepsByIndex, by_number, if_there};
+ghost use Rattle.pe_c.specs.Lists.{HandsOutList, Numbered, PutsList, StepsByIndex, by_number, if_there};
 ghost use Rattle.pe_c.specs.Ranges.{bytes_at};
 ghost use Rattle.pe_c.specs.RecordCodes.{HandsOutRecordCodes};
 ghost use Rattle.pe_c.specs.Unwinding.{StepsCodes, flat_answer, function_in, links_at};
 
 use crate::lists::{Steps, hand_out_list, if_there, next_index};
 use crate::ranges::{Range, slice_of};
-use crate::results::{DONE, number_of};
+use crate::results::{DONE, ROOM, number_of};
 use crate::unwinding::{
     Code, CodeWalk, UnwindRecord, flat, function_in, next_code, plain, read_record,
 };
 use crate::view::View;
+use pe_core::read_u16;
 use pe_unwind::{Register, RuntimeFunction, UnwindCode, UnwindCodeIterator};
 
 /// The size of a slot of an unwind code in bytes.
 const SIZE_OF_SLOT: usize = 2;
 
 const UWOP_PUSH_NONVOL: u8 = 0;
+
+const UWOP_ALLOC_LARGE: u8 = 1;
 
 const UWOP_ALLOC_SMALL: u8 = 2;
 
@@ -117,19 +120,24 @@ struct CodeBytes<'a> {
     frame_register: u8,
 }
 
-/// The code at the start of the bytes where it pushed a register or allocated a little: nearly all codes did, and these are read
-/// without what others take.
+/// The code at the start of the bytes, and its size, where it pushed a register or allocated less than 512 KiB: nearly all codes did,
+/// and these are read without what others take.
 #[inline(always)]
-fn frequent_code(bytes: &[u8]) -> Option<Code>
-    ensures { IfSome result (IsFrequent bytes.now) }
+fn frequent_code(bytes: &[u8]) -> Option<(Code, usize)>
+    ensures { IfSome result (λ found. IsFrequent bytes.now found.0 found.1) }
 {
     if bytes.len() < SIZE_OF_SLOT {
         return None;
     }
     let info = bytes[1] / 16;
     match bytes[1] % 16 {
-        UWOP_PUSH_NONVOL => Some(plain(bytes[0], 0, info, 0)),
-        UWOP_ALLOC_SMALL => Some(plain(bytes[0], 1, 0, u32::from(info) * 8 + 8)),
+        UWOP_PUSH_NONVOL => Some((plain(bytes[0], 0, info, 0), SIZE_OF_SLOT)),
+        UWOP_ALLOC_SMALL => Some((plain(bytes[0], 1, 0, u32::from(info) * 8 + 8), SIZE_OF_SLOT)),
+        // Its info is 0 where one more slot has the size.
+        _ if bytes[1] == UWOP_ALLOC_LARGE && bytes.len() >= 2 * SIZE_OF_SLOT => Some((
+            plain(bytes[0], 1, 0, u32::from(read_u16(bytes, SIZE_OF_SLOT)) * 8),
+            2 * SIZE_OF_SLOT,
+        )),
         _ => None,
     }
 }
@@ -147,26 +155,67 @@ fn any_code(codes: CodeBytes<'_>) -> (Result<Option<Code>, u32>, usize)
     (flat_answer(given), codes.bytes_left())
 }
 
-/// Steps over the bytes of codes.
-#[derive(Clone, Copy)]
-struct InBytes;
-
-impl<'a> Steps<CodeBytes<'a>, Code> for InBytes {
-    ghost steps = { λ s. Numbered result_number StepsBytes };
-
-    #[tactic(auto, using(crate::proofs::CodeBytes::any_step, crate::proofs::CodeBytes::nothing_step))]
-    fn step(&self, codes: &mut CodeBytes<'a>) -> Result<Option<Code>, u32> {
+/// Writes to the start of an array what steps over the bytes return, and returns how many entries that are, as `fill` does. A frequent
+/// code goes straight to its entry.
+#[inline(always)]
+#[tactic(auto, using(crate::proofs::CodeBytes::any_step, crate::proofs::CodeBytes::nothing_step))]
+fn fill_codes(codes: &mut CodeBytes<'_>, entries: &mut [Code]) -> Result<usize, u32>
+    requires { 0 < length entries.old }
+    ensures { PutsList (Numbered result_number StepsBytes) codes.old codes.new entries.old entries.new result }
+{
+    let mut count = 0;
+    while count < entries.len() {
         let bytes = codes.left;
-        if let Some(code) = frequent_code(bytes) {
-            codes.left = bytes.split_at(SIZE_OF_SLOT).1;
-            return Ok(Some(code));
+        if let Some((code, size)) = frequent_code(bytes) {
+            codes.left = bytes.split_at(size).1;
+            entries[count] = code;
+            count += 1;
+        } else if bytes.is_empty() {
+            return Ok(count);
+        } else {
+            let (given, left) = any_code(*codes);
+            let rest = bytes.split_at(bytes.len() - left).1;
+            match given {
+                Ok(answer) => {
+                    codes.left = rest;
+                    match answer {
+                        Some(code) => {
+                            entries[count] = code;
+                            count += 1;
+                        }
+                        None => return Ok(count),
+                    }
+                }
+                Err(error) => {
+                    if count == 0 {
+                        codes.left = rest;
+                        return Err(error);
+                    }
+                    // The next call returns the error.
+                    return Ok(count);
+                }
+            }
         }
-        if bytes.is_empty() {
-            return Ok(None);
+    }
+    Ok(count)
+}
+
+/// Lists codes in bytes, as `hand_out_list` does.
+#[inline(always)]
+#[tactic(auto, using(crate::proofs::FilledLists::hands_out_if, crate::proofs::FilledLists::refused_if))]
+fn list_in_bytes(codes: &mut CodeBytes<'_>, entries: &mut [Code], written: &mut u64) -> u32
+    ensures { HandsOutList (Numbered result_number StepsBytes) result
+        codes.old codes.new entries.old entries.new written.old written.new }
+{
+    if entries.is_empty() {
+        return ROOM;
+    }
+    match fill_codes(codes, entries) {
+        Ok(count) => {
+            *written = count as u64;
+            DONE
         }
-        let (given, left) = any_code(*codes);
-        codes.left = bytes.split_at(bytes.len() - left).1;
-        given
+        Err(error) => error,
     }
 }
 
@@ -185,7 +234,7 @@ fn list_bytes(left: &[u8], walk: &mut CodeWalk, entries: &mut [Code], written: &
         version: walk.version,
         frame_register: walk.frame_register,
     };
-    let number = hand_out_list(&InBytes, &mut codes, entries, written);
+    let number = list_in_bytes(&mut codes, entries, written);
     let after = codes.left.len() as u64;
     walk.left = Range {
         offset: walk.left.offset + (walk.left.length - after),
