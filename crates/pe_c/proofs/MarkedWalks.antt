@@ -100,11 +100,11 @@ module _ {W F : Type 0} (Calls : Process → F → Result F WalkEnd → Type 0) 
     found_up old new h.0 h.2,
   )
 
-  with_mark : (old new : W) → HandsOutNext Calls m p number old new → HandsOutNext Calls m p number (m.marked old) (m.marked new)
+  pub with_mark : (old new : W) → HandsOutNext Calls m p number old new → HandsOutNext Calls m p number (m.marked old) (m.marked new)
   with_mark old new h =
       subst (λ (n : ℕ). HandsOutBy Calls m n p number (m.marked old) (m.marked new)) (sym (keep.left old)) (up_by (m.remaining old) old new h)
 
-  abbrev IsLike : (W → Type 0) → W → Type 0
+  abbrev pub IsLike : (W → Type 0) → W → Type 0
   IsLike Is new = (other : W) × Is other × (m.marked other ≡ m.marked new)
 
   like : (old new made : W) → new ≡ m.marked made → m.marked made ≡ m.marked new
@@ -124,7 +124,7 @@ module _ {W F : Type 0} (Calls : Process → F → Result F WalkEnd → Type 0) 
       let it = found_down old new h.0 h.2 in
       (it.0, (h.0, subst (λ (v : FrameWalk Process F). Follows Calls v h.0) (keep.state p old) h.1, it.1), it.2)
 
-  without_mark : (old new : W) → HandsOutNext Calls m p number (m.marked old) new → IsLike (λ other. HandsOutNext Calls m p number old other) new
+  pub without_mark : (old new : W) → HandsOutNext Calls m p number (m.marked old) new → IsLike (λ other. HandsOutNext Calls m p number old other) new
   without_mark old new h =
       down_by (m.remaining old) old new (subst (λ (n : ℕ). HandsOutBy Calls m n p number (m.marked old) new) (keep.left old) h)
 

@@ -1,10 +1,10 @@
 //! Laws of minidumps: what the ranges that calls return have to do with the dump as pe_minidump reads it.
 
-ghost use Rattle.std.specs.Prelude.{◌≡◌, ℕ, List, Some, Ok, true};
+ghost use Rattle.std.specs.Prelude.{◌≡◌, ◌⊎◌, ℕ, List, Some, Ok, true};
 ghost use Rattle.pe_core.specs.Bytes.{range};
 ghost use Rattle.pe_core.specs.Header.{HeaderView};
 ghost use Rattle.pe_frame.specs.Arm64Walks as arm64;
-ghost use Rattle.pe_frame.specs.MemoryLists.{are_inside};
+ghost use Rattle.pe_frame.specs.MemoryLists.{are_inside, ascend};
 ghost use Rattle.pe_frame.specs.Walks.{Calls};
 ghost use Rattle.pe_frame.specs.declared.memory_list.MemoryPiece.{MemoryPiece};
 ghost use Rattle.pe_minidump.specs.Contexts.{context_arm64, context_x64};
@@ -79,18 +79,21 @@ pub fn memory_ranges_are_bytes()
 {}
 
 /// What `pe_c_next_frame` returns over the runs of pieces that lie in the memory, as `pe_c_memory_runs` writes them, it returns over
-/// these pieces too, for a walk without the mark `is_searched`: the walk over the memory of a dump in order is that over the memory as
-/// the dump lists it (`x64`). Runs ascend, so that the walk over them has the mark from then on. That over the pieces has it if
-/// they ascend; in all else the two walks are equal. So does `pe_c_next_arm64_frame` (`arm64`).
+/// these pieces too: the walk over the memory of a dump in order is that over the memory as the dump lists it (`x64`). The walks may
+/// differ by the mark `is_searched` before the call and after it, since runs ascend: that over the pieces has none, unless these
+/// ascend. So call after call the two stay equal but for the mark. So does `pe_c_next_arm64_frame` (`arm64`).
 pub fn walks_over_runs_are_over_pieces()
-    ensures x64 { (views : List ModuleView) (memory : List ℕ) (pieces runs : List MemoryPiece) (number : ℕ) (old new : StackWalk) →
-        AreRuns pieces runs → are_inside memory pieces ≡ true → old.is_searched ≡ 0 →
+    ensures x64 { (views : List ModuleView) (memory : List ℕ) (pieces runs : List MemoryPiece) (number : ℕ) (old older new : StackWalk) →
+        AreRuns pieces runs → are_inside memory pieces ≡ true → marked older ≡ marked old →
+        (older.is_searched ≡ 0) ⊎ (ascend pieces ≡ true) →
         HandsOutFrame Calls stack_walks views memory runs number old new →
-        (other : StackWalk) × HandsOutFrame Calls stack_walks views memory pieces number old other
-        × (marked other ≡ marked new) }
-    ensures arm64 { (views : List ModuleView) (memory : List ℕ) (pieces runs : List MemoryPiece) (number : ℕ) (old new : Arm64StackWalk) →
-        AreRuns pieces runs → are_inside memory pieces ≡ true → old.is_searched ≡ 0 →
+        (newer : StackWalk) × HandsOutFrame Calls stack_walks views memory pieces number older newer
+        × (marked newer ≡ marked new) }
+    ensures arm64 { (views : List ModuleView) (memory : List ℕ) (pieces runs : List MemoryPiece) (number : ℕ) (old older new : Arm64StackWalk) →
+        AreRuns pieces runs → are_inside memory pieces ≡ true →
+        arm64_walks.marked older ≡ arm64_walks.marked old →
+        (older.is_searched ≡ 0) ⊎ (ascend pieces ≡ true) →
         HandsOutFrame arm64.Calls arm64_stack_walks views memory runs number old new →
-        (other : Arm64StackWalk) × HandsOutFrame arm64.Calls arm64_stack_walks views memory pieces number old other
-        × (arm64_walks.marked other ≡ arm64_walks.marked new) }
+        (newer : Arm64StackWalk) × HandsOutFrame arm64.Calls arm64_stack_walks views memory pieces number older newer
+        × (arm64_walks.marked newer ≡ arm64_walks.marked new) }
 {}

@@ -3,13 +3,13 @@ use Rattle.pe_frame.specs.Walks.{Calls}
 use Rattle.pe_c.specs.Arm64StackWalks.{arm64_stack_walks}
 use Rattle.pe_c.specs.StackWalks.{stack_walks}
 use Rattle.pe_c.proofs.Arm64WalkFrames as arm64_frames
-use Rattle.pe_c.proofs.MarkedWalks.{unmarked}
-use Rattle.pe_c.proofs.RunWalks.{over_runs}
+use Rattle.pe_frame.specs.MemoryLists.{ascend}
+use Rattle.pe_c.proofs.RunWalks.{either_way, over_runs}
 use Rattle.pe_c.proofs.WalkFrames.{keep_marks}
 use Rattle.pe_c.proofs.laws.dumps.walks_over_runs_are_over_pieces.Goals as goal
 
 pub returns : goal.returns
 returns c = record {
-  x64 = λ views memory pieces runs number old new are inside zero given. over_runs Calls stack_walks keep_marks number memory pieces runs old new are inside (unmarked old.is_searched zero) views given;
-  arm64 = λ views memory pieces runs number old new are inside zero given. over_runs arm64.Calls arm64_stack_walks arm64_frames.keep_marks number memory pieces runs old new are inside (unmarked old.is_searched zero) views given;
+  x64 = λ views memory pieces runs number old older new are inside same either given. over_runs Calls stack_walks keep_marks number memory pieces runs old older new are inside same (either_way older.is_searched (ascend pieces) either) views given;
+  arm64 = λ views memory pieces runs number old older new are inside same either given. over_runs arm64.Calls arm64_stack_walks arm64_frames.keep_marks number memory pieces runs old older new are inside same (either_way older.is_searched (ascend pieces) either) views given;
 }
