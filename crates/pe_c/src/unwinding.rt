@@ -24,8 +24,8 @@ use crate::results::{DONE, NOTHING, hand_out, hand_out_some, number_of, options}
 use crate::view::View;
 use crate::walks::next_entry;
 use pe_core::{
-    ByteRange, COFF_MACHINE_X86_64, CountedTable, Result, SectionTable, TableEntry, mapped_offset,
-    read_u8, read_u32,
+    ByteRange, COFF_MACHINE_X86_64, CountedTable, Result, SectionTable, TableEntry, find_offset,
+    mapped_offset, read_u8, read_u32,
 };
 use pe_unwind::{
     ExceptionData, Register, RuntimeFunction, ScopeTableEntry, StackFrameOffset, UnwindCode,
@@ -341,7 +341,7 @@ fn offset_by_first(sections: &[SectionTable], alignment: u32, rva: usize) -> Opt
     Some(offset)
 }
 
-/// The file offset of the record of an even unwind RVA, where the first section covers it.
+/// The file offset of the record of an even unwind RVA, where there is one section, and that covers it.
 #[inline(always)]
 #[tactic(auto, using(crate::proofs::EvenRecords::near_offset))]
 fn near_offset(view: &View, table: &Range, unwind: u32) -> Option<usize>
@@ -350,7 +350,7 @@ fn near_offset(view: &View, table: &Range, unwind: u32) -> Option<usize>
         (Ok p)) }
 {
     let image = view.image;
-    if unwind % 2 == 1 || image.mode / 2 % 2 == 1 {
+    if unwind % 2 == 1 || view.sections.len() != 1 || image.mode / 2 % 2 == 1 {
         return None;
     }
     let _entries = slice_of(view.bytes, table).ok()?;
@@ -440,14 +440,55 @@ fn hand_out_handled(bytes: &[u8], offset: usize, out: &mut UnwindRecord) -> u32
     }
 }
 
-/// Any record of an unwind RVA.
+/// The file offset of the record of an even unwind RVA, where a section maps it.
+#[inline(always)]
+#[tactic(auto, using(crate::proofs::EvenRecords::near_offset))]
+fn even_offset(view: &View, table: &Range, unwind: u32) -> Option<usize>
+    ensures { IfSome result (λ p. FindsOffset (links_at view.now.bytes.now view.now.image.now
+        view.now.sections.now table.now) unwind
+        (Ok p)) }
+{
+    if unwind % 2 == 1 {
+        return None;
+    }
+    let _entries = slice_of(view.bytes, table).ok()?;
+    let image = view.image;
+    find_offset(
+        unwind as usize,
+        view.sections,
+        image.file_alignment,
+        &options(image.mode),
+    )
+}
+
+/// Any other record of an unwind RVA.
 #[inline(never)]
-fn hand_out_far(view: &View, table: &Range, unwind: u32, out: &mut UnwindRecord) -> u32
+fn hand_out_linked(view: &View, table: &Range, unwind: u32, out: &mut UnwindRecord) -> u32
     ensures { HandsOutRecord view.now.bytes.now (links_at view.now.bytes.now view.now.image.now
         view.now.sections.now table.now) unwind
         result out.old out.new }
 {
     hand_out(read_record(view, table, unwind), out)
+}
+
+/// A record of an unwind RVA, by all sections.
+#[inline(never)]
+#[tactic(auto, using(crate::proofs::EvenRecords::near_done, crate::proofs::EvenRecords::near_any))]
+fn hand_out_far(view: &View, table: &Range, unwind: u32, out: &mut UnwindRecord) -> u32
+    ensures { HandsOutRecord view.now.bytes.now (links_at view.now.bytes.now view.now.image.now
+        view.now.sections.now table.now) unwind
+        result out.old out.new }
+{
+    match even_offset(view, table, unwind) {
+        Some(offset) => {
+            if put_plain(view.bytes, offset, out) {
+                DONE
+            } else {
+                hand_out_handled(view.bytes, offset, out)
+            }
+        }
+        None => hand_out_linked(view, table, unwind, out),
+    }
 }
 
 /// Reads the unwind record of an unwind RVA, which is a field of a function of the table at this range. An odd RVA is a
