@@ -2310,7 +2310,7 @@ typedef struct {
     uint16_t minor_version;
     uint16_t number_of_named_entries;   /* which come first */
     uint16_t number_of_id_entries;
-    pe_c_range entries;             /* a walk for pe_c_next_resource_item */
+    pe_c_range entries;             /* a walk for pe_c_next_resource_item: of 65,535 entries at most */
 } pe_c_resource_directory;
 
 /* An entry of a directory, by its name. */
@@ -2341,14 +2341,14 @@ uint32_t pe_c_next_resource_leaf(const pe_c_view *view, pe_c_resource_walk *walk
     PE_C_RESULT(1, 2, 3);
 
 /* Returns the directory at an offset of a tree, which is that of a walk over leaves: at 0 the root, whose entries are types, else one
- * to which an entry leads. A hostile tree may lead to a directory again.
+ * to which an entry leads. A hostile tree may lead to a directory again, or many times: bound what you follow.
  * Errors: PE_C_SHORT where the tree is not inside the bytes, or the directory or its entries are not inside the tree. */
 uint32_t pe_c_resource_directory_at(const uint8_t *bytes, size_t length, const pe_c_range *tree, uint32_t offset,
                                     pe_c_resource_directory *out) PE_C_RESULT(3, 5);
 
 /* Returns the next entry of a directory of a tree: those with a name first.
- * Errors: PE_C_SHORT where the tree or the walk is not inside the bytes, or where an entry is truncated, after which the walk is over;
- * PE_C_SHORT of a name that is not inside the tree, after which the walk is past its entry. */
+ * Errors: PE_C_SHORT where the walk is not inside the bytes, or an entry is truncated, after which the walk is over; PE_C_SHORT where the
+ * tree is not inside the bytes, or a name is not inside the tree, after which the walk is past its entry. */
 uint32_t pe_c_next_resource_item(const uint8_t *bytes, size_t length, const pe_c_range *tree, pe_c_range *walk,
                                  pe_c_resource_item *out) PE_C_RESULT(3, 4, 5);
 

@@ -217,6 +217,7 @@ fn entries_of_a_directory(rt: HostRuntime) -> Result<(), Fail> {
         assert_eq!(rt; item(&bytes, tree, &mut walk), want);
     }
     let mut walk = range(0x38, 8);
-    assert_eq!(rt; item(&bytes, range(174, 1), &mut walk).0, SHORT);
+    let want = (SHORT, (NO_ITEM.0, NO_ITEM.1, [0x40, 0]));
+    assert_eq!(rt; item(&bytes, range(174, 1), &mut walk), want);
     Ok(())
 }

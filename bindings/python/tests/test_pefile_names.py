@@ -6,6 +6,7 @@ import ast
 import importlib.util
 import os
 import re
+import struct
 import unittest
 
 from pe_c import pefile as ours
@@ -85,6 +86,15 @@ class Gaps(unittest.TestCase):
         with self.assertRaises(NotInPeC) as caught:
             directory.TimeDateStamp
         self.assertEqual(caught.exception.reason, GAPS["IMAGE_RESOURCE_DIRECTORY.TimeDateStamp"])
+
+    def test_the_export_directory_has_each_field_of_the_file(self):
+        pe = opened("exports")
+        at = pe.get_offset_from_rva(pe.OPTIONAL_HEADER.DATA_DIRECTORY[0].VirtualAddress)
+        with open(os.path.join(IMAGES, "exports.bin"), "rb") as file:
+            numbers = struct.unpack_from("<IIHHIIIIIII", file.read(), at)
+        fields = ("Characteristics TimeDateStamp MajorVersion MinorVersion Name Base NumberOfFunctions NumberOfNames "
+                  "AddressOfFunctions AddressOfNames AddressOfNameOrdinals").split()
+        self.assertEqual(tuple(getattr(pe.DIRECTORY_ENTRY_EXPORT.struct, it) for it in fields), numbers)
 
     def test_missing_methods_and_names(self):
         pe = opened("exports")

@@ -31,8 +31,8 @@ impl Image<'_> {
     ///
     /// # Errors
     ///
-    /// In strict mode those of the first certificate that is invalid, and [`Error::CERTIFICATE_TABLE`] where the table is not in the
-    /// file; [`Error::NO_OPTIONAL_HEADER`]; [`Error::WRITE_OVERLAP`] where two unequal sections share a byte of the file;
+    /// In strict mode [`Error::CERTIFICATE_TABLE`] where the table is not in the file, and those of the first certificate that is
+    /// invalid; [`Error::NO_OPTIONAL_HEADER`]; [`Error::WRITE_OVERLAP`] where two unequal sections share a byte of the file;
     /// [`Error::WRITE_SECTION`] where the data of one are not in it; [`Error::MEMORY`] if the file cannot be allocated.
     pub fn write_whole(&self, sections: &[Section]) -> Result<Vec<u8>, Error> {
         let view = self.view_with(sections);
@@ -50,8 +50,8 @@ impl Image<'_> {
     ///
     /// # Errors
     ///
-    /// In strict mode those of the first certificate that is invalid, and [`Error::CERTIFICATE_TABLE`] where the table is not in the
-    /// file; [`Error::NO_OPTIONAL_HEADER`]; [`Error::WRITE_FIT`] where a certificate does not fit. Then the array is unchanged.
+    /// In strict mode [`Error::CERTIFICATE_TABLE`] where the table is not in the file, and those of the first certificate that is
+    /// invalid; [`Error::NO_OPTIONAL_HEADER`]; [`Error::WRITE_FIT`] where a certificate does not fit. Then the array is unchanged.
     pub fn write_certificates(&self, room: &mut [u8]) -> Result<u64, Error> {
         let view = self.view();
         let mut end = 0;

@@ -192,7 +192,7 @@ pub struct ResourceDirectory<'a> {
 }
 
 impl<'a> ResourceDirectory<'a> {
-    /// The entries, in their order. An item is the error [`Error::SHORT`] where its name is not inside the tree.
+    /// The entries, in their order. An item is an error, and the last one: [`Error::SHORT`] where its name is not inside the tree.
     pub fn items(&self) -> ResourceItems<'a> {
         ResourceItems { bytes: self.bytes, tree: self.tree, left: self.entries }
     }
@@ -222,10 +222,14 @@ impl<'a> Iterator for ResourceItems<'a> {
 
     fn next(&mut self) -> Option<Self::Item> {
         let found = look(self.bytes, sys::pe_c_next_resource_item, &self.tree, &mut self.left as *mut _).transpose()?;
-        Some(found.and_then(|it: sys::ResourceItem| {
+        let item = found.and_then(|it: sys::ResourceItem| {
             let name = name_of(it.name, self.bytes)?;
             Ok(ResourceItem { name, offset: it.offset, is_directory: it.is_directory != 0 })
-        }))
+        });
+        if item.is_err() {
+            self.left = sys::Range::default();
+        }
+        Some(item)
     }
 }
 

@@ -12,7 +12,8 @@ pub(crate) type Look<M, N, T> = unsafe extern "C" fn(*const u8, usize, *const M,
 pub(crate) fn look<M, N, T: Default>(bytes: &[u8], call: Look<M, N, T>, more: &M, n: N) -> Result<Option<T>, Error> {
     let mut out = T::default();
     // SAFETY: the call is one of the declarations of `sys`. The pointer and the length are those of one slice, `more`
-    // and `out` are lent for the call, and the library requires nothing else.
+    // and `out` are lent for the call, `n` is a number or comes from a reference to what the caller lends for it, and the library
+    // requires nothing else.
     let number = unsafe { call(bytes.as_ptr(), bytes.len(), more, n, &mut out) };
     returned(number, out)
 }

@@ -7,7 +7,7 @@ use facts::{as_loaded, facts};
 use made::*;
 use pe_c::{
     Arm64Operation, Arm64Unwinding, DirectoryIndex, Error, Handler, Image, Layout, Mode, Offset, Operation, Placement,
-    Register, Relocation, Repro, SymbolKey, VersionName,
+    Register, Relocation, Repro, ResourceName, SymbolKey, VersionName,
 };
 
 fn strict(bytes: &[u8]) -> Image<'_> {
@@ -731,6 +731,41 @@ fn exports_have_ordinals_and_forwarders() {
     assert_eq!(indices, [1, 0]);
     assert_eq!((table.get(4), table.get(u64::MAX)), (None, None));
     assert!(strict(SMALL).export_addresses().unwrap().is_none());
+}
+
+/// Each field of the export directory is the number that the image was made with.
+#[test]
+fn the_export_directory_has_fields() {
+    let bytes = with_exports();
+    let image = strict(&bytes);
+    let fields = image.export_directory().unwrap().unwrap();
+    assert_eq!((fields.characteristics, fields.time_date_stamp, fields.major_version, fields.minor_version), (0, 0, 0, 0));
+    assert_eq!((fields.base, fields.number_of_functions, fields.number_of_names), (5, 4, 2));
+    let table = bytes.windows(4).position(|it| it == 0x9_0000_u32.to_le_bytes()).unwrap() - 4;
+    assert_eq!(offset(fields.address_of_functions) as usize, table);
+    assert!(bytes[offset(fields.name) as usize..].starts_with(b"made.dll\0"));
+    let names = offset(fields.address_of_names) as usize;
+    let first = u32::from_le_bytes(bytes[names..names + 4].try_into().unwrap());
+    assert!(bytes[offset(first) as usize..].starts_with(b"first\0"));
+    assert_eq!(bytes[offset(fields.address_of_name_ordinals) as usize..][..4], [1, 0, 0, 0]);
+    assert!(strict(SMALL).export_directory().unwrap().is_none());
+}
+
+/// The root of a tree, and the directories below it, down to a data entry.
+#[test]
+fn resource_directories_have_entries() {
+    let bytes = with_resources();
+    let image = strict(&bytes);
+    let leaves = image.resource_leaves().unwrap().unwrap();
+    let root = leaves.directory(0).unwrap();
+    assert_eq!((root.number_of_named_entries, root.number_of_id_entries), (0, 2));
+    let items = |at: u32| -> Vec<_> {
+        leaves.directory(at).unwrap().items().map(Result::unwrap).map(|it| (it.name, it.offset, it.is_directory)).collect()
+    };
+    assert_eq!(items(0), [(ResourceName::Id(16), 32, true), (ResourceName::Id(24), 80, true)]);
+    assert_eq!(items(32), [(ResourceName::Id(1), 56, true)]);
+    assert_eq!(items(56), [(ResourceName::Id(1033), 128, false)]);
+    assert_eq!(leaves.directory(u32::MAX).err(), Some(Error::SHORT));
 }
 
 #[test]

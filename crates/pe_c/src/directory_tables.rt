@@ -67,7 +67,7 @@ pub struct ResourceDirectory {
     pub number_of_named_entries: u16,
     /// Entries with an id.
     pub number_of_id_entries: u16,
-    /// The entries, as a walk.
+    /// The entries, as a walk: of 65,535 at most.
     pub entries: Range,
 }
 
@@ -230,8 +230,8 @@ fn next_resource_item(bytes: &[u8], tree: &Range, walk: &mut Range) -> Result<Op
 /// Reads the next entry of a resource directory, whose `entries` are the walk: `NOTHING` at its end. First come entries with a
 /// name. An entry leads to the directory at its offset, or else to a data entry, whose numbers `pe_c_next_resource_leaf` returns.
 ///
-/// Errors: `SHORT` where `tree` or the walk is not inside the bytes, or an entry is truncated: then the walk is over; `SHORT` where a
-/// name is not inside the tree: then the walk is past its entry.
+/// Errors: `SHORT` where the walk is not inside the bytes, or an entry is truncated: then the walk is over; `SHORT` where `tree` is not
+/// inside the bytes, or a name is not inside the tree: then the walk is past its entry.
 #[unsafe(no_mangle)]
 pub extern "C" fn pe_c_next_resource_item(
     bytes: &[u8],

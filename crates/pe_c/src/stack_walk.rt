@@ -392,7 +392,7 @@ pub extern "C" fn pe_c_next_frame(
 /// `count` to how many there are. `NOTHING` where the walk was over before all were filled; of an empty array all are filled, also
 /// where the walk is over.
 ///
-/// The modules are tested once a call, and the pieces of memory in the first of a walk.
+/// The modules are tested once a call, and so are the pieces of memory of a walk without the mark `is_searched`.
 ///
 /// Errors, which change nothing: those of `pe_c_next_frame`.
 #[unsafe(no_mangle)]

@@ -4,8 +4,8 @@ STRUCTURE.FIELD.
 Such a name is an attribute that is missing: hasattr() is False, and the error says which name it is and why."""
 from __future__ import annotations
 
-EXPORT = "the library for C does not return where the numbers of an export stand"
-TREE = "the library for C lists resources, not their directories"
+EXPORT = "the module has no offsets of the parts of an export"
+TREE = "the module lists resources, not their directories"
 LENGTHS = "the library for C returns version blocks without their lengths and offsets"
 CONFIG = "pefile joins the names of two fields of PE32; each has its own here"
 RESERVED = "the library for C does not return what is reserved"
