@@ -85,9 +85,23 @@ fn fields_of_the_export_directory(rt: HostRuntime) -> Result<(), Fail> {
         assert_eq!(rt; fields_of(&bytes, 0x10, mode | MAPPED), (DONE, want));
         assert_eq!(rt; fields_of(&bytes, 0, mode), (NOTHING, NO_FIELDS));
     }
-    put(&mut bytes, &[(0x2D, &[0x30]), (0x27, &[0xFF]), (0x2B, &[0xFF])]);
-    let rest = [0x090A_0B0C, 0x8007, 0xFF00_0003, 0xFF00_0006, 0x3050, 0x1060, 0x1080];
-    assert_eq!(rt; fields_of(&bytes, 0x1010, STRICT), (DONE, (stamps, versions, rest)));
+    put(
+        &mut bytes,
+        &[(0x2D, &[0x30]), (0x27, &[0xFF]), (0x2B, &[0xFF])],
+    );
+    let rest = [
+        0x090A_0B0C,
+        0x8007,
+        0xFF00_0003,
+        0xFF00_0006,
+        0x3050,
+        0x1060,
+        0x1080,
+    ];
+    assert_eq!(rt;
+        fields_of(&bytes, 0x1010, STRICT),
+        (DONE, (stamps, versions, rest))
+    );
     assert_eq!(rt; fields_of(&bytes, 0x3000, STRICT), (UNMAPPED, NO_FIELDS));
     assert_eq!(rt; fields_of(&bytes, 0x1088, STRICT).0, DONE);
     assert_eq!(rt; fields_of(&bytes, 0x1089, STRICT), (SHORT, NO_FIELDS));
