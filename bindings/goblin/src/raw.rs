@@ -771,6 +771,7 @@ calls_of_an_image! {
     function_table: pe_c_function_table() -> Range;
     arm64_table: pe_c_arm64_table() -> Range;
     arm64_unwind_record: pe_c_arm64_unwind_record(function: &sys::Arm64Function) -> sys::Arm64Record;
+    export_directory: pe_c_export_directory() -> sys::ExportFields;
     export_tables: pe_c_export_tables() -> sys::Exports;
     export_addresses: pe_c_export_addresses() -> sys::AddressTable;
     export_at: pe_c_export_at(table: &sys::AddressTable, index: u64) -> sys::Exported;

@@ -52,6 +52,24 @@ impl ExportDirectoryTable {
     }
 }
 
+impl From<sys::ExportFields> for ExportDirectoryTable {
+    fn from(it: sys::ExportFields) -> Self {
+        ExportDirectoryTable {
+            export_flags: it.characteristics,
+            time_date_stamp: it.time_date_stamp,
+            major_version: it.major_version,
+            minor_version: it.minor_version,
+            name_rva: it.name,
+            ordinal_base: it.base,
+            address_table_entries: it.number_of_functions,
+            number_of_name_pointers: it.number_of_names,
+            export_address_table_rva: it.address_of_functions,
+            name_pointer_rva: it.address_of_names,
+            ordinal_table_rva: it.address_of_name_ordinals,
+        }
+    }
+}
+
 /// An entry of the table of RVAs.
 #[derive(Debug, Copy, Clone, PartialEq)]
 pub enum ExportAddressTableEntry {
@@ -125,17 +143,12 @@ impl<'a> ExportData<'a> {
         let directory = view.directory(Index::Export);
         let Some(walk) = view.export_tables().map_err(|it| refused(view, it))? else { return Ok(None) };
         let Some(addresses) = view.export_addresses()? else { return Ok(None) };
-        let at = view.offset(directory.virtual_address).ok_or_else(|| unmapped(directory))?;
+        let fields = view.export_directory()?.ok_or_else(|| unmapped(directory))?;
         let name = if addresses.has_name != 0 { Some(view.text(addresses.name)?) } else { None };
         let export_address_table = unknown(raw::narrow(addresses.addresses.length / RVA_SIZE)?)?;
         let data = ExportData {
             name,
-            export_directory_table: ExportDirectoryTable {
-                ordinal_base: addresses.ordinal_base,
-                address_table_entries: raw::narrow(export_address_table.len())?,
-                number_of_name_pointers: raw::narrow(walk.names.length / RVA_SIZE)?,
-                ..raw::export_directory(view.bytes, at)?
-            },
+            export_directory_table: fields.into(),
             export_name_pointer_table: raw::words(view.bytes, walk.names)?,
             export_ordinal_table: raw::halves(view.bytes, walk.ordinals)?,
             export_address_table,

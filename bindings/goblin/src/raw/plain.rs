@@ -7,8 +7,7 @@
 //! - `bytes_at`, `part_at`, `from`: the bytes alone; `record`: a record of a type that the caller chooses, by scroll;
 //! - `text_up_to`: a text that another byte than zero ends, in a [`Strtab`](crate::strtab::Strtab) of a caller;
 //! - `fields_32`, `fields_64`, `dos_header`, `data_directory`: a header that stands alone; `pe_c_headers` reads those of an image;
-//! - `export_directory`: a directory that stands alone. Of an image its flags, its time, its version and its RVAs, which are in no record
-//!   of a call: the ordinal base and both counts are those of the calls.
+//! - `export_directory`: an export directory that stands alone; `pe_c_export_directory` reads that of an image.
 //!
 //! Of an image or an object:
 //!
