@@ -168,7 +168,9 @@ impl<'a> AddressRange for ModuleView<'a> {
     }
 }
 
-/// Whether the function table of each module lies in its bytes.
+/// Whether the function table of each module lies in its bytes. Out of line: in line, a walk's call makes the error of each module
+/// before it tests it.
+#[inline(never)]
 fn have_tables(views: &[ModuleView<'_>]) -> bool
     ensures { result ≡ list_all has_table views.now }
 {
