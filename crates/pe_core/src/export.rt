@@ -63,7 +63,7 @@ impl ExportDirectoryTable {
 
     /// The export directory at `offset`, whose 40 bytes the caller knows to lie in `bytes`.
     #[tactic(auto, unfolding(crate::specs::Records::export_directory))]
-    fn at(bytes: &[u8], offset: usize) -> ExportDirectoryTable
+    pub fn at(bytes: &[u8], offset: usize) -> ExportDirectoryTable
         requires { offset + 40 ≤ length bytes.now }
         ensures { result ≡ export_directory bytes.now offset }
     {

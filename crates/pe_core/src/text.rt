@@ -7,7 +7,7 @@ ghost use Rattle.pe_core.specs.Text.{text_of, text_at};
 
 use crate::first_zero::{ascii_text_end, first_zero};
 
-/// The bytes of a text in which `text_at` first looks for ASCII alone: as many as the longest names have.
+/// The bytes of a text in which `text_at` first looks for ASCII alone: nearly all names have fewer.
 const MOST_OF_NAME: usize = 1024;
 
 /// The bytes as text. `None` if they are not UTF-8.

@@ -39,7 +39,7 @@ pub struct ImageResourceDirectory {
 impl ImageResourceDirectory {
     /// Reads the directory at `offset`. The caller has checked that its 16 bytes are there.
     #[tactic(auto, unfolding(crate::specs::Directories::directory_of))]
-    pub(crate) fn at(bytes: &[u8], offset: usize) -> ImageResourceDirectory
+    pub fn at(bytes: &[u8], offset: usize) -> ImageResourceDirectory
         requires { offset + 16 ≤ length bytes.now }
         ensures { result ≡ directory_of bytes.now offset }
     {

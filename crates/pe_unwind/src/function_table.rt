@@ -83,6 +83,7 @@ impl FunctionEntry for RuntimeFunction {
 /// It stops between two neighbouring entries, the first of which starts at or before the RVA and the second after it
 /// (either may be missing), and returns the first if the RVA is before its end. A table sorted by start RVA has one such
 /// position, so there it returns what a linear scan finds. In any other table which position it is depends on the search.
+#[inline(always)]
 #[tactic(auto, unfolding(crate::specs::FunctionTable::functions))]
 pub fn search(table: &mut CountedTable, rva: u32) -> Option<RuntimeFunction>
     ensures found { Finds (functions table.old.content) rva result }

@@ -34,6 +34,8 @@ fn next_entry<E: FunctionEntry>(table: &mut CountedTable, offset: usize) -> E
 /// entries as their number has binary digits; `table` counts these reads.
 ///
 /// A table sorted by start RVA has one such position. In any other table which position it is depends on the search.
+// Inlined with its callers: in one that drops the table no read is counted.
+#[inline(always)]
 pub(crate) fn last_start<E: FunctionEntry>(table: &mut CountedTable, rva: u32) -> Option<E>
     ensures found { FindsStart E.start_of
         (whole_entries E.entry_at E.SIZE table.old.content) rva result }
