@@ -1,11 +1,11 @@
-/* pe.h: reads PE images (Windows .exe and .dll files), TE images, COFF objects and minidumps, walks stacks, attaches certificates
- * and changes resources, by a proved library, from C11 and C++17.
+/* pe.h: reads PE images (Windows .exe and .dll files), TE images, COFF objects and minidumps, walks stacks, attaches
+ * certificates and changes resources, by a proved library, from C11 and C++17.
  *
  * The caller's obligations, for each call:
  *   - `bytes` points to the `length` bytes of the image, a file or memory, which are readable and which nothing writes
  *     during the call. It may be NULL if `length` is 0;
- *   - every other pointer, also one in a view, is not NULL (an array of 0 entries may be), is aligned for its type, and points
- *     to initialised memory (`= PE_C_EMPTY`), also where the call only writes;
+ *   - every other pointer, also one in a view, is not NULL (an array of 0 entries may be), is aligned for its type, and
+ *     points to initialised memory (`= PE_C_EMPTY`), also where the call only writes;
  *   - what a call writes (`out`, a walk, `room`) overlaps no other argument.
  * There is no obligation on what the bytes or the fields of records contain: every value is legal. A wrong range gives an
  * error code, never undefined behaviour.
@@ -14,8 +14,8 @@
  *
  * Results. A call returns PE_C_DONE and fills `out`, or returns another number and leaves `out` unchanged, but for the
  * address in a frame, `failure` of the calls for signatures, and `written` of pe_c_index, pe_c_map, pe_c_guid_text and
- * pe_c_utf16_text. The comment of a call lists its errors in the order in which they are tested. PE_C_NOTHING means that there
- * is nothing of the kind; it is no error.
+ * pe_c_utf16_text. The comment of a call lists its errors in the order in which they are tested. PE_C_NOTHING means that
+ * there is nothing of the kind; it is no error.
  *
  * Units. An `offset` is a number of bytes from the start of `bytes`: in a file a file offset, in an image as loaded an
  * RVA. A range that a call returns lies inside `bytes`; one of length 0 may start past them.
@@ -37,9 +37,9 @@
  * byte on: its sections stand at their RVAs, and RVAs are offsets. Without it they are a file, and the sections map RVAs.
  * An image that is read the wrong way may give wrong values without an error.
  *
- * Arguments. Calls on an image take a view of it: its bytes, and what pe_c_image and pe_c_sections returned of them. They read in
- * the mode that pe_c_image was called with, which is the field `mode` of the image. Each of these calls is made only if the one
- * before returned PE_C_DONE:
+ * Arguments. Calls on an image take a view of it: its bytes, and what pe_c_image and pe_c_sections returned of them. They
+ * read in the mode that pe_c_image was called with, which is the field `mode` of the image. Each of these calls is made only
+ * if the one before returned PE_C_DONE:
  *
  *     pe_c_image(bytes, length, mode, &image);
  *     pe_c_sections(bytes, length, &image, sections, entries);
@@ -204,8 +204,8 @@ enum {
 /* Modes. PE_C_MAPPED is added to one of the others, or stands for PE_C_STRICT | PE_C_MAPPED. */
 enum { PE_C_STRICT = 0, PE_C_PERMISSIVE = 1, PE_C_MAPPED = 2 };
 
-/* Writes the text of a result to the start of the array, in UTF-8, with a zero after it; where the array is too small as much of
- * it as has room before the zero. Returns the length of the whole text in bytes, which is below 128.
+/* Writes the text of a result to the start of the array, in UTF-8, with a zero after it; where the array is too small as
+ * much of it as has room before the zero. Returns the length of the whole text in bytes, which is below 128.
  *
  *     uint8_t text[128];
  *     pe_c_text(result, text, sizeof text);
@@ -298,9 +298,9 @@ typedef struct {
     uint64_t section;               /* index of the section that maps them, plus 1; 0 where none does */
 } pe_c_index_entry;
 
-/* An image as calls take it: its bytes, what pe_c_image and pe_c_sections returned of them, and an index of the sections or none.
- * A caller makes one view and passes it to all calls. Digests, certificates, edits, the string table and bound imports need no
- * sections: of these the view may have none. */
+/* An image as calls take it: its bytes, what pe_c_image and pe_c_sections returned of them, and an index of the sections or
+ * none. A caller makes one view and passes it to all calls. Digests, certificates, edits, the string table and bound imports
+ * need no sections: of these the view may have none. */
 typedef struct {
     const uint8_t *bytes;
     size_t length;                  /* of the bytes */
@@ -326,16 +326,17 @@ uint32_t pe_c_image(const uint8_t *bytes, size_t length, uint32_t mode, pe_c_ima
 uint32_t pe_c_sections(const uint8_t *bytes, size_t length, const pe_c_image_info *image, pe_c_section *room,
                        size_t entries) PE_C_RESULT(3);
 
-/* Returns the file offset of an RVA, by the first section that covers it; in an image as loaded the RVA itself. The bytes are
- * not read, and the offset may be past their end. PE_C_NOTHING where no section covers the RVA, or the file alignment is not a
- * power of two.
+/* Returns the file offset of an RVA, by the first section that covers it; in an image as loaded the RVA itself. The bytes
+ * are not read, and the offset may be past their end. PE_C_NOTHING where no section covers the RVA, or the file alignment is
+ * not a power of two.
  * A section's data start at its raw pointer rounded down to a multiple of 512. Of a file whose alignment is below 512, as
  * iPXE's, every call that maps RVAs so finds other offsets than a reader that does not round. */
 uint32_t pe_c_offset(const pe_c_view *view, uint32_t rva, uint64_t *out) PE_C_RESULT(1, 3);
 
 /* ---- all numbers of the headers
  *
- * pe_c_image reads of them what other calls take; this call reads all. Fields have the names of winnt.h, without abbreviations. */
+ * pe_c_image reads of them what other calls take; this call reads all. Fields have the names of winnt.h, without
+ * abbreviations. */
 
 /* IMAGE_DOS_HEADER, in its layout. Windows reads the first field and the last alone. */
 typedef struct {
@@ -434,9 +435,9 @@ uint32_t pe_c_headers(const uint8_t *bytes, size_t length, uint32_t mode, pe_c_h
  * with these entries return what they return without them. pe_c_offset, pe_c_section_at, pe_c_range_at, pe_c_map and the
  * steps and lists of exports, imports and resource leaves map an RVA by it in steps that grow with the logarithm of the
  * number of sections, not with that number itself: 65,535 in a hostile file. Other calls make no use of it. Few calls, and
- * images with few sections, as most, gain nothing by it. No entries, and PE_C_DONE, where no section is searched: in an image
- * as loaded, and where the file alignment is not a power of two. An index in the view that is passed makes no difference. An
- * index of other sections gives wrong offsets, and no other harm.
+ * images with few sections, as most, gain nothing by it. No entries, and PE_C_DONE, where no section is searched: in an
+ * image as loaded, and where the file alignment is not a power of two. An index in the view that is passed makes no
+ * difference. An index of other sections gives wrong offsets, and no other harm.
  * Errors: PE_C_ROOM where the array has too few entries; then `written` is how many it has to have. */
 uint32_t pe_c_index(const pe_c_view *view, pe_c_index_entry *room, size_t entries, uint64_t *written) PE_C_RESULT(1, 4);
 
@@ -471,10 +472,10 @@ uint32_t pe_c_rva(const pe_c_view *view, uint64_t offset, uint32_t *out) PE_C_RE
  * Errors: PE_C_ROOM where the array is smaller; then it is unchanged, and `written` is how many bytes it has to have. */
 uint32_t pe_c_map(const pe_c_view *view, uint8_t *room, size_t room_length, uint64_t *written) PE_C_RESULT(1, 4);
 
-/* Relocates an image as loaded, which pe_c_map wrote to the array, by the base relocations of the view: adds `difference`, the new
- * base less the one that the image has, modulo 2^64, to the field of its header that has the base, and to each number that they
- * name. No other byte changes. They are read from the bytes of the view, which the array does not overlap. PE_C_NOTHING where
- * the image has none; then it is unchanged.
+/* Relocates an image as loaded, which pe_c_map wrote to the array, by the base relocations of the view: adds `difference`,
+ * the new base less the one that the image has, modulo 2^64, to the field of its header that has the base, and to each
+ * number that they name. No other byte changes. They are read from the bytes of the view, which the array does not overlap.
+ * PE_C_NOTHING where the image has none; then it is unchanged.
  * Errors, after which it is unchanged: PE_C_UNMAPPED, PE_C_SHORT of the directory; PE_C_DIRECTORY_RELOCATION_OUTSIDE where
  * the array does not have that field, or a number, in turn with PE_C_DIRECTORY_BLOCK_SIZE,
  * PE_C_DIRECTORY_BLOCK_TRUNCATED, PE_C_SHORT and PE_C_DIRECTORY_NO_ARGUMENT of blocks and entries, and
@@ -490,11 +491,12 @@ uint32_t pe_c_overlay(const pe_c_view *view, pe_c_range *out) PE_C_RESULT(1, 2);
 
 /* ---- section names
  *
- * A section's name that is longer than 8 bytes is a string of the COFF string table, and its header has a slash and the offset
- * of that, as "/4", or two slashes and the offset in base 64. Images of mingw-w64 have such names for their debug sections. */
+ * A section's name that is longer than 8 bytes is a string of the COFF string table, and its header has a slash and the
+ * offset of that, as "/4", or two slashes and the offset in base 64. Images of mingw-w64 have such names for their debug
+ * sections. */
 
-/* Returns the COFF string table, from its size field on. PE_C_NOTHING where the image has no COFF symbols, where the bytes end
- * after them, and in an image as loaded.
+/* Returns the COFF string table, from its size field on. PE_C_NOTHING where the image has no COFF symbols, where the bytes
+ * end after them, and in an image as loaded.
  * Errors: PE_C_SHORT of the headers and of the symbols; PE_C_STRING_TABLE where the table is truncated. */
 uint32_t pe_c_string_table(const pe_c_view *view, pe_c_range *out) PE_C_RESULT(1, 2);
 
@@ -506,9 +508,9 @@ uint32_t pe_c_long_section_name(const uint8_t *bytes, size_t length, const pe_c_
 
 /* ---- COFF objects and COFF symbols
  *
- * An object, the output of a compiler, starts with the COFF header; the section headers follow it. Images of mingw-w64 and Go
- * have COFF symbols too: their header is the field `coff` of pe_c_headers_info. The symbol table has entries of 18 bytes, each a
- * symbol or an auxiliary record of the symbol before. The string table after it has the names of more than 8 bytes.
+ * An object, the output of a compiler, starts with the COFF header; the section headers follow it. Images of mingw-w64 and
+ * Go have COFF symbols too: their header is the field `coff` of pe_c_headers_info. The symbol table has entries of 18 bytes,
+ * each a symbol or an auxiliary record of the symbol before. The string table after it has the names of more than 8 bytes.
  * https://learn.microsoft.com/windows/win32/debug/pe-format#coff-symbol-table
  *
  *     pe_c_coff(bytes, length, &coff);
@@ -550,20 +552,20 @@ uint32_t pe_c_coff(const uint8_t *bytes, size_t length, pe_c_coff_header *out) P
 uint32_t pe_c_coff_sections(const uint8_t *bytes, size_t length, const pe_c_coff_header *coff, pe_c_section *room,
                             size_t entries) PE_C_RESULT(3);
 
-/* Returns a walk over the symbols of an object or of an image, with the range of their table. PE_C_NOTHING where the header's
- * pointer to them is 0.
+/* Returns a walk over the symbols of an object or of an image, with the range of their table. PE_C_NOTHING where the
+ * header's pointer to them is 0.
  * Error: PE_C_SHORT where the table is truncated; a pointer past the end of the bytes is that even with 0 entries. */
 uint32_t pe_c_coff_symbols(const uint8_t *bytes, size_t length, const pe_c_coff_header *coff, pe_c_symbol_walk *out)
     PE_C_RESULT(3, 4);
 
-/* Returns the string table of an object or of an image, from its size field on. PE_C_NOTHING where the header's pointer to the
- * symbols is 0, and where the bytes end after these.
+/* Returns the string table of an object or of an image, from its size field on. PE_C_NOTHING where the header's pointer to
+ * the symbols is 0, and where the bytes end after these.
  * Errors: PE_C_SHORT where the symbols are truncated; PE_C_STRING_TABLE where the string table is. */
 uint32_t pe_c_coff_strings(const uint8_t *bytes, size_t length, const pe_c_coff_header *coff, pe_c_range *out)
     PE_C_RESULT(3, 4);
 
-/* Reads the symbol in an entry of a symbol table. PE_C_NOTHING past the last entry. Auxiliary records have entries of their own,
- * and nothing in these says that they are no symbols.
+/* Reads the symbol in an entry of a symbol table. PE_C_NOTHING past the last entry. Auxiliary records have entries of their
+ * own, and nothing in these says that they are no symbols.
  * Error: PE_C_SHORT where the table is not inside the bytes. */
 uint32_t pe_c_symbol(const uint8_t *bytes, size_t length, const pe_c_range *table, uint64_t index, pe_c_symbol_entry *out)
     PE_C_RESULT(3, 5);
@@ -573,8 +575,8 @@ uint32_t pe_c_symbol(const uint8_t *bytes, size_t length, const pe_c_range *tabl
 uint32_t pe_c_next_symbol(const uint8_t *bytes, size_t length, pe_c_symbol_walk *walk, pe_c_symbol_entry *out)
     PE_C_RESULT(3, 4);
 
-/* Returns the name of the symbol in an entry of a symbol table: UTF-8, not NUL-terminated, in the entry or in the string table.
- * A name there is read to its end. PE_C_NOTHING past the last entry. Without a string table pass an empty range.
+/* Returns the name of the symbol in an entry of a symbol table: UTF-8, not NUL-terminated, in the entry or in the string
+ * table. A name there is read to its end. PE_C_NOTHING past the last entry. Without a string table pass an empty range.
  * Errors: PE_C_SHORT where the symbol table, then where the string table is not inside the bytes; PE_C_STRING_TABLE where no
  * string is at the offset, NUL-terminated and UTF-8, or where the name in the entry is not UTF-8. */
 uint32_t pe_c_symbol_name(const uint8_t *bytes, size_t length, const pe_c_range *table, const pe_c_range *strings,
@@ -618,8 +620,8 @@ uint32_t pe_c_next_rich_entry(const uint8_t *bytes, size_t length, uint32_t key,
  * is: CodeView names the PDB file of the image, POGO the parts that the linker joined, Repro marks a reproducible build.
  * https://learn.microsoft.com/windows/win32/debug/pe-format#the-debug-section
  *
- * A record is read from one entry: the first of its type, or one that the caller has. No other entry is read, so what damages one
- * record makes no difference to another. */
+ * A record is read from one entry: the first of its type, or one that the caller has. No other entry is read, so what
+ * damages one record makes no difference to another. */
 
 /* IMAGE_DEBUG_DIRECTORY. */
 typedef struct {
@@ -795,9 +797,9 @@ uint32_t pe_c_next_pogo_entry(const uint8_t *bytes, size_t length, pe_c_range *w
 
 /* ---- TE images
  *
- * Firmware keeps of an image the sections and a header of 40 bytes. RVAs and file offsets in the file still count from the start
- * of the headers that were stripped: the calls here subtract how many bytes the file is shorter, so an RVA is a file offset.
- * https://uefi.org/specs/PI/1.8/V1_TE_Image.html
+ * Firmware keeps of an image the sections and a header of 40 bytes. RVAs and file offsets in the file still count from the
+ * start of the headers that were stripped: the calls here subtract how many bytes the file is shorter, so an RVA is a file
+ * offset. https://uefi.org/specs/PI/1.8/V1_TE_Image.html
  *
  *     pe_c_te(bytes, length, &te);
  *     pe_c_te_first_debug_entry(bytes, length, &te, 2, &entry);
@@ -831,19 +833,19 @@ uint32_t pe_c_te(const uint8_t *bytes, size_t length, pe_c_te_image *out) PE_C_R
 uint32_t pe_c_te_sections(const uint8_t *bytes, size_t length, const pe_c_te_image *te, pe_c_section *room, size_t entries)
     PE_C_RESULT(3);
 
-/* Returns the entries of the debug directory as a walk for pe_c_next_te_debug_entry. PE_C_NOTHING where the directory is absent.
- * Error: PE_C_DEBUG_BOUNDS. */
+/* Returns the entries of the debug directory as a walk for pe_c_next_te_debug_entry. PE_C_NOTHING where the directory is
+ * absent. Error: PE_C_DEBUG_BOUNDS. */
 uint32_t pe_c_te_debug_entries(const uint8_t *bytes, size_t length, const pe_c_te_image *te, pe_c_range *out)
     PE_C_RESULT(3, 4);
 
-/* Reads the next entry, the RVA and the file offset of its record reduced by te->rva_offset. The calls that take an entry read
- * its record with PE_C_MAPPED.
+/* Reads the next entry, the RVA and the file offset of its record reduced by te->rva_offset. The calls that take an entry
+ * read its record with PE_C_MAPPED.
  * Error: PE_C_SHORT where an entry is truncated. */
 uint32_t pe_c_next_te_debug_entry(const uint8_t *bytes, size_t length, const pe_c_te_image *te, pe_c_range *walk,
                                   pe_c_debug_entry *out) PE_C_RESULT(3, 4, 5);
 
-/* Returns the first entry of a type, as pe_c_next_te_debug_entry does. PE_C_NOTHING where there is none, and where the directory
- * is absent. A truncated last entry is none.
+/* Returns the first entry of a type, as pe_c_next_te_debug_entry does. PE_C_NOTHING where there is none, and where the
+ * directory is absent. A truncated last entry is none.
  * Error: PE_C_DEBUG_BOUNDS. */
 uint32_t pe_c_te_first_debug_entry(const uint8_t *bytes, size_t length, const pe_c_te_image *te, uint32_t data_type,
                                    pe_c_debug_entry *out) PE_C_RESULT(3, 5);
@@ -852,10 +854,11 @@ uint32_t pe_c_te_first_debug_entry(const uint8_t *bytes, size_t length, const pe
  *
  * A result is one number. These calls return with it where the error is, and the number that stands there. */
 
-/* What is wrong with headers or with a directory. A number that the error does not have here is 0. */
+/* What is wrong with headers, with a directory or with an item of a walk. A number that the error does not have here is
+ * 0. */
 typedef struct {
-    uint64_t offset;                /* offset, from the start of the bytes, of what is truncated or refused, or where it ends
-                                       after the bytes that hold it */
+    uint64_t offset;                /* offset, from the start of the bytes unless the call says otherwise, of what is
+                                       truncated or refused, or where it ends after the bytes that hold it */
     uint64_t needed;                /* bytes that are needed */
     uint64_t value;                 /* the number that is refused: a magic number, an RVA, a size */
     uint32_t result;                /* the error */
@@ -869,25 +872,34 @@ PE_C_SIZE(pe_c_failure, 32);
  * A number that is refused has its offset, and `needed` is how many bytes it has. PE_C_SHORT has `offset` and `needed`. */
 uint32_t pe_c_image_failure(const uint8_t *bytes, size_t length, uint32_t mode, pe_c_failure *out) PE_C_RESULT(4);
 
-/* Returns why pe_c_sections refuses the section headers of an image, whatever room it is given. PE_C_NOTHING where it does not. It
- * never returns an error. The failure is PE_C_SHORT, with the offset of the headers and the bytes that they need. */
+/* Returns why pe_c_sections refuses the section headers of an image, whatever room it is given. PE_C_NOTHING where it does
+ * not. It never returns an error. The failure is PE_C_SHORT, with the offset of the headers and the bytes that they need. */
 uint32_t pe_c_sections_failure(const uint8_t *bytes, size_t length, const pe_c_image_info *image,
                                pe_c_failure *out) PE_C_RESULT(3, 4);
 
 /* Returns why pe_c_te refuses the bytes. PE_C_NOTHING where it does not. It never returns an error. */
 uint32_t pe_c_te_failure(const uint8_t *bytes, size_t length, pe_c_failure *out) PE_C_RESULT(3);
 
-/* Returns what is wrong with a directory, PE_C_DIRECTORY_EXPORT and so on: the result of the call that reads it, and the numbers
- * of that error. PE_C_NOTHING where that call returns no error, and of a directory that no call reads. It never returns an error.
+/* Return why pe_c_te_sections and pe_c_coff_sections refuse the section headers, as pe_c_sections_failure does of an
+ * image. */
+uint32_t pe_c_te_sections_failure(const uint8_t *bytes, size_t length, const pe_c_te_image *te,
+                                  pe_c_failure *out) PE_C_RESULT(3, 4);
+uint32_t pe_c_coff_sections_failure(const uint8_t *bytes, size_t length, const pe_c_coff_header *coff,
+                                    pe_c_failure *out) PE_C_RESULT(3, 4);
+
+/* Returns what is wrong with a directory, PE_C_DIRECTORY_EXPORT and so on: the result of the call that reads it, and the
+ * numbers of that error. PE_C_NOTHING where that call returns no error, and of a directory that no call reads. It never
+ * returns an error.
  *
- * The calls: pe_c_export_tables, pe_c_import_libraries, pe_c_resource_leaves; pe_c_function_table, of ARM64 pe_c_arm64_table;
- * pe_c_next_certificate of the first certificate, in an image as loaded of what is at that offset; pe_c_relocation_blocks,
- * pe_c_debug_entries, pe_c_tls, pe_c_load_config, pe_c_bound_imports, pe_c_delay_imports, pe_c_clr_header.
+ * The calls: pe_c_export_tables, pe_c_import_libraries, pe_c_resource_leaves; pe_c_function_table, of ARM64
+ * pe_c_arm64_table; pe_c_next_certificate of the first certificate, in an image as loaded of what is at that offset;
+ * pe_c_relocation_blocks, pe_c_debug_entries, pe_c_tls, pe_c_load_config, pe_c_bound_imports, pe_c_delay_imports,
+ * pe_c_clr_header.
  *
  * The numbers: of PE_C_SHORT `offset` and `needed`; of PE_C_CERTIFICATE_SIZE `needed`; of PE_C_UNMAPPED `value`, the RVA; of
  * PE_C_EXCEPTION_SIZE, PE_C_CERTIFICATE_REVISION, PE_C_CERTIFICATE_TYPE and PE_C_DIRECTORY_CLR_HEADER_SIZE `value`; of
- * PE_C_EXCEPTION_OFFSET `offset`; of PE_C_EXCEPTION_BOUNDS, PE_C_DEBUG_BOUNDS, PE_C_RESOURCE_BOUNDS and PE_C_CERTIFICATE_TABLE
- * `offset`, where the table ends. */
+ * PE_C_EXCEPTION_OFFSET `offset`; of PE_C_EXCEPTION_BOUNDS, PE_C_DEBUG_BOUNDS, PE_C_RESOURCE_BOUNDS and
+ * PE_C_CERTIFICATE_TABLE `offset`, where the table ends. */
 uint32_t pe_c_directory_failure(const pe_c_view *view, uint32_t index, pe_c_failure *out) PE_C_RESULT(1, 3);
 
 /* What a debug record is read as: by which call. */
@@ -902,12 +914,12 @@ enum {
     PE_C_RECORD_PDB_CHECKSUM = 7    /* pe_c_pdb_checksum_of */
 };
 
-/* Returns what is wrong with the record of an entry of the debug directory that is read as one of these: the result of the call that
- * reads it, and the numbers of that error. PE_C_NOTHING where that call returns no error, and of a kind that is none of these. It
- * never returns an error.
+/* Returns what is wrong with the record of an entry of the debug directory that is read as one of these: the result of the
+ * call that reads it, and the numbers of that error. PE_C_NOTHING where that call returns no error, and of a kind that is
+ * none of these. It never returns an error.
  *
- * The numbers: of PE_C_SHORT `offset` and `needed`; of PE_C_DEBUG_DATA `needed`; of PE_C_DEBUG_SIZE and PE_C_POGO_SIZE `value`, the
- * size that the entry says; of PE_C_BAD_MAGIC `value`. */
+ * The numbers: of PE_C_SHORT `offset` and `needed`; of PE_C_DEBUG_DATA `needed`; of PE_C_DEBUG_SIZE and PE_C_POGO_SIZE
+ * `value`, the size that the entry says; of PE_C_BAD_MAGIC `value`. */
 uint32_t pe_c_debug_failure(const uint8_t *bytes, size_t length, uint32_t mode, const pe_c_debug_entry *entry,
                             uint32_t kind, pe_c_failure *out) PE_C_RESULT(4, 6);
 
@@ -938,27 +950,29 @@ uint32_t pe_c_next_certificate(const uint8_t *bytes, size_t length, pe_c_range *
 
 /* ---- signatures
  *
- * What an Authenticode signature says: what is signed, by whom, when, and what a verifier hashes. Nothing is verified here. A
- * signature is the body of a certificate of type WIN_CERT_TYPE_PKCS_SIGNED_DATA: PKCS #7 signed data, written by DER as elements
- * of a tag, a length and a content. A time stamp and a nested signature are attributes of a signer, and each is a signature again.
- * RFC 5652, RFC 5280, RFC 3161, and Microsoft's "Windows Authenticode Portable Executable Signature Format".
+ * What an Authenticode signature says: what is signed, by whom, when, and what a verifier hashes. Nothing is verified here.
+ * A signature is the body of a certificate of type WIN_CERT_TYPE_PKCS_SIGNED_DATA: PKCS #7 signed data, written by DER as
+ * elements of a tag, a length and a content. A time stamp and a nested signature are attributes of a signer, and each is a
+ * signature again. RFC 5652, RFC 5280, RFC 3161, and Microsoft's "Windows Authenticode Portable Executable Signature
+ * Format".
  *
  *     pe_c_signature(bytes, length, &certificate.body, &failure, &signed_data);
  *     pe_c_indirect_data(bytes, length, &signed_data.content, &failure, &indirect);
  *     while (pe_c_next_element(bytes, length, &signed_data.signers, &failure, &element) == PE_C_DONE)
  *         pe_c_signer(bytes, length, &element.whole, &failure, &signer);
  *
- * `range` is that of an element; bytes after the element are not read. `bytes` may be a file, or a signature alone. A range that
- * is returned is of the content of an element, or, where its comment says "whole", of the whole element with its tag and length,
- * which another call reads. It is {0, 0} where the field is absent. Offsets count from the start of `bytes`.
+ * `range` is that of an element; bytes after the element are not read. `bytes` may be a file, or a signature alone. A range
+ * that is returned is of the content of an element, or, where its comment says "whole", of the whole element with its tag
+ * and length, which another call reads. It is {0, 0} where the field is absent. Offsets count from the start of `bytes`.
  *
  * Errors of all these calls: PE_C_SHORT where `range` or `walk` is not inside the bytes; of each element that is read
- * PE_C_SIGNATURE_TRUNCATED, _TAG_NUMBER, _INDEFINITE_LENGTH, _LENGTH_OCTETS, _TRUNCATED, _LENGTH_FORM, _PAST_PARENT; of a field
- * _MISSING before these, and _TAG after them; _TRAILING where bytes follow the last field. `failure` then has where and what;
- * else it is unchanged. Elements that a call returns whole are not read any further: an error there is that of another call.
+ * PE_C_SIGNATURE_TRUNCATED, _TAG_NUMBER, _INDEFINITE_LENGTH, _LENGTH_OCTETS, _TRUNCATED, _LENGTH_FORM, _PAST_PARENT; of a
+ * field _MISSING before these, and _TAG after them; _TRAILING where bytes follow the last field. `failure` then has where
+ * and what; else it is unchanged. Elements that a call returns whole are not read any further: an error there is that of
+ * another call.
  *
- * A signature costs what its bytes cost: a call reads the head of each field once, and walks go through one list. A caller that
- * goes into nested signatures bounds how deep. */
+ * A signature costs what its bytes cost: a call reads the head of each field once, and walks go through one list. A caller
+ * that goes into nested signatures bounds how deep. */
 
 /* Why an element is refused. */
 typedef struct {
@@ -971,7 +985,8 @@ typedef struct {
     uint32_t result;                /* what the call returned */
 } pe_c_signature_failure;
 
-/* Object identifiers with a number. Those of other kinds have 0. Numbers are stable; tools/make_object_ids writes this list. */
+/* Object identifiers with a number. Those of other kinds have 0. Numbers are stable; tools/make_object_ids writes this
+ * list. */
 enum {
     PE_C_OID_OTHER = 0,
     /* content types, and types of what is signed */
@@ -1070,7 +1085,8 @@ typedef struct {
     pe_c_oid content_type;          /* of what is signed, by content types */
     pe_c_range version;             /* an INTEGER, which is 1 in Authenticode */
     pe_c_range digest_algorithms;   /* a walk for pe_c_next_element, each for pe_c_algorithm_identifier */
-    pe_c_range content;             /* what is signed, whole: for pe_c_indirect_data, or in a time stamp for pe_c_time_stamp */
+    pe_c_range content;             /* what is signed, whole: for pe_c_indirect_data, or in a time stamp for
+                                       pe_c_time_stamp */
     pe_c_range digested;            /* what messageDigest is the digest of: the content of `content` */
     pe_c_range certificates;        /* a walk, each for pe_c_x509 */
     pe_c_range crls;                /* a walk over certificate revocation lists */
@@ -1162,7 +1178,8 @@ typedef struct {
 typedef struct {
     pe_c_oid type;                  /* by attributes of names */
     pe_c_range value;
-    uint32_t tag;                   /* of the value: PrintableString 0x13, UTF8String 0x0C, IA5String 0x16, BMPString 0x1E, .. */
+    uint32_t tag;                   /* of the value: PrintableString 0x13, UTF8String 0x0C, IA5String 0x16, BMPString 0x1E,
+                                       .. */
     uint32_t starts_rdn;            /* 1 where it is the first of its relative distinguished name, else 0 */
 } pe_c_name_attribute;
 
@@ -1211,8 +1228,8 @@ PE_C_SIZE(pe_c_tst_info, 168);
 uint32_t pe_c_signature(const uint8_t *bytes, size_t length, const pe_c_range *range, pe_c_signature_failure *failure,
                         pe_c_signed_data *out) PE_C_RESULT(3, 4, 5);
 
-/* Returns the next element of a list: certificates, signers, attributes, their values, extensions, algorithms. The walk starts as
- * the range of the list. A member of the list that another call refuses does not end the walk. */
+/* Returns the next element of a list: certificates, signers, attributes, their values, extensions, algorithms. The walk
+ * starts as the range of the list. A member of the list that another call refuses does not end the walk. */
 uint32_t pe_c_next_element(const uint8_t *bytes, size_t length, pe_c_range *walk, pe_c_signature_failure *failure,
                            pe_c_der_element *out) PE_C_RESULT(3, 4, 5);
 
@@ -1236,10 +1253,10 @@ uint32_t pe_c_signer(const uint8_t *bytes, size_t length, const pe_c_range *rang
 uint32_t pe_c_attribute(const uint8_t *bytes, size_t length, const pe_c_range *range, pe_c_signature_failure *failure,
                         pe_c_signer_attribute *out) PE_C_RESULT(3, 4, 5);
 
-/* Finds an attribute of a signer by the id of its type, such as PE_C_OID_MESSAGE_DIGEST: the first in a walk over signed_attributes
- * or unsigned_attributes. Moves `walk` past it, so that the next call finds the next one. PE_C_NOTHING where there is none; then
- * `walk` is at its end. The id 0 is that of every type that has none here. An attribute before it that is refused is an error,
- * after which `walk` is past that one; after another error it is over. */
+/* Finds an attribute of a signer by the id of its type, such as PE_C_OID_MESSAGE_DIGEST: the first in a walk over
+ * signed_attributes or unsigned_attributes. Moves `walk` past it, so that the next call finds the next one. PE_C_NOTHING
+ * where there is none; then `walk` is at its end. The id 0 is that of every type that has none here. An attribute before it
+ * that is refused is an error, after which `walk` is past that one; after another error it is over. */
 uint32_t pe_c_find_attribute(const uint8_t *bytes, size_t length, pe_c_range *walk, uint32_t id,
                              pe_c_signature_failure *failure, pe_c_signer_attribute *out) PE_C_RESULT(3, 5, 6);
 
@@ -1255,10 +1272,10 @@ uint32_t pe_c_x509(const uint8_t *bytes, size_t length, const pe_c_range *range,
 uint32_t pe_c_extension(const uint8_t *bytes, size_t length, const pe_c_range *range, pe_c_signature_failure *failure,
                         pe_c_x509_extension *out) PE_C_RESULT(3, 4, 5);
 
-/* Returns what a key is for, of an extension with the type PE_C_OID_KEY_USAGE: 0x80 digitalSignature, 0x40 contentCommitment, 0x20
- * keyEncipherment, 0x10 dataEncipherment, 8 keyAgreement, 4 keyCertSign, 2 cRLSign, 1 encipherOnly, 0x8000 decipherOnly.
- * PE_C_NOTHING where the value has no bits, more than 16, or unused bits that are more than 7 or not 0. `range` is that of the
- * extension. */
+/* Returns what a key is for, of an extension with the type PE_C_OID_KEY_USAGE: 0x80 digitalSignature, 0x40
+ * contentCommitment, 0x20 keyEncipherment, 0x10 dataEncipherment, 8 keyAgreement, 4 keyCertSign, 2 cRLSign, 1 encipherOnly,
+ * 0x8000 decipherOnly. PE_C_NOTHING where the value has no bits, more than 16, or unused bits that are more than 7 or not 0.
+ * `range` is that of the extension. */
 uint32_t pe_c_key_usage(const uint8_t *bytes, size_t length, const pe_c_range *range, pe_c_signature_failure *failure,
                         uint32_t *out) PE_C_RESULT(3, 4, 5);
 
@@ -1271,8 +1288,8 @@ uint32_t pe_c_next_name_attribute(const uint8_t *bytes, size_t length, pe_c_name
                                   pe_c_signature_failure *failure, pe_c_name_attribute *out) PE_C_RESULT(3, 4, 5);
 
 /* Reads a time: the end of a validity, the value of signingTime, the time of a time stamp.
- * Errors, then: PE_C_SIGNATURE_BAD_TIME where it is no UTCTime or GeneralizedTime, not in the form of RFC 5280 (seconds, and Z), or
- * has a number that no time has. */
+ * Errors, then: PE_C_SIGNATURE_BAD_TIME where it is no UTCTime or GeneralizedTime, not in the form of RFC 5280 (seconds, and
+ * Z), or has a number that no time has. */
 uint32_t pe_c_time(const uint8_t *bytes, size_t length, const pe_c_range *range, pe_c_signature_failure *failure,
                    pe_c_utc_time *out) PE_C_RESULT(3, 4, 5);
 
@@ -1356,26 +1373,26 @@ uint32_t pe_c_detach(const pe_c_view *view, uint8_t *room, size_t room_length, u
 
 /* ---- sections and images written
  *
- * The sections of an image changed: a caller reads them by pe_c_sections, changes a field, and writes them, by themselves or with
- * all of the image. Their data come from `bytes`, the whole file. Any number may be passed.
- * https://learn.microsoft.com/windows/win32/debug/pe-format#section-table-section-headers
- * The calls after pe_c_write_sections read the headers and the certificates from the bytes, in the mode of the image: the other
- * fields of that make no difference, and a caller that wants another header changes it in the bytes. In strict mode a certificate
- * table that is invalid is an error, and in permissive mode no certificate of it is written. Certificates go where their directory
- * says, each with zeros up to a multiple of 8 bytes. Of all of these calls: offsets count from the start of the array, and where
- * pieces overlap the later one wins. What no piece covers is unchanged, and after an error all of the array and `out` or `next`.
- * The array does not overlap the file; it may be NULL if room_length is 0. */
+ * The sections of an image changed: a caller reads them by pe_c_sections, changes a field, and writes them, by themselves or
+ * with all of the image. Their data come from `bytes`, the whole file. Any number may be passed.
+ * https://learn.microsoft.com/windows/win32/debug/pe-format#section-table-section-headers The calls after
+ * pe_c_write_sections read the headers and the certificates from the bytes, in the mode of the image: the other fields of
+ * that make no difference, and a caller that wants another header changes it in the bytes. In strict mode a certificate
+ * table that is invalid is an error, and in permissive mode no certificate of it is written. Certificates go where their
+ * directory says, each with zeros up to a multiple of 8 bytes. Of all of these calls: offsets count from the start of the
+ * array, and where pieces overlap the later one wins. What no piece covers is unchanged, and after an error all of the array
+ * and `out` or `next`. The array does not overlap the file; it may be NULL if room_length is 0. */
 
-/* Writes the sections of the view into the array: for each its data at pointer_to_raw_data, its header, and zeros after the data
- * up to a multiple of `unit` bytes, no zeros where that is 0. The headers are written one after the other, from `next` on, which
- * moves past them.
- * Errors: PE_C_WRITE_OVERLAP where two sections that are not equal share a byte of the file; PE_C_WRITE_SECTION where the data of
- * one are not in the file; PE_C_WRITE_FIT where a piece does not fit into the array. */
+/* Writes the sections of the view into the array: for each its data at pointer_to_raw_data, its header, and zeros after the
+ * data up to a multiple of `unit` bytes, no zeros where that is 0. The headers are written one after the other, from `next`
+ * on, which moves past them.
+ * Errors: PE_C_WRITE_OVERLAP where two sections that are not equal share a byte of the file; PE_C_WRITE_SECTION where the
+ * data of one are not in the file; PE_C_WRITE_FIT where a piece does not fit into the array. */
 uint32_t pe_c_write_sections(const pe_c_view *view, uint32_t unit, uint8_t *room, size_t room_length, uint64_t *next)
     PE_C_RESULT(1, 5);
 
-/* Writes the certificates into the array, one after the other from the offset of their directory on. Puts the offset after the last
- * one to `out`, 0 where none is written. The sections of the view make no difference.
+/* Writes the certificates into the array, one after the other from the offset of their directory on. Puts the offset after
+ * the last one to `out`, 0 where none is written. The sections of the view make no difference.
  * Errors: those of pe_c_image; in strict mode those of pe_c_next_certificate, of all certificates; PE_C_NO_OPTIONAL_HEADER;
  * PE_C_WRITE_FIT where a certificate does not fit into the array. */
 uint32_t pe_c_write_certificates(const pe_c_view *view, uint8_t *room, size_t room_length, uint64_t *out) PE_C_RESULT(1, 4);
@@ -1384,25 +1401,26 @@ uint32_t pe_c_write_certificates(const pe_c_view *view, uint8_t *room, size_t ro
  * Errors: those of pe_c_write_image, but PE_C_WRITE_FIT only where no array is long enough. */
 uint32_t pe_c_image_length(const pe_c_view *view, uint64_t *out) PE_C_RESULT(1, 2);
 
-/* Writes the image into the array: the DOS header, the stub, the PE signature, the COFF header and the optional header where the
- * headers have them; the sections of the view as pe_c_write_sections does, up to multiples of the file alignment, with their
- * headers in the section table; the certificates. Puts to `out` the greatest of three offsets: the start of the section table, the
- * end of the data of the last section with the greatest raw pointer, the end of the certificates. Without a section the first may
- * lie past the end of the array; pe_c_image_length says how many bytes were needed.
+/* Writes the image into the array: the DOS header, the stub, the PE signature, the COFF header and the optional header where
+ * the headers have them; the sections of the view as pe_c_write_sections does, up to multiples of the file alignment, with
+ * their headers in the section table; the certificates. Puts to `out` the greatest of three offsets: the start of the
+ * section table, the end of the data of the last section with the greatest raw pointer, the end of the certificates. Without
+ * a section the first may lie past the end of the array; pe_c_image_length says how many bytes were needed.
  * Errors: those of pe_c_image; in strict mode those of pe_c_next_certificate, of all certificates; PE_C_NO_OPTIONAL_HEADER;
- * PE_C_WRITE_ALIGNMENT where the file alignment is no power of two; PE_C_WRITE_SYMBOLS where the pointer to COFF symbols is not 0;
- * PE_C_WRITE_OVERLAP, PE_C_WRITE_SECTION and PE_C_WRITE_FIT as of pe_c_write_sections. */
+ * PE_C_WRITE_ALIGNMENT where the file alignment is no power of two; PE_C_WRITE_SYMBOLS where the pointer to COFF symbols is
+ * not 0; PE_C_WRITE_OVERLAP, PE_C_WRITE_SECTION and PE_C_WRITE_FIT as of pe_c_write_sections. */
 uint32_t pe_c_write_image(const pe_c_view *view, uint8_t *room, size_t room_length, uint64_t *out) PE_C_RESULT(1, 4);
 
-/* Returns how many bytes of an array pe_c_write_whole needs with these arguments: those of the file, or the greatest end of what is
- * written over it if that is greater.
+/* Returns how many bytes of an array pe_c_write_whole needs with these arguments: those of the file, or the greatest end of
+ * what is written over it if that is greater.
  * Errors: those of pe_c_write_whole, but PE_C_WRITE_FIT only where no array is long enough. */
 uint32_t pe_c_whole_length(const pe_c_view *view, uint64_t *out) PE_C_RESULT(1, 2);
 
-/* Writes the whole file into the array, and over it what pe_c_write_image writes, but no zeros after sections. So COFF symbols and
- * bytes between sections and after them stay as they are in the file. An image without certificates whose sections are unchanged
- * comes back byte for byte. Puts to `out` the greater of the file's length and of what pe_c_write_image puts there, which may lie
- * past the end of the array as there; pe_c_whole_length says how many bytes were needed.
+/* Writes the whole file into the array, and over it what pe_c_write_image writes, but no zeros after sections. So COFF
+ * symbols and bytes between sections and after them stay as they are in the file. An image without certificates whose
+ * sections are unchanged comes back byte for byte. Puts to `out` the greater of the file's length and of what
+ * pe_c_write_image puts there, which may lie past the end of the array as there; pe_c_whole_length says how many bytes were
+ * needed.
  * Errors: those of pe_c_write_image but for PE_C_WRITE_ALIGNMENT and PE_C_WRITE_SYMBOLS. */
 uint32_t pe_c_write_whole(const pe_c_view *view, uint8_t *room, size_t room_length, uint64_t *out) PE_C_RESULT(1, 4);
 
@@ -1413,8 +1431,8 @@ uint32_t pe_c_write_whole(const pe_c_view *view, uint8_t *room, size_t room_leng
  * chained to another function, whose record continues it. A leaf function needs no entry.
  * https://learn.microsoft.com/cpp/build/exception-handling-x64
  *
- * For the registers of the caller: pe_c_function_table, pe_c_find_function, then pe_c_step. For the records and codes themselves:
- * pe_c_plan_from, then pe_c_next_record until PE_C_NOTHING, and pe_c_next_code for each record. */
+ * For the registers of the caller: pe_c_function_table, pe_c_find_function, then pe_c_step. For the records and codes
+ * themselves: pe_c_plan_from, then pe_c_next_record until PE_C_NOTHING, and pe_c_next_code for each record. */
 
 /* RUNTIME_FUNCTION. */
 typedef struct {
@@ -1501,10 +1519,10 @@ typedef struct {
     uint64_t address;               /* the one that PE_C_MISSING, _BAD_ADDRESS or _NOT_RISING speaks of */
     pe_c_function function;         /* the one that pe_c_find_function returned */
     uint32_t rva;                   /* rip less the address where the image is loaded */
-    uint32_t leaf;                  /* 0, or where pe_c_find_function returned PE_C_NOTHING 1: a leaf function, of which neither
-                                       `function` nor `rva` is read */
-    uint32_t interrupted;           /* after a step 1 where an interrupt stopped the caller: its rip is the instruction that is
-                                       about to run. Else 0: it is a return address */
+    uint32_t leaf;                  /* 0, or where pe_c_find_function returned PE_C_NOTHING 1: a leaf function, of which
+                                       neither `function` nor `rva` is read */
+    uint32_t interrupted;           /* after a step 1 where an interrupt stopped the caller: its rip is the instruction that
+                                       is about to run. Else 0: it is a return address */
 } pe_c_frame;
 
 /* A piece of memory, as MINIDUMP_MEMORY_DESCRIPTOR and _DESCRIPTOR64 say it. */
@@ -1514,8 +1532,8 @@ typedef struct {
     uint64_t length;                /* bytes; those past the last address have none */
 } pe_c_memory_piece;
 
-/* A module of a process: its image, which has size_of_image bytes where it is loaded. What the view leads to stays readable as
- * long as the record is passed. */
+/* A module of a process: its image, which has size_of_image bytes where it is loaded. What the view leads to stays readable
+ * as long as the record is passed. */
 typedef struct {
     pe_c_view image;
     pe_c_range table;               /* of pe_c_function_table, on ARM64 pe_c_arm64_table; all 0 where that returned
@@ -1528,9 +1546,10 @@ enum {
     PE_C_WAY_TOP = 0,               /* it is the top frame */
     PE_C_WAY_RECORDS = 1,           /* by the unwind records of the function that it called */
     PE_C_WAY_LEAF = 2,              /* it called a leaf function */
-    PE_C_WAY_INTERRUPT = 3,         /* an interrupt stopped it: the records before it show what the processor pushed, on ARM64
-                                       what the operating system saved */
-    PE_C_WAY_SCANNED = 4            /* by a scan of the stack, where no records led on: it may be wrong, and those after it */
+    PE_C_WAY_INTERRUPT = 3,         /* an interrupt stopped it: the records before it show what the processor pushed, on
+                                       ARM64 what the operating system saved */
+    PE_C_WAY_SCANNED = 4            /* by a scan of the stack, where no records led on: it may be wrong, and those after
+                                       it */
 };
 
 /* Why a walk is over. */
@@ -1544,21 +1563,21 @@ enum {
     PE_C_END_STEP = 6               /* the step from the last frame is refused: `error` and `address` as in pe_c_step */
 };
 
-/* A walk of a stack, and the frame that was returned last. For a walk from the start set the registers to those of the thread,
- * `remaining` to how many frames are wanted at most, and all else to 0. */
+/* A walk of a stack, and the frame that was returned last. For a walk from the start set the registers to those of the
+ * thread, `remaining` to how many frames are wanted at most, and all else to 0. */
 typedef struct {
     pe_c_registers registers;       /* inside the function of the frame */
     uint64_t remaining;             /* how many frames follow at most; 0 once the walk is over */
     uint64_t address;               /* of a walk that is over, as `address` of a frame; else 0 */
     uint32_t has_returned;          /* 0 before the first call, else 1 */
     uint32_t way;                   /* PE_C_WAY_* */
-    uint32_t has_called;            /* 1 where the function of the frame has called: rip is the return address. 0 where rip is the
-                                       instruction that is about to run */
+    uint32_t has_called;            /* 1 where the function of the frame has called: rip is the return address. 0 where rip
+                                       is the instruction that is about to run */
     uint32_t end;                   /* PE_C_END_* of a walk that is over */
     uint32_t error;                 /* a result, for PE_C_END_RECORDS, _LONG_CHAIN and _STEP; else 0 */
-    uint32_t is_searched;           /* 1 where a call found that the pieces of memory lie in it, ascend and do not overlap: later
-                                       calls test only those that they read. 0 before the first call, and where the caller wants
-                                       them tested again */
+    uint32_t is_searched;           /* 1 where a call found that the pieces of memory lie in it, ascend and do not overlap:
+                                       later calls test only those that they read. 0 before the first call, and where the
+                                       caller wants them tested again */
 } pe_c_stack_walk;
 
 PE_C_SIZE(pe_c_module, 80);
@@ -1624,15 +1643,17 @@ uint32_t pe_c_next_record(const pe_c_view *view, const pe_c_range *table, pe_c_p
     PE_C_RESULT(1, 2, 3, 4);
 
 /* Finds the registers of a function's caller, from those inside the function, in its prolog and epilogs too, and writes them
- * over those of the frame. It undoes the records of frame->function, which is of the table, up to the root of their chain, or runs
- * what is left of an epilog. Where that ends with a jump to an RVA, it runs it up to the jump, and undoes the records of the
- * function that the table has there, if they can be read: the jump may go on in a part of the function. A leaf function returns to
- * the word at rsp; of it neither the view nor the table nor the code is read. It makes no use of an index.
+ * over those of the frame. It undoes the records of frame->function, which is of the table, up to the root of their chain,
+ * or runs what is left of an epilog. Where that ends with a jump to an RVA, it runs it up to the jump, and undoes the
+ * records of the function that the table has there, if they can be read: the jump may go on in a part of the function. A
+ * leaf function returns to the word at rsp; of it neither the view nor the table nor the code is read. It makes no use of an
+ * index.
  *
- * `memory` has the bytes of all pieces of the stack, as a minidump file has, and `pieces` says where each is; a stack in one piece
- * is a list of one. The byte at an address is that of the first piece that has it, so eight bytes may stand in pieces that touch.
- * Pieces in ascending order that do not overlap are searched by halving, any others in turn for each byte. Each call tests all
- * pieces once. After PE_C_MISSING a caller reads a piece that has the eight bytes at frame->address, and makes the same call again.
+ * `memory` has the bytes of all pieces of the stack, as a minidump file has, and `pieces` says where each is; a stack in one
+ * piece is a list of one. The byte at an address is that of the first piece that has it, so eight bytes may stand in pieces
+ * that touch. Pieces in ascending order that do not overlap are searched by halving, any others in turn for each byte. Each
+ * call tests all pieces once. After PE_C_MISSING a caller reads a piece that has the eight bytes at frame->address, and
+ * makes the same call again.
  *
  * In the top frame, and in one that an interrupt stopped, frame->rva is that of the instruction which is about to run: look
  * the function up by it, and pass in `code` the bytes of the function from it to frame->function.end, as the image has them
@@ -1640,39 +1661,39 @@ uint32_t pe_c_next_record(const pe_c_view *view, const pe_c_range *table, pe_c_p
  * function up by frame->rva - 1, and pass no code. Without code epilogs are not recognized.
  *
  * Errors: PE_C_SHORT where a piece is not inside the memory. Of a leaf function PE_C_MISSING of the return address, and
- * PE_C_BAD_ADDRESS where it is the last word below 2^64. Of any other PE_C_SHORT where the table is not inside the bytes; for each
- * record those of pe_c_unwind_record, and PE_C_LONG_CHAIN where more than 32 are chained, as in each loop. In an epilog for each
- * instruction PE_C_MISSING, PE_C_BAD_ADDRESS. Else, and at the target of its jump, for each record PE_C_SHORT, PE_C_UNWIND_CODE of
- * its codes, PE_C_BAD_OPERATION, PE_C_BAD_ADDRESS of its frame register; for each code PE_C_BAD_OPERATION, PE_C_BAD_ADDRESS,
- * PE_C_MISSING; then PE_C_MISSING, PE_C_BAD_ADDRESS of the return address. Last PE_C_NOT_RISING, but for interrupts: so a
- * walk ends. */
+ * PE_C_BAD_ADDRESS where it is the last word below 2^64. Of any other PE_C_SHORT where the table is not inside the bytes;
+ * for each record those of pe_c_unwind_record, and PE_C_LONG_CHAIN where more than 32 are chained, as in each loop. In an
+ * epilog for each instruction PE_C_MISSING, PE_C_BAD_ADDRESS. Else, and at the target of its jump, for each record
+ * PE_C_SHORT, PE_C_UNWIND_CODE of its codes, PE_C_BAD_OPERATION, PE_C_BAD_ADDRESS of its frame register; for each code
+ * PE_C_BAD_OPERATION, PE_C_BAD_ADDRESS, PE_C_MISSING; then PE_C_MISSING, PE_C_BAD_ADDRESS of the return address. Last
+ * PE_C_NOT_RISING, but for interrupts: so a walk ends. */
 uint32_t pe_c_step(const pe_c_view *view, const pe_c_range *table, const uint8_t *code, size_t code_length,
                    const uint8_t *memory, size_t memory_length, const pe_c_memory_piece *pieces, size_t piece_count,
                    pe_c_frame *frame) PE_C_RESULT(1, 2, 9);
 
 /* Returns the next frame of a stack walk on x64, in the walk: first the top frame, and then the caller of each, through the
- * modules of a process. PE_C_NOTHING where the walk is over: walk->end says why. The caller keeps the walk between two calls,
- * and may copy it.
+ * modules of a process. PE_C_NOTHING where the walk is over: walk->end says why. The caller keeps the walk between two
+ * calls, and may copy it.
  *
- * An address is that of the first module that has it: by binary search in modules in ascending order that do not overlap, in any
- * others in turn. The modules are tested in each call, and may differ from call to call. `memory` and `pieces` are as in pe_c_step.
- * The first call of a walk tests all pieces. Where they ascend and do not overlap it sets walk->is_searched, of a walk that is over
- * too, and later calls find a piece by halving and test only those that they read: pass the same pieces in all calls of a walk, or
- * set walk->is_searched to 0 for others. With others a word may be unknown, as PE_C_MISSING, or be one of another piece that has
- * the address; no byte outside of the memory is ever read.
+ * An address is that of the first module that has it: by binary search in modules in ascending order that do not overlap, in
+ * any others in turn. The modules are tested in each call, and may differ from call to call. `memory` and `pieces` are as in
+ * pe_c_step. The first call of a walk tests all pieces. Where they ascend and do not overlap it sets walk->is_searched, of a
+ * walk that is over too, and later calls find a piece by halving and test only those that they read: pass the same pieces in
+ * all calls of a walk, or set walk->is_searched to 0 for others. With others a word may be unknown, as PE_C_MISSING, or be
+ * one of another piece that has the address; no byte outside of the memory is ever read.
  *
- * In each frame the function is looked up by rip, or by the byte before it where the function has called. Its epilogs are known by
- * their code in the image, and a jump out of it is followed. In the top frame, and in one that was interrupted, the caller may have
- * no records: then it is found by the return address at rsp, if a call ends there, else by the first of 128 words from rsp on that
- * is after a call in an executable section. Only past an interrupt may the stack pointer not rise.
- * Errors, which change nothing: PE_C_SHORT where the table of a module is not inside its bytes, or, where walk->is_searched is 0, a
- * piece not inside the memory. */
+ * In each frame the function is looked up by rip, or by the byte before it where the function has called. Its epilogs are
+ * known by their code in the image, and a jump out of it is followed. In the top frame, and in one that was interrupted, the
+ * caller may have no records: then it is found by the return address at rsp, if a call ends there, else by the first of 128
+ * words from rsp on that is after a call in an executable section. Only past an interrupt may the stack pointer not rise.
+ * Errors, which change nothing: PE_C_SHORT where the table of a module is not inside its bytes, or, where walk->is_searched
+ * is 0, a piece not inside the memory. */
 uint32_t pe_c_next_frame(const pe_c_module *modules, size_t module_count, const uint8_t *memory, size_t memory_length,
                          const pe_c_memory_piece *pieces, size_t piece_count, pe_c_stack_walk *walk) PE_C_RESULT(7);
 
-/* The same for several frames in one call, which tests the modules once: each of `frames` is the walk as it is after a frame, and
- * `count` how many there are. PE_C_NOTHING where the walk was over before all were filled: the others stay unchanged. An array of no
- * entries is always filled.
+/* The same for several frames in one call, which tests the modules once: each of `frames` is the walk as it is after a
+ * frame, and `count` how many there are. PE_C_NOTHING where the walk was over before all were filled: the others stay
+ * unchanged. An array of no entries is always filled.
  * Errors, which change nothing: those of pe_c_next_frame. */
 uint32_t pe_c_next_frames(const pe_c_module *modules, size_t module_count, const uint8_t *memory, size_t memory_length,
                           const pe_c_memory_piece *pieces, size_t piece_count, pe_c_stack_walk *walk,
@@ -1795,10 +1816,10 @@ typedef struct {
     uint64_t address;               /* the one that PE_C_MISSING, _BAD_ADDRESS or _NOT_RISING speaks of */
     pe_c_arm64_function function;   /* the one that pe_c_find_arm64_function returned */
     uint32_t rva;                   /* pc less the address where the image is loaded */
-    uint32_t leaf;                  /* 0, or where pe_c_find_arm64_function returned PE_C_NOTHING 1: a leaf function, of which
-                                       neither `function` nor `rva` is read */
-    uint32_t interrupted;           /* after a step 1 where no call left the caller: its pc is the instruction that is about to
-                                       run. Else 0 */
+    uint32_t leaf;                  /* 0, or where pe_c_find_arm64_function returned PE_C_NOTHING 1: a leaf function, of
+                                       which neither `function` nor `rva` is read */
+    uint32_t interrupted;           /* after a step 1 where no call left the caller: its pc is the instruction that is about
+                                       to run. Else 0 */
     uint32_t spare;                 /* 0 */
 } pe_c_arm64_frame;
 
@@ -1859,21 +1880,22 @@ uint32_t pe_c_next_arm64_code(const uint8_t *bytes, size_t length, pe_c_arm64_wa
 
 /* Finds the registers of a function's caller, from those inside the function, and writes them over those of the frame. It
  * undoes the codes of frame->function, which are those of its unwind record or what its packed unwind data stand for: after
- * the prolog all of them, inside of it and in an epilog those that are left. It takes a signature off the link register. The caller
- * of a leaf function goes on at the link register; of it neither the view nor the memory is read. It makes no use of an index.
+ * the prolog all of them, inside of it and in an epilog those that are left. It takes a signature off the link register. The
+ * caller of a leaf function goes on at the link register; of it neither the view nor the memory is read. It makes no use of
+ * an index.
  *
- * `memory` and `pieces` are as in pe_c_step. After PE_C_MISSING a caller reads a piece that has the eight bytes at frame->address,
- * and makes the same call again.
+ * `memory` and `pieces` are as in pe_c_step. After PE_C_MISSING a caller reads a piece that has the eight bytes at
+ * frame->address, and makes the same call again.
  *
- * In the top frame, and after a step that set frame->interrupted to 1, frame->rva is that of the instruction which is about to run:
- * look the function up by it. In every other frame it is that of a return address, which may lie at the end of the function: look
- * the function up by frame->rva - 4. Only the top frame can be one of a leaf function. A step may leave the stack pointer
- * where it is, before a prolog has moved it: end a walk where one does so in any other frame.
+ * In the top frame, and after a step that set frame->interrupted to 1, frame->rva is that of the instruction which is about
+ * to run: look the function up by it. In every other frame it is that of a return address, which may lie at the end of the
+ * function: look the function up by frame->rva - 4. Only the top frame can be one of a leaf function. A step may leave the
+ * stack pointer where it is, before a prolog has moved it: end a walk where one does so in any other frame.
  *
- * Errors: PE_C_SHORT where a piece is not inside the memory. Of a leaf function no other. Of the record PE_C_UNMAPPED, PE_C_SHORT,
- * PE_C_ARM64_VERSION; then PE_C_ARM64_CUT of a code up to the first PE_C_ARM64_END, in an epilog of its codes too. Or
- * PE_C_BAD_OPERATION where packed unwind data have no canonical prolog. For each code PE_C_BAD_OPERATION, PE_C_BAD_ADDRESS,
- * PE_C_MISSING. Last PE_C_NOT_RISING where the caller's stack pointer is below that of the function. */
+ * Errors: PE_C_SHORT where a piece is not inside the memory. Of a leaf function no other. Of the record PE_C_UNMAPPED,
+ * PE_C_SHORT, PE_C_ARM64_VERSION; then PE_C_ARM64_CUT of a code up to the first PE_C_ARM64_END, in an epilog of its codes
+ * too. Or PE_C_BAD_OPERATION where packed unwind data have no canonical prolog. For each code PE_C_BAD_OPERATION,
+ * PE_C_BAD_ADDRESS, PE_C_MISSING. Last PE_C_NOT_RISING where the caller's stack pointer is below that of the function. */
 uint32_t pe_c_step_arm64(const pe_c_view *view, const uint8_t *memory, size_t memory_length, const pe_c_memory_piece *pieces,
                          size_t piece_count, pe_c_arm64_frame *frame) PE_C_RESULT(1, 6);
 
@@ -1884,8 +1906,8 @@ typedef struct {
     uint64_t address;               /* of a walk that is over, as `address` of a frame; else 0 */
     uint32_t has_returned;          /* 0 before the first call, else 1 */
     uint32_t way;                   /* PE_C_WAY_* */
-    uint32_t has_called;            /* 1 where the function of the frame has called: pc is the return address. 0 where pc is the
-                                       instruction that is about to run */
+    uint32_t has_called;            /* 1 where the function of the frame has called: pc is the return address. 0 where pc is
+                                       the instruction that is about to run */
     uint32_t end;                   /* PE_C_END_* of a walk that is over */
     uint32_t error;                 /* a result, for PE_C_END_RECORDS and _STEP; else 0 */
     uint32_t is_searched;           /* as in pe_c_stack_walk */
@@ -1893,10 +1915,11 @@ typedef struct {
 
 PE_C_SIZE(pe_c_arm64_stack_walk, 368);
 
-/* As pe_c_next_frame, on ARM64. In each frame the function is looked up by pc, or by the call, four bytes before it, where the
- * function has called. In the top frame, and in one that was interrupted, the caller may have no unwind data: then it is found by
- * the link register, if a call ends there, else by the first of 128 words from the stack pointer on that is, without its signature,
- * after a call in an executable section. The stack pointer may stay where it is in these alone, and sink past an interrupt alone.
+/* As pe_c_next_frame, on ARM64. In each frame the function is looked up by pc, or by the call, four bytes before it, where
+ * the function has called. In the top frame, and in one that was interrupted, the caller may have no unwind data: then it is
+ * found by the link register, if a call ends there, else by the first of 128 words from the stack pointer on that is,
+ * without its signature, after a call in an executable section. The stack pointer may stay where it is in these alone, and
+ * sink past an interrupt alone.
  * Errors, which change nothing: those of pe_c_next_frame. */
 uint32_t pe_c_next_arm64_frame(const pe_c_module *modules, size_t module_count, const uint8_t *memory, size_t memory_length,
                                const pe_c_memory_piece *pieces, size_t piece_count, pe_c_arm64_stack_walk *walk)
@@ -2080,11 +2103,12 @@ uint32_t pe_c_all_imports(const pe_c_view *view, pe_c_library_imports *out) PE_C
 
 /* ---- delay imports
  *
- * DLLs that are loaded when one of their functions is called first. The directory has an entry of 32 bytes for each DLL, which
- * leads to the DLL's name and to a table of what is imported of it, by name or by ordinal.
+ * DLLs that are loaded when one of their functions is called first. The directory has an entry of 32 bytes for each DLL,
+ * which leads to the DLL's name and to a table of what is imported of it, by name or by ordinal.
  * https://learn.microsoft.com/windows/win32/debug/pe-format#delay-load-import-tables-image-only
  *
- * There are two walks: one over the DLLs, and for each one over its functions, which starts as import.functions. */
+ * There are two walks: one over the DLLs, and for each one over its functions, which starts as import.functions. A third
+ * walk goes through both, for pe_c_list_all_delayed_functions_together. */
 
 /* IMAGE_DELAYLOAD_DESCRIPTOR. Addresses are RVAs where bit 0 of the attributes is set, else virtual addresses, as linkers
  * before Visual C++ 7 wrote them. */
@@ -2118,18 +2142,35 @@ typedef struct {
     uint32_t has_name;              /* 1 or 0 */
 } pe_c_delayed_function;
 
+/* A walk over the functions of all DLLs. */
+typedef struct {
+    pe_c_range libraries;           /* the entries of the directory after that of the DLL that is walked over */
+    pe_c_delayed_functions functions;   /* the functions that this one has left */
+    pe_c_range library_name;        /* of this one: UTF-8, without its final zero */
+    uint64_t begun;                 /* how many DLLs were begun; 0 before the first */
+} pe_c_library_functions;
+
+/* A function, and the DLL that it is of. */
+typedef struct {
+    pe_c_delayed_function function; /* what pe_c_next_delayed_function returns */
+    pe_c_range library_name;        /* of the DLL: UTF-8, without its final zero */
+    uint64_t library;               /* index of the DLL in the order of the delay import directory */
+} pe_c_library_function;
+
 PE_C_SIZE(pe_c_delay_descriptor, 32);
 PE_C_SIZE(pe_c_delayed_functions, 24);
 PE_C_SIZE(pe_c_delay_import, 72);
 PE_C_SIZE(pe_c_delayed_function, 24);
+PE_C_SIZE(pe_c_library_functions, 64);
+PE_C_SIZE(pe_c_library_function, 48);
 
 /* Returns the entries of the delay import directory as a walk. PE_C_NOTHING where the directory is absent.
  * Errors: PE_C_UNMAPPED, PE_C_SHORT. */
 uint32_t pe_c_delay_imports(const pe_c_view *view, pe_c_range *out) PE_C_RESULT(1, 2);
 
 /* Returns the next DLL. The directory ends with its bytes, or at an entry without the address of a name.
- * Errors: PE_C_SHORT of the entry; PE_C_DIRECTORY_VA_BELOW_BASE, PE_C_UNMAPPED, PE_C_DIRECTORY_DELAY_IMPORT_NAME of the name;
- * PE_C_DIRECTORY_VA_BELOW_BASE, PE_C_UNMAPPED of the table of functions. */
+ * Errors: PE_C_SHORT of the entry; PE_C_DIRECTORY_VA_BELOW_BASE, PE_C_UNMAPPED, PE_C_DIRECTORY_DELAY_IMPORT_NAME of the
+ * name; PE_C_DIRECTORY_VA_BELOW_BASE, PE_C_UNMAPPED of the table of functions. */
 uint32_t pe_c_next_delay_import(const pe_c_view *view, pe_c_range *walk, pe_c_delay_import *out) PE_C_RESULT(1, 2, 3);
 
 /* Returns the next function of a DLL.
@@ -2138,11 +2179,15 @@ uint32_t pe_c_next_delay_import(const pe_c_view *view, pe_c_range *walk, pe_c_de
 uint32_t pe_c_next_delayed_function(const pe_c_view *view, pe_c_delayed_functions *walk, pe_c_delayed_function *out)
     PE_C_RESULT(1, 2, 3);
 
+/* Returns the delay import directory as a walk for pe_c_list_all_delayed_functions_together. PE_C_NOTHING where the
+ * directory is absent. Errors: PE_C_UNMAPPED, PE_C_SHORT. */
+uint32_t pe_c_all_delayed_functions(const pe_c_view *view, pe_c_library_functions *out) PE_C_RESULT(1, 2);
+
 /* ---- bound imports
  *
- * DLLs whose addresses the linker, or a tool after it, wrote into the import address table: they are valid as long as each DLL
- * has the time stamp that stands here. Each is followed by the DLLs that it forwards to. The directory stands in the headers,
- * so its RVA is an offset, and the offsets of names count from its start. */
+ * DLLs whose addresses the linker, or a tool after it, wrote into the import address table: they are valid as long as each
+ * DLL has the time stamp that stands here. Each is followed by the DLLs that it forwards to. The directory stands in the
+ * headers, so its RVA is an offset, and the offsets of names count from its start. */
 
 /* IMAGE_BOUND_IMPORT_DESCRIPTOR. */
 typedef struct {
@@ -2247,14 +2292,14 @@ uint32_t pe_c_fixed_version(const pe_c_view *view, pe_c_version *out) PE_C_RESUL
  * the text, which ends at the first zero. PE_C_NOTHING also without a string of that name, and for another number. */
 uint32_t pe_c_version_text(const pe_c_view *view, uint32_t name, pe_c_range *out) PE_C_RESULT(1, 3);
 
-/* Returns version information as a walk over its blocks, of which the first is all of it. Its content is not read yet, so the
- * errors of version strings and of fixed file information are not among its errors. */
+/* Returns version information as a walk over its blocks, of which the first is all of it. Its content is not read yet, so
+ * the errors of version strings and of fixed file information are not among its errors. */
 uint32_t pe_c_version_blocks(const pe_c_view *view, pe_c_range *out) PE_C_RESULT(1, 2);
 
-/* Returns the next block. A walk ends with its bytes, or at a block of length 0. Unlike other walks this one may go on after an
- * error, with the block after that which has the error; it is over where a call returns PE_C_NOTHING.
- * Errors: PE_C_SHORT where the block is truncated, which ends the walk; PE_C_RESOURCE_STRING where its length is below 6, which
- * ends the walk, or its key has no zero code unit in it, after which the walk goes on. */
+/* Returns the next block. A walk ends with its bytes, or at a block of length 0. Unlike other walks this one may go on after
+ * an error, with the block after that which has the error; it is over where a call returns PE_C_NOTHING.
+ * Errors: PE_C_SHORT where the block is truncated, which ends the walk; PE_C_RESOURCE_STRING where its length is below 6,
+ * which ends the walk, or its key has no zero code unit in it, after which the walk goes on. */
 uint32_t pe_c_next_version_block(const uint8_t *bytes, size_t length, pe_c_range *walk, pe_c_version_block *out)
     PE_C_RESULT(3, 4);
 
@@ -2280,7 +2325,8 @@ typedef struct {
     pe_c_resource_name name;        /* the resource among those of its type */
     pe_c_resource_name language;    /* an id is a language identifier; 0 for any language */
     pe_c_range content;             /* the empty range where content_result is not PE_C_DONE */
-    uint32_t content_result;        /* PE_C_DONE, or why the content is not in the file: PE_C_UNMAPPED, PE_C_RESOURCE_BOUNDS */
+    uint32_t content_result;        /* PE_C_DONE, or why the content is not in the file: PE_C_UNMAPPED,
+                                       PE_C_RESOURCE_BOUNDS */
     uint32_t rva;                   /* RVA of the content */
     uint32_t size;                  /* bytes of the content */
     uint32_t code_page;             /* of texts in the content, mostly 0 */
@@ -2316,7 +2362,8 @@ typedef struct {
 /* An entry of a directory, by its name. */
 typedef struct {
     pe_c_resource_name name;
-    uint32_t offset;                /* of the directory to which it leads, or of the data entry, from the start of the tree */
+    uint32_t offset;                /* of the directory to which it leads, or of the data entry, from the start of the
+                                       tree */
     uint32_t is_directory;          /* 1 where it leads to a directory, else 0 */
 } pe_c_resource_item;
 
@@ -2327,28 +2374,29 @@ PE_C_SIZE(pe_c_resource_walk, 80);
 PE_C_SIZE(pe_c_resource_directory, 32);
 PE_C_SIZE(pe_c_resource_item, 32);
 
-/* Returns the leaves as a walk, in the order of the entries of directories. PE_C_NOTHING where the directory is absent, and in
- * permissive mode where its data is too short for a directory.
+/* Returns the leaves as a walk, in the order of the entries of directories. PE_C_NOTHING where the directory is absent, and
+ * in permissive mode where its data is too short for a directory.
  * Errors: PE_C_UNMAPPED, PE_C_SHORT of the root directory; PE_C_RESOURCE_BOUNDS where the data that the data directory names
  * ends past the end of the file, and in strict mode where the root or its entries are not all inside the data. */
 uint32_t pe_c_resource_leaves(const pe_c_view *view, pe_c_resource_walk *out) PE_C_RESULT(1, 2);
 
 /* Returns the next leaf. A content that is not in the file is no error of its leaf.
- * Errors: PE_C_SHORT where the walk is not inside the bytes, or its entries are not inside its tree; of the entry of a type or
- * a name PE_C_TREE_NOT_DIRECTORY, PE_C_SHORT of its directory and of the entries there, PE_C_TREE_NO_ENTRIES; of the entry of a
- * language PE_C_TREE_NOT_DATA, PE_C_SHORT of its data entry; PE_C_SHORT of a name. */
+ * Errors: PE_C_SHORT where the walk is not inside the bytes, or its entries are not inside its tree; of the entry of a type
+ * or a name PE_C_TREE_NOT_DIRECTORY, PE_C_SHORT of its directory and of the entries there, PE_C_TREE_NO_ENTRIES; of the
+ * entry of a language PE_C_TREE_NOT_DATA, PE_C_SHORT of its data entry; PE_C_SHORT of a name. */
 uint32_t pe_c_next_resource_leaf(const pe_c_view *view, pe_c_resource_walk *walk, pe_c_resource_leaf *out)
     PE_C_RESULT(1, 2, 3);
 
-/* Returns the directory at an offset of a tree, which is that of a walk over leaves: at 0 the root, whose entries are types, else one
- * to which an entry leads. A hostile tree may lead to a directory again, or many times: bound what you follow.
+/* Returns the directory at an offset of a tree, which is that of a walk over leaves: at 0 the root, whose entries are types,
+ * else one to which an entry leads. A hostile tree may lead to a directory again, or many times: bound what you follow.
  * Errors: PE_C_SHORT where the tree is not inside the bytes, or the directory or its entries are not inside the tree. */
 uint32_t pe_c_resource_directory_at(const uint8_t *bytes, size_t length, const pe_c_range *tree, uint32_t offset,
                                     pe_c_resource_directory *out) PE_C_RESULT(3, 5);
 
 /* Returns the next entry of a directory of a tree: those with a name first.
- * Errors: PE_C_SHORT where the walk is not inside the bytes, or an entry is truncated, after which the walk is over; PE_C_SHORT where the
- * tree is not inside the bytes, or a name is not inside the tree, after which the walk is past its entry. */
+ * Errors: PE_C_SHORT where the walk is not inside the bytes, or an entry is truncated, after which the walk is over;
+ * PE_C_SHORT where the tree is not inside the bytes, or a name is not inside the tree, after which the walk is past its
+ * entry. */
 uint32_t pe_c_next_resource_item(const uint8_t *bytes, size_t length, const pe_c_range *tree, pe_c_range *walk,
                                  pe_c_resource_item *out) PE_C_RESULT(3, 4, 5);
 
@@ -2358,20 +2406,20 @@ uint32_t pe_c_next_resource_item(const uint8_t *bytes, size_t length, const pe_c
 uint32_t pe_c_fixed_version_in(const uint8_t *bytes, size_t length, const pe_c_range *content, pe_c_version *out)
     PE_C_RESULT(3, 4);
 
-/* Returns the value of a name in the content of such a leaf, as pe_c_version_text does. PE_C_NOTHING without a string of that
- * name, and for another number.
+/* Returns the value of a name in the content of such a leaf, as pe_c_version_text does. PE_C_NOTHING without a string of
+ * that name, and for another number.
  * Errors: PE_C_SHORT where the content is not inside the bytes; PE_C_SHORT, PE_C_RESOURCE_STRING of the version strings. */
 uint32_t pe_c_version_text_in(const uint8_t *bytes, size_t length, const pe_c_range *content, uint32_t name,
                               pe_c_range *out) PE_C_RESULT(3, 5);
 
 /* ---- resources written
  *
- * The resources of an image changed: a caller lists the leaves that are there, changes the list, and passes all of it. The new
- * resources go over the data of the old ones' section, or where they do not fit there to the end of the image. What the headers
- * say of them changes too, and the checksum, which is made good, or stays 0 where it was 0.
+ * The resources of an image changed: a caller lists the leaves that are there, changes the list, and passes all of it. The
+ * new resources go over the data of the old ones' section, or where they do not fit there to the end of the image. What the
+ * headers say of them changes too, and the checksum, which is made good, or stays 0 where it was 0.
  *
- * `bytes` are the whole file, also in mode PE_C_MAPPED. The calls read the headers from them, in the mode of `image`, whose other
- * fields make no difference.
+ * `bytes` are the whole file, also in mode PE_C_MAPPED. The calls read the headers from them, in the mode of `image`, whose
+ * other fields make no difference.
  * https://learn.microsoft.com/windows/win32/debug/pe-format#the-rsrc-section */
 
 /* A resource in one language. Its ranges are those of an array of bytes that is passed beside it. */
@@ -2390,16 +2438,16 @@ PE_C_SIZE(pe_c_resource, 72);
 uint32_t pe_c_edited_length(const pe_c_view *view, const pe_c_resource *resources, size_t resource_count,
                             const uint8_t *data, size_t data_length, uint64_t *out) PE_C_RESULT(1, 6);
 
-/* Writes the image with these resources in place of those that it has to the start of the array, and its length to `out`. The
- * rest of the array is unchanged, and all of it after an error. `data` has the names and the contents, and may be `bytes`. The
- * array overlaps none of the others; it may be NULL if room_length is 0, the resources if resource_count is, and the data if
- * data_length is.
- * The resources are sorted by type, name and language: names before ids, names by their code units, ids and languages by their
- * numbers. No two have the same type, name and language.
- * They go over the data of their section if they fit there, and no byte of the file moves. Otherwise they go to the end of the
- * image, into their own section if it is the last or into a new one, and what follows the data of the sections in the file
- * moves by the bytes that are added, a multiple of the file alignment; so do the pointers to COFF symbols and to the data of
- * debug entries there.
+/* Writes the image with these resources in place of those that it has to the start of the array, and its length to `out`.
+ * The rest of the array is unchanged, and all of it after an error. `data` has the names and the contents, and may be
+ * `bytes`. The array overlaps none of the others; it may be NULL if room_length is 0, the resources if resource_count is,
+ * and the data if data_length is.
+ * The resources are sorted by type, name and language: names before ids, names by their code units, ids and languages by
+ * their numbers. No two have the same type, name and language.
+ * They go over the data of their section if they fit there, and no byte of the file moves. Otherwise they go to the end of
+ * the image, into their own section if it is the last or into a new one, and what follows the data of the sections in the
+ * file moves by the bytes that are added, a multiple of the file alignment; so do the pointers to COFF symbols and to the
+ * data of debug entries there.
  * Errors: those of pe_c_image; PE_C_EDIT_RECORD where a range is not inside the data, or an id or a language is not below
  * 2^16; PE_C_EDIT_NAMES where the names have more than 16 MiB, each counted as often as a resource has it;
  * PE_C_NO_OPTIONAL_HEADER; PE_C_EDIT_NO_DIRECTORY where the image has fewer than three directories; PE_C_EDIT_SIGNED where
@@ -2426,13 +2474,13 @@ uint32_t pe_c_block_length(const uint8_t *key, size_t key_length, uint32_t is_te
 
 /* Writes a block of version information to the start of the array, with zeros up to a multiple of four bytes, where the next
  * block starts, and its length with them to `out`. The rest of the array is unchanged, and all of it after an error.
- * `key` is UTF-16 code units, little-endian, without a final zero; `is_text` is 0, or another number where the value is a text,
- * which has a final zero; `children` are the blocks in it, as this call writes them, one after the other. The array overlaps none
- * of the others; each may be NULL if its length is 0.
+ * `key` is UTF-16 code units, little-endian, without a final zero; `is_text` is 0, or another number where the value is a
+ * text, which has a final zero; `children` are the blocks in it, as this call writes them, one after the other. The array
+ * overlaps none of the others; each may be NULL if its length is 0.
  * https://learn.microsoft.com/windows/win32/menurc/vs-versioninfo
- * Errors: PE_C_BLOCK_KEY where the key has an odd number of bytes, or a code unit of zero; PE_C_BLOCK_TEXT where the value is a
- * text of an odd number of bytes; PE_C_BLOCK_TOO_LONG where the block has more than 65,535 bytes; PE_C_WRITE_FIT where it does
- * not fit into the array. */
+ * Errors: PE_C_BLOCK_KEY where the key has an odd number of bytes, or a code unit of zero; PE_C_BLOCK_TEXT where the value
+ * is a text of an odd number of bytes; PE_C_BLOCK_TOO_LONG where the block has more than 65,535 bytes; PE_C_WRITE_FIT where
+ * it does not fit into the array. */
 uint32_t pe_c_write_block(const uint8_t *key, size_t key_length, uint32_t is_text, const uint8_t *value,
                           size_t value_length, const uint8_t *children, size_t children_length, uint8_t *room,
                           size_t room_length, uint64_t *out) PE_C_RESULT(10);
@@ -2469,14 +2517,14 @@ uint32_t pe_c_version_length(const pe_c_version *fixed, const pe_c_version_table
                              const pe_c_version_language *translations, size_t translation_count, const uint8_t *texts,
                              size_t texts_length, uint64_t *out) PE_C_RESULT(1, 10);
 
-/* Writes version information, the content of a resource of type 16 (RT_VERSION), to the start of the array, and its length to
- * `out`. The rest of the array is unchanged, and all of it after an error. `tables` are the tables of strings, `translations` the
- * languages and code pages that the file supports, each in its order; `texts` has the names and the texts. The array overlaps none
- * of the others; each may be NULL if its length is 0.
+/* Writes version information, the content of a resource of type 16 (RT_VERSION), to the start of the array, and its length
+ * to `out`. The rest of the array is unchanged, and all of it after an error. `tables` are the tables of strings,
+ * `translations` the languages and code pages that the file supports, each in its order; `texts` has the names and the
+ * texts. The array overlaps none of the others; each may be NULL if its length is 0.
  * Errors: PE_C_SHORT where a range of a string is not inside the texts, or the strings of a table are not all there;
- * PE_C_BLOCK_KEY where a name has an odd number of bytes, or a code unit of zero; PE_C_BLOCK_TEXT where a text has an odd number
- * of bytes; PE_C_BLOCK_TOO_LONG where a string, a table, or a block of these has more than 65,535 bytes: of the blocks the first
- * refusal, each after those that are in it; PE_C_WRITE_FIT where it does not fit into the array. */
+ * PE_C_BLOCK_KEY where a name has an odd number of bytes, or a code unit of zero; PE_C_BLOCK_TEXT where a text has an odd
+ * number of bytes; PE_C_BLOCK_TOO_LONG where a string, a table, or a block of these has more than 65,535 bytes: of the
+ * blocks the first refusal, each after those that are in it; PE_C_WRITE_FIT where it does not fit into the array. */
 uint32_t pe_c_write_version(const pe_c_version *fixed, const pe_c_version_table *tables, size_t table_count,
                             const pe_c_version_string *strings, size_t string_count,
                             const pe_c_version_language *translations, size_t translation_count, const uint8_t *texts,
@@ -2519,8 +2567,8 @@ uint32_t pe_c_next_tls_callback(const pe_c_view *view, pe_c_range *walk, uint64_
  * https://learn.microsoft.com/windows/win32/debug/pe-format#the-load-configuration-structure-image-only */
 
 /* IMAGE_LOAD_CONFIG_DIRECTORY32 or IMAGE_LOAD_CONFIG_DIRECTORY64, up to the guard flags. A field that the structure is too
- * short for, or the image, is 0, and so is the field of its name with has_, which else is 1. The addresses are virtual addresses, mostly 0
- * where there is nothing: less image->base one is an RVA, for pe_c_offset. */
+ * short for, or the image, is 0, and so is the field of its name with has_, which else is 1. The addresses are virtual
+ * addresses, mostly 0 where there is nothing: less image->base one is an RVA, for pe_c_offset. */
 typedef struct {
     uint64_t security_cookie;       /* where the security cookie is */
     uint64_t se_handler_table;      /* x86: where the table of exception handlers is, their RVAs, sorted, 4 bytes each */
@@ -2557,8 +2605,8 @@ PE_C_SIZE(pe_c_load_config_directory, 88);
  * Errors: PE_C_UNMAPPED; PE_C_SHORT of the 4 bytes of its size. */
 uint32_t pe_c_load_config(const pe_c_view *view, pe_c_load_config_directory *out) PE_C_RESULT(1, 2);
 
-/* The fields that the record above does not have, by their numbers in the order of winnt.h. What is named a table or a pointer is a
- * virtual address, but for offsets; pe_c_guard_table walks tables of code. */
+/* The fields that the record above does not have, by their numbers in the order of winnt.h. What is named a table or a
+ * pointer is a virtual address, but for offsets; pe_c_guard_table walks tables of code. */
 enum {
     PE_C_CONFIG_GLOBAL_FLAGS_CLEAR = 0, /* GlobalFlagsClear: flags that are cleared in the process */
     PE_C_CONFIG_GLOBAL_FLAGS_SET = 1, /* GlobalFlagsSet: flags that are set in it */
@@ -2599,16 +2647,16 @@ enum {
     PE_C_CONFIG_GUARD_MEMCPY_FUNCTION_POINTER = 36 /* GuardMemcpyFunctionPointer */
 };
 
-/* Returns the field with a number, PE_C_CONFIG_. PE_C_NOTHING where the image has no load configuration or this is too short for
- * the field, and for other numbers.
+/* Returns the field with a number, PE_C_CONFIG_. PE_C_NOTHING where the image has no load configuration or this is too short
+ * for the field, and for other numbers.
  * Errors: those of pe_c_load_config. */
 uint32_t pe_c_load_config_field(const pe_c_view *view, uint32_t field, uint64_t *out) PE_C_RESULT(1, 3);
 
 /* ---- tables of a load configuration
  *
  * Of code to which control may go: exception handlers of x86, functions that may be called indirectly, entries of the import
- * address table whose address is taken, targets of longjmp, and where execution goes on after exceptions. An entry is an RVA of 4
- * bytes, and flags. Microsoft's linker sorts entries by RVA; that is not tested.
+ * address table whose address is taken, targets of longjmp, and where execution goes on after exceptions. An entry is an RVA
+ * of 4 bytes, and flags. Microsoft's linker sorts entries by RVA; that is not tested.
  * https://learn.microsoft.com/windows/win32/secbp/pe-metadata */
 
 /* The tables, by their numbers. */
@@ -2622,7 +2670,8 @@ enum {
 
 /* A walk over the entries of a table. */
 typedef struct {
-    pe_c_range entries;             /* from the next entry to the end of the bytes; of no bytes where the table starts past it */
+    pe_c_range entries;             /* from the next entry to the end of the bytes; of no bytes where the table starts past
+                                       it */
     uint64_t count;                 /* how many entries are left */
     uint32_t flag_size;             /* bytes of flags that an entry has after its RVA; of handlers 0 */
     uint32_t spare;                 /* 0 */
@@ -2638,12 +2687,13 @@ typedef struct {
 
 PE_C_SIZE(pe_c_guard_entry, 24);
 
-/* Returns a walk over the table with a number, PE_C_GUARD_. PE_C_NOTHING where the image has no load configuration or this has no
- * such table, and for other numbers.
+/* Returns a walk over the table with a number, PE_C_GUARD_. PE_C_NOTHING where the image has no load configuration or this
+ * has no such table, and for other numbers.
  * Errors: those of pe_c_load_config; PE_C_DIRECTORY_VA_BELOW_BASE, PE_C_UNMAPPED. */
 uint32_t pe_c_guard_table(const pe_c_view *view, uint32_t table, pe_c_guard_entries *out) PE_C_RESULT(1, 3);
 
-/* Returns the next entry of a table. Error: PE_C_SHORT where the bytes end before the table does, or the walk is not inside them. */
+/* Returns the next entry of a table. Error: PE_C_SHORT where the bytes end before the table does, or the walk is not inside
+ * them. */
 uint32_t pe_c_next_guard_entry(const uint8_t *bytes, size_t length, pe_c_guard_entries *walk, pe_c_guard_entry *out)
     PE_C_RESULT(3, 4);
 
@@ -2744,23 +2794,23 @@ PE_C_SIZE(pe_c_metadata_stream, 48);
 uint32_t pe_c_clr_header(const pe_c_view *view, pe_c_cor20_header *out) PE_C_RESULT(1, 2);
 
 /* Returns the root of the metadata of a CLR header.
- * Errors: PE_C_UNMAPPED; PE_C_SHORT of the metadata, then of the root's first 16 bytes; PE_C_BAD_MAGIC; PE_C_SHORT of the rest
- * of the root. */
+ * Errors: PE_C_UNMAPPED; PE_C_SHORT of the metadata, then of the root's first 16 bytes; PE_C_BAD_MAGIC; PE_C_SHORT of the
+ * rest of the root. */
 uint32_t pe_c_clr_metadata(const pe_c_view *view, const pe_c_cor20_header *header, pe_c_metadata *out)
     PE_C_RESULT(1, 2, 3);
 
 /* Returns the next stream of the metadata.
- * Errors: PE_C_SHORT of the stream header's first 8 bytes; PE_C_DIRECTORY_STREAM_NAME where its name does not end in 32 bytes;
- * PE_C_SHORT of the zeros after the name, up to a multiple of 4. */
+ * Errors: PE_C_SHORT of the stream header's first 8 bytes; PE_C_DIRECTORY_STREAM_NAME where its name does not end in 32
+ * bytes; PE_C_SHORT of the zeros after the name, up to a multiple of 4. */
 uint32_t pe_c_next_metadata_stream(const uint8_t *bytes, size_t length, pe_c_metadata_streams *walk,
                                    pe_c_metadata_stream *out) PE_C_RESULT(3, 4);
 
 /* ---- texts
  *
- * Names and texts are ranges of the bytes, in UTF-8 or in UTF-16, little-endian. They may hold anything, control characters too.
- * A call that writes a text ends it with a zero, and `written` gets its length without the zero. Where the array has no more bytes
- * than the text the call returns PE_C_ROOM: then the array is unchanged, and `written` is how many bytes it has to have. It may be
- * NULL if room_length is 0, and overlaps no other argument. */
+ * Names and texts are ranges of the bytes, in UTF-8 or in UTF-16, little-endian. They may hold anything, control characters
+ * too. A call that writes a text ends it with a zero, and `written` gets its length without the zero. Where the array has no
+ * more bytes than the text the call returns PE_C_ROOM: then the array is unchanged, and `written` is how many bytes it has
+ * to have. It may be NULL if room_length is 0, and overlaps no other argument. */
 
 /* How a GUID is written. Other numbers are as PE_C_GUID_DIGITS. */
 enum {
@@ -2790,7 +2840,8 @@ PE_C_SIZE(pe_c_text_in_bytes, 24);
 
 /* Returns the text in a range up to its first zero, and whether a zero follows it, in the range or right after it.
  * Error: PE_C_SHORT where the range is not inside the bytes. */
-uint32_t pe_c_text_in(const uint8_t *bytes, size_t length, const pe_c_range *range, pe_c_text_in_bytes *out) PE_C_RESULT(3, 4);
+uint32_t pe_c_text_in(const uint8_t *bytes, size_t length, const pe_c_range *range,
+                      pe_c_text_in_bytes *out) PE_C_RESULT(3, 4);
 
 /* ---- lists in one call
  *
@@ -2804,8 +2855,8 @@ uint32_t pe_c_text_in(const uint8_t *bytes, size_t length, const pe_c_range *ran
  *         use(entries, written);
  *
  * An error is that of the walk, returned by a call of its own: where entries come before it, a call returns these with
- * PE_C_DONE, and the next one the error. After an error `entries` and `written` are unchanged, and the walk is as that of its
- * call is after an error. PE_C_ROOM, and nothing changes, where number_of_entries is 0. */
+ * PE_C_DONE, and the next one the error. After an error `entries` and `written` are unchanged, and the walk is as that of
+ * its call is after an error. PE_C_ROOM, and nothing changes, where number_of_entries is 0. */
 
 /* Lists the functions of a table as pe_c_function_at reads them, from the index `next` on, which moves past them.
  * Errors: PE_C_ROOM; PE_C_SHORT where the table is not inside the bytes. */
@@ -2816,14 +2867,23 @@ uint32_t pe_c_list_functions(const pe_c_view *view, const pe_c_range *table, uin
 uint32_t pe_c_list_codes(const pe_c_view *view, pe_c_walk *walk, pe_c_code *entries, size_t number_of_entries,
                          uint64_t *written) PE_C_RESULT(1, 2, 5);
 
-/* Returns the unwind record of an unwind RVA as pe_c_unwind_record does, and lists its codes: out->codes is the walk after them.
- * A record has at most 255 codes.
+/* Returns the unwind record of an unwind RVA as pe_c_unwind_record does, and lists its codes: out->codes is the walk after
+ * them. A record has at most 255 codes.
  * Errors, after which `out` is unchanged too: those of pe_c_unwind_record; PE_C_ROOM; of the first code those of
  * pe_c_next_code. */
 uint32_t pe_c_record_codes(const pe_c_view *view, const pe_c_range *table, uint32_t unwind, pe_c_record *out,
                            pe_c_code *codes, size_t number_of_codes, uint64_t *written) PE_C_RESULT(1, 2, 4, 7);
 
-/* Lists the functions of an ARM64 table as pe_c_arm64_function_at reads them, from the index `next` on, which moves past them.
+/* Lists all codes of a record, of which these are the bytes of its codes alone; `version` and `frame_register` are the
+ * record's, of which the lowest byte counts. It keeps no walk: `written` is set after an error and after PE_C_ROOM too, to
+ * the number of codes before it, which are written. A record has at most 255 codes.
+ * Errors: PE_C_ROOM where bytes are left after number_of_entries codes, whatever they start with; those of
+ * pe_c_next_code. */
+uint32_t pe_c_all_codes(const uint8_t *bytes, size_t length, uint32_t version, uint32_t frame_register, pe_c_code *entries,
+                        size_t number_of_entries, uint64_t *written) PE_C_RESULT(7);
+
+/* Lists the functions of an ARM64 table as pe_c_arm64_function_at reads them, from the index `next` on, which moves past
+ * them.
  * Errors: PE_C_ROOM; PE_C_SHORT where the table is not inside the bytes. */
 uint32_t pe_c_list_arm64_functions(const pe_c_view *view, const pe_c_range *table, uint64_t *next,
                                    pe_c_arm64_function *entries, size_t number_of_entries,
@@ -2860,18 +2920,18 @@ typedef struct {
 
 PE_C_SIZE(pe_c_run, 24);
 
-/* Lists what pe_c_list_exports does, and reads names together where they share much, others each by itself. With a run for each
- * entry that the name table has left, or more, a call takes about as long as to sort these and to read each byte a few times,
- * however many of the names share a text: a hostile file may let all of them start in one long text. A call looks at no more names
- * for that than there are runs, and reads further ones to their end each; no runs are needed.
+/* Lists what pe_c_list_exports does, and reads names together where they share much, others each by itself. With a run for
+ * each entry that the name table has left, or more, a call takes about as long as to sort these and to read each byte a few
+ * times, however many of the names share a text: a hostile file may let all of them start in one long text. A call looks at
+ * no more names for that than there are runs, and reads further ones to their end each; no runs are needed.
  * What is in `runs` after the call is left open. Errors: as pe_c_list_exports. */
 uint32_t pe_c_list_exports_together(const pe_c_view *view, pe_c_exports *walk, pe_c_run *runs, size_t number_of_runs,
                                     pe_c_export *entries, size_t number_of_entries,
                                     uint64_t *written) PE_C_RESULT(1, 2, 7);
 
-/* Lists what pe_c_list_libraries does, and reads the names together, and looks for the ends of the lists of imports together.
- * With two runs for each library that is left, or more, this takes about as long as to sort these and to read each byte a few
- * times, at most ten, however many share a text or a list.
+/* Lists what pe_c_list_libraries does, and reads the names together, and looks for the ends of the lists of imports
+ * together. With two runs for each library that is left, or more, this takes about as long as to sort these and to read each
+ * byte a few times, at most ten, however many share a text or a list.
  * What is in `runs` after the call is left open. Errors: as pe_c_list_libraries. */
 uint32_t pe_c_list_libraries_together(const pe_c_view *view, pe_c_libraries *walk, pe_c_run *runs, size_t number_of_runs,
                                       pe_c_library *entries, size_t number_of_entries,
@@ -2884,26 +2944,28 @@ uint32_t pe_c_list_imports_together(const pe_c_view *view, pe_c_imports *walk, p
                                     uint64_t *written) PE_C_RESULT(1, 2, 7);
 
 /* Lists the imports of all libraries, one library after the other, and reads the names of the libraries and of the imports
- * together. With a run for each of the entries and one for each library that is left, or more, a call takes about as long as to
- * sort these and to read each byte a few times, however many names share a text. With fewer, as with none, further names are read
- * to their end each, also those of libraries without an import. Libraries may share a list, whose imports are listed for each of
- * them: `number_of_entries` bounds what a call takes.
- * What is in `runs` after the call is left open. Errors: PE_C_ROOM; those of pe_c_next_library and pe_c_next_import, in the order
- * of the walk. */
+ * together. With a run for each of the entries and one for each library that is left, or more, a call takes about as long as
+ * to sort these and to read each byte a few times, however many names share a text. With fewer, as with none, further names
+ * are read to their end each, also those of libraries without an import. Libraries may share a list, whose imports are
+ * listed for each of them: `number_of_entries` bounds what a call takes.
+ * What is in `runs` after the call is left open. Errors: PE_C_ROOM; those of pe_c_next_library and pe_c_next_import, in the
+ * order of the walk. */
 uint32_t pe_c_list_all_imports_together(const pe_c_view *view, pe_c_library_imports *walk, pe_c_run *runs,
                                         size_t number_of_runs, pe_c_library_import *entries, size_t number_of_entries,
                                         uint64_t *written) PE_C_RESULT(1, 2, 7);
 
-/* Lists what pe_c_list_export_addresses does, and reads the texts of forwarders together, with a run for each of the entries, or
- * more.
+/* Lists what pe_c_list_export_addresses does, and reads the texts of forwarders together, with a run for each of the
+ * entries, or more.
  * What is in `runs` after the call is left open. Errors: as pe_c_list_export_addresses. */
 uint32_t pe_c_list_export_addresses_together(const pe_c_view *view, const pe_c_address_table *table, uint64_t *next,
                                              pe_c_run *runs, size_t number_of_runs, pe_c_exported *entries,
                                              size_t number_of_entries, uint64_t *written) PE_C_RESULT(1, 2, 3, 8);
 
-/* Lists the long names of the sections of an image, from the index `next` on, which moves past them: what pe_c_long_section_name
- * returns of each, and an empty range where that returns PE_C_NOTHING. `table` is the string table. Names are read together, with a
- * run for each of the entries, or more: an image may have 65,535 sections, and one string for all of them.
+/* Lists the long names of the sections of an image, from the index `next` on, which moves past them: what
+ * pe_c_long_section_name returns of each, and an empty range where that returns PE_C_NOTHING. `table` is the string table.
+ * Names are read together, with a run for each of the entries, or more: an image may have 65,535 sections, and one string
+ * for all of them. Of an image the call reads the bytes and the sections alone, so with those of an object, and any record
+ * as `image`, it lists the names of that.
  * What is in `runs` after the call is left open.
  * Errors: PE_C_ROOM; PE_C_SHORT where a section is left, and `table` is not inside the bytes. */
 uint32_t pe_c_list_long_section_names(const pe_c_view *view, const pe_c_range *table, uint64_t *next, pe_c_run *runs,
@@ -2918,8 +2980,8 @@ typedef struct {
     uint32_t spare;                 /* 0 */
 } pe_c_named_symbol;
 
-/* A walk over COFF symbols with their names: of an object what pe_c_coff_symbols and pe_c_coff_strings return. Without a string
- * table the range is empty. */
+/* A walk over COFF symbols with their names: of an object what pe_c_coff_symbols and pe_c_coff_strings return. Without a
+ * string table the range is empty. */
 typedef struct {
     pe_c_symbol_walk symbols;
     pe_c_range strings;
@@ -2928,8 +2990,8 @@ typedef struct {
 PE_C_SIZE(pe_c_named_symbol, 72);
 PE_C_SIZE(pe_c_named_symbol_walk, 40);
 
-/* Lists the symbols of a walk as pe_c_next_symbol returns them, each with what pe_c_symbol_name returns of it. Names are read
- * together where they share much, with a run for each entry that the symbol table has left, or more, as those of
+/* Lists the symbols of a walk as pe_c_next_symbol returns them, each with what pe_c_symbol_name returns of it. Names are
+ * read together where they share much, with a run for each entry that the symbol table has left, or more, as those of
  * pe_c_list_exports_together; the string table stays as it is.
  * What is in `runs` after the call is left open.
  * Errors: PE_C_ROOM; PE_C_SHORT where the symbol table is not inside the bytes. */
@@ -2973,16 +3035,28 @@ uint32_t pe_c_list_delayed_functions_together(const pe_c_view *view, pe_c_delaye
                                               size_t number_of_runs, pe_c_delayed_function *entries,
                                               size_t number_of_entries, uint64_t *written) PE_C_RESULT(1, 2, 7);
 
-/* Lists bound imports as pe_c_next_bound_import returns them, and reads the names together, with a run for each of the entries, or
- * more. `table` is the range of the directory.
+/* Lists the functions of all delay-loaded DLLs, one DLL after the other, and reads the names of the DLLs and of their
+ * functions together. With a run for each of the entries and one for each DLL that is left, or more, a call takes about as
+ * long as to sort these and to read each byte a few times, however many names share a text; and it tests the sections in
+ * turn for each address, also where the view has an index. With fewer, as with none, further names are read to their end
+ * each, also those of DLLs without a function. DLLs may share a table, whose functions are listed for each of them:
+ * `number_of_entries` bounds what a call takes. What is in `runs` after the call is left open. Errors: PE_C_ROOM; those of
+ * pe_c_next_delay_import and pe_c_next_delayed_function, in the order of the walk. */
+uint32_t pe_c_list_all_delayed_functions_together(const pe_c_view *view, pe_c_library_functions *walk, pe_c_run *runs,
+                                                  size_t number_of_runs, pe_c_library_function *entries,
+                                                  size_t number_of_entries, uint64_t *written) PE_C_RESULT(1, 2, 7);
+
+/* Lists bound imports as pe_c_next_bound_import returns them, and reads the names together, with a run for each of the
+ * entries, or more. `table` is the range of the directory.
  * What is in `runs` after the call is left open. Errors: PE_C_ROOM; those of pe_c_next_bound_import. */
 uint32_t pe_c_list_bound_imports(const uint8_t *bytes, size_t length, const pe_c_range *table, pe_c_range *walk,
                                  pe_c_run *runs, size_t number_of_runs, pe_c_bound_import *entries,
                                  size_t number_of_entries, uint64_t *written) PE_C_RESULT(3, 4, 9);
 
-/* Lists the same of the DLLs that a DLL forwards to, as pe_c_next_bound_forwarder returns them. The 8 bytes of a DLL are read as those
- * of a forwarder are: a walk through the whole directory, at first a copy of `table`, lists the names and time stamps of all DLLs and
- * their forwarders, in their order, where to list the forwarders of each would cost a text that they share for each.
+/* Lists the same of the DLLs that a DLL forwards to, as pe_c_next_bound_forwarder returns them. The 8 bytes of a DLL are
+ * read as those of a forwarder are: a walk through the whole directory, at first a copy of `table`, lists the names and time
+ * stamps of all DLLs and their forwarders, in their order, where to list the forwarders of each would cost a text that they
+ * share for each.
  * What is in `runs` after the call is left open. Errors: PE_C_ROOM; those of pe_c_next_bound_forwarder. */
 uint32_t pe_c_list_bound_forwarders(const uint8_t *bytes, size_t length, const pe_c_range *table, pe_c_range *walk,
                                     pe_c_run *runs, size_t number_of_runs, pe_c_bound_forwarder *entries,
@@ -2996,16 +3070,94 @@ uint32_t pe_c_list_pogo_entries(const pe_c_view *view, pe_c_range *walk, pe_c_po
 uint32_t pe_c_list_guard_entries(const pe_c_view *view, pe_c_guard_entries *walk, pe_c_guard_entry *entries,
                                  size_t number_of_entries, uint64_t *written) PE_C_RESULT(1, 2, 5);
 
+/* ---- why a step is refused
+ *
+ * A walk is over after an error. Keep a copy of it from before each step: these calls read the same item again, by the copy,
+ * which does not move, and return the result of the step and the numbers of its error. PE_C_NOTHING where the step returns
+ * no error. They never return an error.
+ *
+ *     pe_c_libraries before = walk;
+ *     if (pe_c_next_library(&view, &walk, &library) == PE_C_UNMAPPED
+ *         && pe_c_library_failure(&view, &before, &failure) == PE_C_DONE)
+ *         printf("no section maps the RVA %#llx\n", (unsigned long long)failure.value);
+ *
+ * The numbers: of PE_C_SHORT `offset` and `needed`; of PE_C_UNMAPPED `value`, the RVA; of others those that each call
+ * names. It is proved that a call returns the error of the step, and that numbers which this error does not have are 0. Of
+ * libraries and imports the RVA is proved too, and of certificates every number; other numbers are tested. */
+
+/* Of pe_c_next_library. PE_C_UNMAPPED, PE_C_IMPORT_NAME: `value`, the RVA of the library's name. */
+uint32_t pe_c_library_failure(const pe_c_view *view, const pe_c_libraries *walk, pe_c_failure *out) PE_C_RESULT(1, 2, 3);
+
+/* Of pe_c_next_import. PE_C_UNMAPPED, PE_C_IMPORT_NAME: `value`, the RVA of the hint before the name. */
+uint32_t pe_c_import_failure(const pe_c_view *view, const pe_c_imports *walk, pe_c_failure *out) PE_C_RESULT(1, 2, 3);
+
+/* Of pe_c_unwind_record, which takes the same. PE_C_FUNCTION_LINK: `value`, the link, which is odd: the RVA of no entry,
+ * plus 1; PE_C_FUNCTION_CYCLE: `value`, how many links were followed; PE_C_UNWIND_VERSION: `value`. */
+uint32_t pe_c_unwind_record_failure(const pe_c_view *view, const pe_c_range *table, uint32_t unwind,
+                                    pe_c_failure *out) PE_C_RESULT(1, 2, 4);
+
+/* Of pe_c_next_code. PE_C_UNWIND_CODE: `value`, the second byte of the code: its operation, and what that takes above. */
+uint32_t pe_c_code_failure(const uint8_t *bytes, size_t length, const pe_c_walk *walk,
+                           pe_c_failure *out) PE_C_RESULT(3, 4);
+
+/* Of pe_c_next_resource_leaf. PE_C_TREE_NOT_DIRECTORY, PE_C_TREE_NOT_DATA, PE_C_TREE_NO_ENTRIES: `offset`, of what the entry
+ * leads to, from the first directory. */
+uint32_t pe_c_resource_leaf_failure(const pe_c_view *view, const pe_c_resource_walk *walk,
+                                    pe_c_failure *out) PE_C_RESULT(1, 2, 3);
+
+/* Of pe_c_next_certificate. PE_C_CERTIFICATE_TABLE: `offset`, where the walk ends; PE_C_CERTIFICATE_SIZE: `needed`, the
+ * length that the certificate states; PE_C_CERTIFICATE_REVISION, PE_C_CERTIFICATE_TYPE: `value`. */
+uint32_t pe_c_certificate_failure(const uint8_t *bytes, size_t length, const pe_c_range *walk,
+                                  pe_c_failure *out) PE_C_RESULT(3, 4);
+
+/* Of pe_c_next_relocation_block. PE_C_DIRECTORY_BLOCK_SIZE: `value`, the size; PE_C_DIRECTORY_BLOCK_TRUNCATED: `needed`, the
+ * size, and `value`, how many bytes are left. */
+uint32_t pe_c_relocation_block_failure(const uint8_t *bytes, size_t length, const pe_c_range *walk,
+                                       pe_c_failure *out) PE_C_RESULT(3, 4);
+
+/* Of pe_c_next_relocation, which takes the same `page_rva`. PE_C_DIRECTORY_NO_ARGUMENT: `value`, the RVA of the
+ * relocation. */
+uint32_t pe_c_relocation_failure(const uint8_t *bytes, size_t length, uint32_t page_rva, const pe_c_range *walk,
+                                 pe_c_failure *out) PE_C_RESULT(4, 5);
+
+/* Of pe_c_arm64_unwind_record. PE_C_ARM64_VERSION: `value`; those of the table as in pe_c_directory_failure. */
+uint32_t pe_c_arm64_record_failure(const pe_c_view *view, const pe_c_arm64_function *function,
+                                   pe_c_failure *out) PE_C_RESULT(1, 2, 3);
+
+/* Of pe_c_next_arm64_code. PE_C_ARM64_CUT: `offset`, of the code, from the start of the stream; PE_C_ARM64_STREAM: `value`,
+ * how many bytes are left. */
+uint32_t pe_c_arm64_code_failure(const uint8_t *bytes, size_t length, const pe_c_arm64_walk *walk,
+                                 pe_c_failure *out) PE_C_RESULT(3, 4);
+
+/* Of pe_c_next_delay_import. PE_C_DIRECTORY_VA_BELOW_BASE: `value`, the address; PE_C_DIRECTORY_DELAY_IMPORT_NAME:
+ * `offset`. */
+uint32_t pe_c_delay_import_failure(const pe_c_view *view, const pe_c_range *walk, pe_c_failure *out) PE_C_RESULT(1, 2, 3);
+
+/* Of pe_c_next_delayed_function. The same numbers. */
+uint32_t pe_c_delayed_function_failure(const pe_c_view *view, const pe_c_delayed_functions *walk,
+                                       pe_c_failure *out) PE_C_RESULT(1, 2, 3);
+
+/* Of pe_c_next_bound_import, which takes the same `table`. PE_C_DIRECTORY_BOUND_IMPORT_NAME: `offset`, from the start of
+ * `table`. */
+uint32_t pe_c_bound_import_failure(const uint8_t *bytes, size_t length, const pe_c_range *table, const pe_c_range *walk,
+                                   pe_c_failure *out) PE_C_RESULT(3, 4, 5);
+
+/* Of pe_c_symbol_name, which takes the same. PE_C_STRING_TABLE: `offset`, from the start of `strings`, unless the name is in
+ * the entry itself. */
+uint32_t pe_c_symbol_name_failure(const uint8_t *bytes, size_t length, const pe_c_range *table, const pe_c_range *strings,
+                                  uint64_t index, pe_c_failure *out) PE_C_RESULT(3, 4, 6);
+
 /* ---- minidumps
  *
- * A minidump is a file of its own kind: `bytes` are those of the dump, and offsets count from its start. Its directory says where
- * each stream is, one of each kind. A caller takes the range of a stream once, and reads its records by index, until
+ * A minidump is a file of its own kind: `bytes` are those of the dump, and offsets count from its start. Its directory says
+ * where each stream is, one of each kind. A caller takes the range of a stream once, and reads its records by index, until
  * PE_C_NOTHING. A stream that is damaged costs that stream alone.
  *
- * The stack of a thread: pe_c_dump_thread_context reads the registers that count, those of the exception first. The images of the
- * modules make pe_c_module records: pe_c_is_image_of says which image is a module's. pe_c_dump_memory_at and pe_c_next_memory64
- * return the pieces of memory, which pe_c_next_frame takes with the bytes of the dump as its memory. pe_c_memory_runs puts them in
- * order, for walks over many pieces, and by pe_c_memory_ranges the dump's own memory has images.
+ * The stack of a thread: pe_c_dump_thread_context reads the registers that count, those of the exception first. The images
+ * of the modules make pe_c_module records: pe_c_is_image_of says which image is a module's. pe_c_dump_memory_at and
+ * pe_c_next_memory64 return the pieces of memory, which pe_c_next_frame takes with the bytes of the dump as its memory.
+ * pe_c_memory_runs puts them in order, for walks over many pieces, and by pe_c_memory_ranges the dump's own memory has
+ * images.
  *
  * A location is what a record says, and may be anywhere: the calls that take one test it.
  * https://learn.microsoft.com/windows/win32/api/minidumpapiset/ */
@@ -3091,7 +3243,8 @@ typedef struct {
     uint32_t time_date_stamp;       /* TimeDateStamp of its image */
     uint32_t module_name_rva;       /* its path, for pe_c_dump_text */
     pe_c_dump_version version_info;
-    pe_c_dump_location cv_record;   /* its CodeView record: pe_c_dump_range, then pe_c_codeview. No bytes where there is none */
+    pe_c_dump_location cv_record;   /* its CodeView record: pe_c_dump_range, then pe_c_codeview. No bytes where there is
+                                       none */
     pe_c_dump_location misc_record; /* its IMAGE_DEBUG_MISC */
     uint32_t spare;                 /* 0 */
 } pe_c_dump_module;
@@ -3214,8 +3367,8 @@ typedef struct {
     uint64_t next;                  /* offset of the bytes of the next piece */
 } pe_c_memory64_walk;
 
-/* An entry of an index of pieces of memory, which pe_c_memory_runs makes on the way: the addresses from `start` up to the start of
- * the next entry. */
+/* An entry of an index of pieces of memory, which pe_c_memory_runs makes on the way: the addresses from `start` up to the
+ * start of the next entry. */
 typedef struct {
     uint64_t start;
     uint64_t number;                /* index of the piece that has them, plus 1; 0 where none does */
@@ -3277,8 +3430,8 @@ uint32_t pe_c_dump_range(const uint8_t *bytes, size_t length, const pe_c_dump_lo
     PE_C_RESULT(3, 4);
 
 /* Returns the range of a string, in UTF-16LE without its final zero. `rva` is what a record says.
- * Errors: PE_C_DUMP_LOCATION where its length is not inside the bytes; PE_C_DUMP_TEXT where that is odd; PE_C_DUMP_LOCATION where
- * the string is not inside the bytes. */
+ * Errors: PE_C_DUMP_LOCATION where its length is not inside the bytes; PE_C_DUMP_TEXT where that is odd; PE_C_DUMP_LOCATION
+ * where the string is not inside the bytes. */
 uint32_t pe_c_dump_text(const uint8_t *bytes, size_t length, uint64_t rva, pe_c_range *out) PE_C_RESULT(4);
 
 /* Returns the thread with an index in the stream of threads, or PE_C_NOTHING.
@@ -3297,8 +3450,8 @@ uint32_t pe_c_dump_thread_name_at(const uint8_t *bytes, size_t length, const pe_
 
 /* Returns the unloaded module with an index in their stream, or PE_C_NOTHING.
  * Errors: PE_C_DUMP_LOCATION where the stream is not inside the bytes; PE_C_SHORT where its header is truncated;
- * PE_C_DUMP_ENTRY_SIZE where its records are smaller than their fields; PE_C_DUMP_LIST_SIZE where they start in the header, or
- * end past the stream. */
+ * PE_C_DUMP_ENTRY_SIZE where its records are smaller than their fields; PE_C_DUMP_LIST_SIZE where they start in the header,
+ * or end past the stream. */
 uint32_t pe_c_dump_unloaded_at(const uint8_t *bytes, size_t length, const pe_c_range *stream, uint64_t index,
                                pe_c_dump_unloaded *out) PE_C_RESULT(3, 5);
 
@@ -3329,14 +3482,15 @@ uint32_t pe_c_dump_system(const uint8_t *bytes, size_t length, const pe_c_range 
 uint32_t pe_c_dump_process(const uint8_t *bytes, size_t length, const pe_c_range *stream, pe_c_dump_process_info *out)
     PE_C_RESULT(3, 4);
 
-/* Returns the piece of memory with an index in PE_C_MEMORY_LIST_STREAM, or PE_C_NOTHING. Errors: those of pe_c_dump_thread_at. */
+/* Returns the piece of memory with an index in PE_C_MEMORY_LIST_STREAM, or PE_C_NOTHING. Errors: those of
+ * pe_c_dump_thread_at. */
 uint32_t pe_c_dump_memory_at(const uint8_t *bytes, size_t length, const pe_c_range *stream, uint64_t index,
                              pe_c_dump_piece *out) PE_C_RESULT(3, 5);
 
 /* Returns a walk over the pieces of memory of a full dump, by PE_C_MEMORY64_LIST_STREAM. It reads each size once.
  * Errors: PE_C_DUMP_LOCATION where the stream is not inside the bytes; PE_C_SHORT where it has fewer than 16 bytes;
- * PE_C_DUMP_LIST_SIZE where it has another size than so many entries; PE_C_DUMP_LOCATION where the bytes of the pieces end past
- * offset 2^64 - 1. */
+ * PE_C_DUMP_LIST_SIZE where it has another size than so many entries; PE_C_DUMP_LOCATION where the bytes of the pieces end
+ * past offset 2^64 - 1. */
 uint32_t pe_c_dump_memory64(const uint8_t *bytes, size_t length, const pe_c_range *stream, pe_c_memory64_walk *out)
     PE_C_RESULT(3, 4);
 
@@ -3347,7 +3501,8 @@ uint32_t pe_c_next_memory64(const uint8_t *bytes, size_t length, pe_c_memory64_w
 
 /* Reads a context of x64: that of the exception, or of a thread.
  * Errors: PE_C_DUMP_LOCATION where it is not inside the bytes; PE_C_DUMP_CONTEXT_SIZE where it has fewer than 1,232 bytes;
- * PE_C_DUMP_MACHINE where its flags are not of x64; PE_C_DUMP_CONTEXT_FLAGS where control or integer registers were not saved. */
+ * PE_C_DUMP_MACHINE where its flags are not of x64; PE_C_DUMP_CONTEXT_FLAGS where control or integer registers were not
+ * saved. */
 uint32_t pe_c_dump_context(const uint8_t *bytes, size_t length, const pe_c_dump_location *location, pe_c_context *out)
     PE_C_RESULT(3, 4);
 
@@ -3355,9 +3510,9 @@ uint32_t pe_c_dump_context(const uint8_t *bytes, size_t length, const pe_c_dump_
 uint32_t pe_c_dump_context_arm64(const uint8_t *bytes, size_t length, const pe_c_dump_location *location,
                                  pe_c_arm64_context *out) PE_C_RESULT(3, 4);
 
-/* Reads the registers of a thread that count, on x64: those of the exception, if it names the thread and they can be read, since
- * the thread's own may be of the code that wrote the dump; else the thread's own. `raised` is what pe_c_dump_exception returned, or
- * PE_C_EMPTY without an exception.
+/* Reads the registers of a thread that count, on x64: those of the exception, if it names the thread and they can be read,
+ * since the thread's own may be of the code that wrote the dump; else the thread's own. `raised` is what pe_c_dump_exception
+ * returned, or PE_C_EMPTY without an exception.
  * Errors: those of the thread's own context, as of pe_c_dump_context. */
 uint32_t pe_c_dump_thread_context(const uint8_t *bytes, size_t length, const pe_c_dump_thread *thread,
                                   const pe_c_dump_raised *raised, pe_c_context *out) PE_C_RESULT(3, 4, 5);
@@ -3366,25 +3521,26 @@ uint32_t pe_c_dump_thread_context(const uint8_t *bytes, size_t length, const pe_
 uint32_t pe_c_dump_thread_context_arm64(const uint8_t *bytes, size_t length, const pe_c_dump_thread *thread,
                                         const pe_c_dump_raised *raised, pe_c_arm64_context *out) PE_C_RESULT(3, 4, 5);
 
-/* Returns PE_C_DONE where an image is that of a module: its time stamp and its size are the module's. PE_C_NOTHING where it is
- * another one, or has no optional header. The checksum is not asked. */
+/* Returns PE_C_DONE where an image is that of a module: its time stamp and its size are the module's. PE_C_NOTHING where it
+ * is another one, or has no optional header. The checksum is not asked. */
 uint32_t pe_c_is_image_of(const pe_c_image_info *image, const pe_c_dump_module *module) PE_C_RESULT(1, 2);
 
-/* Writes the memory of pieces in any order to `runs`, as pieces that ascend and do not overlap, and to `written` how many there
- * are: an address is that of the first of the pieces that has it. Two that follow one another in memory and in the file are one.
- * In such pieces pe_c_next_frame looks an address up by binary search. `entries` has to have four entries for each piece, and
- * `runs` two; what is in these entries then is left open, and so is what is in these runs after those that are written. The rest
- * of both is unchanged.
+/* Writes the memory of pieces in any order to `runs`, as pieces that ascend and do not overlap, and to `written` how many
+ * there are: an address is that of the first of the pieces that has it. Two that follow one another in memory and in the
+ * file are one. In such pieces pe_c_next_frame looks an address up by binary search. `entries` has to have four entries for
+ * each piece, and `runs` two; what is in these entries then is left open, and so is what is in these runs after those that
+ * are written. The rest of both is unchanged.
  * Errors, which change nothing: PE_C_SHORT if a piece ends past offset 2^64 - 1; PE_C_ROOM. */
 uint32_t pe_c_memory_runs(const pe_c_memory_piece *pieces, size_t piece_count, pe_c_range_entry *entries,
                           size_t number_of_entries, pe_c_memory_piece *runs, size_t number_of_runs, uint64_t *written)
     PE_C_RESULT(7);
 
-/* Writes to `found`, for each of the ranges that are asked for, whose offset is an address and whose length how many bytes from
- * it on at most, the range of `memory` where these bytes are: those of the first piece that has the address, up to its end. Where
- * no piece has it the range has no bytes. `written` is how many ranges are asked for; the rest of `found` is unchanged. In what
- * pe_c_memory_runs writes a range ends at the first address that the dump has no byte of, or has elsewhere: so the images of
- * modules are found that the dump's own memory has, for pe_c_image with PE_C_MAPPED. The pieces are tested once a call.
+/* Writes to `found`, for each of the ranges that are asked for, whose offset is an address and whose length how many bytes
+ * from it on at most, the range of `memory` where these bytes are: those of the first piece that has the address, up to its
+ * end. Where no piece has it the range has no bytes. `written` is how many ranges are asked for; the rest of `found` is
+ * unchanged. In what pe_c_memory_runs writes a range ends at the first address that the dump has no byte of, or has
+ * elsewhere: so the images of modules are found that the dump's own memory has, for pe_c_image with PE_C_MAPPED. The pieces
+ * are tested once a call.
  * Errors, which change nothing: PE_C_SHORT if a piece is not inside `memory`; PE_C_ROOM where there is room for fewer ranges
  * than are asked for. */
 uint32_t pe_c_memory_ranges(const uint8_t *memory, size_t memory_length, const pe_c_memory_piece *pieces, size_t piece_count,

@@ -45,6 +45,12 @@ struct file {
 #define WALK(most, call, out, ...) \
     for (int of_##call = 0; of_##call < (most) && IS_DONE(call, out, __VA_ARGS__); of_##call++)
 
+/* The same of a walk whose steps have a call that says why one is refused: it is made before each. */
+#define WALK_WHY(most, call, why, out, arguments, walk) \
+    for (int of_##call = 0; \
+         of_##call < (most) && (CALL(why, failure, arguments, &(walk), &failure), IS_DONE(call, out, arguments, &(walk), &(out))); \
+         of_##call++)
+
 /* Makes a call that fills an array, until it writes no entry, LISTS times at most. */
 #define LIST(call, type, ...) \
     do { \
@@ -157,7 +163,8 @@ static void record_x64(const struct file *file, pe_c_record *record)
     pe_c_code code = PE_C_EMPTY;
     pe_c_range scopes = PE_C_EMPTY;
     pe_c_scope scope = PE_C_EMPTY;
-    WALK(ITEMS, pe_c_next_code, code, BYTES, &record->codes, &code) {}
+    pe_c_failure failure = PE_C_EMPTY;
+    WALK_WHY(ITEMS, pe_c_next_code, pe_c_code_failure, code, BYTES, record->codes) {}
     if (IS_DONE(pe_c_scope_table, scopes, BYTES, &record->handler_data, &scopes))
         WALK(4, pe_c_next_scope, scope, BYTES, &scopes, &scope) {}
 }
@@ -183,6 +190,16 @@ static void walk_x64(const struct file *file)
         CALL(pe_c_record_codes, codes, VIEW, &table, function.unwind, &record, codes, 8, &coded);
         add(coded);
         CALL(pe_c_unwind_record, record, VIEW, &table, function.unwind, &record);
+        pe_c_range left = record.codes.left;
+        if (left.offset <= file->length && left.length <= file->length - left.offset) {
+            const uint8_t *start = file->bytes + left.offset;
+            coded = 0;
+            CALL(pe_c_all_codes, codes, start, (size_t)left.length, record.codes.version, record.codes.frame_register, codes, 8,
+                 &coded);
+            add(coded);
+        }
+        pe_c_failure failure = PE_C_EMPTY;
+        CALL(pe_c_unwind_record_failure, failure, VIEW, &table, function.unwind, &failure);
         for (int way = 0; way < 4; way++) {
             step_x64(file, &table, &function, way);
             walk_stack(file, &table, &function, way);
@@ -232,12 +249,14 @@ static uint32_t record_arm64(const struct file *file, const pe_c_arm64_function 
     pe_c_arm64_scope scope = PE_C_EMPTY;
     pe_c_arm64_walk walk = PE_C_EMPTY;
     pe_c_arm64_code code = PE_C_EMPTY;
+    pe_c_failure failure = PE_C_EMPTY;
     CALL(pe_c_arm64_packed_fields, packed, function, &packed);
+    CALL(pe_c_arm64_record_failure, failure, VIEW, function, &failure);
     if (!IS_DONE(pe_c_arm64_unwind_record, record, VIEW, function, &record))
         return packed.function_length;
     WALK(ITEMS, pe_c_next_arm64_scope, scope, BYTES, &record.scopes, &scope) {}
     if (IS_DONE(pe_c_arm64_codes, walk, BYTES, &record.codes, 0, &walk))
-        WALK(ITEMS, pe_c_next_arm64_code, code, BYTES, &walk, &code) {}
+        WALK_WHY(ITEMS, pe_c_next_arm64_code, pe_c_arm64_code_failure, code, BYTES, walk) {}
     return record.function_length;
 }
 
@@ -434,9 +453,10 @@ static void certificates(const struct file *file)
     pe_c_certificate entry = PE_C_EMPTY;
     pe_c_digest digest = PE_C_EMPTY;
     pe_c_checksum_field checksum = PE_C_EMPTY;
+    pe_c_failure failure = PE_C_EMPTY;
     uint64_t length = 0;
     signature(file, &walk, 0);
-    WALK(ITEMS, pe_c_next_certificate, entry, BYTES, &walk, &entry)
+    WALK_WHY(ITEMS, pe_c_next_certificate, pe_c_certificate_failure, entry, BYTES, walk)
         signature(file, &entry.body, 2);
     CALL(pe_c_digest_ranges, digest, VIEW, &digest);
     CALL(pe_c_checksum, checksum, VIEW, &checksum);
@@ -485,25 +505,29 @@ static void imports(const struct file *file)
     pe_c_range walk = PE_C_EMPTY, table = PE_C_EMPTY;
     pe_c_delay_import delayed = PE_C_EMPTY;
     pe_c_delayed_function function = PE_C_EMPTY;
+    pe_c_library_functions all = PE_C_EMPTY;
     pe_c_bound_import bound = PE_C_EMPTY;
     pe_c_bound_forwarder forwarder = PE_C_EMPTY;
     pe_c_run runs[ROWS] = PE_C_EMPTY;
+    pe_c_failure failure = PE_C_EMPTY;
     if (IS_DONE(pe_c_import_libraries, libraries, VIEW, &libraries))
-        WALK(LISTS, pe_c_next_library, library, VIEW, &libraries, &library)
-            WALK(ITEMS, pe_c_next_import, import, VIEW, &library.imports, &import) {}
+        WALK_WHY(LISTS, pe_c_next_library, pe_c_library_failure, library, VIEW, libraries)
+            WALK_WHY(ITEMS, pe_c_next_import, pe_c_import_failure, import, VIEW, library.imports) {}
     if (IS_DONE(pe_c_delay_imports, walk, VIEW, &walk)) {
         pe_c_range dlls = walk;
         LIST(pe_c_list_delay_imports, pe_c_delay_import, VIEW, &dlls);
         dlls = walk;
         LIST(pe_c_list_delay_imports_together, pe_c_delay_import, VIEW, &dlls, runs, ROWS);
-        WALK(LISTS, pe_c_next_delay_import, delayed, VIEW, &walk, &delayed) {
+        WALK_WHY(LISTS, pe_c_next_delay_import, pe_c_delay_import_failure, delayed, VIEW, walk) {
             pe_c_delayed_functions functions = delayed.functions;
             LIST(pe_c_list_delayed_functions, pe_c_delayed_function, VIEW, &functions);
             functions = delayed.functions;
             LIST(pe_c_list_delayed_functions_together, pe_c_delayed_function, VIEW, &functions, runs, ROWS);
-            WALK(ITEMS, pe_c_next_delayed_function, function, VIEW, &delayed.functions, &function) {}
+            WALK_WHY(ITEMS, pe_c_next_delayed_function, pe_c_delayed_function_failure, function, VIEW, delayed.functions) {}
         }
     }
+    if (IS_DONE(pe_c_all_delayed_functions, all, VIEW, &all))
+        LIST(pe_c_list_all_delayed_functions_together, pe_c_library_function, VIEW, &all, runs, ROWS);
     if (!IS_DONE(pe_c_bound_imports, table, VIEW, &table))
         return;
     walk = table;
@@ -511,8 +535,11 @@ static void imports(const struct file *file)
     walk = table;
     LIST(pe_c_list_bound_forwarders, pe_c_bound_forwarder, BYTES, &table, &walk, runs, ROWS);
     walk = table;
-    WALK(LISTS, pe_c_next_bound_import, bound, BYTES, &table, &walk, &bound)
+    CALL(pe_c_bound_import_failure, failure, BYTES, &table, &walk, &failure);
+    WALK(LISTS, pe_c_next_bound_import, bound, BYTES, &table, &walk, &bound) {
+        CALL(pe_c_bound_import_failure, failure, BYTES, &table, &walk, &failure);
         WALK(LISTS, pe_c_next_bound_forwarder, forwarder, BYTES, &table, &bound.forwarders, &forwarder) {}
+    }
 }
 
 /* A walk over blocks may go on after an error; each block's own blocks are walked too. */
@@ -582,6 +609,7 @@ static void resources(const struct file *file)
     pe_c_version version = PE_C_EMPTY;
     pe_c_resource_walk walk = PE_C_EMPTY;
     pe_c_resource_leaf leaf = PE_C_EMPTY;
+    pe_c_failure failure = PE_C_EMPTY;
     CALL(pe_c_fixed_version, version, VIEW, &version);
     for (uint32_t name = 0; name <= PE_C_SPECIAL_BUILD + 1; name++)
         CALL(pe_c_version_text, range, VIEW, name, &range);
@@ -591,7 +619,7 @@ static void resources(const struct file *file)
     if (!IS_DONE(pe_c_resource_leaves, walk, VIEW, &walk))
         return;
     resource_directories(file, &walk.tree);
-    WALK(ITEMS, pe_c_next_resource_leaf, leaf, VIEW, &walk, &leaf)
+    WALK_WHY(ITEMS, pe_c_next_resource_leaf, pe_c_resource_leaf_failure, leaf, VIEW, walk)
         if (leaf.resource_type.id == 16) {
             CALL(pe_c_fixed_version_in, version, BYTES, &leaf.content, &version);
             for (uint32_t name = 0; name <= PE_C_SPECIAL_BUILD + 1; name++)
@@ -640,6 +668,7 @@ static void directories(const struct file *file)
     pe_c_cor20_header header = PE_C_EMPTY;
     pe_c_metadata metadata = PE_C_EMPTY;
     pe_c_metadata_stream stream = PE_C_EMPTY;
+    pe_c_failure failure = PE_C_EMPTY;
     if (IS_DONE(pe_c_tls, tls, VIEW, &tls) && IS_DONE(pe_c_tls_callbacks, walk, VIEW, &tls, &walk))
         WALK(ITEMS, pe_c_next_tls_callback, callback, VIEW, &walk, &callback) {}
     CALL(pe_c_load_config, config, VIEW, &config);
@@ -648,8 +677,12 @@ static void directories(const struct file *file)
     guard_tables(file);
     texts_of_bytes(file);
     if (IS_DONE(pe_c_relocation_blocks, walk, VIEW, &walk))
-        WALK(ITEMS, pe_c_next_relocation_block, block, BYTES, &walk, &block)
-            WALK(INNER, pe_c_next_relocation, relocation, BYTES, block.page_rva, &block.entries, &relocation) {}
+        WALK_WHY(ITEMS, pe_c_next_relocation_block, pe_c_relocation_block_failure, block, BYTES, walk) {
+            uint32_t page = block.page_rva;
+            CALL(pe_c_relocation_failure, failure, BYTES, page, &block.entries, &failure);
+            WALK(INNER, pe_c_next_relocation, relocation, BYTES, page, &block.entries, &relocation)
+                CALL(pe_c_relocation_failure, failure, BYTES, page, &block.entries, &failure);
+        }
     if (IS_DONE(pe_c_clr_header, header, VIEW, &header)
         && IS_DONE(pe_c_clr_metadata, metadata, VIEW, &header, &metadata))
         WALK(ITEMS, pe_c_next_metadata_stream, stream, BYTES, &metadata.streams, &stream) {}
@@ -784,6 +817,7 @@ static void symbols(const struct file *file, const pe_c_coff_header *coff)
     pe_c_symbol_walk walk = PE_C_EMPTY;
     pe_c_range strings = PE_C_EMPTY, name = PE_C_EMPTY;
     pe_c_symbol_entry symbol = PE_C_EMPTY;
+    pe_c_failure failure = PE_C_EMPTY;
     CALL(pe_c_coff_strings, strings, BYTES, coff, &strings);
     if (!IS_DONE(pe_c_coff_symbols, walk, BYTES, coff, &walk))
         return;
@@ -794,6 +828,7 @@ static void symbols(const struct file *file, const pe_c_coff_header *coff)
     LIST(pe_c_list_symbols, pe_c_named_symbol, BYTES, &named, runs, ROWS);
     WALK(ITEMS, pe_c_next_symbol, symbol, BYTES, &walk, &symbol) {
         CALL(pe_c_symbol_name, name, BYTES, &walk.table, &strings, symbol.index, &name);
+        CALL(pe_c_symbol_name_failure, failure, BYTES, &walk.table, &strings, symbol.index, &failure);
         CALL(pe_c_symbol, symbol, BYTES, &walk.table, symbol.index + 1, &symbol);
     }
 }
@@ -808,14 +843,52 @@ static void others(struct file *file)
     pe_c_failure failure = PE_C_EMPTY;
     if (IS_DONE(pe_c_coff, coff, BYTES, &coff)) {
         CALL(pe_c_coff_sections, sections, BYTES, &coff, sections, SECTIONS);
+        CALL(pe_c_coff_sections_failure, failure, BYTES, &coff, &failure);
         symbols(file, &coff);
     }
     CALL(pe_c_te_failure, failure, BYTES, &failure);
     CALL(pe_c_te, te, BYTES, &te);
     CALL(pe_c_te_sections, sections, BYTES, &te, sections, SECTIONS);
+    CALL(pe_c_te_sections_failure, failure, BYTES, &te, &failure);
     CALL(pe_c_te_debug_entries, entries, BYTES, &te, &entries);
     WALK(ITEMS, pe_c_next_te_debug_entry, entry, BYTES, &te, &entries, &entry) {}
     CALL(pe_c_te_first_debug_entry, entry, BYTES, &te, 2, &entry);
+}
+
+/* Why steps are refused whose walk is past the end of the bytes, and what is read by a key that no image has. */
+static void refused_steps(const struct file *file)
+{
+    const pe_c_range past = {file->length, 1}, none = PE_C_EMPTY;
+    const pe_c_libraries libraries = {.next = file->length};
+    const pe_c_imports imports = {.left = past};
+    const pe_c_walk codes = {.left = past};
+    const pe_c_resource_walk leaves = {.tree = past};
+    const pe_c_arm64_walk arm64_codes = {.left = past};
+    const pe_c_delayed_functions functions = {.left = past};
+    const pe_c_arm64_function function = {.unwind = 0xFFFFFFF0};
+    const pe_c_te_image te = {.number_of_sections = 255};
+    const pe_c_coff_header coff = {.number_of_sections = 65535};
+    pe_c_image_info image = file->image;
+    pe_c_failure failure = PE_C_EMPTY;
+    image.sections_offset = file->length;
+    image.number_of_sections = 1;
+    CALL(pe_c_sections_failure, failure, BYTES, &image, &failure);
+    CALL(pe_c_library_failure, failure, VIEW, &libraries, &failure);
+    CALL(pe_c_import_failure, failure, VIEW, &imports, &failure);
+    CALL(pe_c_unwind_record_failure, failure, VIEW, &none, 0xFFFFFFF0, &failure);
+    CALL(pe_c_code_failure, failure, BYTES, &codes, &failure);
+    CALL(pe_c_resource_leaf_failure, failure, VIEW, &leaves, &failure);
+    CALL(pe_c_certificate_failure, failure, BYTES, &past, &failure);
+    CALL(pe_c_relocation_block_failure, failure, BYTES, &past, &failure);
+    CALL(pe_c_relocation_failure, failure, BYTES, 0x1000, &past, &failure);
+    CALL(pe_c_arm64_record_failure, failure, VIEW, &function, &failure);
+    CALL(pe_c_arm64_code_failure, failure, BYTES, &arm64_codes, &failure);
+    CALL(pe_c_delay_import_failure, failure, VIEW, &past, &failure);
+    CALL(pe_c_delayed_function_failure, failure, VIEW, &functions, &failure);
+    CALL(pe_c_bound_import_failure, failure, BYTES, &none, &past, &failure);
+    CALL(pe_c_symbol_name_failure, failure, BYTES, &past, &none, 0, &failure);
+    CALL(pe_c_te_sections_failure, failure, BYTES, &te, &failure);
+    CALL(pe_c_coff_sections_failure, failure, BYTES, &coff, &failure);
 }
 
 static void in_mode(struct file *file, uint32_t mode)
@@ -844,6 +917,7 @@ static void in_mode(struct file *file, uint32_t mode)
     resources(file);
     directories(file);
     lists(file);
+    refused_steps(file);
 }
 
 /* ---- the file as a minidump, whatever it is */

@@ -20,7 +20,7 @@ use std::alloc::Global;
 use std::test::Fail;
 
 /// An image for ARM64 with its exception directory there.
-fn with_table(virtual_address: u32, size: u32) -> Image {
+pub(crate) fn with_table(virtual_address: u32, size: u32) -> Image {
     having(image(ARM64), 3, directory(virtual_address, size))
 }
 
@@ -264,7 +264,7 @@ const UNTOUCHED_FIELDS: Fields = ([1, 2], [3, 4], [5, 6], [7, 8, 9, 10, 11, 12])
 /// version in 18 and 19, whether there is a handler in 20, whether the epilog is in the header in 21, the count of
 /// epilogs or the epilog's first code in 22 to 26 and the code words in 27 to 31; an extension, where both counts are 0,
 /// has the count of epilogs in bits 0 to 15 and the code words in 16 to 23.
-fn with_records(alloc: Global) -> Result<Vec<u8>, Fail> {
+pub(crate) fn with_records(alloc: Global) -> Result<Vec<u8>, Fail> {
     Ok(words(
         alloc,
         &[

@@ -15,7 +15,7 @@ use std::test::Fail;
 
 /// The directory at offset 4, 63 bytes: two DLLs, of which the first forwards to one, and an entry without a name. The last
 /// name is not NUL-terminated. By hand from the layout of winnt.h.
-const BYTES: &[u8; 67] = b"skip\x01\0\0\x3F\x28\0\x01\0\x02\0\0\x3F\x30\0\0\0\
+pub(crate) const BYTES: &[u8; 67] = b"skip\x01\0\0\x3F\x28\0\x01\0\x02\0\0\x3F\x30\0\0\0\
     \x03\0\0\x3F\x38\0\0\0\0\0\0\0\0\0\0\0\0\0\0\0\0\0\0\0\
     one.dll\0two.dll\0six.dll";
 

@@ -36,7 +36,7 @@ fn step(bytes: &[u8], walk: &mut Range) -> (u32, Fields, [u64; 2]) {
 
 /// At offset 8: certificates of 9, 8 and 16 bytes, each with a length u32, a revision u16 and a type u16 before its
 /// body, and zeros up to a multiple of eight; and 8 bytes after.
-fn three_certificates(alloc: Global) -> Result<Vec<u8>, Fail> {
+pub(crate) fn three_certificates(alloc: Global) -> Result<Vec<u8>, Fail> {
     Ok(bytes_of(
         alloc,
         56,

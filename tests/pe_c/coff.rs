@@ -26,17 +26,17 @@ use std::alloc::{AllocError, Global};
 use std::test::Fail;
 
 /// Offset and entries of the symbols, offset and size of the string table after them.
-const SYMBOLS: u64 = 0xA6;
+pub(crate) const SYMBOLS: u64 = 0xA6;
 
 const ENTRIES: u64 = 12;
 
-const STRINGS: u64 = 0x17E;
+pub(crate) const STRINGS: u64 = 0x17E;
 
 const SIZE_OF_STRINGS: u64 = 22;
 
 const SIZE: usize = 404;
 
-fn object(alloc: Global) -> Result<Vec<u8>, AllocError> {
+pub(crate) fn object(alloc: Global) -> Result<Vec<u8>, AllocError> {
     bytes_of(
         alloc,
         SIZE,
@@ -72,7 +72,7 @@ const NO_HEADER: CoffFields = CoffFields {
     characteristics: 9,
 };
 
-fn header_of(bytes: &[u8]) -> (u32, [u32; 7], CoffFields) {
+pub(crate) fn header_of(bytes: &[u8]) -> (u32, [u32; 7], CoffFields) {
     let mut out = NO_HEADER;
     let answer = pe_c_coff(bytes, &mut out);
     let numbers = [

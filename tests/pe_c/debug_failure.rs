@@ -1,22 +1,15 @@
 //! Why debug records are refused: the result of the call that reads each, and the numbers of its error. Every number is worked out by
 //! hand.
 
-use super::made::{BAD_MAGIC, DEBUG_DATA, DEBUG_SIZE, PERMISSIVE, POGO_SIZE, SHORT, STRICT};
+use super::made::{
+    BAD_MAGIC, DEBUG_DATA, DEBUG_SIZE, NO_FAILURE, PERMISSIVE, POGO_SIZE, SHORT, STRICT,
+};
 use crate::debug_failure::pe_c_debug_failure;
 use crate::failure::Failure;
 use crate::results::{DONE, NOTHING};
 use pe_images::image as bytes_of;
 use pe_records::ImageDebugDirectory;
 use std::test::Fail;
-
-/// What `out` is before each call.
-const UNTOUCHED: Failure = Failure {
-    offset: 91,
-    needed: 92,
-    value: 93,
-    result: 94,
-    spare: 95,
-};
 
 /// The answer; the error, its offset, needed bytes and value; and the last field.
 type Said = (u32, (u32, [u64; 3]), u32);
@@ -36,7 +29,7 @@ fn said(bytes: &[u8], mode: u32, record: (u32, u32), kind: u32) -> Said {
         address_of_raw_data: 0x1234,
         pointer_to_raw_data: record.0,
     };
-    let mut out = UNTOUCHED;
+    let mut out = NO_FAILURE;
     let answer = pe_c_debug_failure(bytes, mode, &entry, kind, &mut out);
     let Failure {
         offset,

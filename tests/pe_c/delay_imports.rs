@@ -18,7 +18,7 @@ use std::test::Fail;
 /// 128 bytes: at 4 an entry with RVAs and at 36 an entry of zeros; at 68 the name `a.dll`, at 76 a hint 0x201 and the name
 /// `fn`, at 84 a table with the number of that hint, an ordinal 9 and zero, of 8 bytes each, at 108 one of PE32, and at 120 a
 /// number of 8 bytes that is no RVA, up to the end.
-fn bytes_of(alloc: Global) -> Result<Vec<u8>, AllocError> {
+pub(crate) fn bytes_of(alloc: Global) -> Result<Vec<u8>, AllocError> {
     words(
         alloc,
         &[
@@ -120,7 +120,7 @@ fn next(
     )
 }
 
-fn functions(left: [u64; 2], attributes: u32) -> DelayedFunctions {
+pub(crate) fn functions(left: [u64; 2], attributes: u32) -> DelayedFunctions {
     DelayedFunctions {
         left: range(left[0], left[1]),
         attributes,

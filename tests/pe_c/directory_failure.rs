@@ -4,8 +4,8 @@
 use super::made::{
     ARM64, CERTIFICATE_REVISION, CERTIFICATE_SIZE, CERTIFICATE_TABLE, CERTIFICATE_TYPE,
     DEBUG_BOUNDS, DIRECTORY_CLR_HEADER_SIZE, EXCEPTION_BOUNDS, EXCEPTION_OFFSET, EXCEPTION_SIZE,
-    PERMISSIVE, RESOURCE_BOUNDS, SHORT, UNMAPPED, X64, directory, having, image, in_mode, sections,
-    view,
+    NO_FAILURE, PERMISSIVE, RESOURCE_BOUNDS, SHORT, UNMAPPED, X64, directory, having, image,
+    in_mode, sections, view,
 };
 use crate::directory_failure::pe_c_directory_failure;
 use crate::failure::Failure;
@@ -14,15 +14,6 @@ use crate::results::{DONE, NOTHING};
 use pe_images::{image as bytes_of, put};
 use std::test::Fail;
 
-/// What `out` is before each call.
-const UNTOUCHED: Failure = Failure {
-    offset: 91,
-    needed: 92,
-    value: 93,
-    result: 94,
-    spare: 95,
-};
-
 /// The answer; the error, its offset, needed bytes and value; and the last field.
 type Said = (u32, (u32, [u64; 3]), u32);
 
@@ -30,7 +21,7 @@ type Said = (u32, (u32, [u64; 3]), u32);
 const NONE: Said = (NOTHING, (94, [91, 92, 93]), 95);
 
 fn said(bytes: &[u8], image: &Image, index: u32) -> Said {
-    let mut out = UNTOUCHED;
+    let mut out = NO_FAILURE;
     let answer = pe_c_directory_failure(&view(bytes, image, &sections()), index, &mut out);
     let Failure {
         offset,

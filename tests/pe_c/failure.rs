@@ -1,12 +1,19 @@
 //! Why headers are refused: where, and by which number. Offsets are those of winnt.h, and every number is worked out by hand.
 
+use super::coff::{header_of, object};
 use super::made::{
     BAD_MAGIC, HEADER_POINTER, MAPPED, PERMISSIVE, SHORT, STRICT, TE_SIZE, X64, image, in_mode,
     sections,
 };
-use crate::failure::{Failure, pe_c_image_failure, pe_c_sections_failure, pe_c_te_failure};
+use super::te::image_of;
+use crate::failure::{
+    Failure, pe_c_coff_sections_failure, pe_c_image_failure, pe_c_sections_failure,
+    pe_c_te_failure, pe_c_te_sections_failure,
+};
+use crate::headers::CoffFields;
 use crate::image::{Image, pe_c_image, pe_c_sections};
 use crate::results::{DONE, NOTHING};
+use crate::te::TeImage;
 use pe_images::{headers_alone, image as bytes_of, pointer_below_64, put, te};
 use std::test::Fail;
 
@@ -184,6 +191,58 @@ fn failures_of_section_headers(rt: HostRuntime) -> Result<(), Fail> {
             let answer = pe_c_sections(&bytes[..length], &image, &mut [section; 3]);
             assert_eq!(rt; answer, if wanted.0 == DONE { SHORT } else { DONE });
         }
+    }
+    Ok(())
+}
+
+/// The three section headers of an object follow its header of 20 bytes and so many of an optional header.
+#[test]
+fn failures_of_section_headers_of_objects(rt: HostRuntime) -> Result<(), Fail> {
+    let bytes = object(rt.alloc())?;
+    let (_, _, coff) = header_of(&bytes);
+    let of = |number_of_sections, size_of_optional_header| CoffFields {
+        number_of_sections,
+        size_of_optional_header,
+        ..coff
+    };
+    for (coff, length, wanted) in [
+        (of(3, 0), 140, NONE),
+        (of(3, 0), 139, (DONE, SHORT, [20, 120, 0])),
+        (of(3, 5), 145, NONE),
+        (of(3, 5), 144, (DONE, SHORT, [25, 120, 0])),
+        (of(4, u16::MAX), 404, (DONE, SHORT, [0x1_0013, 160, 0])),
+        (of(0, u16::MAX), 0, NONE),
+        (of(u16::MAX, 1), 404, (DONE, SHORT, [21, 2_621_400, 0])),
+    ] {
+        let mut out = NO_FAILURE;
+        let answer = pe_c_coff_sections_failure(&bytes[..length], &coff, &mut out);
+        let found = (answer, out.result, [out.offset, out.needed, out.value]);
+        assert_eq!(rt; found, wanted);
+    }
+    Ok(())
+}
+
+/// Those of a TE image follow its header of 40 bytes.
+#[test]
+fn failures_of_section_headers_of_te_images(rt: HostRuntime) -> Result<(), Fail> {
+    let bytes = bytes_of(rt.alloc(), 160, &[(0, b"VZ"), (6, &[40, 0])])?;
+    let (_, te) = image_of(&bytes);
+    for (number_of_sections, length, wanted) in [
+        (3, 160, NONE),
+        (3, 159, (DONE, SHORT, [40, 120, 0])),
+        (2, 120, NONE),
+        (2, 41, (DONE, SHORT, [40, 80, 0])),
+        (0, 0, NONE),
+        (u8::MAX, 160, (DONE, SHORT, [40, 10_200, 0])),
+    ] {
+        let te = TeImage {
+            number_of_sections,
+            ..te
+        };
+        let mut out = NO_FAILURE;
+        let answer = pe_c_te_sections_failure(&bytes[..length], &te, &mut out);
+        let found = (answer, out.result, [out.offset, out.needed, out.value]);
+        assert_eq!(rt; found, wanted);
     }
     Ok(())
 }

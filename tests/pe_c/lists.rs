@@ -21,7 +21,7 @@ use crate::lists::exports::{pe_c_list_export_addresses, pe_c_list_exports};
 use crate::lists::imports::{pe_c_list_imports, pe_c_list_libraries};
 use crate::lists::relocations::{pe_c_list_relocation_blocks, pe_c_list_relocations};
 use crate::lists::resources::{pe_c_list_resource_leaves, pe_c_list_version_blocks};
-use crate::lists::x64::{pe_c_list_codes, pe_c_list_functions};
+use crate::lists::x64::{pe_c_all_codes, pe_c_list_codes, pe_c_list_functions};
 use crate::ranges::Range;
 use crate::resource_leaves::pe_c_resource_leaves;
 use crate::results::{DONE, ROOM};
@@ -170,6 +170,74 @@ fn large_allocations_in_lists(rt: HostRuntime) {
     assert_eq!(rt; all, (DONE, 3, [12, 3], [0, 3, 0]));
     let after = codes(&bytes, &mut walk, 4);
     assert_eq!(rt; after, (SHORT, UNWRITTEN, [15, 0], [7; 3]));
+}
+
+/// All codes in these bytes, in this room: the result, how many are written, and the values of the first three entries.
+fn all_codes(codes: &[u8], version: u32, room: usize) -> (u32, u64, [u32; 3]) {
+    let mut entries = [NO_CODE; 3];
+    let mut written = UNWRITTEN;
+    let number = pe_c_all_codes(codes, version, 0, &mut entries[..room.min(3)], &mut written);
+    (
+        number,
+        written,
+        [entries[0].value, entries[1].value, entries[2].value],
+    )
+}
+
+/// `sub rsp, 40`, `sub rsp, 8` and then a code with an operation that no version has; and none.
+#[test]
+fn all_codes_of_a_record(rt: HostRuntime) {
+    let bytes = [4, 0x42, 1, 0x02, 0, 0x0F];
+    for (room, want) in [
+        (0, (ROOM, 0, [7, 7, 7])),
+        (1, (ROOM, 1, [40, 7, 7])),
+        (2, (ROOM, 2, [40, 8, 7])),
+        (3, (UNWIND_CODE, 2, [40, 8, 7])),
+    ] {
+        assert_eq!(rt; all_codes(&bytes, 1, room), want);
+    }
+    assert_eq!(rt; all_codes(&bytes[..4], 1, 3), (DONE, 2, [40, 8, 7]));
+    assert_eq!(rt; all_codes(&bytes[..4], 1, 2), (DONE, 2, [40, 8, 7]));
+    assert_eq!(rt; all_codes(&bytes[..3], 1, 3), (SHORT, 1, [40, 7, 7]));
+    assert_eq!(rt; all_codes(&[], 1, 0), (DONE, 0, [7, 7, 7]));
+}
+
+/// Allocations of one, two and three slots, and a push after them.
+#[test]
+fn all_codes_of_any_size(rt: HostRuntime) {
+    let bytes = [
+        9, 0x12, 8, 0x01, 0xFF, 0x0F, 6, 0x11, 0x78, 0x56, 0x34, 0x12,
+    ];
+    let all = all_codes(&bytes, 1, 3);
+    assert_eq!(rt; all, (DONE, 3, [16, 32_760, 0x1234_5678]));
+    assert_eq!(rt; all_codes(&bytes, 1, 2), (ROOM, 2, [16, 32_760, 7]));
+    assert_eq!(rt; all_codes(&bytes[..11], 1, 3), (SHORT, 2, [16, 32_760, 7]));
+}
+
+/// Opcode 6 is a saved register in version 1 and an epilog in version 2; an offset counts from the frame register, if there is one.
+/// Of both numbers the lowest byte counts.
+#[test]
+fn all_codes_by_version_and_frame(rt: HostRuntime) {
+    for (version, frame_register, operation, from_frame) in [
+        (1, 0, 4, 0),
+        (0x101, 0x500, 4, 0),
+        (1, 5, 4, 1),
+        (0x501, 0x105, 4, 1),
+        (0x102, 5, 5, 0),
+    ] {
+        let mut entries = [NO_CODE; 1];
+        let mut written = UNWRITTEN;
+        let codes = [8, 0x36, 2, 0];
+        let number = pe_c_all_codes(&codes, version, frame_register, &mut entries, &mut written);
+        assert_eq!(rt; written, 1);
+        let first = entries[0];
+        assert_eq!(rt;
+            (first.operation, first.from_frame),
+            (operation, from_frame)
+        );
+        // In version 2 the second slot is a code of its own.
+        assert_eq!(rt; number, if operation == 4 { DONE } else { ROOM });
+    }
 }
 
 /// 255 slots of `push rbx`, the most that a record has, with room for all, for one less and for more.

@@ -1,5 +1,6 @@
 //! What calls are handed, and what they hand out, as plain numbers.
 
+use crate::failure::Failure;
 use crate::image::Image;
 use crate::ranges::Range;
 use crate::results::NOTHING;
@@ -148,6 +149,15 @@ pub(crate) const DUMP_MACHINE: u32 = 560;
 pub(crate) const X64: u16 = 0x8664;
 
 pub(crate) const ARM64: u16 = 0xAA64;
+
+/// What a failure is before each call.
+pub(crate) const NO_FAILURE: Failure = Failure {
+    offset: 91,
+    needed: 92,
+    value: 93,
+    result: 94,
+    spare: 95,
+};
 
 /// What a range is before a call that hands out another.
 pub(crate) const UNTOUCHED: [u64; 2] = [0x7777, 0x77];

@@ -75,7 +75,7 @@ const NO_ENTRY: ResourceEntry = ResourceEntry {
 };
 
 /// A walk from these ranges.
-fn walk(tree: Range, types: Range, names: Range, languages: Range) -> ResourceLeaves {
+pub(crate) fn walk(tree: Range, types: Range, names: Range, languages: Range) -> ResourceLeaves {
     ResourceLeaves {
         tree,
         types,
@@ -113,7 +113,7 @@ fn flat_walk(walk: ResourceLeaves) -> ([[u64; 2]; 4], [ResourceEntry; 2]) {
     (ranges, [walk.resource_type, walk.name])
 }
 
-fn start(bytes: &[u8], image: &Image) -> (u32, ResourceLeaves) {
+pub(crate) fn start(bytes: &[u8], image: &Image) -> (u32, ResourceLeaves) {
     let mut out = walk(range(1, 2), range(3, 4), range(5, 6), range(7, 8));
     let answer = pe_c_resource_leaves(&view(bytes, image, &sections()), &mut out);
     (answer, out)

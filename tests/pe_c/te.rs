@@ -38,7 +38,7 @@ const NO_IMAGE: TeImage = TeImage {
     spare: 9,
 };
 
-fn image_of(bytes: &[u8]) -> (u32, TeImage) {
+pub(crate) fn image_of(bytes: &[u8]) -> (u32, TeImage) {
     let mut out = NO_IMAGE;
     let answer = pe_c_te(bytes, &mut out);
     (answer, out)

@@ -225,7 +225,7 @@ fn record_of(bytes: &[u8], table: &Range, unwind: u32) -> (u32, Fields) {
 /// multiples of 0x10 from 0x30 on. A record: version and flags (8 times a flag), length of the prolog, count of slots, frame
 /// register and 16 times a sixteenth of its offset; the slots, of which the count is made even; and by the flags the address
 /// of a handler or a function.
-fn with_records(alloc: Global) -> Result<Vec<u8>, Fail> {
+pub(crate) fn with_records(alloc: Global) -> Result<Vec<u8>, Fail> {
     let mut bytes = words(
         alloc,
         &[

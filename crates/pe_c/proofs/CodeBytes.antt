@@ -1,5 +1,5 @@
 -- Lists of unwind codes are read of the bytes that a walk has left, and those of functions of the bytes of a table.
-use Rattle.std.proofs.Common.{◌≡◌, ℕ, ◌+◌, ◌-◌, ◌*◌, ◌/◌, ◌%◌, ◌≤◌, ◌==◌, inl, inr, List, [], ◌∷◌, length, drop, length-drop, get_or, Option, Some, None, Result, Ok, Err, refl, sym, ap, subst, ◌∙◌, arith}
+use Rattle.std.proofs.Common.{◌≡◌, ℕ, ◌+◌, ◌-◌, ◌*◌, ◌/◌, ◌%◌, ◌<◌, ◌≤◌, ◌==◌, inl, inr, List, [], ◌∷◌, length, drop, length-drop, get_or, Option, Some, None, Result, Ok, Err, refl, sym, ap, subst, ◌∙◌, arith}
 use Rattle.std.specs.Prelude.{slice_index}
 use Rattle.std.proofs.lemmas.List.{drop-drop}
 use Rattle.std.proofs.Math.Seq.{drop-length}
@@ -28,8 +28,21 @@ use Rattle.pe_c.specs.declared.unwinding.CodeWalk.{CodeWalk}
 
 -- ---- frequent codes
 
+word_at_0 : (b : List ℕ) → le b 0 2 ≡ get_or b 0 0 + 256 * get_or b 1 0
+unfolding le
+word_at_0 b = omega arith
+
 pub pushed : (b : List ℕ) → 2 ≤ length b → slice_index b 1 % 16 ≡ 0 → IsFrequent b (plain (slice_index b 0) 0 (slice_index b 1 / 16) 0) 2
 pushed b some op = (omega arith, some, λ v f. (record { code_offset = get_or b 0 0; operation = PushNonVolatile (integer (get_or b 1 0 / 16)) }, starts_2 v f b _ some (inl (op, refl)), refl))
+
+-- the same of its slot as one number
+pub pushed_in : (b : List ℕ) (w : ℕ) → 2 ≤ length b → w ≡ le b 0 2 → get_or b 0 0 < 256 → w / 256 % 16 ≡ 0 → IsFrequent b (plain (w % 256) 0 (w / 4096) 0) 2
+pushed_in b w some is small op =
+    let word : w ≡ get_or b 0 0 + 256 * get_or b 1 0 = is ∙ word_at_0 b in
+    let low : w % 256 ≡ get_or b 0 0 = omega (arith, word, small) in
+    let high : w / 256 ≡ get_or b 1 0 = omega (arith, word, small) in
+    let info : w / 4096 ≡ get_or b 1 0 / 16 = omega (arith, high) in
+    rw (low, info) (pushed b some (ap (λ (n : ℕ). n % 16) (sym high) ∙ op))
 
 pub allocated : (b : List ℕ) → 2 ≤ length b → slice_index b 1 % 16 ≡ 2 → IsFrequent b (plain (slice_index b 0) 1 0 (slice_index b 1 / 16 * 8 + 8)) 2
 allocated b some op = (omega arith, some, λ v f. (record { code_offset = get_or b 0 0; operation = Alloc (get_or b 1 0 / 16 * 8 + 8) }, starts_2 v f b _ some (inr (inl (op, refl))), refl))
@@ -47,7 +60,7 @@ allocated_more b some op info = (
 
 -- ---- what a step leaves is the last part of its bytes
 
-same_stream : (s t : CodeStream) → s.content ≡ t.content → s.version ≡ t.version → s.frame ≡ t.frame → s ≡ t
+pub same_stream : (s t : CodeStream) → s.content ≡ t.content → s.version ≡ t.version → s.frame ≡ t.frame → s ≡ t
 same_stream s t content version frame =
     ap (λ (x : List ℕ). with_left s x) content
     ∙ ap (λ (v : ℕ). record { content = t.content; version = v; frame = s.frame }) version

@@ -121,11 +121,11 @@ delay_by b false true v x t i e =
     let pair : (v, drop 32 b) ≡ (x, t) = cc (e) in
     (sym (ap (λ (p : DelayImport × List ℕ). p.1) pair), held b 32 i)
 
-delay_taken : Takes first_delay_import (λ x. 32)
+pub delay_taken : Takes first_delay_import (λ x. 32)
 unfolding first_delay_import
 delay_taken b x t e = delay_by b (delay_imports_end b) (holds b 0 32) (delay_import_at b) x t refl e
 
-no_delay_import : first_delay_import [] ≡ None
+pub no_delay_import : first_delay_import [] ≡ None
 unfolding first_delay_import
 no_delay_import = refl
 

@@ -11,7 +11,7 @@ use Rattle.pe_core.specs.declared.section_table.SectionTable.{SectionTable}
 use Rattle.pe_c.specs.Images.{map_of_image}
 use Rattle.pe_c.specs.Ranges.{bytes_at}
 use Rattle.pe_c.specs.HandsOut.{HandsOut}
-use Rattle.pe_c.specs.Unwinding.{FindsOffset, HandsOutRecord, flat_record_at, links_at}
+use Rattle.pe_c.specs.Unwinding.{FindsOffset, FollowsToRecord, HandsOutRecord, flat_record_at, links_at}
 use Rattle.pe_c.specs.declared.image.Image.{Image}
 use Rattle.pe_c.specs.declared.ranges.Range.{Range}
 use Rattle.pe_c.specs.declared.results.TheConstants.{DONE}
@@ -43,6 +43,10 @@ below_some size page (inr none) some = absurd (omega (arith, none, some))
 pub near_offset : (b : List ℕ) (image : Image) (s : List SectionTable) (table : Range) (u p : ℕ) (entries : List ℕ) → bytes_at b table ≡ Ok entries → u % 2 ≡ 0 → map_of_image image s u ≡ Some p → FindsOffset (links_at b image s table) u (Ok p)
 near_offset b image s table u p entries inside even here =
     subst (λ (x : Option ℕ). FindsOffset (links_at b image s table) u (mapped x)) here (even_offsets b image s table u entries inside even)
+
+-- a record at the offset that is found is that of the RVA
+pub near_follows : (b : List ℕ) (links : Result Table Refusal) (u p : ℕ) (r : UnwindRecord) → FindsOffset links u (Ok p) → flat_record_at b p ≡ Ok r → FollowsToRecord b links u (Ok r)
+near_follows b links u p r found e = (Ok p, found, sym e)
 
 -- the record at the offset that is found is handed out
 pub near_done : (b : List ℕ) (links : Result Table Refusal) (u p : ℕ) (old new : UnwindRecord) → FindsOffset links u (Ok p) → flat_record_at b p ≡ Ok new → HandsOutRecord b links u DONE old new

@@ -5,19 +5,17 @@ use Rattle.pe_core.specs.Bytes.{le, holds}
 use Rattle.pe_core.specs.Directories.{kept}
 use Rattle.pe_core.specs.Header.{header, header_at, header_tests, is_pe32_plus, optional_header, optional_header_tests}
 use Rattle.pe_core.specs.Options.{is_permissive}
-use Rattle.pe_core.specs.Records.{coff_header, dos_header, section_table, te_header, windows_fields_32, windows_fields_64}
+use Rattle.pe_core.specs.Records.{coff_header, dos_header, te_header, windows_fields_32, windows_fields_64}
 use Rattle.pe_core.specs.Refusals.{Refusal, Short, BadMagic, HeaderPointer, outcome, ◌>>=◌}
-use Rattle.pe_core.specs.Rows.{rows}
-use Rattle.pe_core.specs.Sections.{sections_at}
+use Rattle.pe_core.specs.Rows.{rows, rows_at}
 use Rattle.pe_core.specs.TeImages.{reduced_header, te_header_of, te_tests}
 use Rattle.pe_core.specs.declared.options.ParseMode.{ParseMode}
-use Rattle.pe_c.specs.Failures.{Explains, dos_failures, fields_size, first_failure, header_failure, image_failure, optional_failure, optional_failures, or_later, pe_failures, section_failures, te_failures}
+use Rattle.pe_c.specs.Failures.{Explains, dos_failures, fields_size, first_failure, header_failure, image_failure, optional_failure, optional_failures, or_later, pe_failures, rows_failures, te_failures}
 use Rattle.pe_c.specs.HandsOut.{result_number}
 use Rattle.pe_c.specs.Images.{image_at, image_info_of}
 use Rattle.pe_c.specs.Modes.{mode_of_number}
 use Rattle.pe_c.specs.Te.{te_image_at, te_image_of}
 use Rattle.pe_c.specs.declared.failure.Failure.{Failure}
-use Rattle.pe_c.specs.declared.image.Image.{Image}
 
 -- ---- lists of tests
 
@@ -102,13 +100,11 @@ headers b mode =
 pub failures_of_images : (b : List ℕ) (mode : ℕ) → Explains (image_at b mode) (image_failure b mode)
 failures_of_images b mode = mapped (header_at b (mode_of_number mode)) (image_failure b mode) (image_info_of mode) (headers b (mode_of_number mode))
 
--- ---- the section headers of an image
+-- ---- section headers
 
-pub failures_of_sections : (b : List ℕ) (image : Image) → Explains (sections_at b image.sections_offset image.number_of_sections) (first_failure (section_failures b image))
-failures_of_sections b image =
-    let size = 40 * image.number_of_sections in
-    let test = image.number_of_sections == 0 || holds b image.sections_offset size in
-    last ((test, Short) ∷ []) (section_failures b image) (rows (section_table b) 40 image.sections_offset image.number_of_sections) refl (refl, refl, tt)
+pub failures_of_rows : {X : Type 0} (item : List ℕ → ℕ → X) (b : List ℕ) (p count : ℕ) → Explains (rows_at item 40 b p count) (first_failure (rows_failures b p count))
+failures_of_rows item b p count =
+    last ((count == 0 || holds b p (40 * count), Short) ∷ []) (rows_failures b p count) (rows (item b) 40 p count) refl (refl, refl, tt)
 
 -- ---- the header of a TE image
 

@@ -21,7 +21,7 @@ pub kept_more : {X : Type 0} (xs ys : List X) (i : ℕ) (y : X) → drop i xs �
 kept_more xs ys i y e = rw (drop-set-lt (i + 1) xs i y (omega arith)) (drop_more_same xs ys i e)
 
 -- a list that ends before there is no more room: the walk is at its end, or the next step is an error
-ends_list : {W X : Type 0} (Steps : W → Result (Option X) ℕ → W → Type 0) (w u v : W) (entries initial : List X) (n : ℕ) → n ≤ length entries → drop n entries ≡ drop n initial →
+pub ends_list : {W X : Type 0} (Steps : W → Result (Option X) ℕ → W → Type 0) (w u v : W) (entries initial : List X) (n : ℕ) → n ≤ length entries → drop n entries ≡ drop n initial →
     Takes Steps w (take n entries) u → Stops Steps (length initial) (take n entries) u v → PutsList Steps w v initial entries (Ok n)
 ends_list {X = X} Steps w u v entries initial n inside kept t stops =
     (take n entries, (u, t, stops), sym (length-take-le n entries inside), sym (take-append-drop n entries) ∙ ap (λ (xs : List X). take n entries ++ xs) kept)
@@ -60,7 +60,7 @@ pub numbered_as : {S W X R : Type 0} (number : R → ℕ) (Known : S → Type 0)
     StepsAs Known f Near Steps → StepsAs Known f (Numbered number Near) (Numbered number Steps)
 numbered_as number Known f Near Steps same s t answer k h = let one = same s t h.0 k h.1 in (one.0, (h.0, one.1, h.2))
 
-takes_as : {S W X E : Type 0} (Known : S → Type 0) (f : S → W) (Near : S → Result (Option X) E → S → Type 0) (Steps : W → Result (Option X) E → W → Type 0) →
+pub takes_as : {S W X E : Type 0} (Known : S → Type 0) (f : S → W) (Near : S → Result (Option X) E → S → Type 0) (Steps : W → Result (Option X) E → W → Type 0) →
     StepsAs Known f Near Steps → (s t : S) (xs : List X) → Known s → Takes Near s xs t → Known t × Takes Steps (f s) xs (f t)
 takes_as Known f Near Steps same s t [] k h = (subst Known (sym h) k, ap f h)
 takes_as Known f Near Steps same s t (x ∷ xs) k h =

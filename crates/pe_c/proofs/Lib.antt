@@ -21,6 +21,7 @@ pub mod ExportRuns
 pub mod FunctionPlans
 pub mod ImportRuns
 pub mod LibraryImportRuns
+pub mod LibraryFunctionRuns
 pub mod Indices
 pub mod LastText
 pub mod LeftBytes
@@ -29,6 +30,7 @@ pub mod Parts
 pub mod PlanEnds
 pub mod PlanSteps
 pub mod PogoRuns
+pub mod PutCodes
 pub mod RecordRanges
 pub mod Rings
 pub mod Rooms
@@ -38,6 +40,7 @@ pub mod RunWalks
 pub mod Runs
 pub mod Steps
 pub mod TableLinks
+pub mod TableLookups
 pub mod VersionsReported
 pub mod Ways
 pub mod LeafRuns
@@ -89,3 +92,4 @@ pub mod OneImage
 pub mod ImageWriters
 pub mod NearMaps
 pub mod NearLists
+mod StepFailures

@@ -1,14 +1,15 @@
 -- What a list of unwind codes reads: bytes of codes, and how they are read. Only contracts of private functions cite it.
-use Rattle.std.specs.Prelude.{◌≡◌, ℕ, ◌-◌, ◌<◌, ◌≤◌, List, length, drop, Option, Result}
+use Rattle.std.specs.Prelude.{◌≡◌, ◌⊎◌, ℕ, ◌-◌, ◌<◌, ◌≤◌, List, length, take, drop, Option, Some, None, Result, Err}
 use Rattle.pe_core.specs.Refusals.{Refusal}
 use Rattle.pe_core.specs.declared.error.Error.{Error}
 use Rattle.pe_unwind.specs.CodeStream.{CodeStream, ReturnsCode, with_left}
 use Rattle.pe_unwind.specs.UnwindCodes.{StartsWithCode}
 use Rattle.pe_unwind.specs.declared.unwind_code.UnwindCode.{UnwindCode}
 use Rattle.pe_c.specs.HandsOut.{result_number}
-use Rattle.pe_c.specs.Lists.{by_number}
+use Rattle.pe_c.specs.Lists.{Numbered, Takes, by_number}
 use Rattle.pe_c.specs.Unwinding.{flat, flat_answer}
 use Rattle.pe_c.specs.declared.lists.x64.CodeBytes.{CodeBytes}
+use Rattle.pe_c.specs.declared.lists.x64.PutCodes.{PutCodes}
 use Rattle.pe_c.specs.declared.unwinding.Code.{Code}
 
 -- the stream of the codes in these bytes
@@ -30,3 +31,18 @@ ReturnsAny c answer n = (given : Option (Result UnwindCode Error)) × ReturnsCod
 -- the code of n bytes with which the bytes start, whatever record it is of
 abbrev pub IsFrequent : List ℕ → Code → ℕ → Type 0
 IsFrequent bytes code n = (0 < n) × (n ≤ length bytes) × ((v f : ℕ) → (c : UnwindCode) × StartsWithCode v f bytes c n × (code ≡ flat c))
+
+-- ---- codes that are written
+
+-- the first n entries are codes, which steps from s to t return; the others are as they were
+abbrev pub HasCodes : CodeBytes → CodeBytes → List Code → List Code → ℕ → Type 0
+HasCodes s t old new n =
+    Takes (Numbered result_number StepsBytes) s (take n new) t × (drop n new ≡ drop n old) × (length new ≡ length old) × (n ≤ length new)
+
+-- why there are no more than n: none are left, or there is room for so many; or no code starts what is left
+abbrev pub EndsCodes : Option ℕ → ℕ → ℕ → CodeBytes → Type 0
+EndsCodes None n room t = (length t.left.now ≡ 0) ⊎ (n ≡ room)
+EndsCodes (Some e) n room t = (n < room) × ((next : CodeBytes) × Numbered result_number StepsBytes t (Err e) next)
+
+abbrev pub PutsCodes : CodeBytes → List Code → List Code → PutCodes → Type 0
+PutsCodes s old new put = HasCodes s put.left old new put.count × EndsCodes put.refused put.count (length new) put.left

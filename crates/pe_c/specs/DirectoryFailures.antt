@@ -1,7 +1,7 @@
 -- Why the directories of an image are refused: by the refusal of the call that reads a directory.
 use Rattle.std.specs.Prelude.{◌≡◌, ℕ, ◌+◌, ◌-◌, ◌^◌, ◌==◌, ◌||◌, min, List, true, Option, Some, None, Result, if◌then◌else◌}
 use Rattle.pe_core.specs.Bytes.{holds, le}
-use Rattle.pe_core.specs.Refusals.{Refusal, Short, CertificateRevision, CertificateType, CertificateSize, CertificateTable, Unmapped, DebugBounds, ExceptionSize, ExceptionOffset, ExceptionBounds}
+use Rattle.pe_core.specs.Refusals.{Refusal, Short, ImportName, CertificateRevision, CertificateType, CertificateSize, CertificateTable, Unmapped, DebugBounds, ExceptionSize, ExceptionOffset, ExceptionBounds}
 use Rattle.pe_core.specs.declared.section_table.SectionTable.{SectionTable}
 use Rattle.pe_directories.specs.DirectoryRefusals.{DirectoryRefusal, ClrHeaderSize}
 use Rattle.pe_c.specs.BoundImports.{bound_imports_at}
@@ -17,7 +17,7 @@ use Rattle.pe_c.specs.Images.{directory, map_of_image}
 use Rattle.pe_c.specs.Imports.{libraries_at}
 use Rattle.pe_c.specs.LoadConfigs.{load_config_at}
 use Rattle.pe_c.specs.ResourceLeaves.{leaves_start}
-use Rattle.pe_c.specs.declared.directory_failure.Place.{Place}
+use Rattle.pe_c.specs.declared.directory_failure.KnownNumbers.{KnownNumbers}
 use Rattle.pe_c.specs.declared.failure.Failure.{Failure}
 use Rattle.pe_c.specs.declared.image.Image.{Image}
 use Rattle.pe_c.specs.declared.ranges.Range.{Range}
@@ -69,8 +69,8 @@ abbrev pub numbers_there : List ℕ → ℕ → ℕ × ℕ × ℕ
 numbers_there b p = if holds b p 8 then (le b p 4, le b (p + 4) 2, le b (p + 6) 2) else (0, 0, 0)
 
 -- where it is; not of exports, whose tables have RVAs of their own
-unfoldable pub directory_place : ℕ → List ℕ → Image → List SectionTable → Option Place
-directory_place i b image sections =
+unfoldable pub known_of_directory : ℕ → List ℕ → Image → List SectionTable → Option KnownNumbers
+known_of_directory i b image sections =
     if i == 0 then None
     else Some (record {
       rva = (directory image i).virtual_address;
@@ -83,45 +83,45 @@ directory_place i b image sections =
 abbrev pub with_numbers : Failure → ℕ → ℕ → ℕ → Failure
 with_numbers f offset needed value = record { offset = offset; needed = needed; value = value; result = f.result; spare = f.spare }
 
-abbrev pub short_at : Place → Option ℕ → Failure → Failure
-short_at place None f = f
-short_at place (Some needed) f = with_numbers f place.offset needed 0
+abbrev pub short_at : KnownNumbers → Option ℕ → Failure → Failure
+short_at known None f = f
+short_at known (Some needed) f = with_numbers f known.offset needed 0
 
--- a failure of a directory at a place, with the numbers that the place says of such an error; any other has its own
-unfoldable pub failure_at : Place → Failure → Failure
-failure_at place f =
-    if f.result == result_number Short then short_at place place.needed f
-    else if f.result == result_number Unmapped then with_numbers f 0 0 place.rva
-    else if f.result == result_number ExceptionSize then with_numbers f 0 0 place.size
-    else if f.result == result_number ExceptionOffset then with_numbers f place.offset 0 0
+-- a failure with the numbers that are known of such an error; any other has its own
+unfoldable pub failure_at : KnownNumbers → Failure → Failure
+failure_at known f =
+    if f.result == result_number Short then short_at known known.needed f
+    else if f.result == result_number Unmapped || f.result == result_number ImportName then with_numbers f 0 0 known.rva
+    else if f.result == result_number ExceptionSize then with_numbers f 0 0 known.size
+    else if f.result == result_number ExceptionOffset then with_numbers f known.offset 0 0
     else if f.result == result_number CertificateTable || f.result == result_number DebugBounds || f.result == result_number ExceptionBounds
-    then with_numbers f (min (place.offset + place.size) (2 ^ 64 - 1)) 0 0
-    else if f.result == result_number CertificateSize then with_numbers f 0 place.head.0 0
-    else if f.result == result_number CertificateRevision then with_numbers f 0 0 place.head.1
-    else if f.result == result_number CertificateType then with_numbers f 0 0 place.head.2
-    else if f.result == directory_number ClrHeaderSize then with_numbers f 0 0 place.head.0
+    then with_numbers f (min (known.offset + known.size) (2 ^ 64 - 1)) 0 0
+    else if f.result == result_number CertificateSize then with_numbers f 0 known.head.0 0
+    else if f.result == result_number CertificateRevision then with_numbers f 0 0 known.head.1
+    else if f.result == result_number CertificateType then with_numbers f 0 0 known.head.2
+    else if f.result == directory_number ClrHeaderSize then with_numbers f 0 0 known.head.0
     else f
 
-abbrev pub placed : Option Place → Failure → Failure
-placed None f = f
-placed (Some place) f = failure_at place f
+abbrev pub with_known : Option KnownNumbers → Failure → Failure
+with_known None f = f
+with_known (Some known) f = failure_at known f
 
--- the failure of an error of this kind, at this place
-pub record IsFailureAt (place : Option Place) (refusal : DirectoryRefusal) (f : Failure) : Type 0 where
+-- the failure of an error of this kind, with the numbers that are known
+pub record IsFailureAt (known : Option KnownNumbers) (refusal : DirectoryRefusal) (f : Failure) : Type 0 where
   pub own : Failure
   pub of_kind : IsFailureOf refusal own
-  pub failure : f ≡ placed place own
+  pub failure : f ≡ with_known known own
 
-abbrev pub IsWhyAt : Option Place → Option Failure → Option DirectoryRefusal → Type 0
-IsWhyAt place None None = Unit {0}
-IsWhyAt place None (Some refusal) = ⊥
-IsWhyAt place (Some f) None = ⊥
-IsWhyAt place (Some f) (Some refusal) = IsFailureAt place refusal f
+abbrev pub IsWhyAt : Option KnownNumbers → Option Failure → Option DirectoryRefusal → Type 0
+IsWhyAt known None None = Unit {0}
+IsWhyAt known None (Some refusal) = ⊥
+IsWhyAt known (Some f) None = ⊥
+IsWhyAt known (Some f) (Some refusal) = IsFailureAt known refusal f
 
 -- DONE and that failure, or NOTHING where there is none: then `out` is unchanged
-abbrev pub SaysWhyAt : Option Place → ℕ → Failure → Failure → Option DirectoryRefusal → Type 0
-SaysWhyAt place number old new None = (number ≡ NOTHING) × (new ≡ old)
-SaysWhyAt place number old new (Some refusal) = (number ≡ DONE) × IsFailureAt place refusal new
+abbrev pub SaysWhyAt : Option KnownNumbers → ℕ → Failure → Failure → Option DirectoryRefusal → Type 0
+SaysWhyAt known number old new None = (number ≡ NOTHING) × (new ≡ old)
+SaysWhyAt known number old new (Some refusal) = (number ≡ DONE) × IsFailureAt known refusal new
 
 -- ---- what a failure says of a call
 

@@ -1,7 +1,7 @@
 -- The numbers of an error, and the failure that it is. An offset, a start or an end is the offset of the failure, bytes that are
 -- needed are its needed bytes, and any other number is its value; of a relocation's kind the RVA is the offset. An error that has
 -- none here is all zeros. The lists are written by tools/make_errors.
-use Rattle.std.specs.Prelude.{◌≡◌, ℕ, Option, Some, None, Result, Ok, Err}
+use Rattle.std.specs.Prelude.{◌≡◌, ℕ, ◌+◌, ◌-◌, ◌^◌, min, Option, Some, None, Result, Ok, Err}
 use Rattle.pe_core.specs.Refusals.{Refusal, kind_of}
 use Rattle.pe_core.specs.declared.error.Error.{Error}
 use Rattle.pe_core.specs.declared.error.Error.TheVariants as errors
@@ -10,8 +10,12 @@ use Rattle.pe_core.specs.declared.error.Reason.TheVariants as reasons
 use Rattle.pe_directories.specs.DirectoryRefusals.{DirectoryRefusal, Image, directory_kind_of}
 use Rattle.pe_directories.specs.declared.error.DirectoryError.{DirectoryError}
 use Rattle.pe_directories.specs.declared.error.DirectoryError.TheVariants as directories
+use Rattle.pe_resource.specs.Leaves.{TreeRefusal, tree_kind_of}
+use Rattle.pe_resource.specs.declared.tree_error.ResourceTreeError.{ResourceTreeError}
+use Rattle.pe_resource.specs.declared.tree_error.ResourceTreeError.TheVariants as trees
 use Rattle.pe_c.specs.Directories.{directory_number}
 use Rattle.pe_c.specs.HandsOut.{result_number}
+use Rattle.pe_c.specs.ResourceLeaves.{tree_number}
 use Rattle.pe_c.specs.declared.failure.Failure.{Failure}
 use Rattle.pe_c.specs.declared.failure_numbers.ErrorNumbers.{ErrorNumbers}
 use Rattle.pe_c.specs.declared.results.TheConstants.{DONE, NOTHING}
@@ -80,6 +84,20 @@ directory_numbers (directories.BoundImportName offset) = numbers offset 0 0
 directory_numbers (directories.RelocationKind kind rva) = numbers rva 0 kind
 directory_numbers (directories.RelocationOutside rva) = numbers 0 0 rva
 
+-- those of an error of a resource tree
+abbrev pub tree_numbers : ResourceTreeError → ErrorNumbers
+tree_numbers (trees.Image error) = error_numbers error
+tree_numbers (trees.NotDirectory offset) = numbers offset 0 0
+tree_numbers (trees.NotData offset) = numbers offset 0 0
+tree_numbers (trees.NoEntries offset) = numbers offset 0 0
+
+-- an error of bytes that start at this offset of the file: its offset counts from the start of the file
+abbrev pub moved : ℕ → Error → Error
+moved start (errors.Memory e) = errors.Memory e
+moved start (errors.Short at needed) = errors.Short (min (at + start) (2 ^ 64 - 1)) needed
+moved start (errors.BadMagic magic) = errors.BadMagic magic
+moved start (errors.Malformed reason) = errors.Malformed reason
+
 -- ---- failures
 
 -- the failure with a number, of the numbers of its error
@@ -94,11 +112,21 @@ failure_of e = failure_with (result_number (kind_of e)) (error_numbers e)
 abbrev pub directory_failure_of : DirectoryError → Failure
 directory_failure_of e = failure_with (directory_number (directory_kind_of e)) (directory_numbers e)
 
+-- the failure that an error of a resource tree is
+abbrev pub tree_failure_of : ResourceTreeError → Failure
+tree_failure_of e = failure_with (tree_number (tree_kind_of e)) (tree_numbers e)
+
 -- the failure of an error of this kind: its result is the number of the kind, and each number that such an error lacks is 0
 pub record IsFailureOf (refusal : DirectoryRefusal) (f : Failure) : Type 0 where
   pub error : DirectoryError
   pub kind : directory_kind_of error ≡ refusal
   pub failure : f ≡ directory_failure_of error
+
+-- the same of a resource tree
+pub record IsTreeFailureOf (refusal : TreeRefusal) (f : Failure) : Type 0 where
+  pub error : ResourceTreeError
+  pub kind : tree_kind_of error ≡ refusal
+  pub failure : f ≡ tree_failure_of error
 
 -- ---- the refusal of a call, if it refuses what it reads
 
@@ -109,6 +137,10 @@ refused (Err refusal) = Some (Image refusal)
 abbrev pub directory_refused : {X : Type 0} → Result X DirectoryRefusal → Option DirectoryRefusal
 directory_refused (Ok x) = None
 directory_refused (Err refusal) = Some refusal
+
+abbrev pub tree_refused : {X : Type 0} → Result X TreeRefusal → Option TreeRefusal
+tree_refused (Ok x) = None
+tree_refused (Err refusal) = Some refusal
 
 -- there is a failure exactly where a call refuses, and it is that of an error of this kind
 abbrev pub IsWhy : Option Failure → Option DirectoryRefusal → Type 0
@@ -121,3 +153,14 @@ IsWhy (Some f) (Some refusal) = IsFailureOf refusal f
 abbrev pub SaysWhy : ℕ → Failure → Failure → Option DirectoryRefusal → Type 0
 SaysWhy number old new None = (number ≡ NOTHING) × (new ≡ old)
 SaysWhy number old new (Some refusal) = (number ≡ DONE) × IsFailureOf refusal new
+
+-- the same of a resource tree
+abbrev pub IsTreeWhy : Option Failure → Option TreeRefusal → Type 0
+IsTreeWhy None None = Unit {0}
+IsTreeWhy None (Some refusal) = ⊥
+IsTreeWhy (Some f) None = ⊥
+IsTreeWhy (Some f) (Some refusal) = IsTreeFailureOf refusal f
+
+abbrev pub SaysTreeWhy : ℕ → Failure → Failure → Option TreeRefusal → Type 0
+SaysTreeWhy number old new None = (number ≡ NOTHING) × (new ≡ old)
+SaysTreeWhy number old new (Some refusal) = (number ≡ DONE) × IsTreeFailureOf refusal new

@@ -9,7 +9,9 @@ use Rattle.pe_core.specs.declared.options.ParseMode.{ParseMode}
 use Rattle.pe_c.specs.HandsOut.{result_number}
 use Rattle.pe_c.specs.Modes.{mode_of_number}
 use Rattle.pe_c.specs.declared.failure.Failure.{Failure}
+use Rattle.pe_c.specs.declared.headers.CoffFields.{CoffFields}
 use Rattle.pe_c.specs.declared.image.Image.{Image}
+use Rattle.pe_c.specs.declared.te.TeImage.{TeImage}
 use Rattle.pe_core.specs.declared.header.TheConstants.{DOS_MAGIC, PE_MAGIC, TE_MAGIC}
 use Rattle.pe_core.specs.declared.optional_header.TheConstants.{MAGIC_32}
 
@@ -81,14 +83,26 @@ header_failure b mode =
 abbrev pub image_failure : List ℕ → ℕ → Option Failure
 image_failure b mode = header_failure b (mode_of_number mode)
 
--- ---- the section headers of an image
+-- ---- section headers
 
--- 40 bytes for each section, from the offset on that the record of the image has; without sections it may be any
-abbrev pub section_failures : List ℕ → Image → List (Bool × Failure)
-section_failures b image =
-    let size = 40 * image.number_of_sections in
-    (image.number_of_sections == 0 || holds b image.sections_offset size, truncated_at image.sections_offset size)
+-- 40 bytes for each of so many sections, from an offset on; without sections it may be any
+abbrev pub rows_failures : List ℕ → ℕ → ℕ → List (Bool × Failure)
+rows_failures b p count =
+    let size = 40 * count in
+    (count == 0 || holds b p size, truncated_at p size)
     ∷ []
+
+-- those of an image, at the offset that its record has
+abbrev pub section_failures : List ℕ → Image → List (Bool × Failure)
+section_failures b image = rows_failures b image.sections_offset image.number_of_sections
+
+-- those of a TE image follow the 40 bytes of its header
+abbrev pub te_section_failures : List ℕ → TeImage → List (Bool × Failure)
+te_section_failures b te = rows_failures b 40 te.number_of_sections
+
+-- those of an object follow its header and the optional header
+abbrev pub object_section_failures : List ℕ → CoffFields → List (Bool × Failure)
+object_section_failures b c = rows_failures b (20 + c.size_of_optional_header) c.number_of_sections
 
 -- ---- the header of a TE image
 

@@ -11,6 +11,7 @@ pub mod Exports
 pub mod Images
 pub mod Imports
 pub mod LibraryImports
+pub mod LibraryFunctions
 pub mod LoadConfigs
 pub mod Modes
 pub mod Parts
@@ -80,3 +81,4 @@ pub mod ImageWrites
 pub mod NearMaps
 pub mod ExportWindows
 pub mod NearLists
+pub mod StepFailures

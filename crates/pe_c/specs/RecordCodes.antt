@@ -1,11 +1,14 @@
--- An unwind record with its codes, in one call.
-use Rattle.std.specs.Prelude.{◌≡◌, ℕ, ◌==◌, List, Result, Ok, Err, if◌then◌else◌}
+-- An unwind record with its codes in one call, and all codes of a record.
+use Rattle.std.specs.Prelude.{◌≡◌, ◌⊎◌, ℕ, ◌==◌, ◌<◌, List, ◌++◌, length, drop, Option, None, Result, Ok, Err, if◌then◌else◌}
 use Rattle.pe_core.specs.Refusals.{Refusal}
+use Rattle.pe_core.specs.declared.error.Error.{Error}
+use Rattle.pe_unwind.specs.CodeStream.{CodeStream, ReturnsCode}
 use Rattle.pe_unwind.specs.Links.{Table}
 use Rattle.pe_c.specs.HandsOut.{result_number}
-use Rattle.pe_c.specs.Lists.{HandsOutList, Numbered}
-use Rattle.pe_c.specs.Unwinding.{FollowsToRecord, StepsCodes}
-use Rattle.pe_c.specs.declared.results.TheConstants.{DONE}
+use Rattle.pe_unwind.specs.declared.unwind_code.UnwindCode.{UnwindCode}
+use Rattle.pe_c.specs.Lists.{HandsOutList, Numbered, Takes}
+use Rattle.pe_c.specs.Unwinding.{FollowsToRecord, StepsCodes, flat_answer}
+use Rattle.pe_c.specs.declared.results.TheConstants.{DONE, ROOM}
 use Rattle.pe_c.specs.declared.unwinding.Code.{Code}
 use Rattle.pe_c.specs.declared.unwinding.CodeWalk.{CodeWalk}
 use Rattle.pe_c.specs.declared.unwinding.UnwindRecord.{UnwindRecord}
@@ -24,3 +27,27 @@ PutsRecordCodes b (Err refusal) number old new cs ds before written = (number �
 abbrev pub HandsOutRecordCodes : List ℕ → Result Table Refusal → ℕ → ℕ → UnwindRecord → UnwindRecord → List Code → List Code → ℕ → ℕ → Type 0
 HandsOutRecordCodes b links address number old new cs ds before written =
     (answer : Result UnwindRecord Refusal) × FollowsToRecord b links address answer × PutsRecordCodes b answer number old new cs ds before written
+
+-- ---- all codes
+
+-- the codes in some bytes, of a record of this version with this frame register
+abbrev pub code_stream : List ℕ → ℕ → ℕ → CodeStream
+code_stream b version frame = record { content = b; version = version; frame = frame }
+
+-- a step over them, as callers get it
+abbrev pub StepsStream : CodeStream → Result (Option Code) Refusal → CodeStream → Type 0
+StepsStream s answer t = (given : Option (Result UnwindCode Error)) × ReturnsCode s given t × (answer ≡ flat_answer given)
+
+-- why a call returns n codes in room for so many, and this number: none are left; there is no room for those that are; or the next
+-- one is refused, which has this number
+abbrev pub EndsAll : ℕ → ℕ → ℕ → CodeStream → Type 0
+EndsAll number n room t =
+    ((number ≡ DONE) × (length t.content ≡ 0))
+    ⊎ (((number ≡ ROOM) × (n ≡ room) × (0 < length t.content))
+    ⊎ ((n < room) × ((next : CodeStream) × Numbered result_number StepsStream t (Err number) next)))
+
+-- what a call returns of all codes: these, one after the other, at the start of the array, and their number
+abbrev pub HandsOutAll : CodeStream → ℕ → List Code → List Code → ℕ → Type 0
+HandsOutAll s number old new written =
+    (codes : List Code) × (left : CodeStream) × Takes (Numbered result_number StepsStream) s codes left × EndsAll number (length codes) (length old) left
+    × (new ≡ codes ++ drop (length codes) old) × (written ≡ length codes)

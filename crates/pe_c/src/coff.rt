@@ -22,7 +22,7 @@ use crate::text_runs::{Run, TextCosts, Texts, end_of_next, first_zero};
 use pe_core::{CoffHeader, Error, Reason, Result, SIZE_OF_SYMBOL, SectionTable, Strtab, read_u32};
 
 /// The size of a COFF header in bytes.
-const SIZE_OF_COFF_HEADER: usize = 20;
+pub const SIZE_OF_COFF_HEADER: usize = 20;
 
 /// The size of the size of a string table, which is at its start.
 const SIZE_OF_STRINGS_SIZE: u32 = 4;

@@ -8,10 +8,13 @@ ghost use Rattle.pe_directories.specs.DirectoryRefusals.{directory_answer};
 ghost use Rattle.pe_directories.specs.ImageParts.{image_view};
 ghost use Rattle.pe_c.specs.DelayImports.{library_of, dll_range, entry_with, first_library_in, first_function_in, first_of_walk, function_of, functions_after, functions_of, name_range, ordinal_in};
 ghost use Rattle.pe_c.specs.Directories.{DirectoryHandsOut, image_parts, left_after, step_of, table_at};
+ghost use Rattle.pe_c.specs.NearMaps.{IsWindow};
+ghost use Rattle.pe_c.specs.Views.{map_of};
 
 use crate::directories::{Result, image_bytes, range_left, table_at};
 use crate::image::DELAY_IMPORT_DESCRIPTOR;
 use crate::named_view::NamedView;
+use crate::near_map::{NO_WINDOW, Window, map_near};
 use crate::ranges::{NO_BYTES, Range, slice_of};
 use crate::results::hand_out_found;
 use crate::text_runs::Run;
@@ -145,8 +148,23 @@ pub fn next_library(names: &NamedView<'_>, walk: &mut Range) -> Result<Option<De
     Ok(Some(library))
 }
 
+/// The file offset of an address in an entry with these attributes, none where it is not mapped. It takes the view's index, which
+/// the steps of these walks do not, so it serves the room of names alone: what that has changes no result.
+pub fn offset_near(view: &View, attributes: u32, address: u64, near: &mut Window) -> Option<usize>
+    requires { IsWindow (map_of view.now) near.old }
+    ensures { IsWindow (map_of view.now) near.new }
+{
+    let rva = if attributes % 2 == 1 {
+        address
+    } else {
+        address.checked_sub(view.image.base)?
+    };
+    map_near(view, u32::try_from(rva).ok()?, near)
+}
+
 /// Writes the offsets of the names of the next DLLs to a room, as starts, of as many as it has room for, and returns how many they
 /// are.
+#[tactic(auto, using(crate::proofs::NearMaps::no_window))]
 pub fn put_dll_names(view: &View, walk: &Range, room: &mut [Run]) -> usize
     ensures { result ≤ length room.new }
 {
@@ -154,13 +172,14 @@ pub fn put_dll_names(view: &View, walk: &Range, room: &mut [Run]) -> usize
     let Ok(bytes) = slice_of(view.bytes, walk) else {
         return count;
     };
-    let image = image_bytes(view);
+    let mut near = NO_WINDOW;
     let mut entries = DelayImports::new(bytes);
     for i in 0..room.len() {
         let Some(Ok(entry)) = entries.next() else {
             break;
         };
-        let Ok(offset) = entry.offset_of(&image, entry.name) else {
+        let Some(offset) = offset_near(view, entry.attributes, u64::from(entry.name), &mut near)
+        else {
             break;
         };
         room[i] = Run::at(offset);
@@ -278,24 +297,34 @@ pub fn next_function(
 
 /// Writes the offsets of the names of what is imported next of a DLL to a room, as starts, of as many numbers of its table as the
 /// room has entries, and returns how many they are.
-pub fn put_function_names(view: &View, walk: &DelayedFunctions, room: &mut [Run]) -> usize
-    ensures { result ≤ length room.new }
+pub fn put_function_names(
+    view: &View,
+    walk: &DelayedFunctions,
+    near: &mut Window,
+    room: &mut [Run],
+) -> usize
+    requires { IsWindow (map_of view.now) near.old }
+    ensures count { result ≤ length room.new }
+    ensures near { IsWindow (map_of view.now) near.new }
 {
     let mut count = 0;
     let Ok(bytes) = slice_of(view.bytes, &walk.left) else {
         return count;
     };
-    let image = image_bytes(view);
-    let mut table = VaTable::new(bytes, image.is_64);
+    let is_64 = view.image.width == 64;
+    // An address is the low 31 bits of a number, and a virtual one of PE32+ the low 63.
+    let end = if is_64 && walk.attributes % 2 == 0 {
+        1 << 63
+    } else {
+        1 << 31
+    };
+    let mut table = VaTable::new(bytes, is_64);
     for i in 0..room.len() {
         let Some(Ok(lookup)) = table.next() else {
             break;
         };
         // An ordinal, and a name that is not mapped, cost a run that is not asked for.
-        let offset = match entry_with(walk.attributes).offset_of_hint(&image, lookup) {
-            Ok(offset) => offset,
-            Err(_) => 0,
-        };
+        let offset = offset_near(view, walk.attributes, lookup % end, near).unwrap_or(0);
         room[i] = Run::at(offset.saturating_add(SIZE_OF_HINT));
         count = i + 1;
     }

@@ -2,7 +2,7 @@
 //! unmapped. The result of a call is one number. This call reads the directory again, and says the rest.
 
 ghost use Rattle.std.specs.Prelude.{◌≡◌};
-ghost use Rattle.pe_c.specs.DirectoryFailures.{IsWhyAt, SaysWhyAt, certificate_table, directory_needs, directory_offset, directory_place, directory_refusal, failure_at, numbers_there, placed};
+ghost use Rattle.pe_c.specs.DirectoryFailures.{IsWhyAt, SaysWhyAt, certificate_table, directory_needs, directory_offset, known_of_directory, directory_refusal, failure_at, numbers_there, with_known};
 ghost use Rattle.pe_c.specs.FailureNumbers.{IsWhy, refused};
 ghost use Rattle.pe_c.specs.ImageParts.{function_table};
 ghost use Rattle.pe_c.specs.ResourceLeaves.{leaves_start};
@@ -23,8 +23,10 @@ use crate::{
 };
 use pe_core::{COFF_MACHINE_X86_64, read_u16, read_u32, require_bytes};
 
-// The results of which a directory says the numbers, as `results` has them.
+// The results of which `KnownNumbers` says the numbers, as `results` has them.
 const SHORT: u32 = 2;
+
+const IMPORT_NAME: u32 = 5;
 
 const CERTIFICATE_REVISION: u32 = 7;
 
@@ -46,14 +48,14 @@ const EXCEPTION_BOUNDS: u32 = 19;
 
 const CLR_HEADER_SIZE: u32 = 305;
 
-/// Where a directory is, and how many bytes it needs. The numbers of its error are these, where they can be: of what reads it the
-/// contract says the kind of an error, and no number.
+/// Where a directory or an item of a walk is, and how many bytes it needs. The numbers of its error are these, where they can be: of
+/// what reads it the contract says the kind of an error, and no number.
 #[derive(Clone, Copy)]
-pub struct Place {
-    /// The RVA of the directory. Of certificates and of bound imports it is a file offset.
+pub struct KnownNumbers {
+    /// The RVA of the directory, or of what is read. Of certificates and of bound imports it is a file offset.
     pub rva: u32,
     /// In bytes.
-    pub size: u32,
+    pub size: u64,
     /// File offset.
     pub offset: u64,
     /// How many bytes it needs there.
@@ -89,7 +91,7 @@ fn directory_needs(image: &Image, index: u32) -> Option<u64>
 }
 
 /// The first numbers at an offset. Zeros where its 8 bytes are not there.
-fn numbers_there(bytes: &[u8], offset: usize) -> (u32, u16, u16)
+pub fn numbers_there(bytes: &[u8], offset: usize) -> (u32, u16, u16)
     ensures { result ≡ numbers_there bytes.now offset }
 {
     match require_bytes(bytes, offset, 8) {
@@ -102,10 +104,10 @@ fn numbers_there(bytes: &[u8], offset: usize) -> (u32, u16, u16)
     }
 }
 
-/// The place of the directory with an index. `None` of exports, whose tables have RVAs of their own.
-#[tactic(auto, unfolding(crate::specs::DirectoryFailures::directory_place))]
-fn directory_place(view: &View, index: u32) -> Option<Place>
-    ensures { result ≡ directory_place index view.now.bytes.now view.now.image.now
+/// What the directory with an index says of its errors. `None` of exports, whose tables have RVAs of their own.
+#[tactic(auto, unfolding(crate::specs::DirectoryFailures::known_of_directory))]
+fn known_of_directory(view: &View, index: u32) -> Option<KnownNumbers>
+    ensures { result ≡ known_of_directory index view.now.bytes.now view.now.image.now
         view.now.sections.now }
 {
     if index == 0 {
@@ -113,35 +115,35 @@ fn directory_place(view: &View, index: u32) -> Option<Place>
     }
     let directory = directory(view.image, index as usize);
     let offset = directory_offset(view, index);
-    Some(Place {
+    Some(KnownNumbers {
         rva: directory.virtual_address,
-        size: directory.size,
+        size: u64::from(directory.size),
         offset,
         needed: directory_needs(view.image, index),
         head: numbers_there(view.bytes, offset as usize),
     })
 }
 
-/// A failure with the numbers that a place says of it.
+/// A failure with the numbers that are known of it.
 #[tactic(auto, unfolding(crate::specs::DirectoryFailures::failure_at))]
-fn failure_at(place: &Place, failure: Failure) -> Failure
-    ensures { result ≡ failure_at place.now failure }
+pub fn failure_at(known: &KnownNumbers, failure: Failure) -> Failure
+    ensures { result ≡ failure_at known.now failure }
 {
-    let end = place.offset.saturating_add(u64::from(place.size));
+    let end = known.offset.saturating_add(known.size);
     let own = (failure.offset, failure.needed, failure.value);
     let (offset, needed, value) = match failure.result {
-        SHORT => match place.needed {
-            Some(needed) => (place.offset, needed, 0),
+        SHORT => match known.needed {
+            Some(needed) => (known.offset, needed, 0),
             None => own,
         },
-        UNMAPPED => (0, 0, u64::from(place.rva)),
-        EXCEPTION_SIZE => (0, 0, u64::from(place.size)),
-        EXCEPTION_OFFSET => (place.offset, 0, 0),
+        UNMAPPED | IMPORT_NAME => (0, 0, u64::from(known.rva)),
+        EXCEPTION_SIZE => (0, 0, known.size),
+        EXCEPTION_OFFSET => (known.offset, 0, 0),
         CERTIFICATE_TABLE_END | DEBUG_BOUNDS | EXCEPTION_BOUNDS => (end, 0, 0),
-        CERTIFICATE_SIZE => (0, u64::from(place.head.0), 0),
-        CERTIFICATE_REVISION => (0, 0, u64::from(place.head.1)),
-        CERTIFICATE_TYPE => (0, 0, u64::from(place.head.2)),
-        CLR_HEADER_SIZE => (0, 0, u64::from(place.head.0)),
+        CERTIFICATE_SIZE => (0, u64::from(known.head.0), 0),
+        CERTIFICATE_REVISION => (0, 0, u64::from(known.head.1)),
+        CERTIFICATE_TYPE => (0, 0, u64::from(known.head.2)),
+        CLR_HEADER_SIZE => (0, 0, u64::from(known.head.0)),
         _ => own,
     };
     Failure {
@@ -152,12 +154,12 @@ fn failure_at(place: &Place, failure: Failure) -> Failure
     }
 }
 
-/// The same, without a place its own numbers.
-fn placed(place: Option<Place>, failure: Failure) -> Failure
-    ensures { result ≡ placed place failure }
+/// The same; where nothing is known, with its own numbers.
+fn with_known(known: Option<KnownNumbers>, failure: Failure) -> Failure
+    ensures { result ≡ with_known known failure }
 {
-    match place {
-        Some(place) => failure_at(&place, failure),
+    match known {
+        Some(known) => failure_at(&known, failure),
         None => failure,
     }
 }
@@ -221,13 +223,13 @@ fn directory_failure(view: &View, index: u32) -> Option<Failure>
 }
 
 /// The same with the numbers that the directory says.
-#[tactic(auto, using(crate::proofs::FailureNumbers::at_place))]
-fn failure_in_place(view: &View, index: u32) -> Option<Failure>
-    ensures { IsWhyAt (directory_place index view.now.bytes.now view.now.image.now view.now.sections.now) result
+#[tactic(auto, using(crate::proofs::FailureNumbers::of_known))]
+fn known_failure(view: &View, index: u32) -> Option<Failure>
+    ensures { IsWhyAt (known_of_directory index view.now.bytes.now view.now.image.now view.now.sections.now) result
         (directory_refusal index view.now.bytes.now view.now.image.now view.now.sections.now) }
 {
     match directory_failure(view, index) {
-        Some(failure) => Some(placed(directory_place(view, index), failure)),
+        Some(failure) => Some(with_known(known_of_directory(view, index), failure)),
         None => None,
     }
 }
@@ -241,9 +243,9 @@ fn failure_in_place(view: &View, index: u32) -> Option<Failure>
 /// `pe_c_tls`, `pe_c_load_config`, `pe_c_bound_imports`, `pe_c_delay_imports` and `pe_c_clr_header`.
 #[unsafe(no_mangle)]
 pub extern "C" fn pe_c_directory_failure(view: &View, index: u32, out: &mut Failure) -> u32
-    ensures { SaysWhyAt (directory_place index view.now.bytes.now view.now.image.now view.now.sections.now)
+    ensures { SaysWhyAt (known_of_directory index view.now.bytes.now view.now.image.now view.now.sections.now)
         result out.old out.new
         (directory_refusal index view.now.bytes.now view.now.image.now view.now.sections.now) }
 {
-    hand_out_failure(failure_in_place(view, index), out)
+    hand_out_failure(known_failure(view, index), out)
 }

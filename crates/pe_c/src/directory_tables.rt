@@ -3,10 +3,8 @@
 //! https://learn.microsoft.com/windows/win32/debug/pe-format#export-directory-table,
 //! https://learn.microsoft.com/windows/win32/debug/pe-format#resource-directory-table
 
-ghost use Rattle.std.specs.Prelude.{◌≡◌, ◌+◌, ◌≤◌, ◌^◌, Some, length};
-ghost use Rattle.pe_core.specs.Records as records;
+ghost use Rattle.std.specs.Prelude.{◌≡◌, ◌+◌, ◌≤◌, ◌^◌, Some};
 ghost use Rattle.pe_core.specs.Refusals.{answer_by, answer_of};
-ghost use Rattle.pe_resource.specs.Directories.{directory_of};
 ghost use Rattle.pe_c.specs.DirectoryTables.{directory_reported, item_in, export_directory_at, export_fields, next_item_of, resource_directory_at};
 ghost use Rattle.pe_c.specs.HandsOut.{HandsOut, HandsOutIf};
 ghost use Rattle.pe_c.specs.Walks.{walk_of};
@@ -17,7 +15,7 @@ use crate::resource_leaves::{ResourceName, name_in};
 use crate::results::{hand_out, hand_out_some, options};
 use crate::view::View;
 use crate::walks::next_entry;
-use pe_core::{Result, TableEntry, mapped_offset, read_u16, read_u32, require_bytes};
+use pe_core::{ExportDirectoryTable, Result, TableEntry, mapped_offset, require_bytes};
 use pe_resource::{ImageResourceDirectory, ResourceEntry};
 
 // Sizes in bytes.
@@ -83,24 +81,22 @@ pub struct ResourceItem {
     pub is_directory: u32,
 }
 
-/// The fields of the export directory at an offset.
-#[tactic(auto, unfolding(pe_core::specs::Records::export_directory))]
-fn export_fields(bytes: &[u8], offset: usize) -> ExportFields
-    requires { offset + 40 ≤ length bytes.now }
-    ensures { result ≡ export_fields (records.export_directory bytes.now offset) }
+/// The fields of an export directory, by winnt.h's names.
+fn export_fields(table: &ExportDirectoryTable) -> ExportFields
+    ensures { result ≡ export_fields table.now }
 {
     ExportFields {
-        characteristics: read_u32(bytes, offset),
-        time_date_stamp: read_u32(bytes, offset + 4),
-        major_version: read_u16(bytes, offset + 8),
-        minor_version: read_u16(bytes, offset + 10),
-        name: read_u32(bytes, offset + 12),
-        base: read_u32(bytes, offset + 16),
-        number_of_functions: read_u32(bytes, offset + 20),
-        number_of_names: read_u32(bytes, offset + 24),
-        address_of_functions: read_u32(bytes, offset + 28),
-        address_of_names: read_u32(bytes, offset + 32),
-        address_of_name_ordinals: read_u32(bytes, offset + 36),
+        characteristics: table.characteristics,
+        time_date_stamp: table.time_date_stamp,
+        major_version: table.major,
+        minor_version: table.minor,
+        name: table.name_rva,
+        base: table.ordinal_base,
+        number_of_functions: table.address_table_entries,
+        number_of_names: table.number_of_name_pointers,
+        address_of_functions: table.address_table_rva,
+        address_of_names: table.name_pointer_rva,
+        address_of_name_ordinals: table.ordinal_table_rva,
     }
 }
 
@@ -116,7 +112,8 @@ fn export_directory_at(view: &View) -> Result<Option<ExportFields>>
     let rva = directory.virtual_address;
     let offset = mapped_offset(rva, view.sections, image.file_alignment, &opts)?;
     require_bytes(view.bytes, offset, SIZE_OF_EXPORT_DIRECTORY)?;
-    Ok(Some(export_fields(view.bytes, offset)))
+    let table = ExportDirectoryTable::at(view.bytes, offset);
+    Ok(Some(export_fields(&table)))
 }
 
 /// Returns the fields of an image's export directory, whatever its tables are: `NOTHING` where it is absent. Strict and permissive
@@ -154,28 +151,12 @@ fn directory_reported(
     }
 }
 
-/// The fields of the resource directory at an offset.
-#[tactic(auto, unfolding(pe_resource::specs::Directories::directory_of))]
-fn directory_fields(data: &[u8], offset: usize) -> ImageResourceDirectory
-    requires { offset + 16 ≤ length data.now }
-    ensures { result ≡ directory_of data.now offset }
-{
-    ImageResourceDirectory {
-        characteristics: read_u32(data, offset),
-        time_date_stamp: read_u32(data, offset + 4),
-        major_version: read_u16(data, offset + 8),
-        minor_version: read_u16(data, offset + 10),
-        number_of_named_entries: read_u16(data, offset + 12),
-        number_of_id_entries: read_u16(data, offset + 14),
-    }
-}
-
 fn resource_directory_at(bytes: &[u8], tree: &Range, offset: usize) -> Result<ResourceDirectory>
     ensures { answer_of result ≡ resource_directory_at bytes.now tree.now offset }
 {
     let data = slice_of(bytes, tree)?;
     require_bytes(data, offset, SIZE_OF_RESOURCE_DIRECTORY)?;
-    let directory = directory_fields(data, offset);
+    let directory = ImageResourceDirectory::at(data, offset);
     require_bytes(
         data,
         offset + SIZE_OF_RESOURCE_DIRECTORY,

@@ -6,22 +6,26 @@
 
 ghost use Rattle.std.specs.Prelude.{◌≡◌, ◌+◌, ◌≤◌, ◌<◌, ◌^◌, length, IfNone, Ok, if◌then◌else◌, Some, None};
 ghost use Rattle.pe_core.specs.Bytes.{holds};
-ghost use Rattle.pe_c.specs.Failures.{dos_failures, failure_at, first_failure, image_failure, optional_failure, optional_failures, pe_failures, section_failures, te_failures, truncated_at};
+ghost use Rattle.pe_c.specs.Failures.{dos_failures, failure_at, first_failure, image_failure, object_section_failures, optional_failure, optional_failures, pe_failures, rows_failures, section_failures, te_failures, te_section_failures, truncated_at};
 ghost use Rattle.pe_c.specs.HandsOut.{HandsOutIf};
 ghost use Rattle.pe_c.specs.Modes.{mode_of_number};
 
+use crate::coff::SIZE_OF_COFF_HEADER;
+use crate::headers::CoffFields;
 use crate::image::Image;
 use crate::results::{DONE, NOTHING, options};
+use crate::te::TeImage;
 use pe_core::{
     DOS_MAGIC, MAGIC_32, MAGIC_64, PE_MAGIC, ParseMode, SIZE_OF_TE_HEADER, TE_MAGIC, read_u16,
     read_u32, require_bytes,
 };
 
-/// What is wrong with headers or with a directory. A number that the error does not have here is 0.
+/// What is wrong with headers, with a directory or with an item of a walk. A number that the error does not have here is 0.
 #[repr(C)]
 #[derive(Clone, Copy)]
 pub struct Failure {
-    /// Offset, from the start of the bytes, of what is truncated or refused, or where it ends after the bytes that hold it.
+    /// Offset, from the start of the bytes unless the call says otherwise, of what is truncated or refused, or where it ends after the
+    /// bytes that hold it.
     pub offset: u64,
     /// How many bytes are needed.
     pub needed: u64,
@@ -174,15 +178,15 @@ pub extern "C" fn pe_c_image_failure(bytes: &[u8], mode: u32, out: &mut Failure)
     hand_out_failure(image_failure(bytes, mode), out)
 }
 
-/// The failure of the section headers of an image.
-fn section_failure(bytes: &[u8], image: &Image) -> Option<Failure>
-    ensures { result ≡ first_failure (section_failures bytes.now image.now) }
+/// The failure of so many section headers at an offset.
+fn rows_failure(bytes: &[u8], offset: usize, count: usize) -> Option<Failure>
+    requires { count < 2 ^ 16 }
+    ensures { result ≡ first_failure (rows_failures bytes.now offset count) }
 {
-    let count = usize::from(image.number_of_sections);
     if count == 0 {
         return None;
     }
-    truncated(bytes, image.sections_offset as usize, 40 * count)
+    truncated(bytes, offset, 40 * count)
 }
 
 /// Returns what is wrong with the section headers that `pe_c_sections` refuses, where it has room for them: the same result, the
@@ -192,7 +196,38 @@ pub extern "C" fn pe_c_sections_failure(bytes: &[u8], image: &Image, out: &mut F
     ensures { HandsOutIf result out.old out.new
         (Ok (first_failure (section_failures bytes.now image.now))) }
 {
-    hand_out_failure(section_failure(bytes, image), out)
+    let (offset, count) = (image.sections_offset as usize, image.number_of_sections);
+    hand_out_failure(rows_failure(bytes, offset, usize::from(count)), out)
+}
+
+/// The same of the section headers of a TE image, which `pe_c_te_sections` refuses.
+#[unsafe(no_mangle)]
+pub extern "C" fn pe_c_te_sections_failure(bytes: &[u8], te: &TeImage, out: &mut Failure) -> u32
+    ensures { HandsOutIf result out.old out.new
+        (Ok (first_failure (te_section_failures bytes.now te.now))) }
+{
+    let (offset, count) = (SIZE_OF_TE_HEADER, te.number_of_sections);
+    hand_out_failure(
+        rows_failure(bytes, usize::from(offset), usize::from(count)),
+        out,
+    )
+}
+
+/// The same of the section headers of an object, which `pe_c_coff_sections` refuses.
+#[unsafe(no_mangle)]
+pub extern "C" fn pe_c_coff_sections_failure(
+    bytes: &[u8],
+    coff: &CoffFields,
+    out: &mut Failure,
+) -> u32
+    ensures { HandsOutIf result out.old out.new
+        (Ok (first_failure (object_section_failures bytes.now coff.now))) }
+{
+    let offset = SIZE_OF_COFF_HEADER + usize::from(coff.size_of_optional_header);
+    hand_out_failure(
+        rows_failure(bytes, offset, usize::from(coff.number_of_sections)),
+        out,
+    )
 }
 
 #[tactic(auto, unfolding(crate::specs::Failures::te_failures))]

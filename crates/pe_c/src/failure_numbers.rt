@@ -3,14 +3,16 @@
 //! zeros. `tools/make_errors` writes which.
 
 ghost use Rattle.std.specs.Prelude.{◌≡◌};
-ghost use Rattle.pe_core.specs.Refusals.{answer_of};
-ghost use Rattle.pe_directories.specs.DirectoryRefusals.{directory_answer};
-ghost use Rattle.pe_c.specs.FailureNumbers.{IsWhy, directory_failure_of, directory_numbers, directory_refused, error_numbers, failure_of, failure_with, numbers, reason_numbers, refused};
+ghost use Rattle.pe_core.specs.Refusals.{answer_of, kind_of};
+ghost use Rattle.pe_directories.specs.DirectoryRefusals.{Image, directory_answer};
+ghost use Rattle.pe_resource.specs.Leaves.{tree_answer};
+ghost use Rattle.pe_c.specs.FailureNumbers.{IsFailureOf, IsTreeWhy, IsWhy, directory_failure_of, directory_numbers, directory_refused, error_numbers, failure_of, failure_with, moved, numbers, reason_numbers, refused, tree_failure_of, tree_numbers, tree_refused};
 
 use crate::failure::Failure;
-use crate::results::{number_of, number_of_directory};
+use crate::results::{number_of, number_of_directory, number_of_tree};
 use pe_core::{Error, Reason, Result};
 use pe_directories::DirectoryError;
+use pe_resource::ResourceTreeError;
 
 /// The numbers of an error.
 #[derive(Clone, Copy)]
@@ -107,6 +109,18 @@ fn directory_numbers(error: &DirectoryError) -> ErrorNumbers
     }
 }
 
+/// The numbers of an error of a resource tree. `tools/make_errors` writes the arms.
+fn tree_numbers(error: &ResourceTreeError) -> ErrorNumbers
+    ensures { result ≡ tree_numbers error.now }
+{
+    match error {
+        ResourceTreeError::Image(error) => error_numbers(error),
+        ResourceTreeError::NotDirectory(offset) => numbers(u64::from(*offset), 0, 0),
+        ResourceTreeError::NotData(offset) => numbers(u64::from(*offset), 0, 0),
+        ResourceTreeError::NoEntries(offset) => numbers(u64::from(*offset), 0, 0),
+    }
+}
+
 fn failure_with(number: u32, numbers: ErrorNumbers) -> Failure
     ensures { result ≡ failure_with number numbers }
 {
@@ -133,6 +147,26 @@ fn directory_failure_of(error: &DirectoryError) -> Failure
     failure_with(number_of_directory(error), directory_numbers(error))
 }
 
+/// The failure that an error of a resource tree is.
+fn tree_failure_of(error: &ResourceTreeError) -> Failure
+    ensures { result ≡ tree_failure_of error.now }
+{
+    failure_with(number_of_tree(error), tree_numbers(error))
+}
+
+/// The same error of bytes that start at a file offset: its offset counts from the start of the file.
+fn moved(start: u64, error: Error) -> Error
+    ensures { result ≡ moved start error }
+{
+    match error {
+        Error::Short { at, needed } => Error::Short {
+            at: at.saturating_add(start as usize),
+            needed,
+        },
+        other => other,
+    }
+}
+
 /// The failure of what was read, if it was refused.
 #[tactic(auto, using(crate::proofs::FailureNumbers::of_error))]
 pub fn why<T: Copy>(given: Result<T>) -> Option<Failure>
@@ -152,5 +186,45 @@ pub fn why_of_directory<T: Copy>(given: std::result::Result<T, DirectoryError>) 
     match given {
         Ok(_) => None,
         Err(error) => Some(directory_failure_of(&error)),
+    }
+}
+
+/// The failure that an error is of bytes that start at a file offset.
+#[tactic(auto, using(crate::proofs::FailureNumbers::of_moved_error))]
+pub fn failure_from(start: u64, error: Error) -> Failure
+    ensures { IsFailureOf (Image (kind_of error)) result }
+{
+    failure_of(&moved(start, error))
+}
+
+/// The failure of what was read of a directory, by bytes that start at a file offset.
+#[tactic(auto, using(crate::proofs::FailureNumbers::of_directory_error))]
+pub fn why_of_directory_from<T: Copy>(
+    start: u64,
+    given: std::result::Result<T, DirectoryError>,
+) -> Option<Failure>
+    ensures { IsWhy result (directory_refused (directory_answer (λ x. x) given)) }
+{
+    match given {
+        Ok(_) => None,
+        Err(DirectoryError::Image(error)) => Some(failure_from(start, error)),
+        Err(other) => Some(directory_failure_of(&other)),
+    }
+}
+
+/// The same of a resource tree.
+#[tactic(auto, using(crate::proofs::FailureNumbers::of_moved_tree_error, crate::proofs::FailureNumbers::of_tree_error))]
+pub fn why_of_tree_from<T: Copy>(
+    start: u64,
+    given: std::result::Result<T, ResourceTreeError>,
+) -> Option<Failure>
+    ensures { IsTreeWhy result (tree_refused (tree_answer given)) }
+{
+    match given {
+        Ok(_) => None,
+        Err(ResourceTreeError::Image(error)) => {
+            Some(tree_failure_of(&ResourceTreeError::Image(moved(start, error))))
+        }
+        Err(other) => Some(tree_failure_of(&other)),
     }
 }

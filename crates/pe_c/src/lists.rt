@@ -20,6 +20,7 @@ pub mod exports;
 pub mod forwarders;
 pub mod guard_tables;
 pub mod imports;
+pub mod library_functions;
 pub mod library_imports;
 pub mod relocations;
 pub mod resources;

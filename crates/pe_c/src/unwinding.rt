@@ -7,6 +7,7 @@ ghost use Rattle.std.specs.Int.{is_power_of_two};
 ghost use Rattle.std.specs.Prelude.{◌≡◌, ◌+◌, ◌^◌, ◌<◌, ◌≤◌, length, true, IfSome, Some, Ok};
 ghost use Rattle.pe_core.specs.Refusals.{answer_of};
 ghost use Rattle.pe_core.specs.SectionMap.{offset_of};
+ghost use Rattle.pe_unwind.specs.FunctionTable.{Finds, functions};
 ghost use Rattle.pe_unwind.specs.Offsets.{UnwindPartsStand};
 ghost use Rattle.pe_unwind.specs.ScopeTable.{scope_at};
 ghost use Rattle.pe_unwind.specs.UnwindRecord.{unwind_view};
@@ -15,7 +16,7 @@ ghost use Rattle.pe_c.specs.Ranges.{bytes_at};
 ghost use Rattle.pe_frame.specs.Undoing.{bytes_above};
 ghost use Rattle.pe_c.specs.Exports.{one_if_some};
 ghost use Rattle.pe_c.specs.NearRecords.{PutsRecord, codes_after};
-ghost use Rattle.pe_c.specs.Unwinding.{exception_table_at, LocatesIn, HandsOutFound, function_in, or_no_function, handler_kind, handler_address, handler_range, flat_record, flat_record_at, FindsOffset, FollowsToRecord, HandsOutRecord, links_at, from_frame, saving, plain, flat, StepsOver, WalksIn, HandsOutCode, scopes_at};
+ghost use Rattle.pe_c.specs.Unwinding.{exception_table_at, HandsOutFound, function_in, or_no_function, handler_kind, handler_address, handler_range, flat_record, flat_record_at, FindsOffset, FollowsToRecord, HandsOutRecord, links_at, from_frame, saving, plain, flat, StepsOver, WalksIn, HandsOutCode, scopes_at};
 ghost use Rattle.pe_c.specs.Walks.{next_of, walk_of};
 
 use crate::image::{EXCEPTION_TABLE, directory, is_absent};
@@ -140,11 +141,13 @@ pub extern "C" fn pe_c_function_table(view: &View, out: &mut Range) -> u32
     hand_out_some(table_of(view), out)
 }
 
-fn find(bytes: &[u8], table: &Range, rva: u32) -> Result<Option<RuntimeFunction>>
-    ensures { LocatesIn (bytes_at bytes.now table.now) rva (answer_of result) }
+/// The function that covers an RVA, in the bytes of a table.
+#[inline(always)]
+fn find(entries: &[u8], rva: u32) -> Option<RuntimeFunction>
+    ensures { Finds (functions entries.now) rva result }
 {
-    let mut counted = CountedTable::new(slice_of(bytes, table)?);
-    Ok(search(&mut counted, rva))
+    let mut counted = CountedTable::new(entries);
+    search(&mut counted, rva)
 }
 
 /// Returns the function that covers an RVA, by one `search` of pe_unwind in the function table at this range: `NOTHING`
@@ -161,7 +164,10 @@ pub extern "C" fn pe_c_find_function(
 ) -> u32
     ensures { HandsOutFound bytes.now table.now rva result out.old out.new }
 {
-    hand_out_some(find(bytes, table, rva), out)
+    match slice_of(bytes, table) {
+        Ok(entries) => hand_out_some(Ok(find(entries, rva)), out),
+        Err(error) => number_of(&error),
+    }
 }
 
 pub fn function_in(bytes: &[u8], table: &Range, index: u64) -> Result<RuntimeFunction>
@@ -489,6 +495,46 @@ fn hand_out_far(view: &View, table: &Range, unwind: u32, out: &mut UnwindRecord)
         }
         None => hand_out_linked(view, table, unwind, out),
     }
+}
+
+/// What a record is before it is read.
+const NO_RECORD: UnwindRecord = UnwindRecord {
+    codes: CodeWalk {
+        left: NO_BYTES,
+        version: 0,
+        frame_register: 0,
+        spare: [0; 6],
+    },
+    handler_data: NO_BYTES,
+    handler: 0,
+    chained: NO_FUNCTION,
+    is_chained: 0,
+    frame_register_offset: 0,
+    size_of_prolog: 0,
+    handler_kind: 0,
+    spare: [0; 6],
+};
+
+/// The record of an even unwind RVA, where a section maps it and it is chained to no other. Nearly all records are such.
+#[inline(always)]
+#[tactic(auto, using(crate::proofs::EvenRecords::near_follows))]
+pub fn near_record(view: &View, table: &Range, unwind: u32) -> Option<UnwindRecord>
+    ensures { IfSome result (λ r. FollowsToRecord view.now.bytes.now (links_at view.now.bytes.now
+        view.now.image.now view.now.sections.now table.now) unwind
+        (Ok r)) }
+{
+    let offset = match near_offset(view, table, unwind) {
+        Some(offset) => offset,
+        None => even_offset(view, table, unwind)?,
+    };
+    let mut record = NO_RECORD;
+    if put_plain(view.bytes, offset, &mut record) {
+        return Some(record);
+    }
+    if put_handled(view.bytes, offset, &mut record) {
+        return Some(record);
+    }
+    None
 }
 
 /// Reads the unwind record of an unwind RVA, which is a field of a function of the table at this range. An odd RVA is a

@@ -26,8 +26,7 @@ pub fn next_entry<'a>(bytes: &'a [u8], walk: &mut Range, width: usize) -> Result
     }
     if left.len() < width {
         return Err(Error::Short {
-            // Callers get the error's number alone, so the offset is left at 0.
-            at: 0,
+            at: range.offset as usize,
             needed: width,
         });
     }

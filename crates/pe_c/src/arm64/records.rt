@@ -129,7 +129,8 @@ fn info_at(bytes: &[u8], offset: usize) -> Result<Arm64Record>
     Ok(flat_info(&info, bytes, offset))
 }
 
-fn read_record(view: &View, function: Arm64RuntimeFunction) -> Result<Option<Arm64Record>>
+/// The unwind record of a function, as `pe_c_arm64_unwind_record` returns it.
+pub fn read_record(view: &View, function: Arm64RuntimeFunction) -> Result<Option<Arm64Record>>
     ensures { answer_of result
         ≡ arm64_record_of view.now.bytes.now view.now.image.now view.now.sections.now
         view.now.image.now.mode function }

@@ -1,36 +1,65 @@
-//! Laws of failures: a call that says why headers, a directory or a debug record are refused says so of those that the call which
-//! reads them refuses, and of no others.
+//! Laws of failures: a call that says why headers, a directory, a debug record or a step are refused says so of those that the call
+//! which reads them refuses, and of no others.
 
-ghost use Rattle.std.specs.Prelude.{◌≡◌, ◌==◌, ℕ, List, false};
+ghost use Rattle.std.specs.Prelude.{◌≡◌, ◌+◌, ◌==◌, ℕ, List, Option, Result, false};
+ghost use Rattle.pe_core.specs.Refusals.{Refusal};
+ghost use Rattle.pe_core.specs.Rows.{rows_at};
 ghost use Rattle.pe_core.specs.Sections.{sections_at};
 ghost use Rattle.pe_core.specs.declared.header.TheConstants.{COFF_MACHINE_ARM64, COFF_MACHINE_X86_64};
 ghost use Rattle.pe_core.specs.declared.section_table.SectionTable.{SectionTable};
+ghost use Rattle.pe_directories.specs.BaseRelocations.{first_block, first_relocation};
+ghost use Rattle.pe_directories.specs.ImageParts.{ImageView};
 ghost use Rattle.pe_records.specs.declared.debug.ImageDebugDirectory.{ImageDebugDirectory};
-ghost use Rattle.pe_c.specs.BoundImports.{bound_imports_at};
+ghost use Rattle.pe_unwind.specs.Links.{Table};
+ghost use Rattle.pe_unwind.specs.declared.arm64.function.Arm64RuntimeFunction.{Arm64RuntimeFunction};
+ghost use Rattle.pe_c.specs.Arm64.{AnswersArm64Code, StepsArm64Codes, arm64_record_of};
+ghost use Rattle.pe_c.specs.BoundImports.{bound_imports_at, first_bound};
 ghost use Rattle.pe_c.specs.Certificates.{certificate_step};
 ghost use Rattle.pe_c.specs.Clr.{clr_header_at};
+ghost use Rattle.pe_c.specs.Coff.{symbol_name_at};
 ghost use Rattle.pe_c.specs.Debug.{characteristics_of, checksum_of, debug_entries_range, embedded_of, features_of, key_of, pdb20_of, pogo_of, repro_of};
 ghost use Rattle.pe_c.specs.DebugFailures.{record_refusal};
-ghost use Rattle.pe_c.specs.Directories.{table_at, tls_at};
-ghost use Rattle.pe_c.specs.DirectoryFailures.{AllAgree, DirectoriesAgree, certificate_table, directory_refusal};
+ghost use Rattle.pe_c.specs.DelayImports.{first_library_in, first_of_walk};
+ghost use Rattle.pe_c.specs.Directories.{block_reported, first_in, relocation_reported, step_of, table_at, tls_at};
+ghost use Rattle.pe_c.specs.DirectoryFailures.{Agrees, AllAgree, DirectoriesAgree, certificate_table, directory_refusal};
 ghost use Rattle.pe_c.specs.Exports.{tables_at};
-ghost use Rattle.pe_c.specs.Failures.{Explains, first_failure, image_failure, section_failures, te_failures};
+ghost use Rattle.pe_c.specs.Failures.{Explains, first_failure, image_failure, object_section_failures, section_failures, te_failures, te_section_failures};
+ghost use Rattle.pe_c.specs.FailureNumbers.{directory_refused, refused, tree_refused};
 ghost use Rattle.pe_c.specs.Images.{image_at};
-ghost use Rattle.pe_c.specs.Imports.{libraries_at};
+ghost use Rattle.pe_c.specs.Imports.{import_step, libraries_at, library_step};
 ghost use Rattle.pe_c.specs.LoadConfigs.{load_config_at};
-ghost use Rattle.pe_c.specs.ResourceLeaves.{leaves_start};
-ghost use Rattle.pe_c.specs.Te.{te_image_at};
-ghost use Rattle.pe_c.specs.Unwinding.{exception_table_at};
+ghost use Rattle.pe_c.specs.ResourceLeaves.{first_item, items_left, leaves_start};
+ghost use Rattle.pe_c.specs.StepFailures.{TreesAgree};
+ghost use Rattle.pe_c.specs.Te.{te_image_at, te_section};
+ghost use Rattle.pe_c.specs.Unwinding.{FollowsToRecord, HandsOutCode, HandsOutRecord, StepsCodes, exception_table_at};
+ghost use Rattle.pe_c.specs.declared.arm64.codes.Arm64Code.{Arm64Code};
+ghost use Rattle.pe_c.specs.declared.arm64.codes.Arm64CodeWalk.{Arm64CodeWalk};
+ghost use Rattle.pe_c.specs.declared.delay_imports.DelayedFunctions.{DelayedFunctions};
+ghost use Rattle.pe_c.specs.declared.headers.CoffFields.{CoffFields};
 ghost use Rattle.pe_c.specs.declared.image.Image.{Image};
+ghost use Rattle.pe_c.specs.declared.imports.Imports.{Imports};
+ghost use Rattle.pe_c.specs.declared.imports.Libraries.{Libraries};
+ghost use Rattle.pe_c.specs.declared.ranges.Range.{Range};
+ghost use Rattle.pe_c.specs.declared.resource_leaves.ResourceLeaves.{ResourceLeaves};
+ghost use Rattle.pe_c.specs.declared.te.TeImage.{TeImage};
+ghost use Rattle.pe_c.specs.declared.unwinding.Code.{Code};
+ghost use Rattle.pe_c.specs.declared.unwinding.CodeWalk.{CodeWalk};
+ghost use Rattle.pe_c.specs.declared.unwinding.UnwindRecord.{UnwindRecord};
 
 /// `pe_c_image_failure` has a failure exactly where `pe_c_image` refuses the headers, with the number of its error; so have
-/// `pe_c_sections_failure` where the section headers are refused that `pe_c_sections` reads, and `pe_c_te_failure` where `pe_c_te`
-/// refuses the header.
-#[tactic(auto, using(crate::proofs::Failures::failures_of_images, crate::proofs::Failures::failures_of_sections, crate::proofs::Failures::failures_of_te_images))]
+/// `pe_c_sections_failure` where the section headers are refused that `pe_c_sections` reads, `pe_c_te_sections_failure` and
+/// `pe_c_coff_sections_failure` where those are that `pe_c_te_sections` and `pe_c_coff_sections` read, and `pe_c_te_failure` where
+/// `pe_c_te` refuses the header.
+#[tactic(auto, using(crate::proofs::Failures::failures_of_images, crate::proofs::Failures::failures_of_rows, crate::proofs::Failures::failures_of_te_images))]
 pub fn failures_are_those_of_the_calls()
     ensures images { (b : List ℕ) (mode : ℕ) → Explains (image_at b mode) (image_failure b mode) }
     ensures sections { (b : List ℕ) (image : Image)
         → Explains (sections_at b image.sections_offset image.number_of_sections) (first_failure (section_failures b image)) }
+    ensures te_sections { (b : List ℕ) (te : TeImage)
+        → Explains (rows_at (te_section te.rva_offset) 40 b 40 te.number_of_sections) (first_failure (te_section_failures b te)) }
+    ensures object_sections { (b : List ℕ) (c : CoffFields)
+        → Explains (sections_at b (20 + c.size_of_optional_header) c.number_of_sections)
+        (first_failure (object_section_failures b c)) }
     ensures te_images { (b : List ℕ) → Explains (te_image_at b) (first_failure (te_failures b)) }
 {}
 
@@ -86,4 +115,48 @@ pub fn debug_failures_are_those_of_the_calls()
         → AllAgree (embedded_of b mode e) (record_refusal 6 b mode e) }
     ensures checksums { (b : List ℕ) (mode : ℕ) (e : ImageDebugDirectory)
         → AllAgree (checksum_of b mode e) (record_refusal 7 b mode e) }
+{}
+
+/// A call that says why a step is refused, or what is read by its key, says so exactly where the call that makes the step or reads it
+/// returns an error, with its number. Where a definition says what a step returns, both calls have that one: the clause says that the
+/// number is its refusal's. Where a relation does, it is of any two answers.
+#[tactic(auto, using(crate::proofs::DirectoryFailures::agree, crate::proofs::DirectoryFailures::directories_agree, crate::proofs::StepFailures::trees_agree))]
+pub fn step_failures_are_those_of_the_calls()
+    ensures libraries { (offset : ℕ → Option ℕ) (w : ℕ) (b : List ℕ) (walk : Libraries)
+        → AllAgree (library_step offset w b walk).0 (refused (library_step offset w b walk).0) }
+    ensures imports { (offset : ℕ → Option ℕ) (w : ℕ) (b : List ℕ) (walk : Imports)
+        → AllAgree (import_step offset w b walk).0 (refused (import_step offset w b walk).0) }
+    ensures unwind_records { (b : List ℕ) (links : Result Table Refusal) (a : ℕ) (answer : Result UnwindRecord Refusal)
+        → FollowsToRecord b links a answer
+        → (number : ℕ) (old new : UnwindRecord) → HandsOutRecord b links a number old new → Agrees number (refused answer) }
+    ensures codes { (b : List ℕ) (walk after : CodeWalk) (answer : Result (Option Code) Refusal)
+        → StepsCodes b walk answer after
+        → (v : CodeWalk) (number : ℕ) (old new : Code) → HandsOutCode b walk v number old new → Agrees number (refused answer) }
+    ensures leaves { (b : List ℕ) (offset : ℕ → Option ℕ) (walk : ResourceLeaves)
+        → TreesAgree (first_item (items_left b offset walk)) (tree_refused (first_item (items_left b offset walk))) }
+    ensures certificates { (b : List ℕ) (walk : Range)
+        → AllAgree (certificate_step b walk).0 (refused (certificate_step b walk).0) }
+    ensures blocks { (b : List ℕ) (walk : Range)
+        → DirectoriesAgree (step_of (block_reported walk) (first_in first_block b walk))
+        (directory_refused (step_of (block_reported walk) (first_in first_block b walk))) }
+    ensures relocations { (page : ℕ) (b : List ℕ) (walk : Range)
+        → DirectoriesAgree (step_of relocation_reported (first_in (first_relocation page) b walk))
+        (directory_refused (step_of relocation_reported (first_in (first_relocation page) b walk))) }
+    ensures arm64_records { (b : List ℕ) (image : Image) (sections : List SectionTable) (f : Arm64RuntimeFunction)
+        → AllAgree (arm64_record_of b image sections image.mode f) (refused (arm64_record_of b image sections image.mode f)) }
+    ensures arm64_codes { (b : List ℕ) (walk after : Arm64CodeWalk) (answer : Result (Option Arm64Code) Refusal)
+        → StepsArm64Codes b walk answer after
+        → (v : Arm64CodeWalk) (number : ℕ) (old new : Arm64Code) → AnswersArm64Code b walk v number old new
+        → Agrees number (refused answer) }
+    ensures delay_imports { (i : ImageView) (walk : Range)
+        → DirectoriesAgree (step_of (λ x. x) (first_library_in i walk))
+        (directory_refused (step_of (λ x. x) (first_library_in i walk))) }
+    ensures delayed_functions { (image : Image) (i : ImageView) (walk : DelayedFunctions)
+        → DirectoriesAgree (step_of (λ x. x) (first_of_walk image i walk))
+        (directory_refused (step_of (λ x. x) (first_of_walk image i walk))) }
+    ensures bound_imports { (b : List ℕ) (table walk : Range)
+        → DirectoriesAgree (step_of (λ x. x) (first_bound b table walk))
+        (directory_refused (step_of (λ x. x) (first_bound b table walk))) }
+    ensures symbol_names { (b : List ℕ) (table strings : Range) (index : ℕ)
+        → AllAgree (symbol_name_at b table strings index) (refused (symbol_name_at b table strings index)) }
 {}

@@ -9,6 +9,7 @@ ghost use Rattle.pe_c.specs.DirectoryRuns.{StepsBlocks, StepsDelayLibraries, Ste
 ghost use Rattle.pe_c.specs.Exports.{StepsExports};
 ghost use Rattle.pe_c.specs.HandsOut.{result_number};
 ghost use Rattle.pe_c.specs.Imports.{StepsImports, StepsLibraries};
+ghost use Rattle.pe_c.specs.LibraryFunctions.{StepsLibraryFunctions};
 ghost use Rattle.pe_c.specs.LibraryImports.{StepsLibraryImports};
 ghost use Rattle.pe_c.specs.Lists.{GiveLists};
 ghost use Rattle.pe_c.specs.NamedSymbols.{StepsNamedSymbols};
@@ -43,5 +44,7 @@ pub fn lists_are_what_steps_return()
         GiveLists directory_number (StepsDelayLibraries i) }
     ensures delayed_functions { (image : Image) (i : ImageView) →
         GiveLists directory_number (StepsDelayedFunctions image i) }
+    ensures library_functions { (image : Image) (i : ImageView) →
+        GiveLists directory_number (StepsLibraryFunctions image i) }
     ensures pogo_entries { (b : List ℕ) → GiveLists result_number (StepsPogoEntries b) }
 {}

@@ -27,9 +27,11 @@ ghost use Rattle.pe_c.specs.BoundImports.{bound_imports_at};
 ghost use Rattle.pe_c.specs.Clr.{streams_in};
 ghost use Rattle.pe_c.specs.DelayImports.{entry_with};
 ghost use Rattle.pe_c.specs.DirectoryRuns.{HasBlock, HasBound, StepsBlocks, StepsBoundImports, StepsCallbacks, StepsDelayLibraries, StepsDelayedFunctions, StepsForwarders, StepsRelocations, StepsStreams, forwarders_reported, relocations_reported, ReturnsBlocks, ReturnsBounds, ReturnsStreams};
-ghost use Rattle.pe_c.specs.Directories.{image_parts};
+ghost use Rattle.pe_c.specs.Directories.{image_parts, table_at};
 ghost use Rattle.pe_c.specs.Images.{directory, map_of_image};
 ghost use Rattle.pe_c.specs.Imports.{StepsImports, StepsLibraries, libraries_at};
+ghost use Rattle.pe_c.specs.LibraryFunctions.{AreFunctionsOf, StepsLibraryFunctions, library_functions_at};
+ghost use Rattle.pe_c.specs.LibraryFunctions as delayed;
 ghost use Rattle.pe_c.specs.LibraryImports.{AreImportsOf, StepsLibraryImports, library_imports_at, of_libraries, of_library, then_items};
 ghost use Rattle.pe_c.specs.Ranges.{bytes_at};
 ghost use Rattle.pe_c.specs.ResourceLeaves.{StartsTree, StepsLeaves, item_reported, items_left};
@@ -39,11 +41,14 @@ ghost use Rattle.pe_c.specs.declared.base_relocations.RelocationBlock.{Relocatio
 ghost use Rattle.pe_c.specs.declared.bound_imports.BoundImport.{BoundImport};
 ghost use Rattle.pe_c.specs.declared.clr.Metadata.{Metadata};
 ghost use Rattle.pe_c.specs.declared.clr.MetadataStreams.{MetadataStreams};
+ghost use Rattle.pe_c.specs.declared.delay_imports.DelayLibrary.{DelayLibrary};
+ghost use Rattle.pe_c.specs.declared.delay_imports.DelayedFunction.{DelayedFunction};
 ghost use Rattle.pe_c.specs.declared.delay_imports.DelayedFunctions.{DelayedFunctions};
 ghost use Rattle.pe_c.specs.declared.image.Image.{Image};
 ghost use Rattle.pe_c.specs.declared.imports.Import.{Import};
 ghost use Rattle.pe_c.specs.declared.imports.Libraries.{Libraries};
 ghost use Rattle.pe_c.specs.declared.imports.Library.{Library};
+ghost use Rattle.pe_c.specs.declared.library_functions.LibraryFunctions.{LibraryFunctions};
 ghost use Rattle.pe_c.specs.declared.library_imports.LibraryImports.{LibraryImports};
 ghost use Rattle.pe_c.specs.declared.ranges.Range.{Range};
 ghost use Rattle.pe_c.specs.declared.resource_leaves.ResourceLeaves.{ResourceLeaves};
@@ -170,6 +175,32 @@ pub fn walks_give_all_imports()
         ReturnsItems (StepsLibraryImports offset w b) walk (then_items
         (of_library w b walk.library_name walk.begun walk.imports own)
         (of_libraries w b imports walk.begun libraries)) }
+{}
+
+/// A walk over the functions of all delay-loaded DLLs returns what the walk over the functions of its DLL has left, and then, for
+/// each DLL that the walk over DLLs has left, what the walk over its functions returns: each function with the name and the index
+/// of its DLL, up to the first error of either walk. So the walk that `pe_c_all_delayed_functions` starts returns those of all.
+pub fn walks_give_all_delayed_functions()
+    ensures of_image { (b : List ℕ) (image : Image) (sections : List SectionTable)
+        (start : Range) (walk : LibraryFunctions)
+        (libraries : List (Result DelayLibrary DirectoryRefusal))
+        (functions : DelayLibrary → List (Result DelayedFunction DirectoryRefusal)) →
+        table_at 13 b image sections ≡ Ok (Some start) →
+        library_functions_at b image sections ≡ Ok (Some walk) →
+        ReturnsItems (StepsDelayLibraries (image_parts b image sections)) start libraries →
+        AreFunctionsOf image (image_parts b image sections) functions libraries →
+        ReturnsItems (StepsLibraryFunctions image (image_parts b image sections)) walk
+        (delayed.of_libraries functions 0 libraries) }
+    ensures functions { (image : Image) (i : ImageView) (walk : LibraryFunctions)
+        (own : List (Result DelayedFunction DirectoryRefusal))
+        (libraries : List (Result DelayLibrary DirectoryRefusal))
+        (functions : DelayLibrary → List (Result DelayedFunction DirectoryRefusal)) →
+        ReturnsItems (StepsDelayedFunctions image i) walk.functions own →
+        ReturnsItems (StepsDelayLibraries i) walk.libraries libraries →
+        AreFunctionsOf image i functions libraries →
+        ReturnsItems (StepsLibraryFunctions image i) walk (then_items
+        (delayed.of_library walk.library_name walk.begun own)
+        (delayed.of_libraries functions walk.begun libraries)) }
 {}
 
 /// A walk over bound imports returns the DLLs of its bytes up to one without a name, each with the ranges of its name and of

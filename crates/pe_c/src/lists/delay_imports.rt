@@ -11,6 +11,7 @@ use crate::delay_imports::{
 };
 use crate::lists::{Steps, hand_out_list};
 use crate::named_view::NamedView;
+use crate::near_map::NO_WINDOW;
 use crate::ranges::Range;
 use crate::results::number_of_directory;
 use crate::text_runs::{Run, first_runs};
@@ -105,6 +106,7 @@ pub extern "C" fn pe_c_list_delayed_functions(
 /// room further names are read to their end each. What is in `runs` after the call is left open.
 ///
 /// Errors: as `pe_c_list_delayed_functions`.
+#[tactic(auto, using(crate::proofs::NearMaps::no_window))]
 #[unsafe(no_mangle)]
 pub extern "C" fn pe_c_list_delayed_functions_together(
     view: &View,
@@ -118,7 +120,8 @@ pub extern "C" fn pe_c_list_delayed_functions_together(
         result walk.old walk.new entries.old entries.new written.old written.new }
 {
     let room = first_runs(runs, entries.len());
-    let count = put_function_names(view, walk, room);
+    let mut near = NO_WINDOW;
+    let count = put_function_names(view, walk, &mut near, room);
     let named_functions = NamedView::together(view, &mut room[..count]);
     hand_out_list(&named_functions, walk, entries, written)
 }

@@ -1,20 +1,20 @@
 //! Lists of functions of x64 images, and of the codes of unwind records. The range of what is listed is tested once a call, not
 //! once an entry.
 
-ghost use Rattle.std.specs.Prelude.{◌≡◌, ◌+◌, ◌^◌, ◌<◌, ◌≤◌, List, ℕ, Ok, IfSome, length};
+ghost use Rattle.std.specs.Prelude.{◌≡◌, ◌+◌, ◌%◌, ◌^◌, ◌<◌, ◌≤◌, List, ℕ, Ok, IfSome, length};
 ghost use Rattle.pe_unwind.specs.ExceptionTable.{function_of};
-ghost use Rattle.pe_c.specs.CodeBytes.{ReturnsAny, IsFrequent, StepsBytes};
+ghost use Rattle.pe_c.specs.CodeBytes.{HasCodes, IsFrequent, PutsCodes, ReturnsAny, StepsBytes, stream_in};
 ghost use Rattle.pe_c.specs.HandsOut.{result_number};
-ghost use Rattle.pe_c.specs.Lists.{HandsOutList, Numbered, PutsList, StepsByIndex, by_number, if_there};
+ghost use Rattle.pe_c.specs.Lists.{HandsOutList, Numbered, StepsByIndex, by_number, if_there};
 ghost use Rattle.pe_c.specs.Ranges.{bytes_at};
-ghost use Rattle.pe_c.specs.RecordCodes.{HandsOutRecordCodes};
+ghost use Rattle.pe_c.specs.RecordCodes.{HandsOutAll, HandsOutRecordCodes, PutsRecordCodes, code_stream};
 ghost use Rattle.pe_c.specs.Unwinding.{StepsCodes, flat_answer, function_in, links_at};
 
 use crate::lists::{Steps, hand_out_list, if_there, next_index};
 use crate::ranges::{Range, slice_of};
 use crate::results::{DONE, ROOM, number_of};
 use crate::unwinding::{
-    Code, CodeWalk, UnwindRecord, flat, function_in, next_code, plain, read_record,
+    Code, CodeWalk, UnwindRecord, flat, function_in, near_record, next_code, plain, read_record,
 };
 use crate::view::View;
 use pe_core::read_u16;
@@ -23,7 +23,7 @@ use pe_unwind::{Register, RuntimeFunction, UnwindCode, UnwindCodeIterator};
 /// The size of a slot of an unwind code in bytes.
 const SIZE_OF_SLOT: usize = 2;
 
-const UWOP_PUSH_NONVOL: u8 = 0;
+const UWOP_PUSH_NONVOL: u16 = 0;
 
 const UWOP_ALLOC_LARGE: u8 = 1;
 
@@ -129,17 +129,22 @@ fn frequent_code(bytes: &[u8]) -> Option<(Code, usize)>
     if bytes.len() < SIZE_OF_SLOT {
         return None;
     }
-    let info = bytes[1] / 16;
-    match bytes[1] % 16 {
-        UWOP_PUSH_NONVOL => Some((plain(bytes[0], 0, info, 0), SIZE_OF_SLOT)),
-        UWOP_ALLOC_SMALL => Some((plain(bytes[0], 1, 0, u32::from(info) * 8 + 8), SIZE_OF_SLOT)),
-        // Its info is 0 where one more slot has the size.
-        _ if bytes[1] == UWOP_ALLOC_LARGE && bytes.len() >= 2 * SIZE_OF_SLOT => Some((
-            plain(bytes[0], 1, 0, u32::from(read_u16(bytes, SIZE_OF_SLOT)) * 8),
-            2 * SIZE_OF_SLOT,
-        )),
-        _ => None,
+    // Most codes push, and of these the slot is read as one number.
+    let slot = read_u16(bytes, 0);
+    if slot / 256 % 16 == UWOP_PUSH_NONVOL {
+        let (code_offset, register) = ((slot % 256) as u8, (slot / 4096) as u8);
+        return Some((plain(code_offset, 0, register, 0), SIZE_OF_SLOT));
     }
+    let info = bytes[1] / 16;
+    if bytes[1] % 16 == UWOP_ALLOC_SMALL {
+        return Some((plain(bytes[0], 1, 0, u32::from(info) * 8 + 8), SIZE_OF_SLOT));
+    }
+    // Its info is 0 where one more slot has the size.
+    if bytes.len() >= 2 * SIZE_OF_SLOT && bytes[1] == UWOP_ALLOC_LARGE {
+        let size = u32::from(read_u16(bytes, SIZE_OF_SLOT)) * 8;
+        return Some((plain(bytes[0], 1, 0, size), 2 * SIZE_OF_SLOT));
+    }
+    None
 }
 
 /// What a step over any bytes returns, and how many bytes it leaves. Out of line, since few codes are read by it.
@@ -155,15 +160,58 @@ fn any_code(codes: CodeBytes<'_>) -> (Result<Option<Code>, u32>, usize)
     (flat_answer(given), codes.bytes_left())
 }
 
-/// Writes to the start of an array what steps over the bytes return, and returns how many entries that are, as `fill` does. A frequent
-/// code goes straight to its entry.
+/// What was written of some codes to the start of an array.
+#[derive(Clone, Copy)]
+struct PutCodes<'a> {
+    /// How many codes.
+    count: usize,
+    /// Those after them.
+    left: CodeBytes<'a>,
+    /// The number of the error, where no code starts what is left. None where nothing is, and where the array is full.
+    refused: Option<u32>,
+}
+
 #[inline(always)]
-#[tactic(auto, using(crate::proofs::CodeBytes::any_step, crate::proofs::CodeBytes::nothing_step))]
-fn fill_codes(codes: &mut CodeBytes<'_>, entries: &mut [Code]) -> Result<usize, u32>
-    requires { 0 < length entries.old }
-    ensures { PutsList (Numbered result_number StepsBytes) codes.old codes.new entries.old entries.new result }
+fn put_of(count: usize, left: CodeBytes<'_>, refused: Option<u32>) -> PutCodes<'_>
+    ensures { result ≡ record { count = count; left = left.entry; refused = refused } }
+{
+    PutCodes {
+        count,
+        left,
+        refused,
+    }
+}
+
+/// Writes frequent codes to the start of an array, and returns how many they are. It calls nothing, and so takes no registers of the
+/// caller.
+#[inline(always)]
+fn put_frequent(codes: &mut CodeBytes<'_>, entries: &mut [Code]) -> usize
+    ensures { HasCodes codes.old codes.new entries.old entries.new result }
 {
     let mut count = 0;
+    while count < entries.len() {
+        let bytes = codes.left;
+        match frequent_code(bytes) {
+            Some((code, size)) => {
+                codes.left = bytes.split_at(size).1;
+                entries[count] = code;
+                count += 1;
+            }
+            None => return count,
+        }
+    }
+    count
+}
+
+/// Writes codes of any kind to an array, from an entry on, before which others stand.
+#[inline(never)]
+fn put_any<'a>(first: CodeBytes<'a>, entries: &mut [Code], from: usize) -> PutCodes<'a>
+    requires { from ≤ length entries.old }
+    ensures { (s : CodeBytes) (before : List Code) → HasCodes s first.entry before entries.old from →
+        PutsCodes s before entries.new result }
+{
+    let mut codes = first;
+    let mut count = from;
     while count < entries.len() {
         let bytes = codes.left;
         if let Some((code, size)) = frequent_code(bytes) {
@@ -171,38 +219,43 @@ fn fill_codes(codes: &mut CodeBytes<'_>, entries: &mut [Code]) -> Result<usize, 
             entries[count] = code;
             count += 1;
         } else if bytes.is_empty() {
-            return Ok(count);
+            return put_of(count, codes, None);
         } else {
-            let (given, left) = any_code(*codes);
+            let (given, left) = any_code(codes);
             let rest = bytes.split_at(bytes.len() - left).1;
             match given {
-                Ok(answer) => {
-                    codes.left = rest;
-                    match answer {
-                        Some(code) => {
-                            entries[count] = code;
-                            count += 1;
-                        }
-                        None => return Ok(count),
-                    }
-                }
-                Err(error) => {
-                    if count == 0 {
+                Ok(answer) => match answer {
+                    Some(code) => {
                         codes.left = rest;
-                        return Err(error);
+                        entries[count] = code;
+                        count += 1;
                     }
-                    // The next call returns the error.
-                    return Ok(count);
-                }
+                    None => return put_of(count, codes, None),
+                },
+                Err(error) => return put_of(count, codes, Some(error)),
             }
         }
     }
-    Ok(count)
+    put_of(count, codes, None)
+}
+
+/// Writes codes to the start of an array, as far as there are any, and room.
+#[inline(always)]
+#[tactic(auto, using(crate::proofs::PutCodes::none_yet))]
+fn put_codes<'a>(codes: CodeBytes<'a>, entries: &mut [Code]) -> PutCodes<'a>
+    ensures { PutsCodes codes.entry entries.old entries.new result }
+{
+    let mut left = codes;
+    let count = put_frequent(&mut left, entries);
+    if left.left.is_empty() {
+        put_of(count, left, None)
+    } else {
+        put_any(left, entries, count)
+    }
 }
 
 /// Lists codes in bytes, as `hand_out_list` does.
 #[inline(always)]
-#[tactic(auto, using(crate::proofs::FilledLists::hands_out_if, crate::proofs::FilledLists::refused_if))]
 fn list_in_bytes(codes: &mut CodeBytes<'_>, entries: &mut [Code], written: &mut u64) -> u32
     ensures { HandsOutList (Numbered result_number StepsBytes) result
         codes.old codes.new entries.old entries.new written.old written.new }
@@ -210,13 +263,18 @@ fn list_in_bytes(codes: &mut CodeBytes<'_>, entries: &mut [Code], written: &mut 
     if entries.is_empty() {
         return ROOM;
     }
-    match fill_codes(codes, entries) {
-        Ok(count) => {
-            *written = count as u64;
-            DONE
+    let put = put_codes(*codes, entries);
+    *codes = put.left;
+    if put.count == 0 {
+        if let Some(error) = put.refused {
+            // After an error the walk is over.
+            codes.left = &[];
+            return error;
         }
-        Err(error) => error,
     }
+    // The next call returns an error that comes after a code.
+    *written = put.count as u64;
+    DONE
 }
 
 /// Lists the codes of a walk whose range is these bytes.
@@ -282,6 +340,29 @@ pub extern "C" fn pe_c_list_codes(
     list_codes(view.bytes, walk, entries, written)
 }
 
+/// Lists the codes of a record, and writes it to `out` with the walk after them.
+#[inline(always)]
+fn hand_out_codes(
+    bytes: &[u8],
+    record: &UnwindRecord,
+    out: &mut UnwindRecord,
+    codes: &mut [Code],
+    written: &mut u64,
+) -> u32
+    ensures { PutsRecordCodes bytes.now (Ok record.now)
+        result out.old out.new codes.old codes.new written.old written.new }
+{
+    let mut walk = record.codes;
+    let number = list_codes(bytes, &mut walk, codes, written);
+    if number == DONE {
+        *out = UnwindRecord {
+            codes: walk,
+            ..*record
+        };
+    }
+    number
+}
+
 /// Reads the unwind record of an unwind RVA, as `pe_c_unwind_record` does, and lists its codes, as `pe_c_list_codes` does: `out` is
 /// the record, whose walk is moved past the codes that are written. A record has at most 255 codes. It makes no use of an index.
 ///
@@ -300,18 +381,78 @@ pub extern "C" fn pe_c_record_codes(
         (links_at view.now.bytes.now view.now.image.now view.now.sections.now table.now) unwind
         result out.old out.new codes.old codes.new written.old written.new }
 {
+    if let Some(record) = near_record(view, table, unwind) {
+        return hand_out_codes(view.bytes, &record, out, codes, written);
+    }
     match read_record(view, table, unwind) {
-        Ok(record) => {
-            let mut walk = record.codes;
-            let number = list_codes(view.bytes, &mut walk, codes, written);
-            if number == DONE {
-                *out = UnwindRecord {
-                    codes: walk,
-                    ..record
-                };
-            }
-            number
-        }
+        Ok(record) => hand_out_codes(view.bytes, &record, out, codes, written),
         Err(error) => number_of(&error),
     }
+}
+
+/// Lists the codes that are left of a record, after so many, and returns what `pe_c_all_codes` does. Out of line, since few records
+/// have a code that is not frequent; its arguments are as many as those of that call, which ends with it.
+#[cold]
+#[inline(never)]
+fn finish_codes(
+    left: &[u8],
+    version: u8,
+    frame_register: u8,
+    entries: &mut [Code],
+    written: &mut u64,
+) -> u32
+    requires { written.old ≤ length entries.old }
+    ensures { (s : CodeBytes) (before : List Code) →
+        HasCodes s (record { left = left.entry; version = version; frame_register = frame_register })
+        before entries.old written.old →
+        HandsOutAll (stream_in s) result before entries.new written.new }
+{
+    let codes = CodeBytes {
+        left,
+        version,
+        frame_register,
+    };
+    let put = put_any(codes, entries, *written as usize);
+    *written = put.count as u64;
+    match put.refused {
+        Some(error) => error,
+        None if put.left.left.is_empty() => DONE,
+        None => ROOM,
+    }
+}
+
+/// Lists all codes of a record in one call. `bytes` are those of its codes alone; `version` and `frame_register` are the record's, of
+/// which the lowest byte counts. A record has at most 255 codes.
+///
+/// `written` is how many are written, after an error too: then those before the code that is refused. The rest of `entries` is
+/// unchanged.
+///
+/// Errors: `ROOM` where bytes are left after as many codes as `entries`, whatever they start with; those of `pe_c_next_code`.
+#[unsafe(no_mangle)]
+pub extern "C" fn pe_c_all_codes(
+    bytes: &[u8],
+    version: u32,
+    frame_register: u32,
+    entries: &mut [Code],
+    written: &mut u64,
+) -> u32
+    ensures { HandsOutAll (code_stream bytes.now (version % 256) (frame_register % 256))
+        result entries.old entries.new written.new }
+{
+    let mut codes = CodeBytes {
+        left: bytes,
+        version: (version % 256) as u8,
+        frame_register: (frame_register % 256) as u8,
+    };
+    *written = put_frequent(&mut codes, entries) as u64;
+    if codes.left.is_empty() {
+        return DONE;
+    }
+    finish_codes(
+        codes.left,
+        codes.version,
+        codes.frame_register,
+        entries,
+        written,
+    )
 }

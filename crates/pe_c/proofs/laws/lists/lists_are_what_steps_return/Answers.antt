@@ -7,6 +7,7 @@ use Rattle.pe_c.specs.DirectoryRuns.{StepsBlocks, StepsDelayLibraries, StepsDela
 use Rattle.pe_c.specs.Exports.{StepsExports}
 use Rattle.pe_c.specs.HandsOut.{result_number}
 use Rattle.pe_c.specs.Imports.{StepsImports, StepsLibraries}
+use Rattle.pe_c.specs.LibraryFunctions.{StepsLibraryFunctions}
 use Rattle.pe_c.specs.LibraryImports.{StepsLibraryImports}
 use Rattle.pe_c.specs.NamedSymbols.{StepsNamedSymbols}
 use Rattle.pe_c.specs.ResourceLeaves.{StepsLeaves, tree_number}
@@ -47,6 +48,9 @@ returns-clause-delay_imports c i = give_lists directory_number (StepsDelayLibrar
 
 pub returns-clause-delayed_functions : goal.returns-clause-delayed_functions
 returns-clause-delayed_functions c image i = give_lists directory_number (StepsDelayedFunctions image i)
+
+pub returns-clause-library_functions : goal.returns-clause-library_functions
+returns-clause-library_functions c image i = give_lists directory_number (StepsLibraryFunctions image i)
 
 pub returns-clause-pogo_entries : goal.returns-clause-pogo_entries
 returns-clause-pogo_entries c b = give_lists result_number (StepsPogoEntries b)

@@ -1,11 +1,8 @@
 use Rattle.std.proofs.Common.{Ok}
-use Rattle.pe_c.proofs.RecordCodes.{after_error, after_list}
 use Rattle.pe_c.proofs.lists.x64.pe_c_record_codes.Goals as goal
 
-pub returns-then-number-eq-DONE : goal.returns-then-number-eq-DONE
-returns-then-number-eq-DONE c =
-    (Ok c.in-Ok.record, c.in-Ok.ensures, (c.list_codes-number.new.walk, c.list_codes-number.ensures, after_list c.list_codes-number.result c.args.out.now c.in-Ok.record c.list_codes-number.new.walk c.if-number-eq-DONE.true))
+pub returns-in-Some : goal.returns-in-Some
+returns-in-Some c = (Ok c.in-Some.record, c.in-Some.ensures, c.hand_out_codes.ensures)
 
-pub returns-else-number-eq-DONE : goal.returns-else-number-eq-DONE
-returns-else-number-eq-DONE c =
-    (Ok c.in-Ok.record, c.in-Ok.ensures, (c.list_codes-number.new.walk, c.list_codes-number.ensures, after_error c.list_codes-number.result c.args.out.now c.in-Ok.record c.list_codes-number.new.walk c.if-number-eq-DONE.false))
+pub returns-in-Ok : goal.returns-in-Ok
+returns-in-Ok c = (Ok c.in-Ok.record, c.in-Ok.ensures, c.hand_out_codes-in-Ok.ensures)

@@ -1,0 +1,97 @@
+-- What is imported of all delay-loaded DLLs: one walk that goes through the walk over DLLs, and through the walk over the functions of each.
+use Rattle.std.specs.Prelude.{◌≡◌, ℕ, zero, suc, ◌-◌, List, [], ◌∷◌, Option, Some, None, Result, Ok, Err}
+use Rattle.std.specs.Option.{option_map}
+use Rattle.pe_core.specs.Refusals.{◌>>=◌}
+use Rattle.pe_core.specs.declared.section_table.SectionTable.{SectionTable}
+use Rattle.pe_directories.specs.DirectoryRefusals.{DirectoryRefusal}
+use Rattle.pe_directories.specs.ImageParts.{ImageView}
+use Rattle.pe_c.specs.DelayImports.{first_library_in, first_of_walk, functions_after}
+use Rattle.pe_c.specs.DirectoryRuns.{StepsDelayedFunctions}
+use Rattle.pe_c.specs.Directories.{left_after, step_of, table_at}
+use Rattle.pe_c.specs.LibraryImports.{one_more, then_items}
+use Rattle.pe_c.specs.Ranges.{no_bytes}
+use Rattle.pe_c.specs.Runs.{ReturnsItems, read_items}
+use Rattle.pe_c.specs.declared.delay_imports.DelayLibrary.{DelayLibrary}
+use Rattle.pe_c.specs.declared.delay_imports.DelayedFunction.{DelayedFunction}
+use Rattle.pe_c.specs.declared.delay_imports.DelayedFunctions.{DelayedFunctions}
+use Rattle.pe_c.specs.declared.image.Image.{Image}
+use Rattle.pe_c.specs.declared.library_functions.LibraryFunction.{LibraryFunction}
+use Rattle.pe_c.specs.declared.library_functions.LibraryFunctions.{LibraryFunctions}
+use Rattle.pe_c.specs.declared.ranges.Range.{Range}
+
+-- ---- a walk; `i` is the image as pe_directories takes it
+
+-- a walk before the first of these DLLs
+abbrev pub before_first : Range → LibraryFunctions
+before_first libraries = record { libraries = libraries; functions = record { left = no_bytes; attributes = 0; spare = 0 }; library_name = no_bytes; begun = 0 }
+
+-- the functions of all DLLs of an image's delay import directory, if it has one
+abbrev pub library_functions_at : List ℕ → Image → List SectionTable → Result (Option LibraryFunctions) DirectoryRefusal
+library_functions_at b image sections = table_at 13 b image sections >>= λ o. Ok (option_map before_first o)
+
+-- the walk at the start of this DLL, after which these are left
+abbrev pub at_library : LibraryFunctions → Range → DelayLibrary → LibraryFunctions
+at_library walk rest library = record { libraries = rest; functions = library.functions; library_name = library.name; begun = one_more walk.begun }
+
+-- the walk after an error: no function of its DLL and no DLL is left
+abbrev pub all_over : LibraryFunctions → LibraryFunctions
+all_over walk = record walk { libraries = no_bytes; functions = record walk.functions { left = no_bytes } }
+
+-- a function of a DLL of this name; so many DLLs have begun
+abbrev pub with_library : Range → ℕ → DelayedFunction → LibraryFunction
+with_library name begun function = record { function = function; library_name = name; library = begun - 1 }
+
+-- ---- steps
+
+-- what a turn returns, if it ends the step, and the walk after it
+abbrev pub Turn : Type 0
+Turn = Option (Result (Option LibraryFunction) DirectoryRefusal) × LibraryFunctions
+
+-- where the DLL has no function left: the next DLL begins; after the last, or at its error, the step ends
+abbrev pub turn_by_library : LibraryFunctions → Result (Option DelayLibrary) DirectoryRefusal → Range → Turn
+turn_by_library walk (Ok (Some library)) rest = (None, at_library walk rest library)
+turn_by_library walk (Ok None) rest = (Some (Ok None), record walk { libraries = rest })
+turn_by_library walk (Err refusal) rest = (Some (Err refusal), all_over walk)
+
+abbrev pub next_library : ImageView → LibraryFunctions → Turn
+next_library i walk =
+    turn_by_library walk (step_of (λ x. x) (first_library_in i walk.libraries)) (left_after walk.libraries (first_library_in i walk.libraries))
+
+-- by what the walk over the functions of the DLL returns, and the walk after it; or else this
+abbrev pub turn_by_function : LibraryFunctions → Turn → Result (Option DelayedFunction) DirectoryRefusal → DelayedFunctions → Turn
+turn_by_function walk otherwise (Ok (Some function)) left = (Some (Ok (Some (with_library walk.library_name walk.begun function))), record walk { functions = left })
+turn_by_function walk otherwise (Ok None) left = otherwise
+turn_by_function walk otherwise (Err refusal) left = (Some (Err refusal), all_over walk)
+
+-- a turn: the next function of the DLL; where it has none left, the next DLL
+unfoldable pub turn : Image → ImageView → LibraryFunctions → Turn
+turn image i walk =
+    turn_by_function walk (next_library i walk) (step_of (λ x. x) (first_of_walk image i walk.functions)) (functions_after walk.functions (first_of_walk image i walk.functions))
+
+-- what all steps of a walk return, without turns, is `of_libraries` below, by the law walks_give_all_delayed_functions
+-- turns by which DLLs without a function begin, so many, and then one that returns this
+abbrev pub Turns : (LibraryFunctions → Turn) → ℕ → LibraryFunctions → Result (Option LibraryFunction) DirectoryRefusal → LibraryFunctions → Type 0
+Turns make zero old answer new = (Some answer, new) ≡ make old
+Turns make (suc n) old answer new = (between : LibraryFunctions) × ((None, between) ≡ make old) × Turns make n between answer new
+
+-- a step: turns, up to the first that returns something
+abbrev pub StepsLibraryFunctions : Image → ImageView → LibraryFunctions → Result (Option LibraryFunction) DirectoryRefusal → LibraryFunctions → Type 0
+StepsLibraryFunctions image i old answer new = (n : ℕ) × Turns (turn image i) n old answer new
+
+-- ---- whole walks
+
+-- what a walk returns of the items that the walk over the functions of its DLL returns
+abbrev pub of_library : Range → ℕ → List (Result DelayedFunction DirectoryRefusal) → List (Result LibraryFunction DirectoryRefusal)
+of_library name begun items = read_items (λ f. Ok (with_library name begun f)) items
+
+-- the functions of DLLs, one DLL after the other: `functions` are the items of each; up to the first refusal
+abbrev pub of_libraries : (DelayLibrary → List (Result DelayedFunction DirectoryRefusal)) → ℕ → List (Result DelayLibrary DirectoryRefusal) → List (Result LibraryFunction DirectoryRefusal)
+of_libraries functions begun [] = []
+of_libraries functions begun (Ok x ∷ libraries) = then_items (of_library x.name (one_more begun) (functions x)) (of_libraries functions (one_more begun) libraries)
+of_libraries functions begun (Err refusal ∷ libraries) = Err refusal ∷ []
+
+-- these are the items of the functions of each of these DLLs
+abbrev pub AreFunctionsOf : Image → ImageView → (DelayLibrary → List (Result DelayedFunction DirectoryRefusal)) → List (Result DelayLibrary DirectoryRefusal) → Type 0
+AreFunctionsOf image i functions [] = Unit {0}
+AreFunctionsOf image i functions (Ok x ∷ libraries) = ReturnsItems (StepsDelayedFunctions image i) x.functions (functions x) × AreFunctionsOf image i functions libraries
+AreFunctionsOf image i functions (Err refusal ∷ libraries) = Unit {0}

@@ -1,0 +1,79 @@
+-- Why a step of a walk is refused, or an item that is read by its key: by the refusal of the call that reads it.
+use Rattle.std.specs.Prelude.{◌≡◌, ℕ, ◌+◌, ◌%◌, ◌^◌, ◌==◌, ◌||◌, List, true, Option, Some, None, Result, if◌then◌else◌}
+use Rattle.pe_core.specs.Bytes.{holds, le}
+use Rattle.pe_core.specs.Refusals.{Refusal}
+use Rattle.pe_resource.specs.Leaves.{TreeRefusal}
+use Rattle.pe_unwind.specs.Links.{Table}
+use Rattle.pe_c.specs.Arm64.{StepsArm64Codes}
+use Rattle.pe_c.specs.DirectoryFailures.{numbers_there}
+use Rattle.pe_c.specs.FailureNumbers.{IsWhy, SaysWhy, refused}
+use Rattle.pe_c.specs.ResourceLeaves.{TreeHandsOut, tree_number}
+use Rattle.pe_c.specs.Unwinding.{FollowsToRecord, StepsCodes}
+use Rattle.pe_c.specs.declared.arm64.codes.Arm64Code.{Arm64Code}
+use Rattle.pe_c.specs.declared.arm64.codes.Arm64CodeWalk.{Arm64CodeWalk}
+use Rattle.pe_c.specs.declared.directory_failure.KnownNumbers.{KnownNumbers}
+use Rattle.pe_c.specs.declared.failure.Failure.{Failure}
+use Rattle.pe_c.specs.declared.imports.Imports.{Imports}
+use Rattle.pe_c.specs.declared.imports.Libraries.{Libraries}
+use Rattle.pe_c.specs.declared.ranges.Range.{Range}
+use Rattle.pe_c.specs.declared.results.TheConstants.{DONE, NOTHING}
+use Rattle.pe_c.specs.declared.unwinding.Code.{Code}
+use Rattle.pe_c.specs.declared.unwinding.CodeWalk.{CodeWalk}
+use Rattle.pe_c.specs.declared.unwinding.UnwindRecord.{UnwindRecord}
+
+-- ---- what is known of the numbers of an error
+
+-- an RVA alone
+abbrev pub known_rva : ℕ → KnownNumbers
+known_rva rva = record { rva = rva; size = 0; offset = 0; needed = None; head = (0, 0, 0) }
+
+-- that n bytes are needed at an offset
+abbrev pub known_bytes : ℕ → ℕ → KnownNumbers
+known_bytes p n = record { rva = 0; size = 0; offset = p; needed = Some n; head = (0, 0, 0) }
+
+-- of the record of the library that a walk is at, 20 bytes: the RVA of the name; where it is truncated what it needs
+abbrev pub known_of_library : List ℕ → Libraries → KnownNumbers
+known_of_library b walk = if holds b walk.next 20 then known_rva (le b (walk.next + 12) 4) else known_bytes walk.next 20
+
+-- of the entry of the import that a walk is at, w bytes: the RVA of the hint, its low 31 bits
+abbrev pub known_of_import : ℕ → List ℕ → Imports → KnownNumbers
+known_of_import w b walk = known_rva (if holds b walk.left.offset w then le b walk.left.offset w % 2 ^ 31 else 0)
+
+-- of the certificate that a walk is at: where the walk is and how long, and the certificate's header, 8 bytes
+abbrev pub known_of_certificate : List ℕ → Range → KnownNumbers
+known_of_certificate b walk = record { rva = 0; size = walk.length; offset = walk.offset; needed = Some 8; head = numbers_there b walk.offset }
+
+-- ---- the refusal of a step that a relation defines
+
+-- why the record of an unwind RVA is refused
+abbrev pub SaysWhyRecord : List ℕ → Result Table Refusal → ℕ → ℕ → Failure → Failure → Type 0
+SaysWhyRecord b links address number old new =
+    (answer : Result UnwindRecord Refusal) × FollowsToRecord b links address answer × SaysWhy number old new (refused answer)
+
+-- why the code that a walk is at is refused
+abbrev pub IsWhyOfCode : List ℕ → CodeWalk → Option Failure → Type 0
+IsWhyOfCode b walk found =
+    (answer : Result (Option Code) Refusal) × (after : CodeWalk) × StepsCodes b walk answer after × IsWhy found (refused answer)
+
+abbrev pub SaysWhyCode : List ℕ → CodeWalk → ℕ → Failure → Failure → Type 0
+SaysWhyCode b walk number old new =
+    (answer : Result (Option Code) Refusal) × (after : CodeWalk) × StepsCodes b walk answer after × SaysWhy number old new (refused answer)
+
+-- the same of a code of ARM64
+abbrev pub IsWhyOfArm64Code : List ℕ → Arm64CodeWalk → Option Failure → Type 0
+IsWhyOfArm64Code b walk found =
+    (answer : Result (Option Arm64Code) Refusal) × (after : Arm64CodeWalk) × StepsArm64Codes b walk answer after × IsWhy found (refused answer)
+
+abbrev pub SaysWhyArm64Code : List ℕ → Arm64CodeWalk → ℕ → Failure → Failure → Type 0
+SaysWhyArm64Code b walk number old new =
+    (answer : Result (Option Arm64Code) Refusal) × (after : Arm64CodeWalk) × StepsArm64Codes b walk answer after × SaysWhy number old new (refused answer)
+
+-- ---- what a failure says of a step over the leaves of a resource tree
+
+-- a call returned this number, and what refuses it is this
+abbrev pub TreeAgrees : ℕ → Option TreeRefusal → Type 0
+TreeAgrees number None = (number == DONE || number == NOTHING) ≡ true
+TreeAgrees number (Some refusal) = number ≡ tree_number refusal
+
+abbrev pub TreesAgree : {X : Type 0} → Result (Option X) TreeRefusal → Option TreeRefusal → Type 0
+TreesAgree {X} answer refusal = (number : ℕ) (old new : X) → TreeHandsOut number old new answer → TreeAgrees number refusal

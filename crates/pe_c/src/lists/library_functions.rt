@@ -1,0 +1,53 @@
+//! The list of the functions of all delay-loaded DLLs.
+
+ghost use Rattle.std.specs.Prelude.{◌≡◌};
+ghost use Rattle.pe_c.specs.Directories.{directory_number, image_parts};
+ghost use Rattle.pe_c.specs.LibraryFunctions.{StepsLibraryFunctions};
+ghost use Rattle.pe_c.specs.Lists.{HandsOutList, Numbered};
+
+use crate::library_functions::{LibraryFunction, LibraryFunctions, put_names, step};
+use crate::lists::{Steps, hand_out_list};
+use crate::named_view::NamedView;
+use crate::results::number_of_directory;
+use crate::text_runs::Run;
+use crate::view::View;
+
+impl<'a> Steps<LibraryFunctions, LibraryFunction> for NamedView<'a> {
+    ghost steps = { λ s. Numbered directory_number (StepsLibraryFunctions s.view.now.image.now
+        (image_parts s.view.now.bytes.now s.view.now.image.now s.view.now.sections.now)) };
+
+    fn step(&self, walk: &mut LibraryFunctions) -> Result<Option<LibraryFunction>, u32> {
+        match step(self, walk) {
+            Ok(function) => Ok(function),
+            Err(error) => Err(number_of_directory(&error)),
+        }
+    }
+}
+
+/// Lists the functions of all delay-loaded DLLs, as `pe_c_next_delay_import` returns these and `pe_c_next_delayed_function` the
+/// functions of each, one DLL after the other, and moves the walk past them. DLLs without a function are read too. Names are read
+/// together, those of the DLLs and those of their functions: with one of `runs` for each of `entries` and one for each DLL that
+/// is left, or more, a call takes about as long as to sort these and to read each byte a few times, however many of the names
+/// share a text. With less room further names are read to their end each. What is in `runs` after the call is left open. The
+/// steps make no use of an index.
+///
+/// DLLs may share a table, whose functions are listed for each of them: the room in `entries` bounds what a call takes.
+///
+/// Errors: `ROOM` where `entries` is empty; those of `pe_c_next_delayed_function`, and of `pe_c_next_delay_import`, in the order
+/// of the walk. After an error the walk is over.
+#[unsafe(no_mangle)]
+pub extern "C" fn pe_c_list_all_delayed_functions_together(
+    view: &View,
+    walk: &mut LibraryFunctions,
+    runs: &mut [Run],
+    entries: &mut [LibraryFunction],
+    written: &mut u64,
+) -> u32
+    ensures { HandsOutList (Numbered directory_number (StepsLibraryFunctions view.now.image.now
+        (image_parts view.now.bytes.now view.now.image.now view.now.sections.now)))
+        result walk.old walk.new entries.old entries.new written.old written.new }
+{
+    let count = put_names(view, walk, entries.len(), runs);
+    let names = NamedView::together(view, &mut runs[..count]);
+    hand_out_list(&names, walk, entries, written)
+}

@@ -1,0 +1,581 @@
+//! Why a step of a walk is refused, or an item that is read by its key: the result of the call, and the numbers of its error. The
+//! bytes are those of the tests of each walk; every number is worked out by hand.
+
+use super::arm64::{with_records as with_arm64_records, with_table};
+use super::base_relocations::two_blocks;
+use super::bound_imports::BYTES as BOUND;
+use super::certificates::three_certificates;
+use super::coff::{STRINGS, SYMBOLS, object};
+use super::delay_imports::{bytes_of as with_delay_imports, functions};
+use super::imports::with_imports;
+use super::made::{
+    ARM64_CUT, ARM64_STREAM, ARM64_VERSION, CERTIFICATE_REVISION, CERTIFICATE_SIZE,
+    CERTIFICATE_TABLE, CERTIFICATE_TYPE, DIRECTORY_BLOCK_SIZE, DIRECTORY_BLOCK_TRUNCATED,
+    DIRECTORY_BOUND_IMPORT_NAME, DIRECTORY_DELAY_IMPORT_NAME, DIRECTORY_NO_ARGUMENT,
+    DIRECTORY_VA_BELOW_BASE, EXCEPTION_SIZE, FUNCTION_CYCLE, FUNCTION_LINK, IMPORT_NAME,
+    NO_FAILURE, SHORT, STRING_TABLE, TREE_NO_ENTRIES, TREE_NOT_DATA, TREE_NOT_DIRECTORY, UNMAPPED,
+    UNWIND_CODE, UNWIND_VERSION, X64, image, range, sections, view,
+};
+use super::resource_leaves::{NO_LEAF, of_size, start, walk as leaves_of, with_tree};
+use super::unwinding::with_records;
+use crate::arm64::codes::Arm64CodeWalk;
+use crate::failure::Failure;
+use crate::image::Image;
+use crate::imports::{Imports, Libraries};
+use crate::ranges::{NO_BYTES, Range};
+use crate::resource_leaves::pe_c_next_resource_leaf;
+use crate::results::{DONE, NOTHING};
+use crate::step_failures::{
+    pe_c_arm64_code_failure, pe_c_arm64_record_failure, pe_c_bound_import_failure,
+    pe_c_certificate_failure, pe_c_code_failure, pe_c_delay_import_failure,
+    pe_c_delayed_function_failure, pe_c_import_failure, pe_c_library_failure,
+    pe_c_relocation_block_failure, pe_c_relocation_failure, pe_c_resource_leaf_failure,
+    pe_c_symbol_name_failure, pe_c_unwind_record_failure,
+};
+use crate::unwinding::CodeWalk;
+use crate::view::View;
+use pe_images::put;
+use pe_unwind::Arm64RuntimeFunction;
+use std::alloc::Global;
+use std::test::Fail;
+
+/// The answer; the error, its offset, needed bytes and value; and the last field.
+type Said = (u32, u32, [u64; 3], u32);
+
+/// What is said where nothing is wrong.
+const NONE: Said = (NOTHING, 94, [91, 92, 93], 95);
+
+/// What is said of an error.
+fn error(number: u32, numbers: [u64; 3]) -> Said {
+    (DONE, number, numbers, 0)
+}
+
+fn said(call: impl FnOnce(&mut Failure) -> u32) -> Said {
+    let mut out = NO_FAILURE;
+    said_with(call(&mut out), &out)
+}
+
+/// The same of a call that takes an image.
+fn said_of(bytes: &[u8], image: &Image, call: impl FnOnce(&View, &mut Failure) -> u32) -> Said {
+    let mut out = NO_FAILURE;
+    said_with(call(&view(bytes, image, &sections()), &mut out), &out)
+}
+
+fn said_with(answer: u32, out: &Failure) -> Said {
+    let numbers = [out.offset, out.needed, out.value];
+    (answer, out.result, numbers, out.spare)
+}
+
+/// The second record of a directory, at 0x24: the RVA of its name is at 0x30, that of its list at 0x34.
+#[test]
+fn libraries(rt: HostRuntime) -> Result<(), Fail> {
+    let changes: [(usize, &[u8], Said); 5] = [
+        (0x30, &[0xA2], NONE),
+        (0x30, &[0x68, 0x45], error(UNMAPPED, [0, 0, 0x4568])),
+        (0xA2, &[0xFF], error(IMPORT_NAME, [0, 0, 0x10A2])),
+        // Of the last seven bytes no number is zero.
+        (0x34, &[0xB9], error(SHORT, [0xB9, 8, 0])),
+        (0x34, &[0xB8], NONE),
+    ];
+    for (offset, change, wanted) in changes {
+        let mut bytes = with_imports(rt.alloc())?;
+        put(&mut bytes, &[(offset, change)]);
+        let walk = libraries_at(0x24, 0);
+        assert_eq!(rt; library(&bytes, &walk), wanted, "{change:?} at {offset}");
+        assert_eq!(rt; library(&bytes, &libraries_at(0x24, 1)), NONE);
+    }
+    let bytes = with_imports(rt.alloc())?;
+    for (next, wanted) in [
+        (0x38, NONE),
+        (0xAD, error(SHORT, [0xAD, 20, 0])),
+        (u64::MAX, error(SHORT, [u64::MAX, 20, 0])),
+    ] {
+        assert_eq!(rt; library(&bytes, &libraries_at(next, 0)), wanted);
+    }
+    Ok(())
+}
+
+fn libraries_at(next: u64, is_over: u32) -> Libraries {
+    Libraries {
+        next,
+        is_over,
+        spare: 0,
+    }
+}
+
+fn library(bytes: &[u8], walk: &Libraries) -> Said {
+    said_of(
+        bytes,
+        &image(X64),
+        |view, out| pe_c_library_failure(view, walk, out),
+    )
+}
+
+fn import(bytes: &[u8], image: &Image, left: Range) -> Said {
+    let walk = Imports { left, rva: 7 };
+    said_of(
+        bytes,
+        image,
+        |view, out| pe_c_import_failure(view, &walk, out),
+    )
+}
+
+fn image_of_pe32() -> Image {
+    Image {
+        width: 32,
+        ..image(X64)
+    }
+}
+
+/// The second entry of a list, at 0x68, which is an ordinal.
+#[test]
+fn imports(rt: HostRuntime) -> Result<(), Fail> {
+    let changes: [(usize, &[u8], Said); 6] = [
+        (0x68, &[17], NONE),
+        (
+            0x68,
+            &[0x69, 0x45, 0, 0, 0, 0, 0, 0],
+            error(UNMAPPED, [0, 0, 0x4569]),
+        ),
+        // Bits 31 to 62 are no part of the RVA.
+        (
+            0x68,
+            &[0x69, 0x45, 0, 0x80, 1, 0, 0, 0x40],
+            error(UNMAPPED, [0, 0, 0x4569]),
+        ),
+        (
+            0x68,
+            &[0xBE, 0x10, 0, 0, 0, 0, 0, 0],
+            error(IMPORT_NAME, [0, 0, 0x10BE]),
+        ),
+        (
+            0x68,
+            &[0xBF, 0x10, 0, 0, 0, 0, 0, 0],
+            error(SHORT, [0xBF, 2, 0]),
+        ),
+        (0x68, &[0xB0, 0x10, 0, 0, 0, 0, 0, 0], NONE),
+    ];
+    for (offset, change, wanted) in changes {
+        let mut bytes = with_imports(rt.alloc())?;
+        put(&mut bytes, &[(offset, change)]);
+        assert_eq!(rt;
+            import(&bytes, &image(X64), range(0x68, 16)),
+            wanted,
+            "{change:?}"
+        );
+    }
+    Ok(())
+}
+
+/// Parts of that list, some of which start or end inside an entry or are not inside the bytes.
+#[test]
+fn parts_of_lists_of_imports(rt: HostRuntime) -> Result<(), Fail> {
+    let bytes = with_imports(rt.alloc())?;
+    let (pe32_plus, pe32) = (image(X64), image_of_pe32());
+    for (image, left, wanted) in [
+        (&pe32_plus, range(0x68, 7), error(SHORT, [0x68, 8, 0])),
+        (&pe32, range(0x68, 3), error(SHORT, [0x68, 4, 0])),
+        // An ordinal of PE32+ is an RVA and an ordinal of PE32.
+        (&pe32, range(0x68, 16), error(UNMAPPED, [0, 0, 17])),
+        (&pe32, range(0x6C, 12), NONE),
+        (&pe32_plus, range(0x68, 0x59), error(SHORT, [0x68, 0x59, 0])),
+        (
+            &pe32_plus,
+            range(u64::MAX, 2),
+            error(SHORT, [u64::MAX, 2, 0]),
+        ),
+        (&pe32_plus, NO_BYTES, NONE),
+    ] {
+        assert_eq!(rt; import(&bytes, image, left), wanted);
+    }
+    Ok(())
+}
+
+#[test]
+fn unwind_records(rt: HostRuntime) -> Result<(), Fail> {
+    let bytes = with_records(rt.alloc())?;
+    for (unwind, wanted) in [
+        (0x1030, NONE),
+        (0x100D, NONE),
+        (0x3000, error(UNMAPPED, [0, 0, 0x3000])),
+        // Of a link the RVA is one less.
+        (0x4569, error(UNMAPPED, [0, 0, 0x4568])),
+        (0x100F, error(FUNCTION_LINK, [0, 0, 0x100F])),
+        (0x1019, error(FUNCTION_CYCLE, [0, 0, 1])),
+        (0x1078, error(UNWIND_VERSION, [0, 0, 3])),
+        // The function to which a record is chained has 12 bytes.
+        (0x1084, error(SHORT, [0x88, 12, 0])),
+        (0x108E, error(SHORT, [0x8E, 4, 0])),
+        (0x1FFE, error(SHORT, [0xFFE, 1, 0])),
+    ] {
+        let table = range(0, 0x30);
+        let found = said_of(&bytes, &image(X64), |view, out| {
+            pe_c_unwind_record_failure(view, &table, unwind, out)
+        });
+        assert_eq!(rt; found, wanted, "at {unwind:#x}");
+    }
+    for unwind in [0x1030, 0x1001] {
+        let found = said_of(&bytes, &image(X64), |view, out| {
+            pe_c_unwind_record_failure(view, &range(12, 0x85), unwind, out)
+        });
+        assert_eq!(rt; found, error(SHORT, [12, 0x85, 0]));
+    }
+    Ok(())
+}
+
+/// A code after one that is read, at offset 2: its second byte has the operation, and what that takes above.
+#[test]
+fn codes(rt: HostRuntime) {
+    let refused: [(u8, &[u8], Said); 7] = [
+        (1, &[], NONE),
+        (1, &[9, 0x50], NONE),
+        (1, &[9, 0x2A], error(UNWIND_CODE, [0, 0, 0x2A])),
+        (3, &[9, 0x16, 0, 0], error(UNWIND_CODE, [0, 0, 0x16])),
+        (1, &[9], error(SHORT, [2, 2, 0])),
+        (1, &[9, 0x01], error(SHORT, [2, 4, 0])),
+        (1, &[9, 0x11, 0, 0, 2], error(SHORT, [2, 6, 0])),
+    ];
+    for (version, code, wanted) in refused {
+        let mut bytes = [0; 8];
+        bytes[2..2 + code.len()].copy_from_slice(code);
+        let walk = CodeWalk {
+            left: range(2, code.len() as u64),
+            version,
+            frame_register: 5,
+            spare: [1; 6],
+        };
+        let found = said(|out| pe_c_code_failure(&bytes, &walk, out));
+        assert_eq!(rt; found, wanted, "{code:?}");
+        let lie = CodeWalk {
+            left: range(2, 7),
+            ..walk
+        };
+        let found = said(|out| pe_c_code_failure(&bytes, &lie, out));
+        assert_eq!(rt; found, error(SHORT, [2, 7, 0]));
+    }
+}
+
+/// The data of the directory are at 0x20: offsets from the first directory on are 0x20 less than those of the file.
+#[test]
+fn resource_leaves(rt: HostRuntime) -> Result<(), Fail> {
+    let image = of_size(0x8E);
+    for (change, leaves, wanted) in [
+        ((0x76, 0), 0, NONE),
+        ((0x76, 0), 1, NONE),
+        // The second type leads to a data entry, and nothing follows it.
+        ((0x76, 0), 2, error(TREE_NOT_DIRECTORY, [0x68, 0, 0])),
+        ((0x76, 0), 3, NONE),
+        // The second language leads to a directory.
+        ((0x77, 0x80), 1, error(TREE_NOT_DATA, [0x68, 0, 0])),
+        // Its data entry is truncated.
+        ((0x74, 0x7F), 1, error(SHORT, [0x9F, 16, 0])),
+        // The directory of languages is empty, or has more entries than there are bytes.
+        ((0x66, 0), 0, error(TREE_NO_ENTRIES, [0x38, 0, 0])),
+        ((0x66, 11), 0, error(SHORT, [0x68, 88, 0])),
+        // shows: pe_c/src/failure_numbers.rt moved Short
+        // The name is truncated.
+        ((0xA8, 3), 0, error(SHORT, [0xAA, 6, 0])),
+    ] {
+        let mut bytes = with_tree(rt.alloc())?;
+        let (offset, byte): (usize, u8) = change;
+        bytes[offset] = byte;
+        let (_, mut walk) = start(&bytes, &image);
+        for _ in 0..leaves {
+            let mut leaf = NO_LEAF;
+            pe_c_next_resource_leaf(&view(&bytes, &image, &sections()), &mut walk, &mut leaf);
+        }
+        let found = said_of(&bytes, &image, |view, out| {
+            pe_c_resource_leaf_failure(view, &walk, out)
+        });
+        assert_eq!(rt; found, wanted, "of {offset} after {leaves}");
+    }
+    Ok(())
+}
+
+/// Ranges that do not lie in the bytes, and ranges that do not lie in the tree.
+#[test]
+fn resource_leaves_outside(rt: HostRuntime) -> Result<(), Fail> {
+    let image = of_size(0x8E);
+    let bytes = with_tree(rt.alloc())?;
+    for (tree, types, wanted) in [
+        (range(0x20, 0x8F), NO_BYTES, error(SHORT, [0x20, 0x8F, 0])),
+        (
+            range(0x20, 0x8E),
+            range(0x80, 15),
+            error(SHORT, [0xA0, 15, 0]),
+        ),
+    ] {
+        let walk = leaves_of(tree, types, NO_BYTES, NO_BYTES);
+        let found = said_of(&bytes, &image, |view, out| {
+            pe_c_resource_leaf_failure(view, &walk, out)
+        });
+        assert_eq!(rt; found, wanted);
+    }
+    Ok(())
+}
+
+/// The second certificate, at 24.
+#[test]
+fn certificates(rt: HostRuntime) -> Result<(), Fail> {
+    let changes: [(usize, &[u8], Range, Said); 9] = [
+        (24, &[8], range(24, 24), NONE),
+        (
+            28,
+            &[0, 3],
+            range(24, 24),
+            error(CERTIFICATE_REVISION, [0, 0, 0x300]),
+        ),
+        (30, &[5], range(24, 24), error(CERTIFICATE_TYPE, [0, 0, 5])),
+        (
+            24,
+            &[33],
+            range(24, 24),
+            error(CERTIFICATE_SIZE, [0, 33, 0]),
+        ),
+        (24, &[8], range(49, 7), error(SHORT, [49, 8, 0])),
+        (
+            24,
+            &[8],
+            range(24, 33),
+            error(CERTIFICATE_TABLE, [57, 0, 0]),
+        ),
+        (
+            24,
+            &[8],
+            range(u64::MAX, 2),
+            error(CERTIFICATE_TABLE, [u64::MAX, 0, 0]),
+        ),
+        (24, &[8], range(56, 0), NONE),
+        (24, &[8], NO_BYTES, NONE),
+    ];
+    for (offset, change, walk, wanted) in changes {
+        let mut bytes = three_certificates(rt.alloc())?;
+        put(&mut bytes, &[(offset, change)]);
+        let found = said(|out| pe_c_certificate_failure(&bytes, &walk, out));
+        assert_eq!(rt; found, wanted, "{change:?} at {offset}");
+    }
+    Ok(())
+}
+
+/// The second block, at 16: its size is at 20, and its last entry at 28.
+#[test]
+fn relocations(rt: HostRuntime) -> Result<(), Fail> {
+    let mut bytes = two_blocks(rt.alloc())?;
+    for (walk, wanted) in [
+        (range(16, 14), NONE),
+        (range(30, 0), NONE),
+        (range(16, 7), error(SHORT, [16, 8, 0])),
+        (range(16, 17), error(SHORT, [16, 17, 0])),
+        (range(16, 13), error(DIRECTORY_BLOCK_TRUNCATED, [0, 14, 13])),
+    ] {
+        let found = said(|out| pe_c_relocation_block_failure(&bytes, &walk, out));
+        assert_eq!(rt; found, wanted);
+    }
+    for (walk, wanted) in [
+        (range(24, 6), NONE),
+        (range(28, 2), error(DIRECTORY_NO_ARGUMENT, [0, 0, 0x5020])),
+        (range(28, 1), error(SHORT, [28, 2, 0])),
+        (range(28, 5), error(SHORT, [28, 5, 0])),
+    ] {
+        let found = said(|out| pe_c_relocation_failure(&bytes, 0x5000, &walk, out));
+        assert_eq!(rt; found, wanted);
+    }
+    bytes[20] = 9;
+    let found = said(|out| pe_c_relocation_block_failure(&bytes, &range(16, 14), out));
+    assert_eq!(rt; found, error(DIRECTORY_BLOCK_SIZE, [0, 0, 9]));
+    Ok(())
+}
+
+#[test]
+fn arm64_records(rt: HostRuntime) -> Result<(), Fail> {
+    let bytes = with_arm64_records(rt.alloc())?;
+    for (size, unwind_data, wanted) in [
+        (8, 0x1010, NONE),
+        (8, 0x1011, NONE),
+        (8, 0x4568, error(UNMAPPED, [0, 0, 0x4568])),
+        (8, 0x1060, error(ARM64_VERSION, [0, 0, 1])),
+        (8, 0x1080, error(SHORT, [0x80, 4, 0])),
+        (7, 0x1010, error(EXCEPTION_SIZE, [0, 0, 7])),
+        (7, 0x1011, error(EXCEPTION_SIZE, [0, 0, 7])),
+    ] {
+        let function = Arm64RuntimeFunction {
+            begin_address: 9,
+            unwind_data,
+        };
+        let found = said_of(&bytes, &with_table(0x1000, size), |view, out| {
+            pe_c_arm64_record_failure(view, &function, out)
+        });
+        assert_eq!(rt; found, wanted, "at {unwind_data:#x}");
+    }
+    Ok(())
+}
+
+/// A stream of four bytes at offset 5, whose second byte starts a code of four bytes.
+#[test]
+fn arm64_codes(rt: HostRuntime) {
+    let bytes = [0, 0, 0, 0, 0, 0xE4, 0xE0, 0, 0, 0];
+    for (left, offset, wanted) in [
+        (range(5, 4), 0, NONE),
+        (range(6, 3), 1, error(ARM64_CUT, [1, 0, 0])),
+        (range(9, 0), 4, NONE),
+        (range(6, 3), 0, error(ARM64_STREAM, [0, 0, 3])),
+        (range(6, 5), 3, error(SHORT, [6, 5, 0])),
+    ] {
+        let walk = Arm64CodeWalk { left, offset };
+        let found = said(|out| pe_c_arm64_code_failure(&bytes, &walk, out));
+        assert_eq!(rt; found, wanted);
+    }
+}
+
+/// A second entry, at 36, with these attributes and the RVAs of its name and of its table, which is that of the first.
+fn with_second(alloc: Global, attributes: u32, name: u32, table: u32) -> Result<Vec<u8>, Fail> {
+    let mut bytes = with_delay_imports(alloc)?;
+    for (offset, number) in [(36, attributes), (40, name), (52, table)] {
+        bytes[offset..offset + 4].copy_from_slice(&number.to_le_bytes());
+    }
+    Ok(bytes)
+}
+
+fn delay_import(bytes: &[u8], walk: Range) -> Said {
+    said_of(bytes, &image(X64), |view, out| {
+        pe_c_delay_import_failure(view, &walk, out)
+    })
+}
+
+#[test]
+fn delay_imports(rt: HostRuntime) -> Result<(), Fail> {
+    for (attributes, name, table, wanted) in [
+        (1, 0x1044, 0x1054, NONE),
+        (1, 0x4568, 0x1054, error(UNMAPPED, [0, 0, 0x4568])),
+        (1, 0x1044, 0x4569, error(UNMAPPED, [0, 0, 0x4569])),
+        (
+            0,
+            0x1044,
+            0x1054,
+            error(DIRECTORY_VA_BELOW_BASE, [0, 0, 0x1044]),
+        ),
+    ] {
+        let bytes = with_second(rt.alloc(), attributes, name, table)?;
+        assert_eq!(rt; delay_import(&bytes, range(36, 32)), wanted);
+        assert_eq!(rt;
+            delay_import(&bytes, range(36, 31)),
+            error(SHORT, [36, 32, 0])
+        );
+        assert_eq!(rt;
+            delay_import(&bytes, range(36, 93)),
+            error(SHORT, [36, 93, 0])
+        );
+        assert_eq!(rt; delay_import(&bytes, range(68, 0)), NONE);
+    }
+    // Of the name at 68 the second byte is in no text of UTF-8 as the first.
+    let mut bytes = with_second(rt.alloc(), 1, 0x1045, 0x1054)?;
+    bytes[69] = 0xBF;
+    assert_eq!(rt;
+        delay_import(&bytes, range(36, 32)),
+        error(DIRECTORY_DELAY_IMPORT_NAME, [69, 0, 0])
+    );
+    Ok(())
+}
+
+fn delayed_function(bytes: &[u8], image: &Image, left: [u64; 2], attributes: u32) -> Said {
+    let walk = functions(left, attributes);
+    said_of(bytes, image, |view, out| {
+        pe_c_delayed_function_failure(view, &walk, out)
+    })
+}
+
+#[test]
+fn delayed_functions(rt: HostRuntime) -> Result<(), Fail> {
+    let bytes = with_delay_imports(rt.alloc())?;
+    let (pe32_plus, pe32) = (image(X64), image_of_pe32());
+    for (image, left, attributes, wanted) in [
+        (&pe32_plus, [84, 44], 1, NONE),
+        (&pe32_plus, [100, 28], 1, NONE),
+        (&pe32_plus, [120, 8], 1, error(UNMAPPED, [0, 0, 0x2000])),
+        (&pe32_plus, [128, 0], 1, error(SHORT, [128, 8, 0])),
+        (&pe32_plus, [84, 7], 1, error(SHORT, [84, 8, 0])),
+        (&pe32, [108, 3], 1, error(SHORT, [108, 4, 0])),
+        (&pe32_plus, [120, 9], 1, error(SHORT, [120, 9, 0])),
+        (
+            &pe32_plus,
+            [84, 44],
+            0,
+            error(DIRECTORY_VA_BELOW_BASE, [0, 0, 0x104C]),
+        ),
+        (&pe32_plus, [0, 0], 0, NONE),
+    ] {
+        let found = delayed_function(&bytes, image, left, attributes);
+        assert_eq!(rt; found, wanted, "{left:?}");
+    }
+    Ok(())
+}
+
+/// The address of a hint, of which the last byte has a half.
+#[test]
+fn names_of_delayed_functions(rt: HostRuntime) -> Result<(), Fail> {
+    for (address, wanted) in [
+        (0x107E, error(DIRECTORY_DELAY_IMPORT_NAME, [128, 0, 0])),
+        (0x107F, error(SHORT, [127, 2, 0])),
+    ] {
+        let mut bytes = with_delay_imports(rt.alloc())?;
+        let number: u32 = address;
+        bytes[84..88].copy_from_slice(&number.to_le_bytes());
+        let found = delayed_function(&bytes, &image(X64), [84, 44], 1);
+        assert_eq!(rt; found, wanted);
+    }
+    Ok(())
+}
+
+/// The second DLL, at 20, whose name is at 0x38 of the directory and not NUL-terminated.
+#[test]
+fn bound_imports(rt: HostRuntime) {
+    let table = range(4, 63);
+    for (table, walk, wanted) in [
+        (table, table, NONE),
+        (
+            table,
+            range(20, 47),
+            error(DIRECTORY_BOUND_IMPORT_NAME, [0x38, 0, 0]),
+        ),
+        (table, range(28, 39), NONE),
+        (table, range(12, 7), error(SHORT, [12, 8, 0])),
+        // An entry and its forwarder have 16 bytes.
+        (table, range(4, 15), error(SHORT, [4, 16, 0])),
+        (table, range(20, 48), error(SHORT, [20, 48, 0])),
+        (range(4, 64), range(4, 63), error(SHORT, [4, 64, 0])),
+    ] {
+        let found = said(|out| pe_c_bound_import_failure(BOUND, &table, &walk, out));
+        assert_eq!(rt; found, wanted);
+    }
+}
+
+/// Of the symbol in entry 2, whose name is at `string` of the string table; there are 17 bytes and a zero at 4.
+fn symbol_name(
+    alloc: Global,
+    string: u8,
+    [table, strings]: [Range; 2],
+    index: u64,
+) -> Result<Said, Fail> {
+    let mut bytes = object(alloc)?;
+    bytes[0xCE] = string;
+    Ok(said(|out| { pe_c_symbol_name_failure(&bytes, &table, &strings, index, out) }))
+}
+
+#[test]
+fn symbol_names(rt: HostRuntime) -> Result<(), Fail> {
+    for (string, length, index, wanted) in [
+        (4, 22, 2, NONE),
+        (4, 22, 12, NONE),
+        (4, 21, 2, error(STRING_TABLE, [4, 0, 0])),
+        (22, 22, 2, error(STRING_TABLE, [22, 0, 0])),
+        (4, 23, 2, error(SHORT, [STRINGS, 23, 0])),
+    ] {
+        let tables = [range(SYMBOLS, 18 * 12), range(STRINGS, length)];
+        let found = symbol_name(rt.alloc(), string, tables, index)?;
+        assert_eq!(rt; found, wanted);
+    }
+    let tables = [range(SYMBOLS, 239), range(STRINGS, 22)];
+    let found = symbol_name(rt.alloc(), 4, tables, 2)?;
+    assert_eq!(rt; found, error(SHORT, [SYMBOLS, 239, 0]));
+    Ok(())
+}
