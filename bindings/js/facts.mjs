@@ -11,6 +11,8 @@ const CODE_AND_WRITABLE = 0xA0000000, PERMISSIONS = [[0x40000000, 'r'], [0x80000
 const X86 = 0x14C, X64 = 0x8664, PE32 = 0x10B, EMBEDDED_PDB = 17, PDB_CHECKSUM = 19;
 // What is shown in all is bounded by the file's length times this; each item counts as so many bytes.
 const READINGS = 16, ITEM = 8, LONG_NAMES = 96, LEAVES = 65536, TABLES = 4096;
+// How many lists inside of items count as the file's bytes, read once, if they are refused.
+const REFUSED = 4;
 
 const number = (value) => (typeof value === 'bigint' && value <= Number.MAX_SAFE_INTEGER ? Number(value) : value);
 const hex = (bytes) => Array.from(bytes, (it) => it.toString(16).padStart(2, '0')).join('');
@@ -80,6 +82,13 @@ class Budget {
   constructor(image, sections = image.sections.length) {
     this.left = image.length * READINGS;
     this.sections = sections;
+    this.refused = Math.floor(image.length / REFUSED);
+  }
+
+  /** A list inside of an item. One that is refused is paid for: a name in it may have been read to the end of the file. */
+  inside(found, error) {
+    if (error) this.left = Math.max(0, this.left - this.refused);
+    return found;
   }
 
   takes(count) {
@@ -203,9 +212,10 @@ const hintOrOrdinal = (has, value) => (has ? { hint: value, ordinal: null } : { 
 
 function functionsOf(image, library, items, budget, more) {
   const own = Number(library.name.length);
-  return list('functions', items, (it) => budget.takes(ITEM + own + (it.has_name ? Number(it.name.length) : 0)) ? {
+  const found = list('functions', items, (it) => budget.takes(ITEM + own + (it.has_name ? Number(it.name.length) : 0)) ? {
     name: it.has_name ? name(image.slice(it.name)) : null, ...hintOrOrdinal(it.has_name, it.ordinal), ...more(it),
   } : null);
+  return budget.inside(found, found.functions_error);
 }
 
 function imports(image) {

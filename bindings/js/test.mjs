@@ -483,6 +483,35 @@ test('why section headers and debug records are refused', () => {
     [0n, 0n, 23n, 'PE_C_DEBUG_SIZE']);
 });
 
+test('why steps are refused', () => {
+  const image = opened('imports'), functions = opened('functions'), arm64 = opened('arm64_functions'), far = 2n ** 40n;
+  const range = (offset, length) => ({ offset, length }), unwind = 0x7654320;
+  const said = (of, name, given) => {
+    const { offset, needed, value, result } = of.call(`pe_c_${name}_failure`, given);
+    return [offset, needed, value, results[result]];
+  };
+  for (const [of, name, given, ...wanted] of [
+    [image, 'library', { walk: { next: 0x12345678n } }, 0x12345678n, 20n, 0n, 'PE_C_SHORT'],
+    [image, 'import', { walk: { left: range(far, 9n) } }, far, 9n, 0n, 'PE_C_SHORT'],
+    [functions, 'unwind_record', { table: {}, unwind }, 0n, 0n, 0x7654320n, 'PE_C_UNMAPPED'],
+    [arm64, 'arm64_record', { function: { unwind } }, 0n, 0n, 0x7654320n, 'PE_C_UNMAPPED'],
+    [image, 'code', { walk: { left: range(0x100n, 1n), version: 1 } }, 0x100n, 2n, 0n, 'PE_C_SHORT'],
+    [image, 'arm64_code', { walk: { left: range(3n, 3n) } }, 0n, 0n, 3n, 'PE_C_ARM64_STREAM'],
+    [image, 'resource_leaf', { walk: { tree: range(5n, far) } }, 5n, far, 0n, 'PE_C_SHORT'],
+    [image, 'certificate', { walk: range(7n, far) }, far + 7n, 0n, 0n, 'PE_C_CERTIFICATE_TABLE'],
+    [image, 'relocation_block', { walk: range(8n, 7n) }, 8n, 8n, 0n, 'PE_C_SHORT'],
+    [image, 'relocation', { page_rva: 0x5000, walk: range(9n, 1n) }, 9n, 2n, 0n, 'PE_C_SHORT'],
+    [image, 'delay_import', { walk: range(6n, 31n) }, 6n, 32n, 0n, 'PE_C_SHORT'],
+    [image, 'delayed_function', { walk: { left: range(6n, 3n), attributes: 1 } }, 6n, 8n, 0n, 'PE_C_SHORT'],
+    [image, 'bound_import', { table: range(0n, 4n), walk: range(6n, 7n) }, 6n, 8n, 0n, 'PE_C_SHORT'],
+    [image, 'symbol_name', { table: range(2n, far), strings: {}, index: 0n }, 2n, far, 0n, 'PE_C_SHORT'],
+    [image, 'te_sections', { te: { number_of_sections: 200 } }, 40n, 8000n, 0n, 'PE_C_SHORT'],
+    [image, 'coff_sections', { coff: { number_of_sections: 0xFFFF, size_of_optional_header: 1 } }, 21n, 2621400n, 0n, 'PE_C_SHORT'],
+  ])
+    assert.deepEqual(said(of, name, given), wanted, name);
+  assert.equal(image.call('pe_c_library_failure', { walk: { is_over: 1 } }), null);
+});
+
 test('calls that take no file', () => {
   assert.deepEqual(library.call('pe_c_plan_from', { unwind: 7 }), { unwind: 7, is_over: 0, saved: 7, spare: 0, steps: 0n, limit: 1n });
 });
@@ -642,6 +671,11 @@ test('a list in one call has what its walk has, and starts where that is', () =>
   const read = (call, walk) => listed(delayed, `pe_c_list_${call}_together`, { walk, runs: [{}, {}] });
   assert.deepEqual(read('delayed_functions', structuredClone(late.functions)), [...delayed.delayedFunctions(late)]);
   assert.deepEqual(read('delay_imports', delayed.call('pe_c_delay_imports')), [...delayed.list('delayImports')]);
+  const later = read('all_delayed_functions', delayed.call('pe_c_all_delayed_functions'));
+  assert.deepEqual(later.map((it) => [delayed.utf8(it.library_name), it.library, it.function.has_name ? delayed.utf8(it.function.name) : null,
+    it.function.ordinal]), [['dbghelp.dll', 0n, 'SymInitialize', 0x121], ['dbghelp.dll', 0n, null, 7],
+    ['VERSION.dll', 1n, 'VerQueryValueW', 0]]);
+  assert.deepEqual(later[0].function, [...delayed.delayedFunctions(late)][0]);
   const together = (call, walk) => listed(image, `pe_c_list_${call}_together`, { walk, runs: [{}, {}] });
   assert.deepEqual(together('libraries', image.call('pe_c_import_libraries')), [...image.list('libraries')]);
   assert.deepEqual(together('imports', structuredClone(dll.imports)), [...image.imports(dll)]);
@@ -689,6 +723,9 @@ test('functions and codes in one call', () => {
   const made = image.call('pe_c_record_codes', { table, unwind, codes });
   assert.deepEqual([made.written, codes.slice(0, 3), all.length], [3n, all, 3]);
   assert.deepEqual(listed(image, 'pe_c_list_codes', { walk: structuredClone(record.codes) }), all);
+  const { left, version, frame_register } = record.codes, entries = [{}, {}, {}, {}];
+  const count = library.file(image.slice(left)).call('pe_c_all_codes', { version, frame_register, entries });
+  assert.deepEqual([count, entries.slice(0, 3)], [3n, all]);
   const arm64 = opened('arm64_functions'), [, second] = arm64.functions();
   const { codes: range } = arm64.call('pe_c_arm64_unwind_record', { function: second });
   const walk = () => arm64.call('pe_c_arm64_codes', { codes: range, start: 0 });

@@ -344,6 +344,8 @@ impl<T: Field + Serialize> Serialize for Part<T> {
 const READINGS: usize = 16;
 /// How many bytes an entry of a list counts for, beside its name.
 pub const ENTRY: usize = 8;
+/// How many lists inside of entries count as the bytes of a file, read once, if they are refused.
+const REFUSED: usize = 4;
 
 /// How many bytes may still be read for one part of an image. Entries of a hostile file may share a long name or a long list, and
 /// without a bound a small file has more to show than anyone reads. In other files hardly a byte is read twice. For an entry RVAs
@@ -351,6 +353,7 @@ pub const ENTRY: usize = 8;
 pub struct Budget {
     left: usize,
     sections: usize,
+    refused: usize,
 }
 
 impl Budget {
@@ -360,7 +363,16 @@ impl Budget {
 
     /// For entries that have no RVA.
     pub fn without_rvas(bytes: &[u8]) -> Budget {
-        Budget { left: bytes.len().saturating_mul(READINGS), sections: 0 }
+        Budget { left: bytes.len().saturating_mul(READINGS), sections: 0, refused: bytes.len() / REFUSED }
+    }
+
+    /// A list inside of an entry. One that is refused is paid for: a name in it may have been read to the end of the file, and entries
+    /// may share that.
+    pub fn inside<T>(&mut self, list: List<T>) -> List<T> {
+        if list.error.is_some() {
+            self.left = self.left.saturating_sub(self.refused);
+        }
+        list
     }
 
     /// Takes so many bytes for an entry, if they are left.

@@ -519,6 +519,29 @@ fn names_and_lists_that_entries_share_are_shown_up_to_a_bound() {
     assert_eq!(shown["exports"]["is_limited"], false);
 }
 
+/// Without a bound these take minutes.
+#[test]
+fn lists_that_are_refused_after_a_long_name_are_shown_up_to_a_bound() {
+    let folder = Folder::new("refused");
+    type Make = fn(usize, usize) -> Vec<u8>;
+    let parts: [(_, _, Make); 3] = [
+        ("imports", "functions_error", limited::refused_imports),
+        ("delay_imports", "functions_error", limited::refused_delay_imports),
+        ("bound_imports", "forwarders_error", limited::refused_forwarders),
+    ];
+    for (part, error, make) in parts {
+        for (count, length, is_limited) in [(60, 5_000, false), (4_000, 2_000_000, true)] {
+            let file = folder.file(part, &make(count, length));
+            let (out, _, _) = run(&["show", "--json", &file, &part.replace('_', "-")]);
+            let shown: Value = serde_json::from_str(&out).unwrap();
+            let found = shown[part].as_array().unwrap();
+            assert_eq!(shown[format!("{part}_is_limited")], is_limited, "{part} {count}");
+            assert!(found.len() == count || is_limited && (60..70).contains(&found.len()), "{part} {}", found.len());
+            assert!(found.iter().all(|it| it[error].is_object()), "{part} {count}");
+        }
+    }
+}
+
 #[test]
 fn a_long_name_makes_no_other_row_longer() {
     let folder = Folder::new("long-name");

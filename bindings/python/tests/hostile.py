@@ -5,7 +5,7 @@ import struct
 import sys
 
 RVA, OFFSET = 0x1000, 0x400
-EXPORT, IMPORT, RESOURCE, LOAD_CONFIG = 0, 1, 2, 10
+EXPORT, IMPORT, RESOURCE, LOAD_CONFIG, DELAY_IMPORT = 0, 1, 2, 10, 13
 BASE = 0x180000000
 
 
@@ -58,6 +58,41 @@ def imports(libraries, names):
     body[hint + 2 - RVA:hint + 7 - RVA] = b"Sleep"
     body[hint + 16 - RVA:hint + 21 - RVA] = b"k.dll"
     return image(body, {IMPORT: (RVA, 20 * (libraries + 1))})
+
+
+def refused_imports(libraries, length, names=0):
+    """Libraries whose lists all start with an import that is refused: by its name, so long and no text, or, with a list of so many
+    others after it, since its RVA is unmapped."""
+    table = RVA + 20 * (libraries + 1)
+    table += -table % 8
+    name = table + 8 * (names + 2)
+    body = bytearray(name - RVA) + b"k.dll\0\0\0" + b"A" * length + b"\xff\0"
+    for i in range(libraries):
+        struct.pack_into("<IIIII", body, 20 * i, table, 0, 0, name, table)
+    struct.pack_into(f"<{1 + names}Q", body, table - RVA, 0x7FFFFFF0 if names else name + 6, *[1 << 63 | 1] * names)
+    return image(body, {IMPORT: (RVA, 20 * (libraries + 1))})
+
+
+def refused_delay_imports(libraries, length):
+    """Libraries that are loaded later, whose functions all start with one whose name is so long and no text."""
+    table = RVA + 32 * (libraries + 1)
+    body = bytearray(table + 16 - RVA) + b"k.dll\0\0\0" + b"A" * length + b"\xff\0"
+    for i in range(libraries):
+        struct.pack_into("<IIIIIIII", body, 32 * i, 1, table + 16, 0, 0, table, 0, 0, 0)
+    struct.pack_into("<QQ", body, table - RVA, table + 16 + 6, 0)
+    return image(body, {DELAY_IMPORT: (RVA, 32 * (libraries + 1))})
+
+
+def object_with_names(symbols, sections, strings):
+    """An object with so many symbols and sections, whose names start in a string table of such bytes, each a byte after the one
+    before."""
+    start = 20 + 40 * sections
+    data = bytearray(struct.pack("<HHIIIHH", 0x8664, sections, 0, start, symbols, 0, 0))
+    for i in range(sections):
+        data += struct.pack("<8s32x", b"/%d" % (4 + i))
+    for i in range(symbols):
+        data += struct.pack("<II10x", 0, 4 + i % len(strings))
+    return bytes(data) + struct.pack("<I", 4 + len(strings)) + strings
 
 
 def resources(*counts):

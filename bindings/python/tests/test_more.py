@@ -49,6 +49,25 @@ class Objects(unittest.TestCase):
         path = os.path.join(IMAGES, "object.obj")
         self.assertEqual(pe_c.Coff.open(path).header, coff.header)
 
+    def test_names_of_an_object_in_one_text(self):
+        """Names are read together, as many as the budget pays."""
+        text = b"a" * 60
+        coff = pe_c.Coff(hostile.object_with_names(50, 50, text + b"\0"))
+        wanted = ["a" * (60 - i) for i in range(50)]
+        self.assertEqual([it.name for it in coff.symbols], wanted)
+        self.assertEqual([it.name for it in coff.sections], wanted)
+        self.assertEqual((coff.symbols.error, coff.symbols.is_limited, coff.sections.is_limited), (None, False, False))
+        # A name that is no text ends the symbols, and is that of the header.
+        coff = pe_c.Coff(hostile.object_with_names(50, 50, b"a\0" * 20 + b"\xff\0" + b"b\0" * 30))
+        self.assertEqual(([it.name for it in coff.symbols], coff.symbols.error.kind), (["a", ""] * 20, Kind.STRING_TABLE))
+        self.assertEqual([it.name for it in coff.sections], ["a", ""] * 20 + ["/44", ""] + ["b", ""] * 4)
+        for letter in b"a\xff":
+            start = time.process_time()
+            coff = pe_c.Coff(hostile.object_with_names(100_000, 65_535, bytes([letter]) * 4_000_000 + b"\0"))
+            self.assertEqual((len(coff.symbols), len(coff.sections)), (8 if letter == ord("a") else 0, 65_535))
+            self.assertEqual((coff.symbols.is_limited, coff.sections.is_limited), (letter == ord("a"), True))
+            self.assertLess(time.process_time() - start, 5)
+
     def test_the_symbols_of_an_image(self):
         data = bytearray(hostile.image(bytes(16), {}))
         coff, start = 0x44, len(data)
@@ -484,14 +503,16 @@ class Everything(unittest.TestCase):
 
     def test_references(self):
         data = bytes(bytearray(bytes_of("resources.bin")))
-        everything(pe_c.Image(data))
+        # At first Python itself takes and lets go of some None.
+        for _ in range(100):
+            everything(pe_c.Image(data))
         gc.collect()
         before, none = sys.getrefcount(data), sys.getrefcount(None)
-        for _ in range(50):
+        for _ in range(300):
             everything(pe_c.Image(data))
         gc.collect()
         self.assertEqual(sys.getrefcount(data), before)
-        self.assertLess(abs(sys.getrefcount(None) - none), 40)
+        self.assertLess(abs(sys.getrefcount(None) - none), 150)
 
 
 def everything(reader):

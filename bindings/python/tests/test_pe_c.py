@@ -440,6 +440,9 @@ class Hostile(unittest.TestCase):
         "under 65,535 sections": lambda: hostile.with_sections(hostile.together(*Hostile.PARTS), 65_535),
         "a large file": lambda: hostile.together(*Hostile.PARTS) + bytes(5 << 20),
         "names without a section, under 65,535 of them": lambda: hostile.with_sections(hostile.unmapped(60_000), 65_535),
+        "imports that are refused by their names": lambda: hostile.refused_imports(60_000, 1_200_000),
+        "imports that are refused before a long list": lambda: hostile.refused_imports(60_000, 9, 150_000),
+        "delay imports that are refused by their names": lambda: hostile.refused_delay_imports(60_000, 1_200_000),
     }
     PARTS = [(hostile.imports, (2_000, 2_000), hostile.IMPORT), (hostile.exports, (60_000, 9), hostile.EXPORT),
              (hostile.resources, (500, 500, 500), hostile.RESOURCE), (hostile.guards, (60_000,), hostile.LOAD_CONFIG)]
@@ -467,6 +470,16 @@ class Hostile(unittest.TestCase):
         found = pe_c.Image(bytes(data)).to_dict()
         self.assertLess(time.process_time() - start, 20)
         self.assertLess(sum(it is not None for it in found["entropies"]), 10)
+
+    def test_facts_of_libraries_whose_imports_are_refused(self):
+        """A few are all there; of many, which are read to be refused, as many as four times the bytes of the file account for."""
+        for data, part in ((hostile.refused_imports(60, 9_000), "imports"), (hostile.refused_imports(60, 9, 1_000), "imports"),
+                           (hostile.refused_delay_imports(60, 9_000), "delay_imports")):
+            facts = pe_c.Image(data).facts()
+            self.assertEqual((len(facts[part]), facts[f"{part}_is_limited"]), (60, False), part)
+            self.assertTrue(all(it["functions_error"] is not None for it in facts[part]), part)
+        facts = pe_c.Image(hostile.refused_imports(60_000, 1_200_000)).facts()
+        self.assertTrue(60 < len(facts["imports"]) < 70 and facts["imports_is_limited"], len(facts["imports"]))
 
     def test_version_blocks_in_each_other(self):
         blocks = hostile.version_blocks(5_000)

@@ -263,6 +263,45 @@ fn read_by_lies(bytes: &[u8], random: &mut Random, seen: &mut Seen) {
             }
         }};
     }
+    // makes a call, and the one that says why it returns an error: exactly where it does, and by the same error
+    macro_rules! explained {
+        ($call:expr, $why:expr) => {{
+            let mut failure = sys::Failure::default();
+            // SAFETY: as above.
+            let (said, answer) = unsafe { ($why(&mut failure), $call) };
+            let is_refused = answer != sys::DONE && answer != sys::NOTHING;
+            let expected = if is_refused { (sys::DONE, answer) } else { (sys::NOTHING, 0) };
+            assert_eq!((said, failure.result), expected);
+            answer
+        }};
+    }
+    // steps a walk whose steps have such a call
+    macro_rules! explained_walk {
+        ($name:ident, $why:ident($walk:expr $(; $more:expr)?), $out:ident) => {{
+            let mut walk = $walk;
+            for _ in 0..MOST {
+                let (before, mut out) = (walk, sys::$out::default());
+                if explained!(sys::$name(start, length, $($more,)? &mut walk, &mut out), |failure| sys::$why(
+                    start, length, $($more,)? &before, failure
+                )) != 0
+                {
+                    break;
+                }
+            }
+        }};
+    }
+    macro_rules! explained_walk_of_image {
+        ($name:ident, $why:ident($walk:expr), $out:ident) => {{
+            let mut walk = $walk;
+            for _ in 0..MOST {
+                let (before, mut out) = (walk, sys::$out::default());
+                if explained!(sys::$name(&view, &mut walk, &mut out), |failure| sys::$why(&view, &before, failure)) != 0
+                {
+                    break;
+                }
+            }
+        }};
+    }
     // SAFETY: as above.
     unsafe {
         sys::pe_c_sections(start, length, &image, room.as_mut_ptr(), room.len());
@@ -355,6 +394,8 @@ fn read_by_lies(bytes: &[u8], random: &mut Random, seen: &mut Seen) {
     together!(pe_c_list_delay_imports_together(; range), DelayImport);
     let functions = sys::DelayedFunctions { left: range, attributes: few, spare: 1 };
     together!(pe_c_list_delayed_functions_together(; functions), DelayedFunction);
+    let late = sys::LibraryFunctions { libraries: range, functions, library_name: range, begun: index };
+    together!(pe_c_list_all_delayed_functions_together(; late), LibraryFunction);
     let libraries = sys::Libraries { next: range.offset, ..sys::Libraries::default() };
     together!(pe_c_list_libraries_together(; libraries), Library);
     let imports = sys::Imports { left: range, rva: index };
@@ -386,6 +427,12 @@ fn read_by_lies(bytes: &[u8], random: &mut Random, seen: &mut Seen) {
     let room = few as usize % 4;
     // SAFETY: as above.
     unsafe { sys::pe_c_record_codes(&view, &range, few % 512, &mut record, codes.as_mut_ptr(), room, &mut written) };
+    assert!(written <= room as u64 && codes[written as usize..].iter().all(|it| *it == sys::Code::default()));
+    let mut codes = [sys::Code::default(); 3];
+    // SAFETY: as above.
+    unsafe {
+        sys::pe_c_all_codes(bytes.as_ptr(), bytes.len(), few % 512, few / 512, codes.as_mut_ptr(), room, &mut written)
+    };
     assert!(written <= room as u64 && codes[written as usize..].iter().all(|it| *it == sys::Code::default()));
     for entry in [
         entry,
@@ -436,11 +483,13 @@ fn read_by_lies(bytes: &[u8], random: &mut Random, seen: &mut Seen) {
     walk!(pe_c_next_memory64(sys::Memory64Walk { next: index, ..memory }), DumpPiece);
     walk!(pe_c_next_debug_entry(range), DebugEntry);
     walk!(pe_c_next_pogo_entry(range), PogoEntry);
-    walk!(pe_c_next_certificate(range), Certificate);
+    explained_walk!(pe_c_next_certificate, pe_c_certificate_failure(range), Certificate);
     walk!(pe_c_next_scope(range), Scope);
     walk!(pe_c_next_arm64_scope(range), Arm64Scope);
-    walk!(pe_c_next_code(sys::Walk { left: range, version: few as u8 % 4, frame_register: 5, spare: [1; 6] }), Code);
-    walk!(pe_c_next_arm64_code(sys::Arm64Walk { left: range, offset: index }), Arm64Code);
+    let codes = sys::Walk { left: range, version: few as u8 % 4, frame_register: 5, spare: [1; 6] };
+    explained_walk!(pe_c_next_code, pe_c_code_failure(codes), Code);
+    let codes = sys::Arm64Walk { left: range, offset: index };
+    explained_walk!(pe_c_next_arm64_code, pe_c_arm64_code_failure(codes), Arm64Code);
     call!(pe_c_find_function(&range, few), Function);
     call!(pe_c_function_at(&range, index), Function);
     call!(pe_c_arm64_function_at(&range, index), Arm64Function);
@@ -454,12 +503,15 @@ fn read_by_lies(bytes: &[u8], random: &mut Random, seen: &mut Seen) {
     call_of_image!(pe_c_overlay(), Range);
     call_of_image!(pe_c_function_table(), Range);
     call_of_image!(pe_c_arm64_table(), Range);
-    call_of_image!(pe_c_unwind_record(&range, directory.virtual_address ^ (few & 1)), Record);
+    let (unwind, mut record) = (directory.virtual_address ^ (few & 1), sys::Record::default());
+    explained!(sys::pe_c_unwind_record(&view, &range, unwind, &mut record), |failure| {
+        sys::pe_c_unwind_record_failure(&view, &range, unwind, failure)
+    });
     call_of_image!(pe_c_find_arm64_function(&range, few), Arm64Function);
-    call_of_image!(
-        pe_c_arm64_unwind_record(&sys::Arm64Function { begin: few, unwind: directory.virtual_address & !3 }),
-        Arm64Record
-    );
+    let function = sys::Arm64Function { begin: few, unwind: directory.virtual_address & !3 };
+    explained!(sys::pe_c_arm64_unwind_record(&view, &function, &mut sys::Arm64Record::default()), |failure| {
+        sys::pe_c_arm64_record_failure(&view, &function, failure)
+    });
     call_of_image!(pe_c_fixed_version(), Version);
     call_of_image!(pe_c_version_text(few % 16), Range);
     call_of_image!(pe_c_version_blocks(), Range);
@@ -559,22 +611,21 @@ fn read_by_lies(bytes: &[u8], random: &mut Random, seen: &mut Seen) {
     let lie = sys::AddressTable { addresses: range, directory, ordinal_base: few, ..table };
     call_of_image!(pe_c_export_at(&lie, index), Exported);
     let libraries = call_of_image!(pe_c_import_libraries(), Libraries);
-    walk_of_image!(pe_c_next_library(libraries), Library);
-    walk_of_image!(pe_c_next_library(sys::Libraries { next: range.offset, ..libraries }), Library);
-    walk_of_image!(pe_c_next_import(sys::Imports { left: range, rva: index }), Import);
+    for walk in [libraries, sys::Libraries { next: range.offset, ..libraries }] {
+        explained_walk_of_image!(pe_c_next_library, pe_c_library_failure(walk), Library);
+    }
+    explained_walk_of_image!(pe_c_next_import, pe_c_import_failure(sys::Imports { left: range, rva: index }), Import);
     call_of_image!(pe_c_all_imports(), LibraryImports);
     let tls = call_of_image!(pe_c_tls(), TlsDirectory);
     call_of_image!(pe_c_tls_callbacks(&sys::TlsDirectory { address_of_callbacks: random.edge(number), ..tls }), Range);
     call_of_image!(pe_c_relocation_blocks(), Range);
-    walk!(pe_c_next_relocation_block(range), RelocationBlock);
-    let (mut callbacks, mut entries) = (range, range);
+    explained_walk!(pe_c_next_relocation_block, pe_c_relocation_block_failure(range), RelocationBlock);
+    explained_walk!(pe_c_next_relocation, pe_c_relocation_failure(range; few), Relocation);
+    let mut callbacks = range;
     for _ in 0..MOST {
-        let (mut va, mut relocation) = (0, sys::Relocation::default());
+        let mut va = 0;
         // SAFETY: as above.
-        unsafe {
-            sys::pe_c_next_tls_callback(&view, &mut callbacks, &mut va);
-            sys::pe_c_next_relocation(start, length, few, &mut entries, &mut relocation);
-        }
+        unsafe { sys::pe_c_next_tls_callback(&view, &mut callbacks, &mut va) };
     }
     call_of_image!(pe_c_load_config(), LoadConfig);
     let (mut text, mut written) = ([0; 64], 0);
@@ -597,13 +648,15 @@ fn read_by_lies(bytes: &[u8], random: &mut Random, seen: &mut Seen) {
     let lie = sys::MetadataStreams { headers: range, count: few as u16, ..metadata.streams };
     walk!(pe_c_next_metadata_stream(lie), MetadataStream);
     walk!(pe_c_next_metadata_stream(sys::MetadataStreams { metadata: range, ..lie }), MetadataStream);
+    call_of_image!(pe_c_all_delayed_functions(), LibraryFunctions);
     let delayed = call_of_image!(pe_c_delay_imports(), Range);
-    walk_of_image!(pe_c_next_delay_import(delayed), DelayImport);
-    walk_of_image!(pe_c_next_delay_import(range), DelayImport);
+    for walk in [delayed, range] {
+        explained_walk_of_image!(pe_c_next_delay_import, pe_c_delay_import_failure(walk), DelayImport);
+    }
     let lie = sys::DelayedFunctions { left: range, attributes: few, spare: 1 };
-    walk_of_image!(pe_c_next_delayed_function(lie), DelayedFunction);
+    explained_walk_of_image!(pe_c_next_delayed_function, pe_c_delayed_function_failure(lie), DelayedFunction);
     let leaves = call_of_image!(pe_c_resource_leaves(), ResourceWalk);
-    walk_of_image!(pe_c_next_resource_leaf(leaves), ResourceLeaf);
+    explained_walk_of_image!(pe_c_next_resource_leaf, pe_c_resource_leaf_failure(leaves), ResourceLeaf);
     let entry = sys::ResourceEntry { name_or_id: few, offset_to_data_or_directory: few.rotate_left(5) };
     let part = sys::Range { offset: index, length: u64::from(few % 64) };
     for lie in [
@@ -612,7 +665,7 @@ fn read_by_lies(bytes: &[u8], random: &mut Random, seen: &mut Seen) {
         sys::ResourceWalk { names: part, resource_type: entry, ..leaves },
         sys::ResourceWalk { languages: part, name: entry, ..leaves },
     ] {
-        walk_of_image!(pe_c_next_resource_leaf(lie), ResourceLeaf);
+        explained_walk_of_image!(pe_c_next_resource_leaf, pe_c_resource_leaf_failure(lie), ResourceLeaf);
     }
     for tree in [leaves.tree, range] {
         let directory = call!(pe_c_resource_directory_at(&tree, few % 64), ResourceDirectory);
@@ -641,8 +694,12 @@ fn read_by_lies(bytes: &[u8], random: &mut Random, seen: &mut Seen) {
     let strings = call!(pe_c_coff_strings(&coff), Range);
     call!(pe_c_symbol(&range, index), SymbolEntry);
     walk!(pe_c_next_symbol(sys::SymbolWalk { table: range, next: index }), SymbolEntry);
-    call!(pe_c_symbol_name(&range, &strings, index), Range);
-    call!(pe_c_symbol_name(&strings, &range, index), Range);
+    for (table, strings) in [(&range, &strings), (&strings, &range)] {
+        let mut name = sys::Range::default();
+        explained!(sys::pe_c_symbol_name(start, length, table, strings, index, &mut name), |failure| {
+            sys::pe_c_symbol_name_failure(start, length, table, strings, index, failure)
+        });
+    }
     let mut named = sys::NamedSymbolWalk { symbols: sys::SymbolWalk { table: range, next: index }, strings };
     let mut runs = [sys::Run { start: index, end: 0, text: 9 }; 3];
     let (mut symbols, mut written) = ([sys::NamedSymbol::default(); 3], 0);
@@ -692,6 +749,8 @@ fn read_by_lies(bytes: &[u8], random: &mut Random, seen: &mut Seen) {
     }
     call!(pe_c_image_failure(few), Failure);
     call!(pe_c_te_failure(), Failure);
+    call!(pe_c_te_sections_failure(&te), Failure);
+    call!(pe_c_coff_sections_failure(&coff), Failure);
     let (mut entries, mut headers) = (range, sections);
     for _ in 0..MOST {
         let mut entry = sys::DebugEntry::default();
@@ -706,14 +765,16 @@ fn read_by_lies(bytes: &[u8], random: &mut Random, seen: &mut Seen) {
     call_of_image!(pe_c_string_table(), Range);
     call!(pe_c_long_section_name(&range, &section), Range);
     let table = call_of_image!(pe_c_bound_imports(), Range);
-    let (mut entries, mut imports, mut forwarders) = (range, range, range);
+    for table in [table, range] {
+        explained_walk!(pe_c_next_bound_import, pe_c_bound_import_failure(range; &table), BoundImport);
+    }
+    let (mut entries, mut forwarders) = (range, range);
     for _ in 0..MOST {
-        let (mut entry, mut import) = (sys::RichEntry::default(), sys::BoundImport::default());
+        let mut entry = sys::RichEntry::default();
         let mut forwarder = sys::BoundForwarder::default();
         // SAFETY: as above.
         unsafe {
             sys::pe_c_next_rich_entry(start, length, few, &mut entries, &mut entry);
-            sys::pe_c_next_bound_import(start, length, &table, &mut imports, &mut import);
             sys::pe_c_next_bound_forwarder(start, length, &range, &mut forwarders, &mut forwarder);
         }
     }

@@ -5,6 +5,7 @@
 //!
 //! An unwinder takes [`Arm64Functions::unwinding`], then [`Arm64Record::codes`] from 0 or from the epilog that it is in.
 
+use crate::failure::{found, Failure};
 use crate::image::{Error, Image};
 use crate::sys::{self, Arm64Function, Arm64Packed, Arm64Scope};
 use crate::walk::{items, look, Walk};
@@ -285,6 +286,14 @@ items! {
     Arm64Codes<'a>(sys::Arm64Walk): Arm64Code, sys::pe_c_next_arm64_code, |code, _| Ok(Arm64Code::from(code))
 }
 
+impl Arm64Codes<'_> {
+    /// Why the item that is an error is one: the error with its numbers, the offset from the start of the codes. `None` where no item
+    /// was an error.
+    pub fn failure(&self) -> Option<Failure> {
+        self.0.failure(sys::pe_c_arm64_code_failure)
+    }
+}
+
 items! {
     /// The epilog scopes of an ARM64 unwind record. No item is an error.
     Arm64Scopes<'a>(sys::Range): Arm64Scope, sys::pe_c_next_arm64_scope, |scope, _| Ok(scope)
@@ -415,6 +424,11 @@ impl<'i, 'a> Arm64Functions<'i, 'a> {
     /// [`Image::arm64_functions`] lies inside the file.
     pub fn find(&self, rva: u32) -> Result<Option<Arm64Function>, Error> {
         self.image.look(sys::pe_c_find_arm64_function, &self.table, rva)
+    }
+
+    /// Why [`unwinding`](Self::unwinding) returns an error: the error with its numbers. `None` where it returns none.
+    pub fn unwinding_failure(&self, function: Arm64Function) -> Option<Failure> {
+        found(self.image.ask_of(sys::pe_c_arm64_record_failure, &function))
     }
 
     /// The unwind data of a function.

@@ -2,9 +2,10 @@
 //! long as each DLL has the time stamp that stands here. Each is followed by the DLLs that it forwards to.
 
 use crate::coff::room_for;
+use crate::failure::{found, Failure};
 use crate::image::{bytes_of, returned, Error, Image};
 use crate::sys;
-use crate::walk::MOST;
+use crate::walk::{look, most_names};
 use alloc::vec::Vec;
 use core::iter::FusedIterator;
 use core::ops::Range;
@@ -33,11 +34,13 @@ struct Entries<'a, T> {
     found: Vec<T>,
     left: Range<usize>,
     taken: usize,
+    /// The walk as it was before the step that returned an error.
+    refused: Option<sys::Range>,
 }
 
 impl<'a, T: Copy + Default> Entries<'a, T> {
     fn new(bytes: &'a [u8], table: sys::Range, walk: sys::Range) -> Self {
-        Entries { bytes, table, walk: Some(walk), found: Vec::new(), left: 0..0, taken: 0 }
+        Entries { bytes, table, walk: Some(walk), found: Vec::new(), left: 0..0, taken: 0, refused: None }
     }
 
     /// The next entry.
@@ -50,7 +53,10 @@ impl<'a, T: Copy + Default> Entries<'a, T> {
                     return None;
                 }
                 Ok(count) => self.left = 0..count,
-                Err(error) => return Some(Err(error)),
+                Err(error) => {
+                    self.refused = Some(walk);
+                    return Some(Err(error));
+                }
             }
             self.taken += self.left.len();
         }
@@ -60,7 +66,7 @@ impl<'a, T: Copy + Default> Entries<'a, T> {
     /// Makes a call, and returns how many entries it wrote.
     fn fill(&mut self, call: List<T>, mut walk: sys::Range) -> Result<usize, Error> {
         // An entry has 8 bytes; one more room is for an error.
-        let count = (walk.length / 8 + 1).min((4 * self.taken).clamp(16, MOST) as u64) as usize;
+        let count = (walk.length / 8 + 1).min((4 * self.taken).clamp(16, most_names(self.bytes)) as u64) as usize;
         let (mut runs, mut found, mut written) =
             (room_for(count, sys::Run::default())?, room_for(count, T::default())?, 0);
         let (start, length, room, items) =
@@ -100,6 +106,12 @@ pub struct BoundForwarder<'a> {
     pub time_date_stamp: u32,
 }
 
+impl<'a> BoundForwarder<'a> {
+    fn of(found: &sys::BoundForwarder, bytes: &'a [u8]) -> Result<Self, Error> {
+        Ok(BoundForwarder { name: bytes_of(found.name, bytes)?, time_date_stamp: found.time_date_stamp })
+    }
+}
+
 /// The DLLs that an image is bound to, in the order of the directory. It ends with its bytes, or at an entry without a name.
 ///
 /// An item is an error, and the last one: [`Error::SHORT`] of the entry and its forwarders;
@@ -122,6 +134,16 @@ impl<'a> Iterator for BoundImports<'a> {
 
 impl FusedIterator for BoundImports<'_> {}
 
+impl BoundImports<'_> {
+    /// Why the item that is an error is one: the error with its numbers, the offset of a name from the start of the directory. `None`
+    /// where no item was an error, or it was [`Error::MEMORY`].
+    pub fn failure(&self) -> Option<Failure> {
+        let Entries { bytes, table, refused, .. } = &self.0;
+        let walk = refused.as_ref()?;
+        found(look(bytes, sys::pe_c_bound_import_failure, table, walk as *const _))
+    }
+}
+
 /// The DLLs that a bound import forwards to.
 ///
 /// An item is an error, and the last one: [`Error::DIRECTORY_BOUND_IMPORT_NAME`]; [`Error::MEMORY`].
@@ -133,14 +155,87 @@ impl<'a> Iterator for BoundForwarders<'a> {
 
     fn next(&mut self) -> Option<Self::Item> {
         let found = self.0.step(sys::pe_c_list_bound_forwarders)?;
-        Some(found.and_then(|found| {
-            let name = bytes_of(found.name, self.0.bytes)?;
-            Ok(BoundForwarder { name, time_date_stamp: found.time_date_stamp })
-        }))
+        Some(found.and_then(|found| BoundForwarder::of(&found, self.0.bytes)))
     }
 }
 
 impl FusedIterator for BoundForwarders<'_> {}
+
+/// A DLL that another one forwards to, and that other one.
+#[derive(Clone, Copy, Debug, PartialEq, Eq)]
+pub struct LibraryForwarder<'a> {
+    /// The name of the DLL that forwards: UTF-8, without its final zero.
+    pub library: &'a [u8],
+    /// Its index among [`Image::bound_imports`].
+    pub index: u64,
+    /// The DLL that it forwards to.
+    pub forwarder: BoundForwarder<'a>,
+}
+
+/// The DLLs that bound imports forward to, one bound import after the other.
+///
+/// The last item may be an error: that of the forwarders of the bound imports before it, or of the next bound import, as
+/// [`BoundForwarders`] and [`BoundImports`] have them.
+///
+/// ```
+/// # #[path = "../tests/made/mod.rs"] mod made;
+/// # let bytes = made::with_bound_imports();
+/// use pe_c::{Image, Mode};
+///
+/// let image = Image::parse(&bytes, Mode::Permissive)?;
+/// let forwarders: Vec<_> = image.bound_forwarders()?.into_iter().flatten().collect::<Result<_, _>>()?;
+/// let names: Vec<_> = forwarders.iter().map(|it| (it.library, it.forwarder.name)).collect();
+/// assert_eq!(names, [(b"one.dll".as_slice(), b"two.dll".as_slice())]);
+/// # Ok::<(), pe_c::Error>(())
+/// ```
+#[derive(Clone, Debug)]
+pub struct AllBoundForwarders<'a> {
+    imports: Entries<'a, sys::BoundImport>,
+    /// All entries of the directory, those of the bound imports too.
+    entries: Entries<'a, sys::BoundForwarder>,
+    /// The name of the bound import whose forwarders are returned, how many of these are left, and how many bound imports were begun.
+    library: &'a [u8],
+    left: u64,
+    begun: u64,
+    is_over: bool,
+}
+
+impl<'a> AllBoundForwarders<'a> {
+    /// The next forwarder; `None` after the last.
+    fn step(&mut self) -> Result<Option<LibraryForwarder<'a>>, Error> {
+        while self.left == 0 {
+            let Some(import) = self.imports.step(sys::pe_c_list_bound_imports).transpose()? else { return Ok(None) };
+            self.library = bytes_of(import.name, self.imports.bytes)?;
+            (self.left, self.begun) = (import.forwarders.length / 8, self.begun + 1);
+            // Its own entry comes before those of its forwarders.
+            self.entry()?;
+        }
+        self.left -= 1;
+        let Some(forwarder) = self.entry()? else { return Ok(None) };
+        Ok(Some(LibraryForwarder { library: self.library, index: self.begun - 1, forwarder }))
+    }
+
+    /// The next entry of the directory, as a forwarder.
+    fn entry(&mut self) -> Result<Option<BoundForwarder<'a>>, Error> {
+        let Some(found) = self.entries.step(sys::pe_c_list_bound_forwarders).transpose()? else { return Ok(None) };
+        Ok(Some(BoundForwarder::of(&found, self.entries.bytes)?))
+    }
+}
+
+impl<'a> Iterator for AllBoundForwarders<'a> {
+    type Item = Result<LibraryForwarder<'a>, Error>;
+
+    fn next(&mut self) -> Option<Self::Item> {
+        if self.is_over {
+            return None;
+        }
+        let item = self.step().transpose();
+        self.is_over = !matches!(item, Some(Ok(_)));
+        item
+    }
+}
+
+impl FusedIterator for AllBoundForwarders<'_> {}
 
 impl<'a> Image<'a> {
     /// The DLLs that the image is bound to. `None` where the directory is absent.
@@ -151,5 +246,23 @@ impl<'a> Image<'a> {
     pub fn bound_imports(&self) -> Result<Option<BoundImports<'a>>, Error> {
         let table = self.ask(sys::pe_c_bound_imports)?;
         Ok(table.map(|table| BoundImports(Entries::new(self.bytes(), table, table))))
+    }
+
+    /// The DLLs that bound imports forward to, each with the bound import. `None` where the directory is absent. One walk reads all
+    /// names, where [`BoundImport::forwarders`] of each costs a text that they share for each.
+    ///
+    /// # Errors
+    ///
+    /// [`Error::SHORT`].
+    pub fn bound_forwarders(&self) -> Result<Option<AllBoundForwarders<'a>>, Error> {
+        let table = self.ask(sys::pe_c_bound_imports)?;
+        Ok(table.map(|table| AllBoundForwarders {
+            imports: Entries::new(self.bytes(), table, table),
+            entries: Entries::new(self.bytes(), table, table),
+            library: &[],
+            left: 0,
+            begun: 0,
+            is_over: false,
+        }))
     }
 }

@@ -3,6 +3,7 @@
 //! <https://learn.microsoft.com/windows/win32/debug/pe-format#the-attribute-certificate-table-image-only>.
 //! A caller takes the body of type 2 (PKCS #7) to check the signature.
 
+use crate::failure::Failure;
 use crate::image::{bytes_of, DirectoryIndex, Error, Image, Layout};
 use crate::sys;
 use crate::walk::{items, Walk};
@@ -46,6 +47,13 @@ items! {
     /// # Ok::<(), pe_c::Error>(())
     /// ```
     Certificates<'a>(sys::Range): Certificate<'a>, sys::pe_c_next_certificate, certificate_of
+}
+
+impl Certificates<'_> {
+    /// Why the item that is an error is one: the error with its numbers. `None` where no item was an error.
+    pub fn failure(&self) -> Option<Failure> {
+        self.0.failure(sys::pe_c_certificate_failure)
+    }
 }
 
 impl<'a> Image<'a> {

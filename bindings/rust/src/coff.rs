@@ -3,12 +3,15 @@
 //! or an auxiliary record of the symbol before. The string table with the longer names follows it. See
 //! [Microsoft's page](https://learn.microsoft.com/windows/win32/debug/pe-format#coff-symbol-table).
 
+use crate::failure::{found, Failure};
 use crate::image::{bytes_of, returned, Error, Image, Layout};
+use crate::section_names::long_names;
 use crate::sys::{self, CoffHeader, Section};
-use crate::walk::{ask_of_bytes, look, Walk};
+use crate::walk::{ask_of_bytes, look};
 use alloc::vec::Vec;
 use core::fmt;
 use core::iter::FusedIterator;
+use core::ops::Range;
 
 /// A COFF object: its header and its sections. The symbols and the string table are read when they are asked for.
 ///
@@ -107,6 +110,21 @@ impl<'a> Coff<'a> {
             look(self.bytes, sys::pe_c_long_section_name, &table, section as *const Section)?;
         name.map(|range| bytes_of(range, self.bytes)).transpose()
     }
+
+    /// The same of each section, in the order of the sections. The names are read together: [`Coff::long_section_name`] reads one
+    /// to its end each time, and a hostile object may let those of all sections start in one long string.
+    ///
+    /// # Errors
+    ///
+    /// Those of [`Coff::symbols`]; [`Error::MEMORY`].
+    pub fn long_section_names(&self) -> Result<Vec<Option<&'a [u8]>>, Error> {
+        let table = ask_of_bytes(self.bytes, sys::pe_c_coff_strings, &self.header)?;
+        // The call reads no field of the image.
+        let image = sys::ImageInfo::default();
+        let view = sys::View::of(self.bytes, &image, &self.sections, &[]);
+        // SAFETY: the view is of what is borrowed here.
+        unsafe { long_names(&view, self.bytes, table) }
+    }
 }
 
 impl<'a> Image<'a> {
@@ -139,10 +157,9 @@ pub(crate) fn sections_of(count: usize, call: impl FnOnce(*mut Section, usize) -
 }
 
 fn symbols_of<'a>(bytes: &'a [u8], header: &CoffHeader) -> Result<Option<Symbols<'a>>, Error> {
-    let Some(walk) = ask_of_bytes(bytes, sys::pe_c_coff_symbols, header)? else { return Ok(None) };
+    let Some(symbols) = ask_of_bytes(bytes, sys::pe_c_coff_symbols, header)? else { return Ok(None) };
     let strings = ask_of_bytes(bytes, sys::pe_c_coff_strings, header)?.unwrap_or_default();
-    let tables = Tables { bytes, symbols: walk.table, strings };
-    Ok(Some(Symbols { tables, walk: Walk::new(bytes, walk) }))
+    Ok(Some(Symbols::new(bytes, sys::NamedSymbolWalk { symbols, strings })))
 }
 
 /// Where symbols and their names are.
@@ -153,64 +170,123 @@ struct Tables<'a> {
     strings: sys::Range,
 }
 
+impl<'a> Tables<'a> {
+    /// Lists the next symbols of a walk with their names, as many as there is room for, and returns how many.
+    fn list(
+        &self,
+        walk: &mut sys::NamedSymbolWalk,
+        runs: &mut [sys::Run],
+        entries: &mut [sys::NamedSymbol],
+    ) -> Result<usize, Error> {
+        let (bytes, mut written) = (self.bytes, 0);
+        let (room, more, items, count) = (runs.as_mut_ptr(), runs.len(), entries.as_mut_ptr(), entries.len());
+        // SAFETY: the pointers and the lengths are those of slices; the walk and `written` are lent for the call.
+        let number = unsafe {
+            sys::pe_c_list_symbols(bytes.as_ptr(), bytes.len(), walk, room, more, items, count, &mut written)
+        };
+        Ok(returned(number, written)?.unwrap_or(0) as usize)
+    }
+
+    /// A symbol that a call has listed, and its name.
+    fn named(&self, found: &sys::NamedSymbol) -> NamedSymbol<'a> {
+        let name = Error::of(found.name_result).and_then(|()| bytes_of(found.name, self.bytes));
+        NamedSymbol { symbol: Symbol { tables: *self, entry: found.symbol, name: Some(name) }, name }
+    }
+}
+
+/// How many symbols a call takes where each name is read by itself.
+const ROOM: usize = 16;
+
 /// The symbols of an object or of an image, without their auxiliary records.
+///
+/// Names are read with the symbols, each by itself, and once these have cost as much as there are bytes those of all symbols that
+/// are left together: a hostile file may let the names of all start in one long string.
 #[derive(Clone)]
 pub struct Symbols<'a> {
     tables: Tables<'a>,
-    walk: Walk<'a, sys::SymbolWalk>,
+    walk: sys::NamedSymbolWalk,
+    /// What the last call wrote: few, or many whose names were read together; and those of it that are not returned yet.
+    few: [sys::NamedSymbol; ROOM],
+    many: Vec<sys::NamedSymbol>,
+    left: Range<usize>,
+    /// How many bytes were read of names, each by itself.
+    spent: u64,
+    is_over: bool,
 }
 
 impl<'a> Symbols<'a> {
+    fn new(bytes: &'a [u8], walk: sys::NamedSymbolWalk) -> Self {
+        let tables = Tables { bytes, symbols: walk.symbols.table, strings: walk.strings };
+        let (few, many) = ([sys::NamedSymbol::default(); ROOM], Vec::new());
+        Symbols { tables, walk, few, many, left: 0..0, spent: 0, is_over: false }
+    }
+
     /// The symbol in an entry of the table; auxiliary records have entries too, and are read as if they were symbols. `None`
     /// past the last entry.
     pub fn get(&self, index: u64) -> Option<Symbol<'a>> {
         let Tables { bytes, symbols, .. } = self.tables;
         let entry = look(bytes, sys::pe_c_symbol, &symbols, index).ok().flatten()?;
-        Some(Symbol { tables: self.tables, entry })
+        Some(Symbol { tables: self.tables, entry, name: None })
     }
 
     /// The symbols that are left, each with its name; names that share much are read together: this takes about as long as to read
-    /// both tables and to sort the names in the string table, where [`Symbol::name`] of each reads a string that many names share as
-    /// often.
+    /// both tables and to sort the names in the string table, where [`Symbol::name`] of each that [`Symbols::get`] returns reads a
+    /// string that many names share as often.
     ///
     /// # Errors
     ///
     /// [`Error::MEMORY`] where 96 bytes for each entry that is left, or the result, cannot be allocated. The error of a name is
     /// its own: that of [`Symbol::name`].
-    pub fn named(self) -> Result<Vec<NamedSymbol<'a>>, Error> {
-        let Tables { bytes, strings, .. } = self.tables;
-        let symbols = *self.walk.left();
-        let left = (symbols.table.length / 18).saturating_sub(symbols.next) as usize;
-        let mut walk = sys::NamedSymbolWalk { symbols, strings };
-        let mut runs = room_for(left, sys::Run::default())?;
-        let mut entries = room_for(left.max(1), sys::NamedSymbol::default())?;
-        let mut written = 0;
-        // SAFETY: the pointers and the lengths are those of a slice and of two vectors; the walk and `written` are lent for the call.
-        Error::of(unsafe {
-            let (lent, room) = (runs.as_mut_ptr(), entries.as_mut_ptr());
-            sys::pe_c_list_symbols(
-                bytes.as_ptr(),
-                bytes.len(),
-                &mut walk,
-                lent,
-                runs.len(),
-                room,
-                entries.len(),
-                &mut written,
-            )
-        })?;
-        let mut found = Vec::new();
-        found.try_reserve_exact(written as usize).map_err(|_| Error::MEMORY)?;
-        for it in &entries[..written as usize] {
-            let name = Error::of(it.name_result).and_then(|()| bytes_of(it.name, bytes));
-            found.push(NamedSymbol { symbol: Symbol { tables: self.tables, entry: it.symbol }, name });
-        }
-        Ok(found)
+    pub fn named(mut self) -> Result<Vec<NamedSymbol<'a>>, Error> {
+        let rest = self.entries_left();
+        let (mut runs, mut others) =
+            (room_for(rest, sys::Run::default())?, room_for(rest, sys::NamedSymbol::default())?);
+        let count = if rest > 0 { self.tables.list(&mut self.walk, &mut runs, &mut others)? } else { 0 };
+        let listed = &self.found()[self.left.clone()];
+        let mut symbols = Vec::new();
+        symbols.try_reserve_exact(listed.len() + count).map_err(|_| Error::MEMORY)?;
+        symbols.extend(listed.iter().chain(&others[..count]).map(|it| self.tables.named(it)));
+        Ok(symbols)
     }
 
     /// The table: entries of 18 bytes.
     pub fn table(&self) -> &'a [u8] {
         self.tables.symbols.of(self.tables.bytes).unwrap_or_default()
+    }
+
+    /// How many entries of the table no call has listed yet; auxiliary records count.
+    fn entries_left(&self) -> usize {
+        (self.tables.symbols.length / 18).saturating_sub(self.walk.symbols.next) as usize
+    }
+
+    /// What the last call wrote.
+    fn found(&self) -> &[sys::NamedSymbol] {
+        if self.many.is_empty() {
+            &self.few
+        } else {
+            &self.many
+        }
+    }
+
+    /// Lists further symbols: a few, or all that are left, if names have cost much and there is memory for that.
+    fn fill(&mut self) -> Result<(), Error> {
+        let (rest, tables) = (self.entries_left(), self.tables);
+        let mut runs = Vec::new();
+        self.many.clear();
+        if rest > 0 && self.spent > tables.bytes.len() as u64 {
+            let room = room_for(rest, sys::Run::default());
+            if let (Ok(room), Ok(many)) = (room, room_for(rest, sys::NamedSymbol::default())) {
+                (runs, self.many) = (room, many);
+            }
+        }
+        let room = if self.many.is_empty() { &mut self.few[..] } else { &mut self.many };
+        let count = if rest > 0 { tables.list(&mut self.walk, &mut runs, room)? } else { 0 };
+        // A name that is refused was read up to the end of the string table at most.
+        let cost = |it: &sys::NamedSymbol| if it.name_result == 0 { it.name.length } else { tables.strings.length };
+        self.spent = self.spent.saturating_add(room[..count].iter().map(cost).sum());
+        self.left = 0..count;
+        self.is_over = count == 0;
+        Ok(())
     }
 }
 
@@ -224,8 +300,14 @@ impl<'a> Iterator for Symbols<'a> {
     type Item = Result<Symbol<'a>, Error>;
 
     fn next(&mut self) -> Option<Self::Item> {
-        let tables = self.tables;
-        Some(self.walk.step(sys::pe_c_next_symbol)?.map(|entry| Symbol { tables, entry }))
+        if self.left.is_empty() && !self.is_over {
+            if let Err(error) = self.fill() {
+                self.is_over = true;
+                return Some(Err(error));
+            }
+        }
+        let i = self.left.next()?;
+        Some(Ok(self.tables.named(&self.found()[i]).symbol))
     }
 }
 
@@ -245,16 +327,22 @@ pub struct NamedSymbol<'a> {
 pub struct Symbol<'a> {
     tables: Tables<'a>,
     entry: sys::SymbolEntry,
+    /// If it was read with the entry.
+    name: Option<Result<&'a [u8], Error>>,
 }
 
 impl<'a> Symbol<'a> {
-    /// The name: UTF-8, without its final zero. A name in the string table is read to its end.
+    /// The name: UTF-8, without its final zero. Of a symbol that [`Symbols::get`] returns, a name in the string table is read to its
+    /// end each time.
     ///
     /// # Errors
     ///
     /// [`Error::STRING_TABLE`] where no string is at its offset, NUL-terminated and UTF-8, or where the name in the entry is not
     /// UTF-8.
     pub fn name(&self) -> Result<&'a [u8], Error> {
+        if let Some(name) = self.name {
+            return name;
+        }
         let Tables { bytes, symbols, strings } = self.tables;
         let mut name = sys::Range::default();
         // SAFETY: the pointer and the length are those of one slice; the ranges are lent for the call.
@@ -265,6 +353,17 @@ impl<'a> Symbol<'a> {
             Some(name) => bytes_of(name, bytes),
             None => Err(Error::SHORT),
         }
+    }
+
+    /// Why [`Symbol::name`] returns an error: the error with its numbers, the offset from the start of the string table. `None` where it
+    /// returns none. A name in the string table is read to its end each time.
+    pub fn name_failure(&self) -> Option<Failure> {
+        let Tables { bytes, symbols, strings } = self.tables;
+        let (index, mut out) = (self.entry.index, sys::Failure::default());
+        // SAFETY: as above.
+        let number =
+            unsafe { sys::pe_c_symbol_name_failure(bytes.as_ptr(), bytes.len(), &symbols, &strings, index, &mut out) };
+        found(returned(number, out))
     }
 
     /// Its auxiliary records, 18 bytes each, up to the end of the table.

@@ -2,9 +2,10 @@
 //! each DLL, which leads to the DLL's name and to a table of what is imported of it, by name or by ordinal. See
 //! [Microsoft's page](https://learn.microsoft.com/windows/win32/debug/pe-format#delay-load-import-tables-image-only).
 
+use crate::failure::Failure;
 use crate::image::{bytes_of, Error, Image};
 use crate::sys;
-use crate::walk::{ImageList, List, Together, MOST};
+use crate::walk::{most_names, ImageList, List, Together};
 use core::iter::FusedIterator;
 
 /// A DLL that is loaded when one of its functions is called first.
@@ -64,7 +65,9 @@ impl<'i, 'a> Iterator for DelayImports<'i, 'a> {
         let (call, together) =
             (sys::pe_c_list_delay_imports as List<_, _>, sys::pe_c_list_delay_imports_together as Together<_, _>);
         // At most all that the walk has left, and four times as many as there were.
-        let most = |walk: &sys::Range, taken: usize| (walk.length / 32).min((4 * taken).min(MOST) as u64) as usize;
+        let most = |walk: &sys::Range, taken: usize| {
+            (walk.length / 32).min((4 * taken).min(most_names(image.bytes())) as u64) as usize
+        };
         let found = self.0.step_together(call, together, 1, most, |it: &sys::DelayImport| it.name.length)?;
         Some(found.and_then(|raw| {
             let name = bytes_of(raw.name, image.bytes())?;
@@ -75,6 +78,13 @@ impl<'i, 'a> Iterator for DelayImports<'i, 'a> {
 
 impl FusedIterator for DelayImports<'_, '_> {}
 
+impl DelayImports<'_, '_> {
+    /// Why the item that is an error is one: the error with its numbers. `None` where no item was an error.
+    pub fn failure(&self) -> Option<Failure> {
+        self.0.failure(sys::pe_c_delay_import_failure)
+    }
+}
+
 /// A function of a DLL that is loaded later, by name or by ordinal.
 #[derive(Clone, Copy, Debug, PartialEq, Eq)]
 pub struct DelayedFunction<'a> {
@@ -82,6 +92,13 @@ pub struct DelayedFunction<'a> {
     pub name: Option<&'a [u8]>,
     /// The ordinal; with a name its hint, an index into the DLL's table of names.
     pub ordinal: u32,
+}
+
+impl<'a> DelayedFunction<'a> {
+    fn of(found: &sys::DelayedFunction, bytes: &'a [u8]) -> Result<Self, Error> {
+        let name = bytes_of(found.name, bytes)?;
+        Ok(DelayedFunction { name: (found.has_name != 0).then_some(name), ordinal: found.ordinal })
+    }
 }
 
 /// The functions of a DLL, in the order of its table.
@@ -102,16 +119,72 @@ impl<'a> Iterator for DelayedFunctions<'_, 'a> {
             sys::pe_c_list_delayed_functions_together as Together<_, _>,
         );
         // Nothing says how many are left: four times as many as there were.
-        let most = |_: &sys::DelayedFunctions, taken: usize| (4 * taken).min(MOST);
+        let most = |_: &sys::DelayedFunctions, taken: usize| (4 * taken).min(most_names(bytes));
         let found = self.0.step_together(call, together, 1, most, |it: &sys::DelayedFunction| it.name.length)?;
-        Some(found.and_then(|found| {
-            let name = bytes_of(found.name, bytes)?;
-            Ok(DelayedFunction { name: (found.has_name != 0).then_some(name), ordinal: found.ordinal })
-        }))
+        Some(found.and_then(|found| DelayedFunction::of(&found, bytes)))
     }
 }
 
 impl FusedIterator for DelayedFunctions<'_, '_> {}
+
+impl DelayedFunctions<'_, '_> {
+    /// Why the item that is an error is one: the error with its numbers. `None` where no item was an error.
+    pub fn failure(&self) -> Option<Failure> {
+        self.0.failure(sys::pe_c_delayed_function_failure)
+    }
+}
+
+/// A function, and the DLL that it is of.
+#[derive(Clone, Copy, Debug, PartialEq, Eq)]
+pub struct LibraryFunction<'a> {
+    /// The DLL's name: UTF-8, without its final zero.
+    pub library: &'a [u8],
+    /// The DLL's index among [`Image::delay_imports`].
+    pub index: u64,
+    /// The function.
+    pub function: DelayedFunction<'a>,
+}
+
+/// The functions of all DLLs that are loaded later, one DLL after the other.
+///
+/// DLLs may share one table, whose functions are returned for each of them: there may be far more than a file has bytes.
+///
+/// The last item may be an error: of the functions of the DLLs before it, or that of the next DLL, as [`DelayedFunctions`] and
+/// [`DelayImports`] have them.
+///
+/// ```
+/// # #[path = "../tests/made/mod.rs"] mod made;
+/// # let bytes = made::with_delay_imports();
+/// use pe_c::{Image, Mode};
+///
+/// let image = Image::parse(&bytes, Mode::Permissive)?;
+/// let functions: Vec<_> = image.delayed_functions()?.into_iter().flatten().collect::<Result<_, _>>()?;
+/// let names: Vec<_> = functions.iter().map(|it| (it.library, it.function.name)).collect();
+/// let (dbghelp, version) = (b"dbghelp.dll".as_slice(), b"VERSION.dll".as_slice());
+/// assert_eq!(names[0], (dbghelp, Some(b"SymInitialize".as_slice())));
+/// // The second is imported by its ordinal.
+/// assert_eq!(names[1..], [(dbghelp, None), (version, Some(b"VerQueryValueW".as_slice()))]);
+/// # Ok::<(), pe_c::Error>(())
+/// ```
+#[derive(Clone, Debug)]
+pub struct AllDelayedFunctions<'i, 'a>(ImageList<'i, 'a, sys::LibraryFunctions, sys::LibraryFunction>);
+
+impl<'a> Iterator for AllDelayedFunctions<'_, 'a> {
+    type Item = Result<LibraryFunction<'a>, Error>;
+
+    fn next(&mut self) -> Option<Self::Item> {
+        let bytes = self.0.image.bytes();
+        // No more DLLs than entries of the directory are left.
+        let more = |walk: &sys::LibraryFunctions| (walk.libraries.length / 32) as usize;
+        let found = self.0.step_with_runs(sys::pe_c_list_all_delayed_functions_together, more)?;
+        Some(found.and_then(|found| {
+            let function = DelayedFunction::of(&found.function, bytes)?;
+            Ok(LibraryFunction { library: bytes_of(found.library_name, bytes)?, index: found.library, function })
+        }))
+    }
+}
+
+impl FusedIterator for AllDelayedFunctions<'_, '_> {}
 
 impl<'a> Image<'a> {
     /// The DLLs that are loaded when one of their functions is called first, each with its functions. `None` where the
@@ -123,5 +196,16 @@ impl<'a> Image<'a> {
     pub fn delay_imports(&self) -> Result<Option<DelayImports<'_, 'a>>, Error> {
         let walk = self.ask(sys::pe_c_delay_imports)?;
         Ok(walk.map(|walk| DelayImports(ImageList::new(self, walk))))
+    }
+
+    /// The functions of all DLLs of the delay import directory, or `None` where it is absent. The names of DLLs and functions are read
+    /// together from the first on, however many share one text.
+    ///
+    /// # Errors
+    ///
+    /// [`Error::UNMAPPED`], [`Error::SHORT`].
+    pub fn delayed_functions(&self) -> Result<Option<AllDelayedFunctions<'_, 'a>>, Error> {
+        let walk = self.ask(sys::pe_c_all_delayed_functions)?;
+        Ok(walk.map(|walk| AllDelayedFunctions(ImageList::new(self, walk))))
     }
 }

@@ -7,7 +7,7 @@
 use crate::coff::room_for;
 use crate::image::{bytes_of, Error, Image};
 use crate::sys;
-use crate::walk::MOST;
+use crate::walk::most_names;
 use alloc::vec::Vec;
 use core::iter::FusedIterator;
 use core::ops::Range;
@@ -251,7 +251,8 @@ impl<'a> Iterator for ExportedEntries<'_, 'a> {
         if self.left.is_empty() {
             let rest = self.table.len().saturating_sub(self.next);
             // Few at first, and then four times as many as there were.
-            let count = rest.min((4 * self.next).clamp(ROOM as u64, MOST as u64)) as usize;
+            let most = most_names(self.table.image.bytes()) as u64;
+            let count = rest.min((4 * self.next).clamp(ROOM as u64, most)) as usize;
             let room = room_for(count, sys::Exported::default());
             match room.ok().and_then(|mut room| Some((self.table.list(&mut self.next, &mut room)?, room))) {
                 Some((written, room)) => (self.left, self.found) = (0..written, room),

@@ -1,12 +1,14 @@
-//! Why headers, directories and debug records are refused: where, and by which number. An [`Error`] is one number, so that a caller can store
-//! it; this reads them again, and says the rest.
+//! Why headers, directories, debug records and items of iterators are refused: where, and by which number. An [`Error`] is one
+//! number, so that a caller can store it; this reads them again, and says the rest. Of items see the method `failure` of iterators, as
+//! [`Libraries::failure`](crate::Libraries::failure).
 
+use crate::coff::Coff;
 use crate::image::{number_of, returned, DirectoryIndex, Error, Image, Layout, Mode};
-use crate::sys::{self, DebugEntry, ImageInfo};
+use crate::sys::{self, CoffHeader, DebugEntry, ImageInfo, TeHeader};
 use crate::te::Te;
 use core::fmt;
 
-/// What is wrong with the headers of an image, with a directory, or with a debug record.
+/// What is wrong with the headers of an image, with a directory, with a debug record, or with an item of an iterator.
 ///
 /// ```
 /// use pe_c::{Error, Image, Layout, Mode};
@@ -21,12 +23,14 @@ use core::fmt;
 pub struct Failure {
     /// The error.
     pub error: Error,
-    /// Offset, from the start of the bytes, of what is truncated or refused, or where it ends after the bytes that hold it; 0 where
-    /// the error has none.
+    /// Offset, from the start of the bytes unless the method says otherwise, of what is truncated or refused, or where it ends after the
+    /// bytes that hold it; 0 where the error has none.
     pub offset: u64,
     /// How many bytes are needed; 0 where the error has no such number.
     pub needed: u64,
-    /// The number that is refused: a magic number, an RVA, a size. `None` where the error has none, as [`Error::SHORT`].
+    /// The number that is refused: a magic number, an RVA, a size. `None` where the error has none, as [`Error::SHORT`]. Of
+    /// [`Error::IMPORT_NAME`] it is the RVA of a DLL's name, and of an import the RVA of the hint, which is two bytes before the name:
+    /// so it is in the text too, `import name at RVA`.
     pub value: Option<u64>,
 }
 
@@ -59,7 +63,7 @@ pub enum DebugRecord {
 }
 
 /// What a call found, which returns no error.
-fn found(failure: Result<Option<sys::Failure>, Error>) -> Option<Failure> {
+pub(crate) fn found(failure: Result<Option<sys::Failure>, Error>) -> Option<Failure> {
     failure.ok().flatten().map(Failure::from)
 }
 
@@ -151,14 +155,41 @@ impl Image<'_> {
 }
 
 impl Te<'_> {
-    /// Why [`Te::parse`] refuses the header. `None` where it does not.
+    /// Why [`Te::parse`] refuses the header or the section headers. `None` where it does not.
     pub fn failure(bytes: &[u8]) -> Option<Failure> {
-        let mut out = sys::Failure::default();
+        let (mut header, mut out) = (TeHeader::default(), sys::Failure::default());
         // SAFETY: as above.
-        let number = unsafe { sys::pe_c_te_failure(bytes.as_ptr(), bytes.len(), &mut out) };
+        let number = unsafe {
+            match sys::pe_c_te(bytes.as_ptr(), bytes.len(), &mut header) {
+                sys::DONE => sys::pe_c_te_sections_failure(bytes.as_ptr(), bytes.len(), &header, &mut out),
+                _ => sys::pe_c_te_failure(bytes.as_ptr(), bytes.len(), &mut out),
+            }
+        };
         found(returned(number, out))
     }
 }
+
+impl Coff<'_> {
+    /// Why [`Coff::parse`] refuses the header or the section headers. `None` where it does not.
+    pub fn failure(bytes: &[u8]) -> Option<Failure> {
+        let (mut header, mut out) = (CoffHeader::default(), sys::Failure::default());
+        // SAFETY: as above.
+        let number = unsafe {
+            match sys::pe_c_coff(bytes.as_ptr(), bytes.len(), &mut header) {
+                sys::DONE => sys::pe_c_coff_sections_failure(bytes.as_ptr(), bytes.len(), &header, &mut out),
+                // The header is the first 20 bytes.
+                number => {
+                    out = sys::Failure { needed: SIZE_OF_COFF_HEADER, result: number, ..out };
+                    sys::DONE
+                }
+            }
+        };
+        found(returned(number, out))
+    }
+}
+
+/// The size of the header of an object in bytes.
+const SIZE_OF_COFF_HEADER: u64 = 20;
 
 /// Whether an error has a number that is refused. `tools/make_errors` writes which.
 #[rustfmt::skip]
@@ -246,6 +277,9 @@ impl fmt::Display for Failure {
             Error::DIRECTORY_BOUND_IMPORT_NAME => write!(f, "name of a bound import at offset {offset:#x} is not NUL-terminated or not UTF-8"),
             Error::DIRECTORY_RELOCATION_KIND => write!(f, "base relocation of type {value} at RVA {offset:#x} is not applied"),
             Error::DIRECTORY_RELOCATION_OUTSIDE => write!(f, "base relocation at RVA {value:#x} is outside of the image"),
+            Error::TREE_NOT_DIRECTORY => write!(f, "resource data entry at {offset:#x} above the level of languages"),
+            Error::TREE_NOT_DATA => write!(f, "resource directory at {offset:#x} below the level of languages"),
+            Error::TREE_NO_ENTRIES => write!(f, "resource directory at {offset:#x} has no entries"),
             _ => write!(f, "{error}"),
         }
     }

@@ -440,7 +440,7 @@ impl fmt::Debug for Image<'_> {
 /// A call that takes an image.
 type Call<T> = unsafe extern "C" fn(*const sys::View, *mut T) -> u32;
 /// A call that takes an image and one more argument.
-type CallWith<M, T> = unsafe extern "C" fn(*const sys::View, M, *mut T) -> u32;
+pub(crate) type CallWith<M, T> = unsafe extern "C" fn(*const sys::View, M, *mut T) -> u32;
 
 /// A call that takes an image, a record and one more argument.
 pub(crate) type Look<M, N, T> = unsafe extern "C" fn(*const sys::View, *const M, N, *mut T) -> u32;

@@ -2,9 +2,10 @@
 //! by name or by ordinal. The loader writes the virtual address of each import to a slot of the DLL's address table. See
 //! [Microsoft's page](https://learn.microsoft.com/windows/win32/debug/pe-format#the-idata-section).
 
+use crate::failure::Failure;
 use crate::image::{bytes_of, Error, Image};
 use crate::sys;
-use crate::walk::{ImageList, List, Together, MOST};
+use crate::walk::{most_names, ImageList, List, Together};
 use core::iter::FusedIterator;
 
 /// A DLL that an image imports from.
@@ -62,7 +63,7 @@ impl<'i, 'a> Iterator for Libraries<'i, 'a> {
     fn next(&mut self) -> Option<Self::Item> {
         let image = self.0.image;
         // Nothing says how many are left: four times as many as there were.
-        let most = |_: &sys::Libraries, taken: usize| (4 * taken).min(MOST);
+        let most = |_: &sys::Libraries, taken: usize| (4 * taken).min(most_names(image.bytes()));
         let cost = |it: &sys::Library| it.name.length + it.imports.left.length;
         let (call, together) =
             (sys::pe_c_list_libraries as List<_, _>, sys::pe_c_list_libraries_together as Together<_, _>);
@@ -75,6 +76,30 @@ impl<'i, 'a> Iterator for Libraries<'i, 'a> {
 }
 
 impl FusedIterator for Libraries<'_, '_> {}
+
+impl Libraries<'_, '_> {
+    /// Why the item that is an error is one: the error with its numbers. `None` where no item was an error.
+    ///
+    /// ```
+    /// # #[path = "../tests/made/mod.rs"] mod made;
+    /// # let mut bytes = made::with_imports();
+    /// use pe_c::{Error, Image, Mode};
+    ///
+    /// // The RVA of the second DLL's name, in the second record of the directory.
+    /// # let directory = Image::parse(&bytes, Mode::Strict)?.info().directory(pe_c::DirectoryIndex::Import).unwrap();
+    /// # let start = Image::parse(&bytes, Mode::Strict)?.offset(directory.virtual_address).unwrap() as usize;
+    /// bytes[start + 20 + 12..][..4].copy_from_slice(&0x0123_4567_u32.to_le_bytes());
+    /// let image = Image::parse(&bytes, Mode::Strict)?;
+    /// let mut libraries = image.libraries()?.expect("it has imports");
+    /// let error = libraries.find_map(Result::err).expect("the second has no name");
+    /// let failure = libraries.failure().expect("an item was an error");
+    /// assert_eq!((failure.error, failure.value), (error, Some(0x0123_4567)));
+    /// # Ok::<(), Error>(())
+    /// ```
+    pub fn failure(&self) -> Option<Failure> {
+        self.0.failure(sys::pe_c_library_failure)
+    }
+}
 
 /// An import, by name or by ordinal.
 #[derive(Clone, Copy, Debug, PartialEq, Eq)]
@@ -106,7 +131,7 @@ impl<'a> Iterator for Imports<'_, 'a> {
 
     fn next(&mut self) -> Option<Self::Item> {
         let bytes = self.0.image.bytes();
-        let most = |walk: &sys::Imports, _| (walk.left.length / 4).min(MOST as u64) as usize;
+        let most = |walk: &sys::Imports, _| (walk.left.length / 4).min(most_names(bytes) as u64) as usize;
         let found = self
             .0
             .step_together(sys::pe_c_list_imports, sys::pe_c_list_imports_together, 1, most, |it| it.name.length)?;
@@ -115,6 +140,13 @@ impl<'a> Iterator for Imports<'_, 'a> {
 }
 
 impl FusedIterator for Imports<'_, '_> {}
+
+impl Imports<'_, '_> {
+    /// Why the item that is an error is one: the error with its numbers. `None` where no item was an error.
+    pub fn failure(&self) -> Option<Failure> {
+        self.0.failure(sys::pe_c_import_failure)
+    }
+}
 
 /// An import, and the DLL that it is from.
 #[derive(Clone, Copy, Debug, PartialEq, Eq)]
@@ -156,27 +188,13 @@ pub struct AllImports<'i, 'a> {
     libraries: u64,
 }
 
-/// Lists imports whose names are read each by itself.
-unsafe extern "C" fn list_alone(
-    view: *const sys::View,
-    walk: *mut sys::LibraryImports,
-    entries: *mut sys::LibraryImport,
-    number_of_entries: usize,
-    written: *mut u64,
-) -> u32 {
-    // SAFETY: the caller's, who passes what the call takes; without runs there need be no room for them.
-    unsafe {
-        sys::pe_c_list_all_imports_together(view, walk, core::ptr::null_mut(), 0, entries, number_of_entries, written)
-    }
-}
-
 impl<'a> Iterator for AllImports<'_, 'a> {
     type Item = Result<LibraryImport<'a>, Error>;
 
     fn next(&mut self) -> Option<Self::Item> {
         let (bytes, libraries) = (self.list.image.bytes(), self.libraries);
         let more = |walk: &sys::LibraryImports| libraries.saturating_sub(walk.begun) as usize;
-        let found = self.list.step_with_runs(list_alone, sys::pe_c_list_all_imports_together, more)?;
+        let found = self.list.step_with_runs(sys::pe_c_list_all_imports_together, more)?;
         Some(found.and_then(|found| {
             let import = Import::of(&found.import, bytes)?;
             let hint_rva = import.name.map(|_| found.hint_rva);

@@ -19,8 +19,8 @@
 //! | a stack walk | [`Frames`], on x64 and ARM64; one step of it [`Functions::step`], [`Registers::leaf`], over memory in pieces [`Functions::step_pieces`] | [x64] |
 //! | | one step of it on ARM64 [`Arm64Functions::step`], [`Arm64Registers::leaf`] | [ARM64] |
 //! | exports, imports | [`exports`](Image::exports), [`export_addresses`](Image::export_addresses), [`libraries`](Image::libraries) | [.edata], [.idata] |
-//! | delay imports | [`delay_imports`](Image::delay_imports) | [delay load] |
-//! | bound imports | [`bound_imports`](Image::bound_imports) | |
+//! | delay imports | [`delay_imports`](Image::delay_imports), [`delayed_functions`](Image::delayed_functions) | [delay load] |
+//! | bound imports | [`bound_imports`](Image::bound_imports), [`bound_forwarders`](Image::bound_forwarders) | |
 //! | section names, Rich header | [`long_section_name`](Image::long_section_name), [`rich_header`](Image::rich_header) | [section table], [Rich header] |
 //! | thread-local storage | [`tls`](Image::tls), [`tls_callbacks`](Image::tls_callbacks) | [.tls] |
 //! | load configuration | [`load_config`](Image::load_config), [`load_config_field`](Image::load_config_field), [`guard_table`](Image::guard_table) | [load config] |
@@ -126,12 +126,16 @@ pub use arm64::{
     Arm64Code, Arm64Codes, Arm64Functions, Arm64Operation, Arm64Record, Arm64Scopes, Arm64Unwinding, CustomStack,
     RegisterKind,
 };
-pub use bound_imports::{BoundForwarder, BoundForwarders, BoundImport, BoundImports};
+pub use bound_imports::{
+    AllBoundForwarders, BoundForwarder, BoundForwarders, BoundImport, BoundImports, LibraryForwarder,
+};
 pub use certificates::{Certificate, Certificates};
 pub use clr::{Clr, Metadata, MetadataStream, MetadataStreams};
 pub use coff::{Coff, NamedSymbol, Symbol, Symbols};
 pub use debug::{DebugEntries, EmbeddedPdb, Pdb20, PdbChecksum, Pogo, PogoEntries, PogoEntry, Repro, SymbolKey};
-pub use delay_imports::{DelayImport, DelayImports, DelayedFunction, DelayedFunctions};
+pub use delay_imports::{
+    AllDelayedFunctions, DelayImport, DelayImports, DelayedFunction, DelayedFunctions, LibraryFunction,
+};
 pub use dump::{Dump, DumpContext, DumpMemory64, DumpRecords, DumpRegisters};
 pub use exports::{AddressTable, Export, Exported, Exports};
 pub use failure::{DebugRecord, Failure};

@@ -1,6 +1,7 @@
 //! Base relocations: what to change in an image that is not at its preferred base, in blocks of one page each. See
 //! <https://learn.microsoft.com/windows/win32/debug/pe-format#the-reloc-section-image-only>.
 
+use crate::failure::{found, Failure};
 use crate::image::{returned, Error, Image};
 use crate::signing::file_of;
 use crate::sys;
@@ -43,6 +44,13 @@ items! {
     RelocationBlocks<'a>(sys::Range): RelocationBlock<'a>, sys::pe_c_next_relocation_block, block_of
 }
 
+impl RelocationBlocks<'_> {
+    /// Why the item that is an error is one: the error with its numbers. `None` where no item was an error.
+    pub fn failure(&self) -> Option<Failure> {
+        self.0.failure(sys::pe_c_relocation_block_failure)
+    }
+}
+
 /// The relocations of a block.
 ///
 /// An item is an error, and the last one: [`Error::SHORT`] of the entry; [`Error::DIRECTORY_NO_ARGUMENT`].
@@ -52,12 +60,25 @@ pub struct Relocations<'a> {
     page_rva: u32,
     /// `None` where the walk is over.
     walk: Option<sys::Range>,
+    /// The walk as it was before the step that returned an error.
+    refused: Option<sys::Range>,
+}
+
+impl Relocations<'_> {
+    /// Why the item that is an error is one: the error with its numbers. `None` where no item was an error.
+    pub fn failure(&self) -> Option<Failure> {
+        let (walk, mut out) = (self.refused?, sys::Failure::default());
+        let (start, length) = (self.bytes.as_ptr(), self.bytes.len());
+        // SAFETY: the pointer and the length are those of one slice; the records are lent for the call.
+        let number = unsafe { sys::pe_c_relocation_failure(start, length, self.page_rva, &walk, &mut out) };
+        found(returned(number, out))
+    }
 }
 
 impl<'a> RelocationBlock<'a> {
     /// The relocations, also those of kind 0.
     pub fn relocations(&self) -> Relocations<'a> {
-        Relocations { bytes: self.bytes, page_rva: self.page_rva, walk: Some(self.entries) }
+        Relocations { bytes: self.bytes, page_rva: self.page_rva, walk: Some(self.entries), refused: None }
     }
 }
 
@@ -65,11 +86,14 @@ impl Iterator for Relocations<'_> {
     type Item = Result<Relocation, Error>;
 
     fn next(&mut self) -> Option<Self::Item> {
-        let (bytes, page_rva) = (self.bytes, self.page_rva);
+        let (bytes, page_rva, before) = (self.bytes, self.page_rva, self.walk);
         let item = next_of(&mut self.walk, |walk, out: &mut sys::Relocation| {
             // SAFETY: the pointer and the length are those of one slice; the records are lent for the call.
             unsafe { sys::pe_c_next_relocation(bytes.as_ptr(), bytes.len(), page_rva, walk, out) }
         })?;
+        if item.is_err() {
+            self.refused = before;
+        }
         Some(item.map(|found| Relocation {
             rva: found.rva,
             kind: found.kind as u8,

@@ -2,6 +2,7 @@
 //! and languages. See <https://learn.microsoft.com/windows/win32/debug/pe-format#the-rsrc-section>. A caller extracts icons,
 //! dialogs or texts, or finds version information in every language.
 
+use crate::failure::Failure;
 use crate::image::{bytes_of, Error, Image};
 use crate::sys;
 use crate::version::{FixedVersion, Text, VersionName};
@@ -156,6 +157,14 @@ impl<'a> Iterator for ResourceLeaves<'_, 'a> {
 }
 
 impl FusedIterator for ResourceLeaves<'_, '_> {}
+
+impl ResourceLeaves<'_, '_> {
+    /// Why the item that is an error is one: the error with its numbers; the offset of what an entry leads to counts from the start of
+    /// the tree, that of [`Error::SHORT`] from the start of the file. `None` where no item was an error.
+    pub fn failure(&self) -> Option<Failure> {
+        self.left.failure(sys::pe_c_resource_leaf_failure)
+    }
+}
 
 /// A directory of a resource tree: its own fields, and its entries.
 ///

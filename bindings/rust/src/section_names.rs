@@ -66,23 +66,34 @@ impl<'a> Image<'a> {
     ///
     /// Those of [`Image::string_table`]; [`Error::MEMORY`].
     pub fn long_section_names(&self) -> Result<Vec<Option<&'a [u8]>>, Error> {
-        let (count, bytes) = (self.sections().len(), self.bytes());
-        let mut names = room_for(count, None)?;
-        let Some(table) = self.string_table_range()? else { return Ok(names) };
-        if count == 0 {
-            return Ok(names);
-        }
-        let (mut runs, mut found) = (room_for(count, sys::Run::default())?, room_for(count, sys::Range::default())?);
-        let (view, mut next, mut written) = (self.view(), 0, 0);
-        let (room, ranges) = (runs.as_mut_ptr(), found.as_mut_ptr());
-        // SAFETY: the view, the table and the numbers are lent for the call, the arrays have so many items, and none overlaps another.
-        let number = unsafe {
-            sys::pe_c_list_long_section_names(&view, &table, &mut next, room, count, ranges, count, &mut written)
-        };
-        Error::of(number)?;
-        for (name, range) in names.iter_mut().zip(&found) {
-            *name = if range.offset == 0 { None } else { Some(bytes_of(*range, bytes)?) };
-        }
-        Ok(names)
+        let table = self.string_table_range()?;
+        // SAFETY: the view is of what is borrowed here.
+        unsafe { long_names(&self.view(), self.bytes(), table) }
     }
+}
+
+/// The long names of the sections of a view, by the string table: [`Image::long_section_names`].
+///
+/// # Safety
+///
+/// The parts of the view are there, and do not change meanwhile; `bytes` are its bytes.
+pub(crate) unsafe fn long_names<'a>(
+    view: &sys::View,
+    bytes: &'a [u8],
+    table: Option<sys::Range>,
+) -> Result<Vec<Option<&'a [u8]>>, Error> {
+    let count = view.count;
+    let mut names = room_for(count, None)?;
+    let Some(table) = table.filter(|_| count > 0) else { return Ok(names) };
+    let (mut runs, mut found) = (room_for(count, sys::Run::default())?, room_for(count, sys::Range::default())?);
+    let (mut next, mut written, room, ranges) = (0, 0, runs.as_mut_ptr(), found.as_mut_ptr());
+    // SAFETY: the caller says so of the view; the table and the numbers are lent for the call, the arrays have so many items, and none
+    // overlaps another.
+    let number =
+        unsafe { sys::pe_c_list_long_section_names(view, &table, &mut next, room, count, ranges, count, &mut written) };
+    Error::of(number)?;
+    for (name, range) in names.iter_mut().zip(&found) {
+        *name = if range.offset == 0 { None } else { Some(bytes_of(*range, bytes)?) };
+    }
+    Ok(names)
 }

@@ -1261,6 +1261,28 @@ DelayedFunction, 24 {
     /// 1 or 0.
     has_name: u32,
 });
+record!(
+/// A walk over the functions of all DLLs that are loaded later.
+LibraryFunctions, 64 {
+    /// The entries of the directory after that of the DLL that is walked over.
+    libraries: Range,
+    /// The functions that this one has left.
+    functions: DelayedFunctions,
+    /// Of this one: UTF-8, without its final zero.
+    library_name: Range,
+    /// How many DLLs were begun; 0 before the first.
+    begun: u64,
+});
+record!(
+/// A function, and the DLL that it is of. See [`LibraryFunction`](crate::LibraryFunction).
+LibraryFunction, 48 {
+    /// What [`pe_c_next_delayed_function`] returns.
+    function: DelayedFunction,
+    /// Of the DLL: UTF-8, without its final zero.
+    library_name: Range,
+    /// Index of the DLL in the order of the delay import directory.
+    library: u64,
+});
 
 record!(
 /// What names a type of resources, a resource or a language. See [`ResourceName`](crate::ResourceName).
@@ -2207,6 +2229,16 @@ extern "C" {
         number_of_codes: usize,
         written: *mut u64,
     ) -> u32;
+    /// Lists all codes of a record by their bytes alone.
+    pub fn pe_c_all_codes(
+        bytes: *const u8,
+        length: usize,
+        version: u32,
+        frame_register: u32,
+        entries: *mut Code,
+        number_of_entries: usize,
+        written: *mut u64,
+    ) -> u32;
     /// Lists the next functions of an ARM64 table, from an index on.
     pub fn pe_c_list_arm64_functions(
         view: *const View,
@@ -2379,6 +2411,16 @@ extern "C" {
         runs: *mut Run,
         number_of_runs: usize,
         entries: *mut DelayedFunction,
+        number_of_entries: usize,
+        written: *mut u64,
+    ) -> u32;
+    /// Lists the next functions of all DLLs that are loaded later, and reads the names together.
+    pub fn pe_c_list_all_delayed_functions_together(
+        view: *const View,
+        walk: *mut LibraryFunctions,
+        runs: *mut Run,
+        number_of_runs: usize,
+        entries: *mut LibraryFunction,
         number_of_entries: usize,
         written: *mut u64,
     ) -> u32;
@@ -2739,6 +2781,24 @@ calls_of_bytes! {
     pe_c_debug_failure(mode: u32, entry: *const DebugEntry, kind: u32) -> Failure;
     /// Returns why `pe_c_te` refuses the bytes.
     pe_c_te_failure() -> Failure;
+    /// Returns why `pe_c_te_sections` refuses the section headers of a TE image.
+    pe_c_te_sections_failure(te: *const TeHeader) -> Failure;
+    /// Returns why `pe_c_coff_sections` refuses the section headers of an object.
+    pe_c_coff_sections_failure(coff: *const CoffHeader) -> Failure;
+    /// Returns why [`pe_c_next_code`] refuses the code that a walk is at.
+    pe_c_code_failure(walk: *const Walk) -> Failure;
+    /// The same of [`pe_c_next_certificate`].
+    pe_c_certificate_failure(walk: *const Range) -> Failure;
+    /// The same of [`pe_c_next_relocation_block`].
+    pe_c_relocation_block_failure(walk: *const Range) -> Failure;
+    /// The same of [`pe_c_next_relocation`].
+    pe_c_relocation_failure(page_rva: u32, walk: *const Range) -> Failure;
+    /// The same of [`pe_c_next_arm64_code`].
+    pe_c_arm64_code_failure(walk: *const Arm64Walk) -> Failure;
+    /// The same of [`pe_c_next_bound_import`].
+    pe_c_bound_import_failure(table: *const Range, walk: *const Range) -> Failure;
+    /// The same of [`pe_c_symbol_name`].
+    pe_c_symbol_name_failure(table: *const Range, strings: *const Range, index: u64) -> Failure;
     /// Returns the next block of base relocations.
     pe_c_next_relocation_block(walk: *mut Range) -> RelocationBlock;
     /// Returns the next relocation of a block.
@@ -2802,6 +2862,20 @@ calls_of_an_image! {
     pe_c_rva(offset: u64) -> u32;
     /// Returns why the directory with an index is refused.
     pe_c_directory_failure(index: u32) -> Failure;
+    /// Returns why [`pe_c_next_library`] refuses the library that a walk is at.
+    pe_c_library_failure(walk: *const Libraries) -> Failure;
+    /// The same of [`pe_c_next_import`].
+    pe_c_import_failure(walk: *const Imports) -> Failure;
+    /// Returns why [`pe_c_unwind_record`] refuses the record of an unwind RVA.
+    pe_c_unwind_record_failure(table: *const Range, unwind: u32) -> Failure;
+    /// Returns why [`pe_c_arm64_unwind_record`] refuses the record of a function.
+    pe_c_arm64_record_failure(function: *const Arm64Function) -> Failure;
+    /// Returns why [`pe_c_next_resource_leaf`] refuses the leaf that a walk is at.
+    pe_c_resource_leaf_failure(walk: *const ResourceWalk) -> Failure;
+    /// The same of [`pe_c_next_delay_import`].
+    pe_c_delay_import_failure(walk: *const Range) -> Failure;
+    /// The same of [`pe_c_next_delayed_function`].
+    pe_c_delayed_function_failure(walk: *const DelayedFunctions) -> Failure;
     /// Returns the entries of the debug directory, as a walk.
     pe_c_debug_entries() -> Range;
     /// Returns the first entry of a type in the debug directory.
@@ -2870,6 +2944,8 @@ calls_of_an_image! {
     pe_c_next_delay_import(walk: *mut Range) -> DelayImport;
     /// Returns the next function of a DLL of the delay import directory.
     pe_c_next_delayed_function(walk: *mut DelayedFunctions) -> DelayedFunction;
+    /// Returns the delay import directory, as a walk over the functions of all its DLLs.
+    pe_c_all_delayed_functions() -> LibraryFunctions;
     /// Returns the fixed file information.
     pe_c_fixed_version() -> Version;
     /// Returns the value of a version name, by its number in the order of [`VersionName`](crate::VersionName).

@@ -1,8 +1,9 @@
 //! What all walks share: the call of a step, and that a walk is over after its end or an error.
 
 use crate::coff::room_for;
-use crate::image::{returned, Error, Image, Look as ImageLook};
-use crate::sys::{Run, View};
+use crate::failure::{found, Failure};
+use crate::image::{returned, CallWith, Error, Image, Look as ImageLook};
+use crate::sys::{self, Run, View};
 use alloc::vec::Vec;
 
 /// A call that takes the bytes, a record and a number, and returns a record.
@@ -57,16 +58,13 @@ pub(crate) struct Walk<'a, W> {
     pub bytes: &'a [u8],
     walk: W,
     is_over: bool,
+    /// The walk as it was before the step that returned an error.
+    refused: Option<W>,
 }
 
-impl<'a, W> Walk<'a, W> {
+impl<'a, W: Copy> Walk<'a, W> {
     pub fn new(bytes: &'a [u8], walk: W) -> Self {
-        Walk { bytes, walk, is_over: false }
-    }
-
-    /// What is left.
-    pub fn left(&self) -> &W {
-        &self.walk
+        Walk { bytes, walk, is_over: false, refused: None }
     }
 
     /// The next item.
@@ -74,13 +72,23 @@ impl<'a, W> Walk<'a, W> {
         &mut self,
         call: unsafe extern "C" fn(*const u8, usize, *mut W, *mut T) -> u32,
     ) -> Option<Result<T, Error>> {
-        let Walk { bytes, walk, is_over } = self;
-        unless_over(is_over, || {
+        let Walk { bytes, walk, is_over, refused } = self;
+        let before = *walk;
+        let item = unless_over(is_over, || {
             let mut out = T::default();
             // SAFETY: as in `look`; the walk is lent for the call too, and overlaps no other argument.
             let number = unsafe { call(bytes.as_ptr(), bytes.len(), walk, &mut out) };
             returned(number, out)
-        })
+        });
+        if matches!(item, Some(Err(_))) {
+            *refused = Some(before);
+        }
+        item
+    }
+
+    /// Why the step that returned an error did, by the call that says so of such a step.
+    pub fn failure(&self, call: Ask<W, sys::Failure>) -> Option<Failure> {
+        found(ask_of_bytes(self.bytes, call, self.refused.as_ref()?))
     }
 }
 
@@ -129,8 +137,13 @@ impl<'i, 'a, W> ImageWalk<'i, 'a, W> {
 /// How many items a walk takes a call.
 const ROOM: usize = 16;
 
-/// How many names a call that reads them together takes, at most, where none are skipped.
-pub(crate) const MOST: usize = 1 << 16;
+/// How many names a call that reads them together takes of these bytes, at most, where none are skipped. Each call may read a text
+/// that is as long as the bytes, so it takes more names of longer ones, and the calls stay few. A name takes up to 112 bytes of
+/// memory, so those of a call less than twice as many as there are bytes, or 7 MiB; calls of the names of all DLLs take 24 more for
+/// each DLL that is left.
+pub(crate) fn most_names(bytes: &[u8]) -> usize {
+    (bytes.len() / 64).max(1 << 16)
+}
 
 /// A call that writes items to an array, and moves a walk past them.
 pub(crate) type List<W, T> = unsafe extern "C" fn(*const View, *mut W, *mut T, usize, *mut u64) -> u32;
@@ -153,6 +166,8 @@ pub(crate) struct ImageList<'i, 'a, W, T> {
     taken: usize,
     spent: u64,
     is_over: bool,
+    /// The walk as it was before the step that returned an error.
+    refused: Option<W>,
 }
 
 impl<W: core::fmt::Debug, T> core::fmt::Debug for ImageList<'_, '_, W, T> {
@@ -167,7 +182,7 @@ impl<W: core::fmt::Debug, T> core::fmt::Debug for ImageList<'_, '_, W, T> {
     }
 }
 
-impl<'i, 'a, W, T: Copy + Default> ImageList<'i, 'a, W, T> {
+impl<'i, 'a, W: Copy, T: Copy + Default> ImageList<'i, 'a, W, T> {
     pub fn new(image: &'i Image<'a>, walk: W) -> Self {
         ImageList {
             image,
@@ -178,18 +193,26 @@ impl<'i, 'a, W, T: Copy + Default> ImageList<'i, 'a, W, T> {
             taken: 0,
             spent: 0,
             is_over: false,
+            refused: None,
         }
     }
 
     /// Makes a call, and keeps how many items it wrote. Returns the error of the walk, if it is one.
     fn fill(&mut self, call: impl FnOnce(&View, &mut Self, &mut u64) -> u32) -> Option<Error> {
-        let (view, mut written) = (self.image.view(), 0);
+        let (view, before, mut written) = (self.image.view(), self.walk, 0);
         let number = call(&view, self, &mut written);
         let count = returned(number, written).map(|count| count.unwrap_or(0) as usize);
+        // An error is that of the first step of its call.
+        self.refused = count.is_err().then_some(before);
         self.left = 0..count.unwrap_or(0);
         self.taken += self.left.len();
         self.is_over = self.left.is_empty();
         count.err()
+    }
+
+    /// Why the step that returned an error did, by the call that says so of such a step.
+    pub fn failure(&self, call: CallWith<*const W, sys::Failure>) -> Option<Failure> {
+        found(self.image.ask_of(call, self.refused.as_ref()?))
     }
 
     /// The next of the items that the last call wrote.
@@ -200,13 +223,19 @@ impl<'i, 'a, W, T: Copy + Default> ImageList<'i, 'a, W, T> {
 
     /// The next item.
     pub fn step(&mut self, call: List<W, T>) -> Option<Result<T, Error>> {
+        // SAFETY: as in `look`; the view, the walk and `written` are lent for the call, the array has so many items, and none overlaps
+        // another.
+        self.step_of_few(|view, walk, items, written| unsafe { call(view, walk, items.as_mut_ptr(), ROOM, written) })
+    }
+
+    /// The next item, by a call that writes a few.
+    fn step_of_few(
+        &mut self,
+        call: impl FnOnce(&View, &mut W, &mut [T; ROOM], &mut u64) -> u32,
+    ) -> Option<Result<T, Error>> {
         if self.left.is_empty() && !self.is_over {
             self.many.clear();
-            // SAFETY: as in `look`; the view, the walk and `written` are lent for the call, the array has so many items, and
-            // none overlaps another.
-            let refused = self.fill(|view, list, written| unsafe {
-                call(view, &mut list.walk, list.items.as_mut_ptr(), ROOM, written)
-            });
+            let refused = self.fill(|view, list, written| call(view, &mut list.walk, &mut list.items, written));
             if let Some(error) = refused {
                 return Some(Err(error));
             }
@@ -261,17 +290,19 @@ impl<'i, 'a, W, T: Copy + Default> ImageList<'i, 'a, W, T> {
     /// for what else has a name, by the walk. Where there is no memory for that a call takes few, and reads each name by itself.
     pub fn step_with_runs(
         &mut self,
-        call: List<W, T>,
         together: Together<W, T>,
         more: impl FnOnce(&W) -> usize,
     ) -> Option<Result<T, Error>> {
         if !self.left.is_empty() || self.is_over {
             return self.first_left();
         }
-        let most = (4 * self.taken).clamp(ROOM, MOST);
-        match self.list_together(together, most + more(&self.walk), most) {
-            Some(first) => first,
-            None => self.step(call),
+        let most = (4 * self.taken).clamp(ROOM, most_names(self.image.bytes()));
+        if let Some(first) = self.list_together(together, most + more(&self.walk), most) {
+            return first;
         }
+        // SAFETY: as in `step`; there need be no room for no runs.
+        self.step_of_few(|view, walk, items, written| unsafe {
+            together(view, walk, core::ptr::null_mut(), 0, items.as_mut_ptr(), ROOM, written)
+        })
     }
 }

@@ -5,6 +5,7 @@
 //!
 //! An unwinder takes [`Functions::find`], then [`Functions::plan`], then the codes of each record.
 
+use crate::failure::{found, Failure};
 use crate::image::{bytes_of, Error, Image};
 use crate::sys::{self, Function, Scope};
 use crate::walk::{items, look, ImageWalk, Walk};
@@ -117,6 +118,13 @@ items! {
     /// # Ok::<(), pe_c::Error>(())
     /// ```
     Codes<'a>(sys::Walk): Code, sys::pe_c_next_code, |code, _| Ok(Code::from(code))
+}
+
+impl Codes<'_> {
+    /// Why the item that is an error is one: the error with its numbers. `None` where no item was an error.
+    pub fn failure(&self) -> Option<Failure> {
+        self.0.failure(sys::pe_c_code_failure)
+    }
 }
 
 items! {
@@ -291,6 +299,11 @@ impl<'i, 'a> Functions<'i, 'a> {
     pub fn record(&self, function: Function) -> Result<UnwindRecord<'a>, Error> {
         let raw = self.image.look(sys::pe_c_unwind_record, &self.table, function.unwind)?.ok_or(Error::UNMAPPED)?;
         Ok(UnwindRecord { raw, bytes: self.image.bytes() })
+    }
+
+    /// Why [`record`](Self::record) returns an error: the error with its numbers. `None` where it returns none.
+    pub fn record_failure(&self, function: Function) -> Option<Failure> {
+        found(self.image.look(sys::pe_c_unwind_record_failure, &self.table, function.unwind))
     }
 
     /// The records of a function, up to the root of its chain: its own, that of the function to which it is chained, and so

@@ -739,7 +739,10 @@ fn the_export_directory_has_fields() {
     let bytes = with_exports();
     let image = strict(&bytes);
     let fields = image.export_directory().unwrap().unwrap();
-    assert_eq!((fields.characteristics, fields.time_date_stamp, fields.major_version, fields.minor_version), (0, 0, 0, 0));
+    assert_eq!(
+        (fields.characteristics, fields.time_date_stamp, fields.major_version, fields.minor_version),
+        (0, 0, 0, 0)
+    );
     assert_eq!((fields.base, fields.number_of_functions, fields.number_of_names), (5, 4, 2));
     let table = bytes.windows(4).position(|it| it == 0x9_0000_u32.to_le_bytes()).unwrap() - 4;
     assert_eq!(offset(fields.address_of_functions) as usize, table);
@@ -760,7 +763,13 @@ fn resource_directories_have_entries() {
     let root = leaves.directory(0).unwrap();
     assert_eq!((root.number_of_named_entries, root.number_of_id_entries), (0, 2));
     let items = |at: u32| -> Vec<_> {
-        leaves.directory(at).unwrap().items().map(Result::unwrap).map(|it| (it.name, it.offset, it.is_directory)).collect()
+        leaves
+            .directory(at)
+            .unwrap()
+            .items()
+            .map(Result::unwrap)
+            .map(|it| (it.name, it.offset, it.is_directory))
+            .collect()
     };
     assert_eq!(items(0), [(ResourceName::Id(16), 32, true), (ResourceName::Id(24), 80, true)]);
     assert_eq!(items(32), [(ResourceName::Id(1), 56, true)]);
@@ -1032,4 +1041,13 @@ fn many_late_names_in_one_text_are_read_together() {
     let functions: Vec<_> = libraries[299].functions().map(Result::unwrap).collect();
     assert_eq!(functions.iter().map(|it| it.name.unwrap()).collect::<Vec<_>>(), wanted);
     assert_eq!((functions[0].ordinal, functions[1].ordinal, functions[2].ordinal), (0, 0x6100, 0x6161));
+    // The DLLs share the table: of each of them all functions are listed.
+    let mut all = image.delayed_functions().unwrap().unwrap();
+    for (i, library) in wanted.iter().enumerate() {
+        for function in &functions {
+            let found = all.next().unwrap().unwrap();
+            assert_eq!((found.library, found.index, found.function), (*library, i as u64, *function));
+        }
+    }
+    assert!(all.next().is_none());
 }

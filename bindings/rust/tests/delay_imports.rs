@@ -64,6 +64,48 @@ fn delay_imports_are_read() {
     assert_eq!(listed(&strict(&of_size(0))), []);
 }
 
+/// The DLL's name and index, the function's name and ordinal.
+type OfDll<'a> = Result<(&'a str, u64, Option<&'a str>, u32), Error>;
+
+/// The functions of all DLLs.
+fn all<'a>(image: &Image<'a>) -> Vec<OfDll<'a>> {
+    let text = |bytes| std::str::from_utf8(bytes).unwrap();
+    let mut functions = image.delayed_functions().unwrap().unwrap();
+    let items = functions
+        .by_ref()
+        .map(|it| it.map(|it| (text(it.library), it.index, it.function.name.map(text), it.function.ordinal)))
+        .collect();
+    assert!(functions.next().is_none());
+    items
+}
+
+#[test]
+fn functions_of_all_dlls_are_in_one_list() {
+    let bytes = with_delay_imports();
+    let image = strict(&bytes);
+    let by_name = Ok(("dbghelp.dll", 0, Some("SymInitialize"), 0x121));
+    let by_ordinal = Ok(("dbghelp.dll", 0, None, 7));
+    let second = Ok(("VERSION.dll", 1, Some("VerQueryValueW"), 0));
+    assert_eq!(all(&image), [by_name, by_ordinal, second]);
+    let memory = as_loaded(&image);
+    let module = Image::parse_as(&memory, Mode::Strict, Layout::Mapped).unwrap();
+    assert_eq!(all(&module), [by_name, by_ordinal, second]);
+    assert!(strict(&with_debug()).delayed_functions().unwrap().is_none());
+    // an error of a DLL ends the list, and so does one of a function
+    assert_eq!(
+        all(&strict(&changed(VERSION as usize, &[0xFF]))),
+        [by_name, by_ordinal, Err(Error::DIRECTORY_DELAY_IMPORT_NAME)]
+    );
+    assert_eq!(all(&strict(&changed(ENTRIES + 32 + 16, &[0, 0x90]))), [by_name, by_ordinal, Err(Error::UNMAPPED)]);
+    assert_eq!(all(&strict(&changed(FUNCTIONS as usize, &[0, 0x90, 0, 0]))), [Err(Error::UNMAPPED)]);
+    // a DLL without a function has none in the list, and counts
+    assert_eq!(all(&strict(&changed(FUNCTIONS as usize, &[0; 8]))), [second]);
+    // the directory is not mapped
+    let mut made = Made::new(X64);
+    made.directory(DELAY_IMPORTS, 0x9000, 32);
+    assert_eq!(strict(&made.image()).delayed_functions().unwrap_err(), Error::UNMAPPED);
+}
+
 #[test]
 fn descriptors_have_their_fields() {
     let bytes = with_delay_imports();

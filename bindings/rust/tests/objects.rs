@@ -3,9 +3,10 @@
 mod made;
 mod reading;
 
-use made::{object, te_image, with_long_section_name, OFFSET, SMALL};
+use made::{object, object_with_names_in_one_text, te_image, with_long_section_name, OFFSET, SMALL};
 use pe_c::{Coff, Error, Image, Layout, Mode, Te};
 use reading::{read_others, Seen};
+use std::time::{Duration, Instant};
 
 #[test]
 fn objects_are_read() {
@@ -16,6 +17,7 @@ fn objects_are_read() {
     assert_eq!(names, [b".text".as_slice(), b".data", b".bss"]);
     assert_eq!(object.string_table(), Ok(Some(b"\x16\0\0\0longer_than_eight\0".as_slice())));
     assert_eq!(object.long_section_name(&object.sections()[0]), Ok(None));
+    assert_eq!(object.long_section_names(), Ok(vec![None; 3]));
     let symbols = object.symbols().unwrap().unwrap();
     let found: Vec<_> =
         symbols.clone().map(|it| it.map(|it| (it.index, it.name().unwrap(), it.section_number))).collect();
@@ -62,6 +64,63 @@ fn damaged_objects_are_refused() {
     let named: Vec<_> = short.named().unwrap().iter().map(|it| it.name).collect();
     assert_eq!((named.len(), named[1], named[5]), (7, Err(Error::STRING_TABLE), Ok(b"five".as_slice())));
     assert_eq!(Coff::parse(&[0; 20]).unwrap().symbols().unwrap().map(|it| it.count()), None);
+    assert_eq!(Coff::parse(&[0; 20]).unwrap().long_section_names(), Ok(Vec::new()));
+    assert_eq!(Coff::parse(&bytes[..0x193]).unwrap().long_section_names(), Err(Error::STRING_TABLE));
+}
+
+#[test]
+fn many_names_in_one_text_are_read_together() {
+    let bytes = object_with_names_in_one_text(300, 300, 400);
+    let object = Coff::parse(&bytes).unwrap();
+    let text = [b'a'; 400];
+    let wanted: Vec<_> = (0..300).map(|i| Ok(&text[i..])).collect();
+    let symbols = object.symbols().unwrap().unwrap();
+    let alone: Vec<_> = (0..300).map(|i| symbols.get(i).unwrap().name()).collect();
+    assert_eq!(alone, wanted);
+    let found: Vec<_> = symbols.clone().map(Result::unwrap).map(|it| (it.index, it.name())).collect();
+    assert_eq!(found, (0..300).zip(wanted.iter().copied()).collect::<Vec<_>>());
+    for taken in [0, 1, 15, 16, 17, 150, 299, 300] {
+        let mut rest = symbols.clone();
+        assert_eq!(rest.by_ref().take(taken).count(), taken);
+        let named: Vec<_> = rest.clone().named().unwrap().iter().map(|it| (it.symbol.index, it.name)).collect();
+        assert_eq!(named, found[taken..], "after {taken}");
+        assert_eq!(rest.map(|it| it.unwrap().name()).collect::<Vec<_>>(), wanted[taken..], "after {taken}");
+    }
+    let names = object.long_section_names().unwrap();
+    let alone: Vec<_> = object.sections().iter().map(|it| object.long_section_name(it).unwrap()).collect();
+    assert_eq!((names.len(), &names), (300, &alone));
+    assert_eq!(names, wanted.iter().map(|it| it.ok()).collect::<Vec<_>>());
+}
+
+/// The same of strings that end too late, or are no text: the error of each name is its own.
+#[test]
+fn many_refused_names_in_one_text_are_read_together() {
+    let mut bytes = object_with_names_in_one_text(300, 300, 400);
+    let last = bytes.len() - 1;
+    for (offset, letter) in [(last, b'a'), (last - 1, 0xFF)] {
+        let good = std::mem::replace(&mut bytes[offset], letter);
+        let object = Coff::parse(&bytes).unwrap();
+        let symbols = object.symbols().unwrap().unwrap();
+        let found: Vec<_> = symbols.clone().map(|it| it.unwrap().name()).collect();
+        assert_eq!(found, [Err(Error::STRING_TABLE); 300]);
+        assert_eq!(symbols.named().unwrap().iter().map(|it| it.name).collect::<Vec<_>>(), found);
+        assert_eq!(object.long_section_names(), Ok(vec![None; 300]));
+        bytes[offset] = good;
+    }
+}
+
+/// One by one the names of such an object of 4 MiB take minutes.
+#[test]
+fn names_of_a_hostile_object_take_no_longer_than_others() {
+    let (symbols, letters) = (116_000, 2_000_000);
+    let bytes = object_with_names_in_one_text(symbols, 4_000, letters);
+    let start = Instant::now();
+    let object = Coff::parse(&bytes).unwrap();
+    let names: Vec<_> = object.symbols().unwrap().unwrap().map(|it| it.unwrap().name().unwrap().len()).collect();
+    assert_eq!(names, (0..symbols).map(|i| (letters - i) as usize).collect::<Vec<_>>());
+    let sections = object.long_section_names().unwrap();
+    assert_eq!(sections.iter().flatten().map(|it| it.len()).sum::<usize>(), (0..4_000).map(|i| 2_000_000 - i).sum());
+    assert!(start.elapsed() < Duration::from_secs(20), "{:?}", start.elapsed());
 }
 
 #[test]

@@ -6,7 +6,7 @@ mod made;
 
 use facts::as_loaded;
 use made::*;
-use pe_c::{BoundForwarder, Error, Image, Layout, Mode, ResourceName, RichEntry, Text, VersionName};
+use pe_c::{BoundForwarder, Error, Image, Layout, LibraryForwarder, Mode, ResourceName, RichEntry, Text, VersionName};
 
 fn strict(bytes: &[u8]) -> Image<'_> {
     Image::parse(bytes, Mode::Strict).unwrap()
@@ -127,6 +127,66 @@ fn bound_imports_are_read() {
     assert_eq!(forwarders, [BoundForwarder { name: b"two.dll", time_date_stamp: 0x3F00_0002 }]);
     assert!(imports[1].forwarders().next().is_none());
     assert!(strict(SMALL).bound_imports().unwrap().is_none());
+    let all: Vec<_> = image.bound_forwarders().unwrap().unwrap().map(Result::unwrap).collect();
+    assert_eq!(all, [LibraryForwarder { library: b"one.dll", index: 0, forwarder: forwarders[0] }]);
+    assert!(strict(SMALL).bound_forwarders().unwrap().is_none());
+}
+
+/// Each DLL by itself has what the list of all has.
+fn forwarders_one_by_one<'a>(image: &Image<'a>) -> Vec<Result<LibraryForwarder<'a>, Error>> {
+    let mut items = Vec::new();
+    for (index, import) in (0..).zip(image.bound_imports().unwrap().unwrap()) {
+        match import {
+            Ok(import) => items.extend(
+                import
+                    .forwarders()
+                    .map(|it| it.map(|forwarder| LibraryForwarder { library: import.name, index, forwarder })),
+            ),
+            Err(error) => items.push(Err(error)),
+        }
+    }
+    let end = items.iter().position(Result::is_err).map_or(items.len(), |at| at + 1);
+    items.truncate(end);
+    items
+}
+
+/// 100 DLLs: every third has none, the others up to 9 forwarders, and all names stand in one text.
+#[test]
+fn forwarders_of_many_bound_imports_are_in_one_list() {
+    let counts = (0..100).map(|i: u16| if i % 3 == 0 { 0 } else { i % 10 });
+    let entries = counts.clone().map(|count| 1 + usize::from(count)).sum::<usize>();
+    let text = 8 * (entries + 1);
+    let mut table = Vec::new();
+    for count in counts {
+        for i in 0..=count {
+            let name = text + table.len() / 8;
+            table.extend(u32::from(i).to_le_bytes());
+            table.extend((name as u16).to_le_bytes());
+            table.extend((if i == 0 { count } else { 0 }).to_le_bytes());
+        }
+    }
+    table.extend([0; 8]);
+    table.extend([b"a".repeat(entries + 5), vec![0]].concat());
+    let mut made = Made::new(X64);
+    made.directory(BOUND_IMPORTS, OFFSET, table.len() as u32);
+    made.put(&table);
+    let bytes = made.image();
+    let image = strict(&bytes);
+    let all: Vec<_> = image.bound_forwarders().unwrap().unwrap().collect();
+    assert_eq!((all.len(), entries), (297, 397));
+    assert_eq!(all, forwarders_one_by_one(&image));
+    let last = all[296].unwrap();
+    assert_eq!((last.index, last.library.len(), last.forwarder.name.len()), (98, 15, 7));
+    assert_eq!((all[0].unwrap().index, last.forwarder.time_date_stamp), (1, 8));
+    // a name after the directory is an error of a DLL or of a forwarder, and a DLL without a name ends the directory
+    for name in [0, table.len() as u16] {
+        for entry in [0, 1, 2, 3, 100, entries - 1] {
+            let bytes = changed(bytes.clone(), OFFSET as usize + 8 * entry + 4, &name.to_le_bytes());
+            let image = strict(&bytes);
+            let all: Vec<_> = image.bound_forwarders().unwrap().unwrap().collect();
+            assert_eq!(all, forwarders_one_by_one(&image), "{name} {entry}");
+        }
+    }
 }
 
 #[test]

@@ -35,11 +35,14 @@ fn forwarder_of<'a>(found: BoundForwarder<'a>, of_dll: &[u8], budget: &mut Budge
 }
 
 fn bound_of<'a>(found: BoundImport<'a>, budget: &mut Budget) -> Option<Bound<'a>> {
-    budget.takes(ENTRY + found.name.len()).then(|| Bound {
-        name: Name(found.name),
-        name_lower: Name(found.name).lower(),
-        stamp: Stamp::of(found.time_date_stamp),
-        forwarders: Part::Present(List::limited(found.forwarders(), |it| forwarder_of(it, found.name, budget))),
+    budget.takes(ENTRY + found.name.len()).then(|| {
+        let forwarders = List::limited(found.forwarders(), |it| forwarder_of(it, found.name, budget));
+        Bound {
+            name: Name(found.name),
+            name_lower: Name(found.name).lower(),
+            stamp: Stamp::of(found.time_date_stamp),
+            forwarders: Part::Present(budget.inside(forwarders)),
+        }
     })
 }
 

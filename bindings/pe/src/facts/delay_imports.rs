@@ -38,11 +38,14 @@ fn import_of<'a>(function: DelayedFunction<'a>, library: &[u8], budget: &mut Bud
 }
 
 fn library_of<'a>(found: DelayImport<'a, 'a>, budget: &mut Budget) -> Option<Library<'a>> {
-    budget.takes(ENTRY + found.name.len()).then(|| Library {
-        name: Name(found.name),
-        name_lower: Name(found.name).lower(),
-        stamp: Stamp::of(found.descriptor().time_date_stamp),
-        functions: Part::Present(List::limited(found.functions(), |it| import_of(it, found.name, budget))),
+    budget.takes(ENTRY + found.name.len()).then(|| {
+        let functions = List::limited(found.functions(), |it| import_of(it, found.name, budget));
+        Library {
+            name: Name(found.name),
+            name_lower: Name(found.name).lower(),
+            stamp: Stamp::of(found.descriptor().time_date_stamp),
+            functions: Part::Present(budget.inside(functions)),
+        }
     })
 }
 

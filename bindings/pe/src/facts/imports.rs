@@ -51,10 +51,13 @@ pub fn is_limited(libraries: &List<Library>) -> bool {
 pub fn of<'a>(image: &'a Image<'_>) -> Part<List<Library<'a>>> {
     let mut budget = Budget::of(image);
     let library_of = |library: pe_c::Library<'a, 'a>| {
-        budget.takes(ENTRY + library.name.len()).then(|| Library {
-            name: Name(library.name),
-            name_lower: Name(library.name).lower(),
-            functions: Part::Present(List::limited(library.imports(), |it| import_of(it, library.name, &mut budget))),
+        budget.takes(ENTRY + library.name.len()).then(|| {
+            let functions = List::limited(library.imports(), |it| import_of(it, library.name, &mut budget));
+            Library {
+                name: Name(library.name),
+                name_lower: Name(library.name).lower(),
+                functions: Part::Present(budget.inside(functions)),
+            }
         })
     };
     let found = image.libraries().map(|found| found.map(|libraries| List::limited(libraries, library_of)));

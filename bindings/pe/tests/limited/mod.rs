@@ -43,6 +43,40 @@ pub fn libraries_of_one_list(count: usize) -> Vec<u8> {
     made.image()
 }
 
+/// A list of one import, whose name has so many bytes and is no text; then the name of a DLL, and the image.
+fn refused_list(length: usize) -> (u32, u32, made::Made) {
+    let mut made = made::Made::new(made::X64);
+    let name = made.put(b"a.dll\0");
+    let import = made.put(&[vec![0, 0], vec![b'a'; length], vec![0xFF, 0]].concat());
+    (made.put_words(&[import, 0, 0, 0]), name, made)
+}
+
+/// An image that imports from so many DLLs, each the same function, whose name has so many bytes and is no text.
+pub fn refused_imports(count: usize, length: usize) -> Vec<u8> {
+    let (list, name, mut made) = refused_list(length);
+    let directory = made.put_words(&[[list, 0, 0, name, list].repeat(count), vec![0; 5]].concat());
+    made.directory(made::IMPORTS, directory, 20 * (count as u32 + 1));
+    made.image()
+}
+
+/// The same of DLLs that are loaded later.
+pub fn refused_delay_imports(count: usize, length: usize) -> Vec<u8> {
+    let (list, name, mut made) = refused_list(length);
+    let directory = made.put_words(&[[1, name, 0, 0, list, 0, 0, 0].repeat(count), vec![0; 8]].concat());
+    made.directory(made::DELAY_IMPORTS, directory, 32 * (count as u32 + 1));
+    made.image()
+}
+
+/// So many bound imports, each of which forwards to a DLL whose name has so many bytes and is no text.
+pub fn refused_forwarders(count: usize, length: usize) -> Vec<u8> {
+    let mut made = made::Made::new(made::X64);
+    let name = 16 * count as u32 + 8;
+    made.put_words(&[[1, name | 1 << 16, 1, name + 6].repeat(count), vec![0; 2]].concat());
+    made.put(&[b"a.dll\0".to_vec(), vec![b'a'; length], vec![0xFF, 0]].concat());
+    made.directory(made::BOUND_IMPORTS, made::OFFSET, made.content.len() as u32);
+    made.image()
+}
+
 /// An image that imports so many ordinals of a DLL, whose name is 20 times as long.
 pub fn imports_of_a_long_name(count: usize) -> Vec<u8> {
     let mut made = made::Made::new(made::X64);

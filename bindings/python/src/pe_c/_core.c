@@ -21,8 +21,10 @@ enum { KIND_IMAGE, KIND_OBJECT, KIND_TE, KIND_BYTES };
 
 /* What a row costs, in bytes of the budget; to how many sections one such byte is equal, where the row's RVAs are mapped; how many
  * rows lists have whose entries may be the same bytes: each, or all of an exact image; how many levels version blocks have below
- * the first, of which real ones have three; how many frames a stack has; from how many sections on there is an index of them. */
-enum { ROW_COST = 16, SECTIONS_A_BYTE = 2, MOST_ROWS = 1 << 17, MOST_DEPTH = 8, MOST_FRAMES = 1 << 14, MANY_SECTIONS = 32 };
+ * the first, of which real ones have three; how many frames a stack has; from how many sections on there is an index of them; how
+ * many names are read together; how many refused lists inside of rows count as the bytes of an exact image. */
+enum { ROW_COST = 16, SECTIONS_A_BYTE = 2, MOST_ROWS = 1 << 17, MOST_DEPTH = 8, MOST_FRAMES = 1 << 14, MANY_SECTIONS = 32, NAMES = 16,
+       REFUSED = 16 };
 
 typedef struct {
     PyTypeObject *image;
@@ -63,6 +65,7 @@ typedef struct {
     Image *image;
     Budget *names;                  /* what the long names of sections are paid by: a header is there without one too */
     uint32_t result;
+    const pe_c_range *long_names;   /* of NAMES sections, the current one among them; empty where there is none */
 } Rows;
 
 /* Takes it off the budget, or says that the budget is over. */
@@ -149,11 +152,11 @@ static PyObject *resource_name(Image *self, pe_c_resource_name name)
 /* That of the string table, or of the header, which an exact image has as it is. */
 static PyObject *section_name(Image *self, Rows *rows, const pe_c_section *it)
 {
-    pe_c_range name = PE_C_EMPTY;
     if (self->strings.length && it->name[0] == '/' && !rows->names->is_over) {
-        uint32_t result = pe_c_long_section_name(BYTES, &self->strings, it, &name);
+        pe_c_range name = rows->long_names[(it - self->sections) % NAMES];
+        int is_found = name.offset != 0;
         /* The string that is none was read too, as far as the table goes. */
-        if (pays(rows->names, result == PE_C_DONE ? name.length : self->strings.length) && result == PE_C_DONE)
+        if (pays(rows->names, is_found ? name.length : self->strings.length) && is_found)
             return utf8(self, name);
     }
     if (self->is_exact)
@@ -211,7 +214,7 @@ static uint64_t unread(Image *self, uint32_t rva)
 
 static Rows rows_of(Image *self, Budget *budget)
 {
-    return (Rows){PyList_New(0), budget, self, budget, PE_C_DONE};
+    return (Rows){PyList_New(0), budget, self, budget, PE_C_DONE, NULL};
 }
 
 /* The result of the call that starts a list. An exact image has None for one that is absent or refused, and () for an empty one. */
@@ -255,12 +258,18 @@ static PyObject *triple(PyObject *value, const Rows *rows)
     return value ? Py_BuildValue("(NkN)", value, number, B(rows->budget->is_over)) : NULL;
 }
 
-/* The rows as a tuple. An error of an inner list is that of the list around it, which ends there, but in an exact image. */
+/* The rows as a tuple. An error of an inner list is that of the list around it, which ends there, but in an exact image. There what
+ * was read to refuse it is paid for as a part of the image: the list, or a name in it, may be nearly as long, and that of each row. */
 static PyObject *inside(Rows *outer, Rows *rows)
 {
-    if (rows->image->is_exact)
-        return triple(tuple_of(rows), rows);
-    if (rows->result != PE_C_DONE && rows->result != PE_C_NOTHING)
+    int is_refused = rows->result != PE_C_DONE && rows->result != PE_C_NOTHING;
+    if (rows->image->is_exact) {
+        PyObject *found = triple(tuple_of(rows), rows);
+        if (is_refused)
+            pays(outer->budget, (uint64_t)rows->image->view.len / REFUSED);
+        return found;
+    }
+    if (is_refused)
         outer->result = rows->result;
     return tuple_of(rows);
 }
@@ -395,7 +404,7 @@ static int is_open(Image *self)
     if (!is_open(self)) \
         return NULL; \
     Budget budget = budget_made(self); \
-    Rows rows = {NULL, &budget, self, &budget, PE_C_DONE}; \
+    Rows rows = {NULL, &budget, self, &budget, PE_C_DONE, NULL}; \
     self->users++;
 #define OPEN OPEN_BY(budget_of)
 #define OPEN_OWN OPEN_BY(budget_of_own)
@@ -465,29 +474,49 @@ static uint32_t first_te_key(Image *self, pe_c_key *out)
 }
 
 ONE(te_symbol_key, pe_c_key, first_te_key(self, &item), ROW_OF(key))
-/* The COFF symbols. A name that is refused ends the list before its symbol. */
+/* The COFF symbols, several a call, whose names are read together. A name that is refused ends the list before its symbol. */
 METHOD(symbols)
 {
     OPEN_OWN
-    pe_c_symbol_walk walk = PE_C_EMPTY;
-    pe_c_symbol_entry item = PE_C_EMPTY;
-    pe_c_range name = PE_C_EMPTY;
+    pe_c_named_symbol_walk walk = PE_C_EMPTY;
+    pe_c_named_symbol found[NAMES];
+    pe_c_run runs[NAMES];
+    uint64_t count = 0;
+    walk.strings = self->strings;
     rows = rows_of(self, &budget);
-    starts(&rows, pe_c_coff_symbols(BYTES, &self->coff, &walk));
-    while (goes_on(&rows) && (rows.result = pe_c_next_symbol(BYTES, &walk, &item)) == PE_C_DONE)
-        if ((rows.result = pe_c_symbol_name(BYTES, &walk.table, &self->strings, item.index, &name)) == PE_C_DONE)
-            append(&rows, takes(&rows, name.length) ? row_symbol_entry(self, &rows, &item, name) : NULL);
+    starts(&rows, pe_c_coff_symbols(BYTES, &self->coff, &walk.symbols));
+    while (goes_on(&rows) && (rows.result = pe_c_list_symbols(BYTES, &walk, runs, NAMES, found, NAMES, &count)) == PE_C_DONE && count)
+        for (uint64_t i = 0; i < count && goes_on(&rows); i++)
+            if ((rows.result = found[i].name_result) == PE_C_DONE) {
+                pe_c_range name = found[i].name;
+                append(&rows, takes(&rows, name.length) ? row_symbol_entry(self, &rows, &found[i].symbol, name) : NULL);
+            }
     return finished(&rows);
+}
+
+/* The long names of so many sections from an index on, which are read together. */
+static void read_long_names(Image *self, uint64_t next, pe_c_range *out)
+{
+    pe_c_run runs[NAMES];
+    uint64_t count = 0;
+    memset(out, 0, NAMES * sizeof *out);
+    if (self->strings.length && pe_c_list_long_section_names(VIEW, &self->strings, &next, runs, NAMES, out, NAMES, &count) != PE_C_DONE)
+        memset(out, 0, NAMES * sizeof *out);
 }
 
 METHOD(section_headers)
 {
     OPEN_OWN
     Budget names = budget;
+    pe_c_range long_names[NAMES];
     rows = rows_of(self, &budget);
     rows.names = &names;
-    for (uint32_t i = 0; i < self->info.number_of_sections && goes_on(&rows); i++)
+    rows.long_names = long_names;
+    for (uint32_t i = 0; i < self->info.number_of_sections && goes_on(&rows); i++) {
+        if (i % NAMES == 0 && !names.is_over)
+            read_long_names(self, i, long_names);
         append(&rows, row_section(self, &rows, &self->sections[i]));
+    }
     budget.is_over |= names.is_over;
     return finished(&rows);
 }

@@ -10,9 +10,9 @@ from typing import TYPE_CHECKING, Any
 
 from . import _core
 from ._core import (AllHeaders, Arm64Function, Arm64Packed, Arm64Record, BoundLibrary, Certificate, Checksum, ClrHeader, DebugEntry,
-                    DelayLibrary, EmbeddedPdb, Export, ExportDirectory, ExportTable, FixedVersion, Function, Headers, Library, LoadConfig, Metadata, Pdb20, PdbChecksum,
-                    Pogo, RelocationBlock, Repro, Resource, RichHeader, Section, Symbol, SymbolKey, Tls, UnwindRecord, VcFeatures,
-                    VersionBlock)
+                    DelayLibrary, EmbeddedPdb, Export, ExportDirectory, ExportTable, FixedVersion, Function, Headers, Library,
+                    LoadConfig, Metadata, Pdb20, PdbChecksum, Pogo, RelocationBlock, Repro, Resource, RichHeader, Section, Symbol,
+                    SymbolKey, Tls, UnwindRecord, VcFeatures, VersionBlock)
 from ._kinds import Kind
 from ._ordinals import ORDINALS
 from ._part import SHOWN, Error, ImageWarning, Part, WarningKind, entropy_of, error_of, plain, shown

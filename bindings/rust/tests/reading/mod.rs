@@ -119,6 +119,7 @@ fn read_symbols(symbols: Option<Symbols>, seen: &mut Seen) {
     let Some(symbols) = symbols else { return };
     for symbol in symbols.clone().take(seen.most) {
         let Some(symbol) = seen.item(symbol) else { continue };
+        assert_eq!(symbols.get(symbol.index).map(|it| it.name()), Some(symbol.name()));
         if let Some(name) = seen.item(symbol.name()) {
             seen.touch(name);
         }
@@ -130,8 +131,11 @@ fn read_symbols(symbols: Option<Symbols>, seen: &mut Seen) {
 /// Reads the bytes as a COFF object and as a TE image, whatever they are.
 pub fn read_others(bytes: &[u8], seen: &mut Seen) {
     if let Some(object) = seen.item(Coff::parse(bytes)) {
-        for section in object.sections().iter().take(seen.most) {
-            if let Some(name) = seen.keep(object.long_section_name(section)) {
+        let names = object.long_section_names();
+        for (i, section) in object.sections().iter().enumerate().take(seen.most) {
+            let alone = object.long_section_name(section);
+            assert_eq!(names.as_ref().map(|it| it[i]), alone.as_ref().copied());
+            if let Some(name) = seen.keep(alone) {
                 seen.touch(name);
             }
         }
