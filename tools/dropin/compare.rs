@@ -48,7 +48,11 @@ macro_rules! reader {
             pub fn parse(bytes: &[u8], is_permissive: bool) -> Result<PE<'_>, String> {
                 let mode = if is_permissive { options::ParseMode::Permissive } else { options::ParseMode::Strict };
                 let opts = options::ParseOptions::default().with_parse_mode(mode);
-                PE::parse_with_opts(bytes, &opts).map_err(shown)
+                PE::parse_with_opts(bytes, &opts).map_err(|why| {
+                    let others = options::ParseOptions { parse_resources: false, ..opts };
+                    let is_of_resources = PE::parse_with_opts(bytes, &others).is_ok();
+                    shown(why) + if is_of_resources { " of resources" } else { "" }
+                })
             }
 
             pub fn facts(pe: &PE<'_>, bytes: &[u8]) -> Facts {
@@ -185,13 +189,14 @@ reader!(ours, dropin);
 reader!(theirs, new);
 
 /// What 0.2.1 has of an image: its own code for headers, sections, exports and imports.
+#[cfg(feature = "old")]
 macro_rules! old_reader {
-    ($name:ident, $goblin:ident, $offset:expr, $directories:expr) => {
+    ($name:ident, $goblin:ident, $prepare:expr, $offset:expr, $directories:expr) => {
         mod $name {
             use super::*;
 
             pub fn facts(bytes: &[u8]) -> Result<Facts, String> {
-                let pe = $goblin::pe::PE::parse(bytes).map_err(shown)?;
+                let pe = $prepare($goblin::pe::PE::parse(bytes).map_err(shown)?);
                 let mut facts = Facts::new();
                 let dos = pe.header.dos_header;
                 facts.push(("dos header", shown((dos.signature, dos.pe_pointer))));
@@ -228,9 +233,36 @@ macro_rules! old_reader {
     };
 }
 
-old_reader!(ours_old, dropin, |it: Option<usize>| it, |it| it.map(|it| it.1));
-old_reader!(theirs_old, old, |it: usize| Some(it), |it| it);
+#[cfg(feature = "old")]
+old_reader!(ours_old, dropin, |pe| pe, |it: Option<usize>| it, |it| it.map(|it| it.1));
+#[cfg(feature = "old")]
+old_reader!(theirs_old, old, as_mapped, |it: usize| Some(it), |it| it);
 
+/// An image without the exports, and without the name, whose RVAs the section map of 0.10.7 does not have, which is the crate's: 0.2.1
+/// also maps what follows the raw data of a section, up to the next page.
+#[cfg(feature = "old")]
+fn as_mapped(mut pe: old::pe::PE<'_>) -> old::pe::PE<'_> {
+    let sections = pe.sections.iter().map(|it| dropin::pe::section_table::SectionTable {
+        virtual_size: it.virtual_size,
+        virtual_address: it.virtual_address,
+        size_of_raw_data: it.size_of_raw_data,
+        pointer_to_raw_data: it.pointer_to_raw_data,
+        ..Default::default()
+    });
+    let sections: Vec<_> = sections.collect();
+    let alignment = pe.header.optional_header.map_or(0, |it| it.windows_fields.file_alignment);
+    let opts = dropin::pe::options::ParseOptions::default();
+    let is_mapped = |rva| dropin::pe::utils::find_offset(rva, &sections, alignment, &opts).is_some();
+    pe.exports.retain(|it| is_mapped(it.rva));
+    if let Some(data) = &mut pe.export_data {
+        if !is_mapped(data.export_directory_table.name_rva as usize) {
+            (data.name, pe.name) = (None, None);
+        }
+    }
+    pe
+}
+
+#[cfg(feature = "old")]
 fn new_symbols(coff: &dropin::pe::Coff<'_>, facts: &mut Facts) {
     let strings = coff.strings.as_ref();
     for (index, name, symbol) in coff.symbols.iter().flat_map(|it| it.iter()) {
@@ -239,6 +271,7 @@ fn new_symbols(coff: &dropin::pe::Coff<'_>, facts: &mut Facts) {
     }
 }
 
+#[cfg(feature = "old")]
 fn old_symbols(coff: &old::pe::Coff<'_>, facts: &mut Facts) {
     for (index, name, symbol) in coff.symbols.iter() {
         let long = symbol.name(&coff.strings).ok().map(str::to_owned);
@@ -293,10 +326,12 @@ fn try_new(bytes: &[u8], is_permissive: bool) {
     compare_all(ours.map(|pe| ours::facts(&pe, bytes)), theirs, kind);
 }
 
+#[cfg(feature = "old")]
 fn try_old(bytes: &[u8]) {
     compare_all(ours_old::facts(bytes), guarded(|| theirs_old::facts(bytes)), "old");
 }
 
+#[cfg(feature = "old")]
 fn try_coff(bytes: &[u8]) {
     let ours = ours_old::coff(bytes).map(|(mut facts, coff)| {
         new_symbols(&coff, &mut facts);
@@ -318,7 +353,9 @@ fn main() {
         match words[1].as_str() {
             #[cfg(feature = "new")]
             "new" => [false, true].into_iter().for_each(|it| try_new(&bytes, it)),
+            #[cfg(feature = "old")]
             "old" => try_old(&bytes),
+            #[cfg(feature = "old")]
             "coff" => try_coff(&bytes),
             #[cfg(feature = "new")]
             "te" => compare_all(ours::te(&bytes), guarded(|| theirs::te(&bytes)), "te"),

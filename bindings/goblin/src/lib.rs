@@ -18,8 +18,8 @@
 //! | [`error`] | [`error::Error`] |
 //! | `elf`, `mach`, `archive`, `Object` | goblin's own, with the feature `rest` |
 //!
-//! - No input makes a call panic or loop for ever, but where goblin's own interface says so: `Strtab`'s index, and an iterator
-//!   over a scope table that a caller made of other bytes.
+//! - No input makes a call panic or loop for ever, but where an interface has no error: `Strtab`'s index, and scroll's `IntoCtx`
+//!   into a buffer that is too short. They panic, as in goblin.
 //! - A list is reserved before it is filled: out of memory is `Error::IO` with the kind `OutOfMemory`. An image with more
 //!   imports or longer names than [`pe::options::Limits`] allows is an error.
 //!

@@ -18,7 +18,7 @@ pub(crate) use plain::*;
 use crate::error;
 use crate::pe::data_directories::DataDirectory;
 use crate::pe::debug::ImageDebugDirectory;
-use crate::pe::options::{ParseMode, ParseOptions};
+use crate::pe::options::{Left, ParseMode, ParseOptions};
 use crate::pe::section_table::SectionTable;
 use core::mem::{align_of, offset_of, size_of, MaybeUninit};
 use pe_c::sys::{self, ImageInfo, Range, Section};
@@ -38,6 +38,8 @@ impl Refusal {
     pub const CERTIFICATE_SIZE: Refusal = Refusal(pe_c::Error::CERTIFICATE_SIZE.number());
     pub const CERTIFICATE_REVISION: Refusal = Refusal(pe_c::Error::CERTIFICATE_REVISION.number());
     pub const CERTIFICATE_TYPE: Refusal = Refusal(pe_c::Error::CERTIFICATE_TYPE.number());
+    pub const UNWIND_VERSION: Refusal = Refusal(pe_c::Error::UNWIND_VERSION.number());
+    pub const UNWIND_CODE: Refusal = Refusal(pe_c::Error::UNWIND_CODE.number());
     pub const DEBUG_SIZE: Refusal = Refusal(pe_c::Error::DEBUG_SIZE.number());
     pub const POGO_SIZE: Refusal = Refusal(pe_c::Error::POGO_SIZE.number());
     pub const DEBUG_DATA: Refusal = Refusal(pe_c::Error::DEBUG_DATA.number());
@@ -94,8 +96,8 @@ pub(crate) fn text(bytes: &[u8], range: Range) -> error::Result<&str> {
     let name = slice(bytes, range)?;
     debug_assert!(core::str::from_utf8(name).is_ok(), "a name that a call returned is not UTF-8");
     // SAFETY: all who call this pass a name that a call returned, which is UTF-8 by the contract of that call: of a DLL and of
-    // forwarders by pe_c_export_addresses and pe_c_export_at, of exports, libraries and imports by their lists, of sections by
-    // pe_c_long_section_name, and of symbols by pe_c_symbol_name. To test it again cost a seventh of `PE::parse`.
+    // forwarders by pe_c_export_addresses and pe_c_export_at, of exports, libraries, imports and sections by their lists, and of symbols
+    // by pe_c_symbol_name. To test it again cost a seventh of `PE::parse`.
     Ok(unsafe { core::str::from_utf8_unchecked(name) })
 }
 
@@ -111,12 +113,19 @@ pub(crate) fn text_up_to_zero(bytes: &[u8], at: usize) -> error::Result<&str> {
     core::str::from_utf8(text).map_err(|_| not_utf8(text))
 }
 
-/// The NUL-terminated text at an offset that a caller names.
-pub(crate) fn text_at(bytes: &[u8], at: usize) -> Option<&str> {
-    match up_to_zero(bytes, at) {
-        Ok((text, true)) => core::str::from_utf8(text).ok(),
-        _ => None,
-    }
+/// The text at an offset that a caller names, up to a zero or the end: how many bytes it has, and the text where it is UTF-8. `None`
+/// past the end.
+pub(crate) fn text_and_length(bytes: &[u8], at: usize) -> Option<(usize, Option<&str>)> {
+    let (text, _) = up_to_zero(bytes, at).ok()?;
+    Some((text.len(), core::str::from_utf8(text).ok()))
+}
+
+/// The text at an offset that a caller names, up to a zero or the end, and whether a zero follows it; `None` past the end and where
+/// it is not UTF-8. Its bytes are taken from how many are left.
+pub(crate) fn text_within<'a>(bytes: &'a [u8], at: usize, names: &mut Left) -> error::Result<Option<(&'a str, bool)>> {
+    let Ok((text, is_terminated)) = up_to_zero(bytes, at) else { return Ok(None) };
+    names.take(text.len())?;
+    Ok(core::str::from_utf8(text).ok().map(|it| (it, is_terminated)))
 }
 
 fn not_utf8(text: &[u8]) -> error::Error {
@@ -172,9 +181,10 @@ pub(crate) fn room<T, const COUNT: usize>() -> [MaybeUninit<T>; COUNT] {
 /// A call has written them.
 #[inline(always)]
 unsafe fn written<T>(room: &Room<T>, count: usize) -> &[T] {
-    let items = room.get(..count).unwrap_or_default();
-    // SAFETY: of each of them the caller says that it was written, and a number that may not be there is laid out as the number.
-    unsafe { &*(core::ptr::from_ref(items) as *const [T]) }
+    debug_assert!(count <= room.len(), "a call has written past its room");
+    // SAFETY: by its contract a call writes no more items than there is room for. Of each of them the caller says that it was written,
+    // and a number that may not be there is laid out as the number.
+    unsafe { &*(core::ptr::from_ref(room.get_unchecked(..count)) as *const [T]) }
 }
 
 /// A walk that takes several items a call: they are those of its steps, one after the other. It is over after its end and after
@@ -239,9 +249,10 @@ impl<W, T: Copy, const ROOM: usize> Batch<W, T, ROOM> {
             return Ok(&[]);
         }
         self.is_over = true;
+        let room = self.items.as_ptr();
         let found = call(&mut self.walk, &mut self.items)?;
-        // What a call returns starts at the start of its room.
-        self.end = found.len();
+        // What a call returns starts at the start of its room: nothing else counts as written.
+        self.end = if core::ptr::eq(found.as_ptr(), room.cast()) { found.len() } else { 0 };
         self.is_over = found.is_empty();
         Ok(found)
     }
@@ -292,8 +303,8 @@ impl<T: Copy> Few<T> {
 }
 
 /// A number in fewer bits, which a call returns in more.
-pub(crate) fn narrow<T, U: TryFrom<T>>(value: T) -> error::Result<U> {
-    U::try_from(value).map_err(|_| error::Error::Malformed("number has too many bits".to_owned()))
+pub(crate) fn narrow<T: Copy + core::fmt::LowerHex, U: TryFrom<T>>(value: T) -> error::Result<U> {
+    U::try_from(value).map_err(|_| error::Error::Malformed(format!("number {value:#x} has too many bits")))
 }
 
 /// The error of a buffer that a write does not fit.
@@ -393,20 +404,17 @@ pub(crate) fn section_of(it: &SectionTable) -> &Section {
 #[inline(always)]
 pub(crate) fn first_around(sections: &[SectionTable], rva: u32) -> Option<&Section> {
     let may_cover = |it: &&SectionTable| rva.wrapping_sub(it.virtual_address) & !0xfff < it.size_of_raw_data;
-    // Of most images it is among the first four or eight, which are tested without counting: much of a record's time is this.
+    // Of most images it is among the first eight, which are tested without counting: much of a record's time is this.
     let (mut rest, mut found) = (sections, None);
-    if let Some((four, more)) = first_four(rest) {
-        (rest, found) = (more, four.iter().find(may_cover));
-        if let (None, Some((four, more))) = (found, first_four(rest)) {
-            (rest, found) = (more, four.iter().find(may_cover));
-        }
+    if let Some((eight, more)) = first_eight(rest) {
+        (rest, found) = (more, eight.iter().find(may_cover));
     }
     found.or_else(|| rest.iter().find(may_cover)).map(section_of)
 }
 
 #[inline(always)]
-fn first_four(sections: &[SectionTable]) -> Option<(&[SectionTable; 4], &[SectionTable])> {
-    Some((sections.get(..4)?.try_into().ok()?, sections.get(4..)?))
+fn first_eight(sections: &[SectionTable]) -> Option<(&[SectionTable; 8], &[SectionTable])> {
+    Some((sections.get(..8)?.try_into().ok()?, sections.get(8..)?))
 }
 
 pub(crate) fn mode_of(opts: &ParseOptions) -> u32 {
@@ -610,7 +618,6 @@ calls_of_bytes! {
     coff_strings: pe_c_coff_strings(header: &sys::CoffHeader) -> Range;
     symbol_at: pe_c_symbol(table: &Range, index: u64) -> sys::SymbolEntry;
     symbol_name: pe_c_symbol_name(table: &Range, strings: &Range, index: u64) -> Range;
-    long_section_name: pe_c_long_section_name(table: &Range, section: &Section) -> Range;
     rich_header: pe_c_rich_header() -> sys::RichHeader;
     next_rich_entry: pe_c_next_rich_entry(key: u32, walk: &mut Range) -> sys::RichEntry;
     next_debug_entry: pe_c_next_debug_entry(walk: &mut Range) -> sys::DebugEntry;
@@ -622,6 +629,8 @@ calls_of_bytes! {
     pogo_of: pe_c_pogo_of(mode: u32, entry: &sys::DebugEntry) -> sys::Pogo;
     next_pogo_entry: pe_c_next_pogo_entry(walk: &mut Range) -> sys::PogoEntry;
     next_certificate: pe_c_next_certificate(walk: &mut Range) -> sys::Certificate;
+    certificate_failure: pe_c_certificate_failure(walk: &Range) -> sys::Failure;
+    code_failure: pe_c_code_failure(walk: &sys::Walk) -> sys::Failure;
     function_at: pe_c_function_at(table: &Range, index: u64) -> sys::Function;
     scope_table: pe_c_scope_table(handler_data: &Range) -> Range;
     next_scope: pe_c_next_scope(walk: &mut Range) -> sys::Scope;
@@ -632,6 +641,7 @@ calls_of_bytes! {
     fixed_version_in: pe_c_fixed_version_in(content: &Range) -> sys::Version;
     version_text_in: pe_c_version_text_in(content: &Range, name: u32) -> Range;
     next_relocation_block: pe_c_next_relocation_block(walk: &mut Range) -> sys::RelocationBlock;
+    relocation_block_failure: pe_c_relocation_block_failure(walk: &Range) -> sys::Failure;
     text_in: pe_c_text_in(range: &Range) -> sys::TextInBytes;
 }
 
@@ -649,6 +659,25 @@ pub(crate) fn find_function<'r>(
         // SAFETY: a call that is done has written the function.
         sys::DONE => Ok(Some(unsafe { room.assume_init_ref() })),
         number => returned(number, ()).map(|_| None),
+    }
+}
+
+/// The codes in these bytes, which go to this room, and why there are no more, if one is refused or the room is full.
+#[inline(always)]
+pub(crate) fn all_codes<'r>(
+    codes: &[u8],
+    version: u32,
+    frame_register: u32,
+    room: &'r mut Room<sys::Code>,
+) -> (&'r [sys::Code], Result<(), Refusal>) {
+    let (to, length, mut count) = (room.as_mut_ptr().cast(), room.len(), MaybeUninit::uninit());
+    // SAFETY: each pointer and the length after it are those of one slice or array; the count is lent for the call, and the library
+    // requires nothing else. The call writes the count, after an error too, and so many codes.
+    unsafe {
+        let number =
+            sys::pe_c_all_codes(codes.as_ptr(), codes.len(), version, frame_register, to, length, count.as_mut_ptr());
+        let end = if number == sys::DONE { Ok(()) } else { Err(Refusal(number)) };
+        (written(room, count.assume_init() as usize), end)
     }
 }
 
@@ -721,15 +750,7 @@ lists_of_names! {
 }
 
 impl View<'_, '_> {
-    /// The same of imports of one library, each name by itself.
-    fn list_imports(&self, walk: &mut sys::Imports, room: &mut [sys::Import]) -> Result<usize, Refusal> {
-        let (view, mut written) = (self.lent(), 0);
-        // SAFETY: as above.
-        let number = unsafe { sys::pe_c_list_imports(&view, walk, room.as_mut_ptr(), room.len(), &mut written) };
-        Ok(returned(number, written)?.unwrap_or(0) as usize)
-    }
-
-    /// The same of imports of all libraries, whose names are read together.
+    /// The same of imports with their libraries, whose names are read together as far as there are runs for them.
     fn list_all_imports(
         &self,
         walk: &mut sys::LibraryImports,
@@ -743,6 +764,23 @@ impl View<'_, '_> {
             sys::pe_c_list_all_imports_together(&view, walk, runs, more, items, count, &mut written)
         };
         Ok(returned(number, written)?.unwrap_or(0) as usize)
+    }
+
+    /// The names in the string table of all sections, which are read together; one at 0 where a section has none.
+    pub fn long_section_names(&self, table: &Range) -> error::Result<Vec<Range>> {
+        let count = self.sections.len();
+        let (mut names, mut runs, mut next, mut written) = (Vec::new(), Vec::new(), 0, 0);
+        resize(&mut names, count)?;
+        resize(&mut runs, count)?;
+        let (view, room, items) = (self.lent(), runs.as_mut_ptr(), names.as_mut_ptr());
+        // SAFETY: the view is of what is borrowed for the call; each pointer and the length after it are those of one array; the table
+        // and the numbers are lent for it, and the library requires nothing else.
+        let number = unsafe {
+            sys::pe_c_list_long_section_names(&view, table, &mut next, room, count, items, count, &mut written)
+        };
+        returned(number, ())?;
+        names.truncate(written as usize);
+        Ok(names)
     }
 }
 
@@ -767,6 +805,9 @@ calls_of_an_image! {
     string_table: pe_c_string_table() -> Range;
     digest_ranges: pe_c_digest_ranges() -> sys::Digest;
     directory_failure: pe_c_directory_failure(index: u32) -> sys::Failure;
+    library_failure: pe_c_library_failure(walk: &sys::Libraries) -> sys::Failure;
+    import_failure: pe_c_import_failure(walk: &sys::Imports) -> sys::Failure;
+    unwind_record_failure: pe_c_unwind_record_failure(table: &Range, unwind: u32) -> sys::Failure;
     debug_entries: pe_c_debug_entries() -> Range;
     function_table: pe_c_function_table() -> Range;
     arm64_table: pe_c_arm64_table() -> Range;
@@ -803,12 +844,12 @@ impl View<'_, '_> {
     }
 }
 
-/// How many bytes the certificate needs that is first in a walk: it is the table of an image that has no other. 0 past 4 GB, where
-/// no directory leads.
-pub(crate) fn needed_by_certificate(bytes: &[u8], walk: Range) -> u64 {
-    let (Ok(virtual_address), Ok(size)) = (u32::try_from(walk.offset), u32::try_from(walk.length)) else { return 0 };
-    let directory = DataDirectory { virtual_address, size };
-    let info = image_with(Index::Certificate, directory, 0, &ParseOptions::default());
-    let failure = View::of(bytes, &info, &[]).directory_failure(Index::Certificate as u32);
-    failure.ok().flatten().map_or(0, |it| it.needed)
+/// The error of an item that a call refused, by what the library says of its failure: the text with its numbers, where there is one.
+/// An error of another kind, as out of memory, is none that a call refused.
+#[cold]
+pub(crate) fn with_numbers(error: error::Error, failure: Result<Option<sys::Failure>, Refusal>) -> error::Error {
+    match failure {
+        Ok(Some(it)) => error::Error::Malformed(pe_c::Failure::from(it).to_string()),
+        _ => error,
+    }
 }

@@ -70,6 +70,11 @@ impl<'a> Strtab<'a> {
         }
         Ok(texts)
     }
+
+    /// Of a table whose texts a zero ends how many bytes the text at an offset has, and the text where it is UTF-8.
+    pub(crate) fn text_and_length(&self, offset: usize) -> Option<(usize, Option<&'a str>)> {
+        raw::text_and_length(self.bytes, offset)
+    }
 }
 
 impl fmt::Debug for Strtab<'_> {

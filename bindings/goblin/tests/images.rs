@@ -2,16 +2,18 @@
 //! reader of goblin's has.
 
 use goblin::error::Error;
+use goblin::pe::certificate_table::{AttributeCertificate, AttributeCertificateRevision, AttributeCertificateType};
 use goblin::pe::data_directories::DataDirectory;
 use goblin::pe::exception::{
     ExceptionData, Register, RuntimeFunctionIterator, UnwindCode, UnwindInfo, UnwindOperation,
 };
-use goblin::pe::export::ExportData;
+use goblin::pe::export::{Export, ExportAddressTableEntry, ExportData, Reexport};
 use goblin::pe::header::{Header, COFF_MACHINE_X86_64, PE_MAGIC};
 use goblin::pe::import::{Import, ImportData};
 use goblin::pe::load_config::LoadConfigData;
 use goblin::pe::options::{Limits, ParseMode, ParseOptions};
 use goblin::pe::relocation::RelocationData;
+use goblin::pe::resource::{ResourceEntry, ResourceString, IMAGE_RESOURCE_DATA_IS_DIRECTORY};
 use goblin::pe::section_table::SectionTable;
 use goblin::pe::utils::find_offset;
 use goblin::pe::{Coff, PE};
@@ -112,6 +114,44 @@ fn errors_of_certificates_have_goblins_texts() {
     assert_eq!(error_of(&[8, 0, 0, 0, 0, 2, 9, 0]), r#"Malformed("Invalid attribute certificate type")"#);
 }
 
+/// goblin's texts of what is wrong with unwind records and codes.
+#[test]
+fn errors_of_unwind_codes_have_goblins_texts() {
+    let version = UnwindInfo::parse(&[3, 0, 0, 0], 0).expect_err("a record of version 3");
+    assert_eq!(version.to_string(), "Malformed entity: unsupported unwind code version (3)");
+    for (code, text) in [
+        (0x2b, "unknown unwind op code (11)"),
+        (0x21, "invalid op info (2) for UWOP_ALLOC_LARGE"),
+        (0x3a, "invalid op info (3) for UWOP_PUSH_MACHFRAME"),
+        (0x01, "truncated"),
+    ] {
+        // A code that is read, and this one.
+        let bytes = [1, 4, 2, 0, 4, 0x50, 2, code];
+        let info = UnwindInfo::parse(&bytes, 0).unwrap();
+        let said = info.unwind_codes().last().unwrap().expect_err("a code that is refused").to_string();
+        assert_eq!(said, format!("Malformed entity: {text}"));
+        let folded = info.unwind_codes().fold(String::new(), |all, it| it.err().map_or(all, |it| it.to_string()));
+        assert_eq!(folded, said);
+    }
+}
+
+/// The library's texts, with their numbers, of a block of base relocations whose size is odd, or more than the directory has.
+#[test]
+fn errors_of_relocation_blocks_have_their_numbers() {
+    for (size, text) in [
+        (9_u8, "base relocation block of 9 bytes: the size is below 8 or odd"),
+        (12, "base relocation block truncated: 12 bytes needed, 8 left"),
+    ] {
+        let mut bytes = with_directory(5, 0x11e0, 16, &[]);
+        // The block before it has no relocations.
+        bytes[0x3e0..0x3f0].copy_from_slice(&[0, 0x10, 0, 0, 8, 0, 0, 0, 0, 0x20, 0, 0, size, 0, 0, 0]);
+        let pe = PE::parse(&bytes).unwrap();
+        let mut blocks = pe.relocation_data.as_ref().unwrap().blocks();
+        assert!(blocks.next().unwrap().is_ok());
+        assert_eq!(blocks.next().unwrap().expect_err("a block").to_string(), format!("Malformed entity: {text}"));
+    }
+}
+
 /// Two sections, of which the first has data where the second starts, but is too short in memory to cover it.
 #[test]
 fn an_rva_is_mapped_by_the_first_section_that_covers_it() {
@@ -168,7 +208,7 @@ fn more_imports_than_the_limit_are_an_error() {
     let opts = ParseOptions { resolve_rva: false, ..Default::default() };
     let directory = DataDirectory { virtual_address: 20, size: 20 };
     let found = ImportData::parse_with_opts::<u64>(&bytes, directory, &[], 0, &opts);
-    let text = r#"Malformed("image has more imports than the limit")"#;
+    let text = r#"Malformed("image has more imports than the limit of 1048576")"#;
     assert_eq!(format!("{:?}", found.expect_err("some 800 lists of 2,000 imports")), text);
     let limits = Limits { imports: 0, ..Limits::default() };
     assert!(PE::parse_with_limits(IMAGE, &ParseOptions::default(), &limits).is_ok());
@@ -209,8 +249,8 @@ fn longer_names_than_the_limit_are_an_error() {
         let pe = of(2 * bytes).unwrap();
         assert!(pe.exports.is_empty() && pe.export_data.unwrap().export_address_table.len() == count);
         for names in [0, bytes - 1, bytes, 2 * bytes - 1] {
-            let text = r#"Malformed("image has longer names than the limit")"#;
-            assert_eq!(format!("{:?}", of(names).expect_err("names above the limit")), text);
+            let text = format!("Malformed entity: image has longer names than the limit of {names}");
+            assert_eq!(of(names).expect_err("names above the limit").to_string(), text);
         }
     }
 }
@@ -229,8 +269,8 @@ fn the_error_of_a_library_is_before_that_of_an_import() {
         ImportData::parse_with_opts::<u64>(&bytes, directory, &[], 0, &opts).expect_err("damage").to_string()
     };
     let [import, library] = [of(0x4080, b""), of(0x4090, b"\xff\0")];
-    assert_eq!(import, "Malformed entity: truncated");
-    assert_eq!(library, "Malformed entity: import name not NUL-terminated or not UTF-8");
+    assert!(import.starts_with("Malformed entity: truncated: 2 bytes needed at offset 0x"), "{import}");
+    assert!(library.starts_with("Malformed entity: import name at RVA 0x"), "{library}");
 }
 
 /// Names that are longer in sum than the image are those of names read one by one.
@@ -318,6 +358,69 @@ fn section_names_longer_than_the_file_are_an_error() {
     }
     let error = Coff::parse(&bytes).expect_err("400,000 bytes of names in a file of 8,000");
     assert_eq!(error.to_string(), "Malformed entity: section names are longer than the file");
+    // So is as much of it that is read and is no text; where it is less a section has no such name.
+    bytes[at + 4 + length - 1] = 0xff;
+    let error = Coff::parse(&bytes).expect_err("400,000 bytes of no names");
+    assert_eq!(error.to_string(), "Malformed entity: section names are longer than the file");
+    for section in 2..count {
+        bytes[20 + 40 * section..][..2].fill(0);
+    }
+    assert_eq!(Coff::parse(&bytes).unwrap().sections[1].real_name, None);
+}
+
+/// An image with so many sections, each without bytes, and a string table, which has one symbol before it.
+fn with_sections_named(names: &[String], strings: &[u8]) -> Vec<u8> {
+    let mut image = IMAGE[..directory_offset(16)].to_vec();
+    image[directory_offset(0)..].fill(0);
+    for name in names {
+        image.extend(name.as_bytes());
+        image.resize(image.len() + 40 - name.len(), 0);
+    }
+    let symbols = image.len();
+    image.resize(symbols + 18, 0);
+    image.extend((4 + strings.len() as u32).to_le_bytes());
+    image.extend(strings);
+    let at = pe_offset();
+    image.pwrite_with(names.len() as u16, at + 6, scroll::LE).unwrap();
+    for (field, number) in [(12, symbols), (16, 1)] {
+        image.pwrite_with(number as u32, at + field, scroll::LE).unwrap();
+    }
+    image
+}
+
+/// Half of the sections have names that reach a byte which is no text, and cost more than the image has bytes; the others end at the
+/// end of that text.
+#[test]
+fn long_names_of_many_sections_are_found() {
+    let (count, length) = (300, 2_000);
+    let offset = |i: usize| if i % 2 == 0 { i } else { length - 1 - i % 20 };
+    let names: Vec<_> = (0..count).map(|i| format!("/{}", 4 + offset(i))).collect();
+    let mut strings = vec![b'a'; length + 1];
+    (strings[1_000], strings[length]) = (0xff, 0);
+    let image = with_sections_named(&names, &strings);
+    let pe = PE::parse(&image).unwrap();
+    let found: Vec<_> = pe.sections.iter().map(|it| it.real_name.as_ref().map(String::len)).collect();
+    assert_eq!(found, (0..count).map(|i| (i % 2 == 1).then_some(1 + i % 20)).collect::<Vec<_>>());
+}
+
+/// The same long name of each section: each by itself 65,535 names of 4 MB that are no text take minutes.
+#[test]
+fn section_names_of_an_image_in_one_text_are_read_in_time() {
+    let with_one_name = |count: usize, length: usize, last: u8| {
+        let mut strings = vec![b'a'; length + 1];
+        (strings[length - 1], strings[length]) = (last, 0);
+        with_sections_named(&vec!["/4".to_owned(); count], &strings)
+    };
+    let image = with_one_name(3, 100, b'z');
+    let pe = PE::parse(&image).unwrap();
+    assert!(pe.sections.len() == 3 && pe.sections.iter().all(|it| it.name().unwrap().len() == 100));
+    let image = with_one_name(65_535, 4_000_000, 0xff);
+    let start = std::time::Instant::now();
+    let pe = PE::parse(&image).unwrap();
+    assert!(pe.sections.len() == 65_535 && pe.sections.iter().all(|it| it.real_name.is_none()));
+    assert!(start.elapsed() < std::time::Duration::from_secs(20), "{:?}", start.elapsed());
+    let error = PE::parse(&with_one_name(3, 10_000, b'z')).expect_err("30,000 bytes of names").to_string();
+    assert_eq!(error, "Malformed entity: section names are longer than the file");
 }
 
 #[test]
@@ -345,6 +448,64 @@ fn a_write_that_does_not_fit_changes_nothing() {
     let error = copy.pwrite_with(pe, 0, scroll::LE).expect_err("two sections with the same bytes");
     assert!(error.to_string().contains("Overlapping"), "{error}");
     assert!(copy.iter().all(|it| *it == 0xcc));
+}
+
+/// The image with a certificate of so many bytes of body, alone, where the file ends.
+fn with_certificate(body: &[u8]) -> PE<'_> {
+    let mut pe = PE::parse(IMAGE).unwrap();
+    let length = 8 + body.len() as u32;
+    let entry = DataDirectory { virtual_address: IMAGE.len() as u32, size: length.next_multiple_of(8) };
+    pe.header.optional_header.as_mut().unwrap().data_directories.data_directories[4] = Some((0, entry));
+    pe.certificates = vec![AttributeCertificate {
+        length,
+        revision: AttributeCertificateRevision::Revision2_0,
+        certificate_type: AttributeCertificateType::PkcsSignedData,
+        certificate: body,
+    }];
+    pe
+}
+
+#[test]
+fn certificates_and_empty_sections_may_end_the_buffer() {
+    for count in [0, 1, 7, 8, 16] {
+        let body = vec![0xab; count];
+        let mut pe = with_certificate(&body);
+        let end = IMAGE.len() + (8 + count).next_multiple_of(8);
+        pe.sections.push(SectionTable { pointer_to_raw_data: end as u32, ..Default::default() });
+        let mut copy = vec![0xcc; end];
+        assert_eq!(copy.pwrite_with(pe, 0, scroll::LE).unwrap(), end);
+        assert_eq!(copy[IMAGE.len() + 8..][..count], body);
+        assert!(copy[IMAGE.len() + 8 + count..].iter().all(|it| *it == 0));
+    }
+}
+
+/// The error of a write of the image with changed values, which leaves the buffer as it is.
+fn unwritten(change: impl FnOnce(&mut PE<'_>)) -> String {
+    let mut pe = PE::parse(IMAGE).unwrap();
+    change(&mut pe);
+    let mut copy = vec![0xcc; IMAGE.len()];
+    let error = copy.pwrite_with(pe, 0, scroll::LE).expect_err("values that do not fit");
+    assert!(copy.iter().all(|it| *it == 0xcc), "{error}");
+    error.to_string()
+}
+
+#[test]
+fn a_write_of_changed_values_that_does_not_fit_changes_nothing() {
+    const STUB: &[u8] = &[7; IMAGE.len()];
+    let error = unwritten(|pe| pe.header.dos_stub.data = STUB);
+    assert_eq!(error, format!("Buffer is too short for {} bytes", IMAGE.len() + 64));
+    let error = unwritten(|pe| {
+        let header = pe.header.optional_header.as_mut().unwrap();
+        header.standard_fields.magic = 0x10b;
+        header.windows_fields.image_base = 1 << 40;
+    });
+    assert_eq!(error, "Malformed entity: 0x10000000000 does not fit PE32");
+    let (pe, mut copy) = (PE::parse(IMAGE).unwrap(), vec![0xcc; IMAGE.len()]);
+    for (offset, alignment) in [(usize::MAX, 512), (usize::MAX - 39, 512), (0, usize::MAX), (IMAGE.len() - 39, 1)] {
+        let error = pe.write_sections(&mut copy, &mut { offset }, Some(alignment), scroll::LE).expect_err("no room");
+        assert!(error.to_string().contains("Buffer is too short for"), "{error}");
+        assert!(copy.iter().all(|it| *it == 0xcc));
+    }
 }
 
 #[test]
@@ -415,6 +576,79 @@ fn forwarders_in_one_text_without_an_end_are_read_in_time() {
     let data = ExportData::parse_with_opts(&bytes, place, &[], 0x200, &as_loaded()).unwrap();
     assert_eq!(data.export_address_table.len(), 65_536);
     assert!(start.elapsed().as_secs() < 10, "{:?}", start.elapsed());
+}
+
+#[test]
+fn exports_of_tables_that_a_caller_has_are_under_the_limit() {
+    // 65,536 names, each a megabyte without an end: 64 GiB of bytes, were all of them read.
+    let (count, bytes) = (1 << 16, vec![b'a'; 1 << 20]);
+    let data = ExportData {
+        export_name_pointer_table: vec![0; count],
+        export_ordinal_table: vec![0; count],
+        export_address_table: vec![ExportAddressTableEntry::ExportRVA(1)],
+        ..Default::default()
+    };
+    let error = Export::parse_with_opts(&bytes, &data, &[], 0x200, &as_loaded()).expect_err("64 GiB of names");
+    assert_eq!(error.to_string(), "Malformed entity: image has longer names than the limit of 67108864");
+    let bytes = made(0x20, &[(1, b"a\0b.c\0")]);
+    let [name, of_no_dot, forwarder] = [1, 1, 3];
+    let data = ExportData {
+        export_name_pointer_table: vec![name, name, name, 0x40],
+        export_ordinal_table: vec![0, 1, 2, 0],
+        export_address_table: vec![
+            ExportAddressTableEntry::ExportRVA(7),
+            ExportAddressTableEntry::ForwarderRVA(of_no_dot),
+            ExportAddressTableEntry::ForwarderRVA(forwarder),
+        ],
+        ..Default::default()
+    };
+    let found = Export::parse_with_opts(&bytes, &data, &[], 0x200, &as_loaded()).unwrap();
+    let found: Vec<_> = found.iter().map(|it| (it.name, it.rva, it.reexport)).collect();
+    let reexport = Reexport::DLLName { export: "c", lib: "b" };
+    assert_eq!(found, [(Some("a"), 7, None), (Some("a"), 3, Some(reexport))]);
+}
+
+/// A directory at each offset of a list, whose one entry leads to the offset beside it.
+fn with_directories(links: &[(u32, u32)]) -> Vec<u8> {
+    let mut tree = vec![0; 0x200];
+    for (from, to) in links {
+        tree.pwrite_with(1_u16, *from as usize + 14, scroll::LE).unwrap();
+        tree.pwrite_with(IMAGE_RESOURCE_DATA_IS_DIRECTORY | to, *from as usize + 20, scroll::LE).unwrap();
+    }
+    tree
+}
+
+#[test]
+fn a_loop_of_resource_directories_is_an_error_with_goblins_offset() {
+    let walk = |tree: &[u8], from: u32| {
+        let entry = ResourceEntry::from(u64::from(IMAGE_RESOURCE_DATA_IS_DIRECTORY | from));
+        entry.recursive_next_depth(tree, |it| it.data_is_directory()).map_err(|it| it.to_string())
+    };
+    // 0x20 .. 0xa0 leads to 0x60; the loop has three directories. goblin names the first that is met again.
+    let tree = with_directories(&[(0x20, 0x40), (0x40, 0x60), (0x60, 0x80), (0x80, 0xa0), (0xa0, 0x60)]);
+    for (from, again) in [(0x20, 0x60), (0x40, 0x60), (0x60, 0x60), (0x80, 0x80), (0xa0, 0xa0)] {
+        let text =
+            format!("Malformed entity: Cycle detected in resource directory at offset {:#x}", 1_u32 << 31 | again);
+        assert_eq!(walk(&tree, from), Err(text));
+    }
+    // A long way without a loop, to a leaf.
+    let links: Vec<_> = (0..15).map(|it| (0x20 * it, 0x20 * it + 0x20)).collect();
+    let mut tree = with_directories(&links);
+    tree.pwrite_with(0x1f0_u32, 0x1d4, scroll::LE).unwrap();
+    let leaf = walk(&tree, 0).unwrap().expect("a leaf after fourteen directories");
+    assert_eq!(leaf.offset_to_data(), Some(0x1f0));
+}
+
+#[test]
+fn a_version_string_whose_value_has_no_bytes_may_end_them() {
+    // Its length, no value, of type 1, the key "a", and zeros up to a multiple of four.
+    let string = [12, 0, 0, 0, 1, 0, b'a', 0, 0, 0, 0, 0];
+    let mut offset = 0;
+    let found = ResourceString::parse(&string, &mut offset).unwrap().expect("a string");
+    assert_eq!((found.key_string().as_deref(), found.value, offset), (Some("a"), &[][..], 12));
+    // Without the zeros the value would start past the end.
+    let mut offset = 0;
+    assert!(ResourceString::parse(&string[..10], &mut offset).is_err() && offset == 0);
 }
 
 #[test]

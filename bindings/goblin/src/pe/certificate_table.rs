@@ -1,7 +1,7 @@
 //! The attribute certificate table: the signatures of an image, as a rule after all else in the file.
 //! <https://learn.microsoft.com/windows/win32/debug/pe-format#the-attribute-certificate-table-image-only>
 
-use super::utils;
+use super::{utils, write::put};
 use crate::error;
 use crate::raw::{self, Refusal};
 use pe_c::sys::Range;
@@ -115,9 +115,9 @@ impl ctx::TryIntoCtx<scroll::Endian> for &AttributeCertificate<'_> {
         bytes.gwrite_with(self.length, offset, ctx)?;
         bytes.gwrite_with(self.revision as u16, offset, ctx)?;
         bytes.gwrite_with(self.certificate_type as u16, offset, ctx)?;
-        bytes.gwrite(self.certificate, offset)?;
+        put(bytes, self.certificate, offset)?;
         let zeros = [0; ALIGNMENT];
-        bytes.gwrite(&zeros[..utils::padding(*offset, ALIGNMENT)], offset)?;
+        put(bytes, &zeros[..utils::padding(*offset, ALIGNMENT)], offset)?;
         Ok(*offset)
     }
 }
@@ -152,7 +152,8 @@ fn refused(bytes: &[u8], walk: Range, refusal: Refusal) -> error::Error {
             "End of attribute certificates table is after the end of the PE binary".to_owned()
         }
         Refusal::CERTIFICATE_SIZE => {
-            let size = raw::needed_by_certificate(bytes, walk).saturating_sub(HEADER_SIZE as u64);
+            let needed = raw::certificate_failure(bytes, &walk).ok().flatten().map_or(0, |it| it.needed);
+            let size = needed.saturating_sub(HEADER_SIZE as u64);
             format!("Unable to extract certificate. Probably cert_size:{size} is malformed")
         }
         Refusal::CERTIFICATE_REVISION => "Invalid certificate attribute revision".to_owned(),

@@ -90,9 +90,11 @@ impl From<sys::Function> for RuntimeFunction {
     }
 }
 
-/// How many functions or codes an iterator takes a call.
+/// How many ARM64 codes an iterator takes a call.
 const TAKEN: usize = 16;
-const FUNCTIONS_TAKEN: usize = 64;
+/// As many codes as an x64 record may have slots.
+const MOST_CODES: usize = 255;
+const FUNCTIONS_TAKEN: usize = 128;
 
 /// The x64 functions of an image, one after the other.
 #[derive(Debug)]
@@ -271,6 +273,56 @@ fn add_code<A, B>(it: &sys::Code, all: A, mut add: impl FnMut(A, error::Result<U
     }
 }
 
+/// Hands on the codes in these bytes. Out of line, so that a caller's loop over records keeps its registers where a record has none.
+#[inline(never)]
+fn fold_codes<B>(
+    bytes: &[u8],
+    version: u32,
+    frame_register: u32,
+    mut all: B,
+    mut add: impl FnMut(B, error::Result<UnwindCode>) -> B,
+) -> B {
+    let mut room = raw::room::<_, MOST_CODES>();
+    let (codes, end) = raw::all_codes(bytes, version, frame_register, &mut room);
+    if let Err(refusal) = end {
+        return fold_refused(codes, all, add, || refused_after(codes.len(), bytes, version, frame_register, refusal));
+    }
+    for it in codes {
+        all = add_code(it, all, &mut add);
+    }
+    all
+}
+
+/// Hands on codes, and the error after them.
+#[cold]
+#[inline(never)]
+fn fold_refused<B>(
+    codes: &[sys::Code],
+    mut all: B,
+    mut add: impl FnMut(B, error::Result<UnwindCode>) -> B,
+    error: impl FnOnce() -> error::Error,
+) -> B {
+    for it in codes {
+        all = add(all, UnwindCode::of_any(it));
+    }
+    add(all, Err(error()))
+}
+
+/// The error of the code after so many in these bytes.
+#[cold]
+fn refused_after(count: usize, bytes: &[u8], version: u32, frame_register: u32, refusal: Refusal) -> error::Error {
+    let mut walk = whole_walk(bytes, version as u8, frame_register as u8);
+    let mut room = raw::room::<_, MOST_CODES>();
+    // Of a list that is full the walk is after its last code; where it has none, it is at its start.
+    let _ = room.get_mut(..count).map(|room| View::of_bytes(bytes).list_codes(&mut walk, room).is_ok());
+    code_error(bytes, &walk, refusal)
+}
+
+/// A walk over all codes in these bytes.
+fn whole_walk(bytes: &[u8], version: u8, frame_register: u8) -> sys::Walk {
+    sys::Walk { left: raw::whole(bytes), version, frame_register, ..Default::default() }
+}
+
 /// The codes of an unwind record, one after the other.
 #[derive(Clone, Debug)]
 pub struct UnwindCodeIterator<'a> {
@@ -293,22 +345,15 @@ impl Iterator for UnwindCodeIterator<'_> {
 
     #[inline]
     fn fold<B, F: FnMut(B, Self::Item) -> B>(self, mut all: B, mut add: F) -> B {
-        let UnwindCodeIterator { bytes, mut walk, mut taken } = self;
+        let UnwindCodeIterator { bytes, walk, mut taken } = self;
         while let Some(it) = taken.next() {
             all = add_code(&it, all, &mut add);
         }
-        let mut room = raw::room::<_, TAKEN>();
-        while walk.left.length != 0 {
-            match View::of_bytes(bytes).list_codes(&mut walk, &mut room) {
-                Ok(codes) => {
-                    for it in codes {
-                        all = add_code(it, all, &mut add);
-                    }
-                }
-                Err(refusal) => return add(all, Err(refusal.into())),
-            }
+        let left = raw::left(bytes, Some(walk.left));
+        if left.is_empty() {
+            return all;
         }
-        all
+        fold_codes(left, walk.version.into(), walk.frame_register.into(), all, add)
     }
 
     fn size_hint(&self) -> (usize, Option<usize>) {
@@ -325,12 +370,12 @@ impl UnwindCodeIterator<'_> {
         if self.walk.left.length == 0 {
             return None;
         }
-        let mut room = raw::room::<_, { raw::FEW }>();
+        let (before, mut room) = (self.walk, raw::room::<_, { raw::FEW }>());
         match View::of_bytes(self.bytes).list_codes(&mut self.walk, &mut room) {
             Ok(codes) => self.taken.set(codes),
             Err(refusal) => {
                 self.walk.left.length = 0;
-                return Some(Err(refusal.into()));
+                return Some(Err(code_error(self.bytes, &before, refusal)));
             }
         }
         Some(UnwindCode::of(&self.taken.next()?))
@@ -338,6 +383,40 @@ impl UnwindCodeIterator<'_> {
 }
 
 impl FusedIterator for UnwindCodeIterator<'_> {}
+
+/// The operations that take 0 or 1, by their numbers.
+const ALLOC_LARGE: u64 = 1;
+const PUSH_MACHFRAME: u64 = 10;
+
+/// The error of a code, with goblin's text. The bytes are those of codes alone, from which the offset of a truncated one counts: it has
+/// the library's text.
+#[cold]
+fn code_error(bytes: &[u8], walk: &sys::Walk, refusal: Refusal) -> error::Error {
+    match raw::code_failure(bytes, walk) {
+        Ok(Some(it)) if refusal == Refusal::UNWIND_CODE => {
+            let info = it.value >> 4;
+            error::Error::Malformed(match it.value & 0xf {
+                ALLOC_LARGE => format!("invalid op info ({info}) for UWOP_ALLOC_LARGE"),
+                PUSH_MACHFRAME => format!("invalid op info ({info}) for UWOP_PUSH_MACHFRAME"),
+                other => format!("unknown unwind op code ({other})"),
+            })
+        }
+        _ => refusal.into(),
+    }
+}
+
+/// The error of a record, with goblin's text or the library's with its numbers. The bytes may be those from a record on, from which the
+/// offset of a truncated one counts: it has the library's text.
+#[cold]
+fn record_error(refusal: Refusal, failure: Result<Option<sys::Failure>, Refusal>) -> error::Error {
+    match (refusal, failure) {
+        (Refusal::SHORT, _) => refusal.into(),
+        (Refusal::UNWIND_VERSION, Ok(Some(it))) => {
+            error::Error::Malformed(format!("unsupported unwind code version ({})", it.value))
+        }
+        (other, failure) => raw::with_numbers(other.into(), failure),
+    }
+}
 
 /// What is called in a search for a handler, or on unwinding.
 #[derive(Copy, Clone, Debug, PartialEq)]
@@ -366,6 +445,12 @@ pub struct UnwindInfo<'a> {
     code_bytes: &'a [u8],
 }
 
+/// The function to which a record is chained, as few are. Out of line: nothing of it is moved for others.
+#[cold]
+fn chained_of(it: &sys::Record) -> RuntimeFunction {
+    it.chained.into()
+}
+
 impl<'a> UnwindInfo<'a> {
     /// The record at an offset. Errors: `Scroll` past the end; `Malformed` where it is truncated or of another version.
     pub fn parse(bytes: &'a [u8], offset: usize) -> error::Result<Self> {
@@ -380,7 +465,7 @@ impl<'a> UnwindInfo<'a> {
         match view.unwind_record(table, unwind, &mut MaybeUninit::uninit()) {
             Ok(found) => Self::of(view.bytes, found),
             Err(Refusal::UNMAPPED) => Err(unmapped("unwind", unwind)),
-            Err(other) => Err(other.into()),
+            Err(other) => Err(record_error(other, view.unwind_record_failure(table, unwind))),
         }
     }
 
@@ -397,7 +482,7 @@ impl<'a> UnwindInfo<'a> {
             size_of_prolog: it.size_of_prolog,
             frame_register: Register(it.codes.frame_register),
             frame_register_offset: it.frame_register_offset,
-            chained_info: (it.is_chained != 0).then(|| it.chained.into()),
+            chained_info: if it.is_chained == 0 { None } else { Some(chained_of(it)) },
             handler,
             code_bytes,
         })
@@ -406,12 +491,7 @@ impl<'a> UnwindInfo<'a> {
     /// The codes, in the order in which they are undone.
     #[inline]
     pub fn unwind_codes(&self) -> UnwindCodeIterator<'a> {
-        let walk = sys::Walk {
-            left: raw::whole(self.code_bytes),
-            version: self.version,
-            frame_register: self.frame_register.0,
-            ..Default::default()
-        };
+        let walk = whole_walk(self.code_bytes, self.version, self.frame_register.0);
         UnwindCodeIterator { bytes: self.code_bytes, walk, taken: raw::Few::default() }
     }
 

@@ -2,7 +2,7 @@
 //! <https://learn.microsoft.com/windows/win32/debug/pe-format#the-edata-section-image-only>
 
 use super::data_directories;
-use super::options::{NamesLeft, ParseOptions};
+use super::options::{Left, Limits, ParseOptions};
 use super::section_table::SectionTable;
 use crate::error;
 use crate::raw::{self, Index, Refusal, View};
@@ -237,7 +237,7 @@ impl<'a> Reexport<'a> {
         view: View<'a, '_>,
         table: &sys::AddressTable,
         index: u32,
-        names: &mut NamesLeft,
+        names: &mut Left,
     ) -> error::Result<Option<Self>> {
         let Some(entry) = view.export_at(table, index.into())? else { return Ok(None) };
         names.take(raw::narrow(entry.forwarder.length)?)?;
@@ -291,7 +291,7 @@ impl<'a> Export<'a> {
         view: View<'a, '_>,
         mut tables: Tables,
         data: &mut ExportData<'_>,
-        names: &mut NamesLeft,
+        names: &mut Left,
     ) -> error::Result<Vec<Self>> {
         let mut exports = raw::list(data.export_name_pointer_table.len())?;
         let mut room = raw::Names::<_, TAKEN>::of(view);
@@ -331,7 +331,8 @@ impl<'a> Export<'a> {
     }
 
     /// The exports of tables, which the caller may have changed: so each is read by this crate, at offsets of the library. One
-    /// whose index, name or forwarder cannot be read is skipped. Error: out of memory.
+    /// whose index, name or forwarder cannot be read is skipped. Errors: `Malformed` where the names are longer than the default
+    /// of [`Limits`]; out of memory.
     pub fn parse_with_opts(
         bytes: &'a [u8],
         export_data: &ExportData<'_>,
@@ -345,22 +346,35 @@ impl<'a> Export<'a> {
         let index = view.make_index()?;
         let view = view.with_index(&index);
         let mut exports = raw::list(export_data.export_name_pointer_table.len())?;
-        let names = export_data.export_name_pointer_table.iter().zip(&export_data.export_ordinal_table);
-        for (name, index) in names {
-            let entry = export_data.export_address_table.get(usize::from(*index));
-            exports.extend(entry.and_then(|entry| Self::at(view, *name, *entry)));
+        let (names, mut left) = (&export_data.export_name_pointer_table, Left::of_names(&Limits::default()));
+        for (name, index) in names.iter().zip(&export_data.export_ordinal_table) {
+            if let Some(entry) = export_data.export_address_table.get(usize::from(*index)) {
+                exports.extend(Self::at(view, *name, *entry, &mut left)?);
+            }
         }
         Ok(exports)
     }
 
-    fn at(view: View<'a, '_>, name: u32, entry: ExportAddressTableEntry) -> Option<Self> {
-        let name = raw::text_at(view.bytes, view.offset(name)?)?;
+    /// An export of such tables. Its texts are taken from how many bytes are left.
+    fn at(
+        view: View<'a, '_>,
+        name: u32,
+        entry: ExportAddressTableEntry,
+        names: &mut Left,
+    ) -> error::Result<Option<Self>> {
+        let text = |rva, names: &mut Left| match view.offset(rva) {
+            Some(at) => raw::text_within(view.bytes, at, names),
+            None => Ok(None),
+        };
+        let Some((name, true)) = text(name, names)? else { return Ok(None) };
         let (rva, reexport) = match entry {
             ExportAddressTableEntry::ExportRVA(rva) => (rva, None),
             ExportAddressTableEntry::ForwarderRVA(rva) => {
-                (rva, Some(Reexport::parse(view.bytes, view.offset(rva)?).ok()?))
+                let Some((text, _)) = text(rva, names)? else { return Ok(None) };
+                let Ok(reexport) = Reexport::of(text) else { return Ok(None) };
+                (rva, Some(reexport))
             }
         };
-        Some(Export { name: Some(name), offset: view.offset(rva), rva: rva as usize, size: 0, reexport })
+        Ok(Some(Export { name: Some(name), offset: view.offset(rva), rva: rva as usize, size: 0, reexport }))
     }
 }

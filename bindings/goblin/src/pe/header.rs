@@ -292,8 +292,9 @@ impl CoffHeader {
         self.sections_with_opts(bytes, offset, &ParseOptions::default())
     }
 
-    /// The same with options, which change nothing. Errors: `Malformed` where they are truncated, and out of memory. A long
-    /// name that the string table does not have is no error: `real_name` is `None`.
+    /// The same with options, which change nothing. Errors: `Malformed` where they are truncated, and where what is read of long
+    /// names is longer than the bytes; out of memory. A long name that the string table does not have is no error: `real_name` is
+    /// `None`.
     pub fn sections_with_opts(
         &self,
         bytes: &[u8],
@@ -378,10 +379,11 @@ impl<'a> Header<'a> {
         Ok((header, info))
     }
 
-    /// Bytes from the start of the file to the end of the optional header.
+    /// Bytes from the start of the file to the end of the optional header, or of a longer DOS stub.
     pub(crate) fn written_len(&self) -> usize {
         let coff = self.dos_header.pe_pointer as usize + SIZEOF_PE_MAGIC + SIZEOF_COFF_HEADER;
-        coff + self.optional_header.map_or(0, |it| it.written_len())
+        let end = coff + self.optional_header.map_or(0, |it| it.written_len());
+        end.max(DOS_STUB_OFFSET as usize + self.dos_stub.data.len())
     }
 }
 
@@ -430,6 +432,11 @@ pub struct TeHeader {
 }
 
 #[cfg(feature = "te")]
+fn too_small(size: u16) -> String {
+    format!("stripped size {size} smaller than the TE header, which has {SIZEOF_TE_HEADER} bytes")
+}
+
+#[cfg(feature = "te")]
 impl TeHeader {
     /// Reads the header at an offset, and moves the offset; its RVAs are those of the file as it is. Errors: `Scroll` where it
     /// is truncated; `BadMagic`; `Malformed` where the stripped size is below its own.
@@ -442,8 +449,7 @@ impl TeHeader {
     /// By how much RVAs and offsets are less than in the image that was stripped.
     pub(crate) fn rva_offset(&self) -> error::Result<u32> {
         let by = self.stripped_size.checked_sub(SIZEOF_TE_HEADER as u16);
-        let by = by.ok_or_else(|| error::Error::Malformed("stripped size smaller than the TE header".to_owned()))?;
-        Ok(by.into())
+        Ok(by.ok_or_else(|| error::Error::Malformed(too_small(self.stripped_size)))?.into())
     }
 
     /// The section headers at an offset, whose RVAs and file offsets are those of the file as it is; moves the offset. Errors:

@@ -2,7 +2,7 @@
 //! the loader fills with addresses. <https://learn.microsoft.com/windows/win32/debug/pe-format#the-idata-section>
 
 use super::data_directories::DataDirectory;
-use super::options::{Limits, NamesLeft, ParseOptions};
+use super::options::{Left, Limits, ParseOptions};
 use super::section_table::SectionTable;
 use crate::error;
 use crate::raw::{self, Index, Refusal, View};
@@ -19,7 +19,7 @@ pub const SIZEOF_IMPORT_DIRECTORY_ENTRY: usize = 20;
 /// How many libraries are taken a call, and how many imports of one, where a call reads their names and lists each by itself.
 const LIBRARIES_TAKEN: usize = 8;
 const TAKEN: usize = 16;
-type Room = raw::ImportNames<TAKEN>;
+type Names = raw::ImportNames<TAKEN>;
 
 /// An entry of a list of imports, of 32 or 64 bits: an ordinal where its highest bit is set, else the RVA of a hint and a name.
 pub trait Bitfield<'a>:
@@ -167,11 +167,11 @@ impl<'a> ImportData<'a> {
             other => other.into(),
         })?;
         let Some(walk) = found else { return Ok(None) };
-        let mut left = Left { imports: limits.imports, names: NamesLeft::of(limits) };
+        let mut left = AllLeft { imports: Left::of_imports(limits), names: Left::of_names(limits) };
         let libraries = libraries_of::<T>(view, walk, &mut left)?;
-        let (mut import_data, mut room) = (raw::list(libraries.len())?, Room::of(view, walk, libraries.len()));
+        let (mut import_data, mut names) = (raw::list(libraries.len())?, Names::of(view, walk, libraries.len()));
         for library in libraries.iter().enumerate() {
-            import_data.push(SyntheticImportDirectoryEntry::of::<T>(view, library, &mut left, &mut room)?);
+            import_data.push(SyntheticImportDirectoryEntry::of::<T>(view, library, &mut left, &mut names)?);
         }
         Ok(Some(ImportData { import_data }))
     }
@@ -185,20 +185,9 @@ fn unmapped(directory: DataDirectory) -> error::Error {
 }
 
 /// How many imports and slots, and how many bytes of names, may still be taken.
-struct Left {
-    imports: usize,
-    names: NamesLeft,
-}
-
-impl Left {
-    fn take(&mut self, count: usize) -> error::Result<()> {
-        self.imports = self.imports.checked_sub(count).ok_or_else(too_many)?;
-        Ok(())
-    }
-}
-
-fn too_many() -> error::Error {
-    error::Error::Malformed("image has more imports than the limit".to_owned())
+struct AllLeft {
+    imports: Left,
+    names: Left,
 }
 
 /// All libraries, before an import of any is read: of two errors that of the directory is the first. Their names and how many imports
@@ -206,7 +195,7 @@ fn too_many() -> error::Error {
 fn libraries_of<'a, T: Bitfield<'a>>(
     view: View<'a, '_>,
     mut walk: sys::Libraries,
-    left: &mut Left,
+    left: &mut AllLeft,
 ) -> error::Result<Vec<sys::Library>> {
     let (mut libraries, mut room) = (Vec::new(), raw::Names::<_, LIBRARIES_TAKEN>::of(view));
     loop {
@@ -216,7 +205,7 @@ fn libraries_of<'a, T: Bitfield<'a>>(
         }
         for library in found {
             left.names.take(raw::narrow(library.name.length)?)?;
-            left.take(raw::narrow::<_, usize>(library.imports.left.length)? / T::size_of())?;
+            left.imports.take(raw::narrow::<_, usize>(library.imports.left.length)? / T::size_of())?;
             raw::push(&mut libraries, *library)?;
         }
     }
@@ -227,15 +216,16 @@ impl<'a> SyntheticImportDirectoryEntry<'a> {
     fn of<T: Bitfield<'a>>(
         view: View<'a, '_>,
         (index, library): (usize, &sys::Library),
-        left: &mut Left,
-        room: &mut Room,
+        left: &mut AllLeft,
+        names: &mut Names,
     ) -> error::Result<Self> {
-        let lookups = lookups_of::<T>(view, (index, library), left, room)?;
+        let lookups = lookups_of::<T>(view, (index, library), left, names)?;
+        let most = left.imports.count();
         let import_address_table = match view.offset(library.address_table_rva) {
-            Some(at) => raw::address_table::<T>(view.bytes, at, left.imports)?.ok_or_else(too_many)?,
+            Some(at) => raw::address_table::<T>(view.bytes, at, most)?.ok_or_else(|| left.imports.error())?,
             None => Vec::new(),
         };
-        left.take(import_address_table.len())?;
+        left.imports.take(import_address_table.len())?;
         Ok(SyntheticImportDirectoryEntry {
             import_directory_entry: ImportDirectoryEntry {
                 import_lookup_table_rva: library.lookup_table_rva,
@@ -254,28 +244,25 @@ impl<'a> SyntheticImportDirectoryEntry<'a> {
 fn lookups_of<'a, T: Bitfield<'a>>(
     view: View<'a, '_>,
     (index, library): (usize, &sys::Library),
-    left: &mut Left,
-    room: &mut Room,
+    left: &mut AllLeft,
+    names: &mut Names,
 ) -> error::Result<ImportLookupTable<'a>> {
-    let list = library.imports.left;
-    let (start, size): (usize, usize) = (raw::narrow(list.offset)?, raw::narrow(list.length)?);
-    let count = size / T::size_of();
+    let count = raw::narrow::<_, usize>(library.imports.left.length)? / T::size_of();
     let mut lookups = raw::list(count)?;
-    let mut walk = library.imports;
+    let mut walk = raw::imports_of(library, index);
     while lookups.len() < count {
-        let found = view.next_imports(&mut walk, index, room)?;
+        let found = view.next_imports(&mut walk, names)?;
         if found.is_empty() {
             break;
         }
-        for import in found {
+        for sys::LibraryImport { import, hint_rva, .. } in found {
             left.names.take(raw::narrow(import.name.length)?)?;
             let hint = import.ordinal as u16;
             let entry = match import.has_name {
                 0 => SyntheticImportLookupTableEntry::OrdinalNumber(hint),
                 _ => {
-                    let rva = raw::hint_rva::<T>(view.bytes, start + lookups.len() * T::size_of())?;
                     let name = view.text(import.name)?;
-                    SyntheticImportLookupTableEntry::HintNameTableRVA((rva, HintNameTableEntry { hint, name }))
+                    SyntheticImportLookupTableEntry::HintNameTableRVA((*hint_rva, HintNameTableEntry { hint, name }))
                 }
             };
             raw::push(&mut lookups, entry)?;

@@ -27,7 +27,7 @@ mod write;
 use crate::error;
 use crate::raw::{self, Index, View};
 use crate::strtab;
-use options::{Limits, NamesLeft, ParseOptions};
+use options::{Left, Limits, ParseOptions};
 use pe_c::sys;
 
 /// A PE image.
@@ -156,13 +156,12 @@ fn unless_damaged<T>(found: error::Result<Option<T>>, is_permissive: bool) -> er
 
 fn sections_of(view: View<'_, '_>) -> error::Result<Vec<section_table::SectionTable>> {
     let has_long_names = view.sections.iter().any(|it| it.name[0] == b'/');
-    let names = match has_long_names {
-        true => view.string_table().ok().flatten(),
-        false => None,
-    };
+    let table = if has_long_names { view.string_table().ok().flatten() } else { None };
+    let names = table.map(|it| view.long_section_names(&it)).transpose()?.unwrap_or_default();
     let (mut sections, mut left) = (raw::list(view.sections.len())?, view.bytes.len());
-    for header in view.sections {
-        sections.push(section_table::SectionTable::of_image(view.bytes, header, names.as_ref(), &mut left)?);
+    for (index, header) in view.sections.iter().enumerate() {
+        let name = names.get(index).filter(|it| it.offset != 0).map(|it| view.text(*it)).transpose()?;
+        sections.push(section_table::SectionTable::of_image(header, name, &mut left)?);
     }
     Ok(sections)
 }
@@ -173,7 +172,7 @@ type Exports<'a> = (Option<export::ExportData<'a>>, Vec<export::Export<'a>>);
 fn exports_of<'a>(view: View<'a, '_>, limits: &Limits) -> error::Result<Exports<'a>> {
     let found = unless_damaged(export::ExportData::of(view), true)?;
     let Some((mut data, tables)) = found else { return Ok((None, Vec::new())) };
-    let exports = export::Export::of(view, tables, &mut data, &mut NamesLeft::of(limits))?;
+    let exports = export::Export::of(view, tables, &mut data, &mut Left::of_names(limits))?;
     Ok((Some(data), exports))
 }
 

@@ -300,6 +300,14 @@ impl ctx::TryIntoCtx<scroll::Endian> for OptionalHeader {
 }
 
 impl OptionalHeader {
+    /// Whether it can be written. Errors: `BadMagic`; `Malformed` where a field does not fit PE32.
+    pub(crate) fn fits(&self) -> error::Result<()> {
+        match self.container()? {
+            container::Container::Little => WindowsFields32::try_from(self.windows_fields).map(drop),
+            container::Container::Big => Ok(()),
+        }
+    }
+
     /// How many directories it has.
     fn count(&self) -> usize {
         (self.windows_fields.number_of_rva_and_sizes as usize).min(data_directories::NUM_DATA_DIRECTORIES)

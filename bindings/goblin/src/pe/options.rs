@@ -82,19 +82,37 @@ impl Default for Limits {
     }
 }
 
-/// How many bytes of names may still be taken.
-pub(crate) struct NamesLeft(usize);
+/// How many of a limit may still be taken, and what an error says of the limit.
+pub(crate) struct Left {
+    left: usize,
+    limit: usize,
+    what: &'static str,
+}
 
-impl NamesLeft {
-    pub(crate) fn of(limits: &Limits) -> Self {
-        NamesLeft(limits.names)
+impl Left {
+    /// Of imports and of the slots of the import address tables.
+    pub(crate) fn of_imports(limits: &Limits) -> Self {
+        Left { left: limits.imports, limit: limits.imports, what: "more imports" }
     }
 
-    /// Takes a name. Error: `Malformed` above the limit.
+    /// Of bytes of names.
+    pub(crate) fn of_names(limits: &Limits) -> Self {
+        Left { left: limits.names, limit: limits.names, what: "longer names" }
+    }
+
+    pub(crate) fn count(&self) -> usize {
+        self.left
+    }
+
+    /// Takes so many. Error: `Malformed` above the limit.
     #[inline]
-    pub(crate) fn take(&mut self, length: usize) -> error::Result<()> {
-        let left = self.0.checked_sub(length);
-        self.0 = left.ok_or_else(|| error::Error::Malformed("image has longer names than the limit".to_owned()))?;
+    pub(crate) fn take(&mut self, count: usize) -> error::Result<()> {
+        self.left = self.left.checked_sub(count).ok_or_else(|| self.error())?;
         Ok(())
+    }
+
+    #[cold]
+    pub(crate) fn error(&self) -> error::Error {
+        error::Error::Malformed(format!("image has {} than the limit of {}", self.what, self.limit))
     }
 }

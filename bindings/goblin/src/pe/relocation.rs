@@ -175,7 +175,12 @@ impl<'a> Iterator for RelocationBlockIterator<'a> {
     type Item = error::Result<RelocationBlock<'a>>;
 
     fn next(&mut self) -> Option<Self::Item> {
+        let before = self.walk;
         let found = raw::step(&mut self.walk, |walk| raw::next_relocation_block(self.bytes, walk))?;
+        let found = found.map_err(|it| match before {
+            Some(walk) => raw::with_numbers(it, raw::relocation_block_failure(self.bytes, &walk)),
+            None => it,
+        });
         Some(found.and_then(|it| {
             let size = raw::narrow(it.entries.length + BLOCK_HEADER_SIZE)?;
             Ok(RelocationBlock { rva: it.page_rva, size, bytes: raw::slice(self.bytes, it.entries)? })

@@ -12,7 +12,6 @@ use crate::raw::{self, Index, Refusal, View};
 use core::{fmt, iter::FusedIterator, mem::size_of};
 use pe_c::sys;
 use scroll::{Pread, Pwrite, SizeWith};
-use std::collections::BTreeSet;
 
 pub const RT_CURSOR: u16 = 1;
 pub const RT_BITMAP: u16 = 2;
@@ -98,8 +97,8 @@ pub(super) const SIZE_OF_WCHAR: usize = size_of::<u16>();
 
 /// The text of UTF-16 code units up to the first zero, or `None` where they are no text or an odd number of bytes.
 pub(super) fn to_utf16_string(bytes: &[u8]) -> Option<String> {
-    let units = raw::code_units(bytes)?;
-    String::from_utf16(units.split(|unit| *unit == 0).next()?).ok()
+    let units = raw::code_units(bytes)?.take_while(|unit| *unit != 0);
+    char::decode_utf16(units).collect::<Result<_, _>>().ok()
 }
 
 /// A resource directory, `IMAGE_RESOURCE_DIRECTORY`.
@@ -291,20 +290,39 @@ impl ResourceEntry {
         bytes: &[u8],
         predicate: P,
     ) -> error::Result<Option<ResourceEntry>> {
-        let (mut current, mut visited) = (*self, BTreeSet::from([self.offset_to_data_or_directory]));
+        // What follows an offset is always the same. So a loop is seen without a list of what was visited: the offset after one,
+        // two, four, .. more steps is kept, and in a loop it comes again.
+        let (mut current, mut kept, mut steps, mut most) = (*self, self.offset_to_data_or_directory, 0, 1);
         while let Some(next) = current.next_depth(bytes)? {
             if !predicate(&next) {
                 return Ok(Some(next));
             }
             let offset = next.offset_to_data_or_directory;
-            if !visited.insert(offset) {
-                return Err(error::Error::Malformed(format!(
-                    "Cycle detected in resource directory at offset {offset:#x}"
-                )));
+            steps += 1;
+            if offset == kept {
+                return Err(self.cycle(bytes, steps)?);
+            }
+            if steps == most {
+                (kept, steps, most) = (offset, 0, 2 * most);
             }
             current = next;
         }
         Ok(Some(current))
+    }
+
+    /// The error of a loop of so many steps somewhere below the entry: it has the first offset that comes again, which is the first
+    /// that the same number of steps lead back to.
+    fn cycle(&self, bytes: &[u8], length: u64) -> error::Result<error::Error> {
+        let step = |it: ResourceEntry| Ok::<_, error::Error>(it.next_depth(bytes)?.unwrap_or(it));
+        let (mut first, mut second) = (*self, *self);
+        for _ in 0..length {
+            second = step(second)?;
+        }
+        while first.offset_to_data_or_directory != second.offset_to_data_or_directory {
+            (first, second) = (step(first)?, step(second)?);
+        }
+        let offset = first.offset_to_data_or_directory;
+        Ok(error::Error::Malformed(format!("Cycle detected in resource directory at offset {offset:#x}")))
     }
 
     /// The content of the first leaf below it, in a file whose tree is passed too; `None` where there is no leaf.
@@ -505,7 +523,8 @@ impl<'a> ResourceString<'a> {
         }
         // The last value of some compilers has no zeros after it.
         let aligned = size.next_multiple_of(RESOURCE_STRING_FIELD_ALIGNMENT);
-        let value = raw::bytes_at(bytes, it.value, if aligned <= left { aligned } else { size })?;
+        let value = raw::part_at(bytes, it.value, if aligned <= left { aligned } else { size });
+        let value = value.ok_or(scroll::Error::BadOffset(it.value))?;
         *offset = it.value + value.len();
         let key = Utf16String(it.key);
         Ok(Some(ResourceString { len: it.len, value_len: it.value_len, r#type: it.kind, key, value }))

@@ -4,7 +4,7 @@
 use super::header;
 use super::relocation::Relocations;
 use crate::error;
-use crate::raw;
+use crate::raw::{self, Refusal};
 use crate::strtab::Strtab;
 use core::fmt;
 use pe_c::sys;
@@ -84,36 +84,30 @@ impl SectionTable {
         }
     }
 
-    /// Of an object, whose string table is passed without its size field. The name is taken from how many bytes are left.
+    /// Of an object, whose string table is passed without its size field. What is read of it is taken from how many bytes are left.
     pub(crate) fn of_object(it: &sys::Section, names: Option<&Strtab<'_>>, left: &mut usize) -> error::Result<Self> {
         let section = Self::with_name(it, None);
         let offset = section.name_offset().ok().flatten();
         let offset = offset.and_then(|it| it.checked_sub(header::SIZEOF_STRING_TABLE_SIZE));
-        let name = offset.and_then(|it| names?.get_at(it));
-        Ok(SectionTable { real_name: name.map(|it| owned(it, left)).transpose()?, ..section })
+        let Some((length, name)) = offset.and_then(|it| names?.text_and_length(it)) else { return Ok(section) };
+        take(length, left)?;
+        Ok(SectionTable { real_name: name.map(owned).transpose()?, ..section })
     }
 
-    /// Of an image, by its string table. The name is taken from how many bytes are left.
-    pub(crate) fn of_image(
-        bytes: &[u8],
-        it: &sys::Section,
-        names: Option<&sys::Range>,
-        left: &mut usize,
-    ) -> error::Result<Self> {
-        let names = names.filter(|_| it.name[0] == b'/');
-        let found = names.and_then(|names| raw::long_section_name(bytes, names, it).ok().flatten());
-        let name = found.and_then(|range| raw::text(bytes, range).ok());
-        Ok(Self::with_name(it, name.map(|it| owned(it, left)).transpose()?))
+    /// Of an image, with its name in the string table, if it has one. The name is taken from how many bytes are left.
+    pub(crate) fn of_image(it: &sys::Section, name: Option<&str>, left: &mut usize) -> error::Result<Self> {
+        take(name.map_or(0, str::len), left)?;
+        Ok(Self::with_name(it, name.map(owned).transpose()?))
     }
 
     /// Reads the header at an offset and the name that it leads to, and moves the offset. Errors: `Malformed` where it is
-    /// truncated, and those of [`SectionTable::name_offset`]; `Scroll` where the name is past the end.
+    /// truncated, and those of [`SectionTable::name_offset`]; `Scroll` where the name is past the end; out of memory.
     pub fn parse(bytes: &[u8], offset: &mut usize, string_table_offset: usize) -> error::Result<Self> {
         let found = raw::sections(bytes, &header::section_headers_at(*offset, 1))?;
-        let mut section = found.first().map(|it| Self::with_name(it, None)).unwrap_or_default();
+        let mut section = Self::with_name(found.first().ok_or(Refusal::SHORT)?, None);
         if let Some(index) = section.name_offset()? {
             let at = string_table_offset.saturating_add(index);
-            section.real_name = Some(raw::text_up_to_zero(bytes, at)?.to_owned());
+            section.real_name = Some(owned(raw::text_up_to_zero(bytes, at)?)?);
         }
         *offset += SIZEOF_SECTION_TABLE;
         Ok(section)
@@ -180,12 +174,16 @@ impl SectionTable {
     }
 }
 
-/// A copy of a name, in memory that is reserved first. Many headers may name one long text, of which each has a copy: all copies
+/// Takes a name from how many bytes are left. Many headers may name one long text, of which each has a copy, or which is none: all
 /// together are no longer than the file, or it is an error.
-fn owned(name: &str, left: &mut usize) -> error::Result<String> {
-    *left = left
-        .checked_sub(name.len())
-        .ok_or_else(|| error::Error::Malformed("section names are longer than the file".to_owned()))?;
+fn take(length: usize, left: &mut usize) -> error::Result<()> {
+    let error = || error::Error::Malformed("section names are longer than the file".to_owned());
+    *left = left.checked_sub(length).ok_or_else(error)?;
+    Ok(())
+}
+
+/// A copy of a name, in memory that is reserved first.
+fn owned(name: &str) -> error::Result<String> {
     let mut copy = raw::text_with_room(name.len())?;
     copy.push_str(name);
     Ok(copy)

@@ -274,9 +274,18 @@ impl<'a> SymbolTable<'a> {
     }
 }
 
+/// Shows symbols one after the other, as goblin shows a list of them.
+struct Shown<'a, 's>(&'s SymbolTable<'a>);
+
+impl fmt::Debug for Shown<'_, '_> {
+    fn fmt(&self, f: &mut fmt::Formatter<'_>) -> fmt::Result {
+        f.debug_list().entries(self.0.iter()).finish()
+    }
+}
+
 impl fmt::Debug for SymbolTable<'_> {
     fn fmt(&self, f: &mut fmt::Formatter<'_>) -> fmt::Result {
-        f.debug_struct("SymbolTable").field("symbols", &self.iter().collect::<Vec<_>>()).finish()
+        f.debug_struct("SymbolTable").field("symbols", &Shown(self)).finish()
     }
 }
 

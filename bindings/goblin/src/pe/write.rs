@@ -14,6 +14,14 @@ fn malformed(text: &str) -> error::Error {
     error::Error::Malformed(text.to_owned())
 }
 
+/// Writes bytes at an offset, which moves. No bytes are written at the very end too, where scroll returns an error.
+pub(super) fn put(bytes: &mut [u8], data: &[u8], offset: &mut usize) -> error::Result<()> {
+    if !data.is_empty() {
+        bytes.gwrite(data, offset)?;
+    }
+    Ok(())
+}
+
 impl PE<'_> {
     /// Writes each section: its data at its raw pointer with zeros up to a multiple of the file alignment, and its header at the
     /// offset, which moves. Errors: `Malformed` where two sections that are not equal share a byte of the file, or the data of
@@ -30,7 +38,7 @@ impl PE<'_> {
         for section in &self.sections {
             let data = section.data(self.bytes)?.ok_or_else(|| missing(section))?;
             let at = &mut (section.pointer_to_raw_data as usize);
-            bytes.gwrite(&*data, at)?;
+            put(bytes, &data, at)?;
             let zeros = utils::padding(data.len(), file_alignment.unwrap_or(1));
             bytes.iter_mut().skip(*at).take(zeros).for_each(|it| *it = 0);
             bytes.gwrite_with(section, offset, ctx)?;
@@ -41,11 +49,11 @@ impl PE<'_> {
     /// The greatest end of what [`write_sections`](Self::write_sections) writes; makes its tests.
     fn sections_end(&self, offset: usize, file_alignment: Option<usize>) -> error::Result<usize> {
         no_overlap(&self.sections)?;
-        let mut end = offset + SIZEOF_SECTION_TABLE * self.sections.len();
+        let mut end = offset.saturating_add(SIZEOF_SECTION_TABLE * self.sections.len());
         for section in &self.sections {
             let data = section.data(self.bytes)?.ok_or_else(|| missing(section))?;
             let padding = utils::padding(data.len(), file_alignment.unwrap_or(1));
-            end = end.max(section.pointer_to_raw_data as usize + data.len() + padding);
+            end = end.max((section.pointer_to_raw_data as usize + data.len()).saturating_add(padding));
         }
         Ok(end)
     }
@@ -90,12 +98,13 @@ impl PE<'_> {
 impl ctx::TryIntoCtx<scroll::Endian> for PE<'_> {
     type Error = error::Error;
 
-    /// Writes the image, and returns where it ends. Errors: `Malformed` without an optional header, where the file alignment is
-    /// no power of two, with COFF symbols, and those of [`write_sections`](PE::write_sections); `BufferTooShort`; `BadMagic`.
+    /// Writes the image, and returns where it ends. Errors: `Malformed` without an optional header; `BadMagic`; `Malformed` where
+    /// a field does not fit PE32, where the file alignment is no power of two, with COFF symbols, and those of
+    /// [`write_sections`](PE::write_sections); `BufferTooShort`.
     fn try_into_ctx(self, bytes: &mut [u8], ctx: scroll::Endian) -> error::Result<usize> {
         let header = self.header.optional_header;
         let header = header.ok_or_else(|| malformed("image has no optional header"))?;
-        header.container()?;
+        header.fits()?;
         let alignment = header.windows_fields.file_alignment as usize;
         if !alignment.is_power_of_two() {
             return Err(malformed("file alignment should be a power of 2"));

@@ -1,7 +1,7 @@
 //! Lists of names of exports and imports, which a hostile file may let start in one long text: few are read each by itself, and once
 //! these have cost much the others are read together.
 
-use super::{narrow, push, resize, Refusal, View};
+use super::{narrow, resize, with_numbers, Refusal, View};
 use crate::error;
 use crate::pe::import::SIZEOF_IMPORT_DIRECTORY_ENTRY;
 use core::ops::Range;
@@ -33,7 +33,7 @@ impl<T: Copy + Default, const FEW: usize> Names<T, FEW> {
         &mut self,
         most: usize,
         runs: usize,
-        call: impl FnOnce(&mut [sys::Run], &mut [T]) -> Result<usize, Refusal>,
+        call: impl FnOnce(&mut [sys::Run], &mut [T]) -> error::Result<usize>,
         cost: impl Fn(&T) -> u64,
     ) -> error::Result<usize> {
         let is_together = self.left == 0 && most > 0;
@@ -61,7 +61,7 @@ impl<T: Copy + Default, const FEW: usize> Names<T, FEW> {
 /// Room for the imports of an image, which are asked for library by library. A call takes few of one library, as for other names;
 /// once these have cost much a call takes those of all libraries that are left, and reads their names together.
 pub(crate) struct ImportNames<const FEW: usize> {
-    alone: Names<sys::Import, FEW>,
+    alone: Names<sys::LibraryImport, FEW>,
     /// The walk before the first library, and how many there are.
     libraries: sys::Libraries,
     count: usize,
@@ -70,14 +70,19 @@ pub(crate) struct ImportNames<const FEW: usize> {
     many: Vec<sys::LibraryImport>,
     left: Range<usize>,
     runs: Vec<sys::Run>,
-    found: Vec<sys::Import>,
 }
 
 impl<const FEW: usize> ImportNames<FEW> {
     pub fn of(view: View<'_, '_>, libraries: sys::Libraries, count: usize) -> Self {
-        let (many, runs, found) = (Vec::new(), Vec::new(), Vec::new());
-        ImportNames { alone: Names::of(view), libraries, count, others: None, many, left: 0..0, runs, found }
+        let (many, runs) = (Vec::new(), Vec::new());
+        ImportNames { alone: Names::of(view), libraries, count, others: None, many, left: 0..0, runs }
     }
+}
+
+/// A walk over the imports of one library, which is that with this index: no other follows it.
+pub(crate) fn imports_of(library: &sys::Library, index: usize) -> sys::LibraryImports {
+    let libraries = sys::Libraries { is_over: 1, ..Default::default() };
+    sys::LibraryImports { libraries, imports: library.imports, begun: index as u64 + 1, ..Default::default() }
 }
 
 impl View<'_, '_> {
@@ -95,7 +100,8 @@ impl View<'_, '_> {
         let taken = if names.left > 0 { rest.min(FEW) } else { rest };
         let mut part = *walk;
         part.names.length = 4 * (part.next + taken as u64);
-        let found = names.fill(taken, 1, |runs, room| self.list_exports(&mut part, runs, room), |it| it.name.length)?;
+        let call = |runs: &mut [_], room: &mut [_]| Ok(self.list_exports(&mut part, runs, room)?);
+        let found = names.fill(taken, 1, call, |it| it.name.length)?;
         walk.next = part.next;
         names.spend(taken.saturating_sub(found).saturating_mul(self.bytes.len() / SKIPPED));
         Ok(Some(names.found(found)))
@@ -111,52 +117,48 @@ impl View<'_, '_> {
         // Nothing says how many are left: four times as many as there were.
         let most = (4 * taken).min(MOST_TOGETHER);
         let cost = |it: &sys::Library| it.name.length + it.imports.left.length;
-        let found = names.fill(most, 2, |runs, room| self.list_libraries(walk, runs, room), cost)?;
+        let before = *walk;
+        let refused = |it: Refusal| with_numbers(it.into(), self.library_failure(&before));
+        let call = |runs: &mut [_], room: &mut [_]| self.list_libraries(walk, runs, room).map_err(refused);
+        let found = names.fill(most, 2, call, cost)?;
         Ok(names.found(found))
     }
 
-    /// The next imports of a library, which is that with this index; none at the end.
+    /// The next imports of a library, by its walk; none at the end.
     pub fn next_imports<'r, const FEW: usize>(
         &self,
-        walk: &mut sys::Imports,
-        index: usize,
+        walk: &mut sys::LibraryImports,
         room: &'r mut ImportNames<FEW>,
-    ) -> error::Result<&'r [sys::Import]> {
+    ) -> error::Result<&'r [sys::LibraryImport]> {
         if room.alone.left > 0 {
-            let cost = |it: &sys::Import| it.name.length;
-            let found = room.alone.fill(0, 0, |_, room| self.list_imports(walk, room), cost)?;
+            let cost = |it: &sys::LibraryImport| it.import.name.length;
+            let before = walk.imports;
+            let refused = |it: Refusal| with_numbers(it.into(), self.import_failure(&before));
+            let call = |_: &mut [_], room: &mut [_]| self.list_all_imports(walk, &mut [], room).map_err(refused);
+            let found = room.alone.fill(0, 0, call, cost)?;
             return Ok(room.alone.found(found));
         }
         if room.left.is_empty() {
-            self.list_others(walk, index, room)?;
+            self.list_others(walk, room)?;
         }
-        room.found.clear();
         let listed = room.many.get(room.left.clone()).unwrap_or_default();
-        for it in listed.iter().take_while(|it| it.library == index as u64) {
-            push(&mut room.found, it.import)?;
-        }
-        room.left.start += room.found.len();
-        Ok(&room.found)
+        let count = listed.iter().take_while(|it| it.library + 1 == walk.begun).count();
+        room.left.start += count;
+        Ok(listed.get(..count).unwrap_or_default())
     }
 
     /// Lists imports of all libraries that are left, from those that this one has left on.
     fn list_others<const FEW: usize>(
         &self,
-        imports: &sys::Imports,
-        index: usize,
+        own: &sys::LibraryImports,
         room: &mut ImportNames<FEW>,
     ) -> error::Result<()> {
-        let begun = index as u64 + 1;
-        let next = room.libraries.next.saturating_add(begun * SIZEOF_IMPORT_DIRECTORY_ENTRY as u64);
+        let next = room.libraries.next.saturating_add(own.begun * SIZEOF_IMPORT_DIRECTORY_ENTRY as u64);
         let libraries = sys::Libraries { next, ..room.libraries };
-        let walk = room.others.get_or_insert(sys::LibraryImports {
-            libraries,
-            imports: *imports,
-            begun,
-            ..Default::default()
-        });
+        let walk = room.others.get_or_insert(sys::LibraryImports { libraries, ..*own });
+        let libraries_left = room.count.saturating_sub(narrow::<_, usize>(own.begun)?.saturating_sub(1));
         resize(&mut room.many, MOST_TOGETHER.min(self.bytes.len()))?;
-        resize(&mut room.runs, room.many.len() + room.count.saturating_sub(index))?;
+        resize(&mut room.runs, room.many.len() + libraries_left)?;
         room.left = 0..self.list_all_imports(walk, &mut room.runs, &mut room.many)?;
         Ok(())
     }

@@ -1,6 +1,6 @@
-//! Reads that this crate makes itself, since no call of the library returns what they read (of `hint_rva`, but the list of the imports
-//! of all libraries), and why none does. Where a call returns a range and not its numbers, the range is the call's and the numbers are
-//! read here. `tools/try_goblin --check` has the same list, and refuses a function that it does not name.
+//! Reads that this crate makes itself, since no call of the library returns what they read, and why none does. Where a call returns a
+//! range and not its numbers, the range is the call's and the numbers are read here. `tools/try_goblin --check` has the same list, and
+//! refuses a function that it does not name.
 //!
 //! At an offset that a caller names, of bytes that need not be an image:
 //!
@@ -13,8 +13,6 @@
 //!
 //! - `words`, `halves`: the RVAs of names and the indices of names as they stand, of which the list of exports leaves out those that
 //!   lead to no export;
-//! - `hint_rva`: the RVA of a hint, where the list of one library returns what is there and the RVA of the slot;
-//!   `pe_c_list_all_imports_together` returns it, and is called once names have cost much;
 //! - `address_table`: the slots of imports as they stand, which are addresses of another run, or the list of imports again;
 //! - `tls_slot`: what the loader wrote to the slot whose address `pe_c_tls` returns;
 //! - `word_at`: the words of an ARM64 record, whose fields `pe_c_arm64_unwind_record` returns, but not their reserved bits;
@@ -118,11 +116,6 @@ pub(crate) fn words(bytes: &[u8], range: Range) -> error::Result<Vec<u32>> {
 /// The same of numbers of 16 bits.
 pub(crate) fn halves(bytes: &[u8], range: Range) -> error::Result<Vec<u16>> {
     numbers(slice(bytes, range)?, u16::from_le_bytes)
-}
-
-/// The RVA of an import's hint and name: pe_c_next_import returns what is there, and the RVA of the slot.
-pub(crate) fn hint_rva<'a, T: Bitfield<'a>>(bytes: &'a [u8], at: usize) -> error::Result<u32> {
-    Ok(record::<T>(bytes, at)?.to_rva())
 }
 
 /// An address table up to a zero or the end of the bytes, or `None` where it has more than `most` addresses: no call returns it
@@ -231,8 +224,9 @@ pub(crate) fn version_string(bytes: &[u8], at: usize) -> error::Result<Option<Ve
 }
 
 /// The UTF-16 code units of a text, which a call returns as a range; `None` where they are an odd number of bytes.
-pub(crate) fn code_units(bytes: &[u8]) -> Option<Vec<u16>> {
-    (bytes.len() % 2 == 0).then(|| numbers(bytes, u16::from_le_bytes).ok())?
+pub(crate) fn code_units(bytes: &[u8]) -> Option<impl Iterator<Item = u16> + '_> {
+    let units = bytes.chunks_exact(2);
+    units.remainder().is_empty().then(|| units.filter_map(|it| it.try_into().ok()).map(u16::from_le_bytes))
 }
 
 // ---- the other directories
