@@ -1,12 +1,13 @@
 /* Lists names of a file by the calls of the library for C: together FILE WHAT alone|together
  *
  * WHAT is exports, libraries, imports, symbols, addresses (all exports by their index, with the texts of forwarders), dlls (those
- * whose imports are delayed), delayed (what is imported of the first of them), sections (their long names) or bound (bound imports and
- * their forwarders).
+ * whose imports are delayed), delayed (what is imported of the first of them), all-delayed (of all of them), sections (their long
+ * names) or bound (bound imports and their forwarders).
  *
  * `together` lists them by one call with room for all, which reads the names together, `alone` by calls of 64 entries, or of symbols,
- * sections and bound imports by a call for each. Imports are those of all libraries; `alone` lists them library by library. How many there are is
- * printed, and the milliseconds of the processor that the calls took. */
+ * sections and bound imports by a call for each. Imports are those of all libraries; `alone` lists them library by library, and
+ * functions of all delay-loaded DLLs DLL by DLL. How many there are is printed, and the milliseconds of the processor that the calls
+ * took. */
 #include "pe.h"
 
 #include <stdio.h>
@@ -171,6 +172,34 @@ static uint64_t list_all_imports(const pe_c_view *view, pe_c_libraries libraries
     return count;
 }
 
+static uint64_t list_all_delayed(const pe_c_view *view, pe_c_run *runs, size_t number_of_runs)
+{
+    pe_c_range dlls = PE_C_EMPTY;
+    pe_c_delay_import dll = PE_C_EMPTY;
+    pe_c_library_functions walk = PE_C_EMPTY;
+    uint64_t count = 0, written = 1;
+    if (pe_c_delay_imports(view, &dlls) != PE_C_DONE)
+        return 0;
+    if (runs == NULL) {
+        while (pe_c_next_delay_import(view, &dlls, &dll) == PE_C_DONE)
+            count += list_delayed(view, &dll.functions, 0, NULL, 0);
+        return count;
+    }
+    /* Each run is for a DLL or a function. */
+    pe_c_library_function *entries = calloc(number_of_runs, sizeof *entries);
+    if (entries == NULL || pe_c_all_delayed_functions(view, &walk) != PE_C_DONE)
+        written = 0;
+    while (written > 0) {
+        written = 0;
+        if (pe_c_list_all_delayed_functions_together(view, &walk, runs, number_of_runs, entries, number_of_runs, &written)
+            != PE_C_DONE)
+            break;
+        count += written;
+    }
+    free(entries);
+    return count;
+}
+
 static uint64_t list(const pe_c_view *view, const char *what, pe_c_run *runs, size_t number_of_runs)
 {
     pe_c_exports exports = PE_C_EMPTY;
@@ -184,6 +213,8 @@ static uint64_t list(const pe_c_view *view, const char *what, pe_c_run *runs, si
         return list_bound(view, runs, number_of_runs);
     if (strcmp(what, "sections") == 0)
         return list_section_names(view, runs, number_of_runs);
+    if (strcmp(what, "all-delayed") == 0)
+        return list_all_delayed(view, runs, number_of_runs);
     if (strcmp(what, "dlls") == 0 || strcmp(what, "delayed") == 0)
         return list_delay_imports(view, what, runs, number_of_runs);
     if (pe_c_import_libraries(view, &libraries) != PE_C_DONE)
