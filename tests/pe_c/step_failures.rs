@@ -25,12 +25,17 @@ use crate::imports::{Imports, Libraries};
 use crate::ranges::{NO_BYTES, Range};
 use crate::resource_leaves::pe_c_next_resource_leaf;
 use crate::results::{DONE, NOTHING};
+use crate::step_failures::arm64::{pe_c_arm64_code_failure, pe_c_arm64_record_failure};
+use crate::step_failures::bound_imports::pe_c_bound_import_failure;
+use crate::step_failures::delay_imports::{
+    pe_c_delay_import_failure, pe_c_delayed_function_failure,
+};
+use crate::step_failures::resources::pe_c_resource_leaf_failure;
+use crate::step_failures::symbols::pe_c_symbol_name_failure;
+use crate::step_failures::unwinding::{pe_c_code_failure, pe_c_unwind_record_failure};
 use crate::step_failures::{
-    pe_c_arm64_code_failure, pe_c_arm64_record_failure, pe_c_bound_import_failure,
-    pe_c_certificate_failure, pe_c_code_failure, pe_c_delay_import_failure,
-    pe_c_delayed_function_failure, pe_c_import_failure, pe_c_library_failure,
-    pe_c_relocation_block_failure, pe_c_relocation_failure, pe_c_resource_leaf_failure,
-    pe_c_symbol_name_failure, pe_c_unwind_record_failure,
+    pe_c_certificate_failure, pe_c_import_failure, pe_c_library_failure,
+    pe_c_relocation_block_failure, pe_c_relocation_failure,
 };
 use crate::unwinding::CodeWalk;
 use crate::view::View;

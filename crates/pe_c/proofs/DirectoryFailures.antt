@@ -4,7 +4,7 @@ use Rattle.pe_core.specs.Refusals.{Refusal}
 use Rattle.pe_directories.specs.DirectoryRefusals.{DirectoryRefusal}
 use Rattle.pe_c.specs.Directories.{DirectoryHandsOut}
 use Rattle.pe_c.specs.DirectoryFailures.{Agrees, AllAgree, DirectoriesAgree}
-use Rattle.pe_c.specs.FailureNumbers.{directory_refused, refused}
+use Rattle.pe_c.specs.OldNumbers.{directory_refused, refused}
 use Rattle.pe_c.specs.HandsOut.{HandsOutIf}
 
 pub agree : {X : Type 0} (answer : Result (Option X) Refusal) → AllAgree answer (refused answer)

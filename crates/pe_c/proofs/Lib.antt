@@ -5,7 +5,7 @@ pub mod CertificateRuns
 pub mod CodeRuns
 pub mod DigestParts
 pub mod DirectoryFailures
-pub mod FailureNumbers
+pub mod OldNumbers
 pub mod DirectoryParts
 pub mod DirectoryRuns
 pub mod DirectoryLists

@@ -12,7 +12,7 @@ use Rattle.pe_c.proofs.DirectoryFailures.{agree}
 use Rattle.pe_c.proofs.PlanEnds.{one_record}
 use Rattle.pe_c.specs.Arm64.{AnswersArm64Code, StepsArm64Codes, StepsOverArm64, WalksInArm64, left_of_stream}
 use Rattle.pe_c.specs.DirectoryFailures.{Agrees}
-use Rattle.pe_c.specs.FailureNumbers.{IsFailureOf, IsWhy, refused, tree_refused}
+use Rattle.pe_c.specs.OldNumbers.{IsFailureOf, IsWhy, refused, tree_refused}
 use Rattle.pe_c.specs.HandsOut.{HandsOut}
 use Rattle.pe_c.specs.Ranges.{bytes_at}
 use Rattle.pe_c.specs.StepFailures.{IsWhyOfArm64Code, IsWhyOfCode, TreesAgree}

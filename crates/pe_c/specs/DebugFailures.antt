@@ -3,7 +3,7 @@ use Rattle.std.specs.Prelude.{ℕ, ◌==◌, List, Option, None, if◌then◌els
 use Rattle.pe_directories.specs.DirectoryRefusals.{DirectoryRefusal}
 use Rattle.pe_records.specs.declared.debug.ImageDebugDirectory.{ImageDebugDirectory}
 use Rattle.pe_c.specs.Debug.{characteristics_of, checksum_of, embedded_of, features_of, key_of, pdb20_of, pogo_of, repro_of}
-use Rattle.pe_c.specs.FailureNumbers.{refused}
+use Rattle.pe_c.specs.OldNumbers.{refused}
 
 -- what refuses the record of an entry that is read as a record of this kind, PE_C_RECORD_..
 unfoldable pub record_refusal : ℕ → List ℕ → ℕ → ImageDebugDirectory → Option DirectoryRefusal

@@ -10,7 +10,7 @@ use Rattle.pe_c.specs.Clr.{clr_header_at}
 use Rattle.pe_c.specs.Debug.{debug_entries_range}
 use Rattle.pe_c.specs.Directories.{DirectoryHandsOut, directory_number, table_at, tls_at}
 use Rattle.pe_c.specs.Exports.{or_zero, tables_at}
-use Rattle.pe_c.specs.FailureNumbers.{IsFailureOf, directory_refused, refused}
+use Rattle.pe_c.specs.OldNumbers.{IsFailureOf, directory_refused, refused}
 use Rattle.pe_c.specs.HandsOut.{HandsOutIf, result_number}
 use Rattle.pe_c.specs.ImageParts.{function_table}
 use Rattle.pe_c.specs.Images.{directory, map_of_image}

@@ -1,18 +1,23 @@
 -- Why a step of a walk is refused, or an item that is read by its key: by the refusal of the call that reads it.
 use Rattle.std.specs.Prelude.{◌≡◌, ℕ, ◌+◌, ◌%◌, ◌^◌, ◌==◌, ◌||◌, List, true, Option, Some, None, Result, if◌then◌else◌}
 use Rattle.pe_core.specs.Bytes.{holds, le}
-use Rattle.pe_core.specs.Refusals.{Refusal}
+use Rattle.pe_core.specs.Refusals.{Refusal, Short}
+use Rattle.pe_directories.specs.DirectoryRefusals.{BlockSize, BlockTruncated, NoArgument}
 use Rattle.pe_resource.specs.Leaves.{TreeRefusal}
 use Rattle.pe_unwind.specs.Links.{Table}
 use Rattle.pe_c.specs.Arm64.{StepsArm64Codes}
+use Rattle.pe_c.specs.Directories.{directory_number}
 use Rattle.pe_c.specs.DirectoryFailures.{numbers_there}
-use Rattle.pe_c.specs.FailureNumbers.{IsWhy, SaysWhy, refused}
+use Rattle.pe_c.specs.FailureNumbers.{bytes_there, needed_in, no_numbers, number_there, numbers, refused_value}
+use Rattle.pe_c.specs.HandsOut.{result_number}
+use Rattle.pe_c.specs.OldNumbers.{IsWhy, SaysWhy, refused}
 use Rattle.pe_c.specs.ResourceLeaves.{TreeHandsOut, tree_number}
 use Rattle.pe_c.specs.Unwinding.{FollowsToRecord, StepsCodes}
 use Rattle.pe_c.specs.declared.arm64.codes.Arm64Code.{Arm64Code}
 use Rattle.pe_c.specs.declared.arm64.codes.Arm64CodeWalk.{Arm64CodeWalk}
 use Rattle.pe_c.specs.declared.directory_failure.KnownNumbers.{KnownNumbers}
 use Rattle.pe_c.specs.declared.failure.Failure.{Failure}
+use Rattle.pe_c.specs.declared.failure_numbers.ErrorNumbers.{ErrorNumbers}
 use Rattle.pe_c.specs.declared.imports.Imports.{Imports}
 use Rattle.pe_c.specs.declared.imports.Libraries.{Libraries}
 use Rattle.pe_c.specs.declared.ranges.Range.{Range}
@@ -77,3 +82,21 @@ TreeAgrees number (Some refusal) = number ≡ tree_number refusal
 
 abbrev pub TreesAgree : {X : Type 0} → Result (Option X) TreeRefusal → Option TreeRefusal → Type 0
 TreesAgree {X} answer refusal = (number : ℕ) (old new : X) → TreeHandsOut number old new answer → TreeAgrees number refusal
+
+-- ---- base relocations
+
+-- of the block that a walk is at: its header has 8 bytes, the size is in the last 4
+unfoldable pub block_numbers : List ℕ → Range → ℕ → ErrorNumbers
+block_numbers b walk n =
+    let size = number_there (bytes_there b walk) 4 4 in
+    if n == result_number Short then needed_in b walk walk.offset 8
+    else if n == directory_number BlockSize then refused_value size
+    else if n == directory_number BlockTruncated then numbers 0 size walk.length
+    else no_numbers
+
+-- of the relocation that a walk is at, 2 bytes: a HIGHADJ without its argument, by its RVA
+unfoldable pub relocation_numbers : List ℕ → ℕ → Range → ℕ → ErrorNumbers
+relocation_numbers b page walk n =
+    if n == result_number Short then needed_in b walk walk.offset 2
+    else if n == directory_number NoArgument then refused_value (page + number_there (bytes_there b walk) 0 2 % 4096)
+    else no_numbers

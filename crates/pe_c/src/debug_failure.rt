@@ -2,13 +2,13 @@
 //! call is one number. This call reads the record again, and says the rest.
 
 ghost use Rattle.pe_c.specs.DebugFailures.{record_refusal};
-ghost use Rattle.pe_c.specs.FailureNumbers.{IsWhy, SaysWhy};
+ghost use Rattle.pe_c.specs.OldNumbers.{IsWhy, SaysWhy};
 
 use crate::debug_records::{
     characteristics_of, checksum_of, embedded_of, features_of, key_of, pdb20_of, pogo_of, repro_of,
 };
 use crate::failure::{Failure, hand_out_failure};
-use crate::failure_numbers::why;
+use crate::old_numbers::why;
 use pe_records::ImageDebugDirectory;
 
 /// The failure of the record of an entry that is read as a record of this kind.

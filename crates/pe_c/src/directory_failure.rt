@@ -3,14 +3,14 @@
 
 ghost use Rattle.std.specs.Prelude.{◌≡◌};
 ghost use Rattle.pe_c.specs.DirectoryFailures.{IsWhyAt, SaysWhyAt, certificate_table, directory_needs, directory_offset, known_of_directory, directory_refusal, failure_at, numbers_there, with_known};
-ghost use Rattle.pe_c.specs.FailureNumbers.{IsWhy, refused};
+ghost use Rattle.pe_c.specs.OldNumbers.{IsWhy, refused};
 ghost use Rattle.pe_c.specs.ImageParts.{function_table};
 ghost use Rattle.pe_c.specs.ResourceLeaves.{leaves_start};
 
 use crate::arm64::functions;
 use crate::directories::table_at;
 use crate::failure::{Failure, hand_out_failure};
-use crate::failure_numbers::{why, why_of_directory};
+use crate::old_numbers::{why, why_of_directory};
 use crate::image::{
     BASE_RELOCATION_TABLE, CERTIFICATE_TABLE, DELAY_IMPORT_DESCRIPTOR, Image, RESOURCE_TABLE,
     directory, is_absent, offset_of,
@@ -223,7 +223,7 @@ fn directory_failure(view: &View, index: u32) -> Option<Failure>
 }
 
 /// The same with the numbers that the directory says.
-#[tactic(auto, using(crate::proofs::FailureNumbers::of_known))]
+#[tactic(auto, using(crate::proofs::OldNumbers::of_known))]
 fn known_failure(view: &View, index: u32) -> Option<Failure>
     ensures { IsWhyAt (known_of_directory index view.now.bytes.now view.now.image.now view.now.sections.now) result
         (directory_refusal index view.now.bytes.now view.now.image.now view.now.sections.now) }

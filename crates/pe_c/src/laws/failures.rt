@@ -24,7 +24,7 @@ ghost use Rattle.pe_c.specs.Directories.{block_reported, first_in, relocation_re
 ghost use Rattle.pe_c.specs.DirectoryFailures.{Agrees, AllAgree, DirectoriesAgree, certificate_table, directory_refusal};
 ghost use Rattle.pe_c.specs.Exports.{tables_at};
 ghost use Rattle.pe_c.specs.Failures.{Explains, first_failure, image_failure, object_section_failures, section_failures, te_failures, te_section_failures};
-ghost use Rattle.pe_c.specs.FailureNumbers.{directory_refused, refused, tree_refused};
+ghost use Rattle.pe_c.specs.OldNumbers.{directory_refused, refused, tree_refused};
 ghost use Rattle.pe_c.specs.Images.{image_at};
 ghost use Rattle.pe_c.specs.Imports.{import_step, libraries_at, library_step};
 ghost use Rattle.pe_c.specs.LoadConfigs.{load_config_at};

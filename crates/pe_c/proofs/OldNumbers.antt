@@ -11,7 +11,7 @@ use Rattle.pe_resource.specs.Leaves as kinds
 use Rattle.pe_resource.specs.declared.tree_error.ResourceTreeError.{ResourceTreeError}
 use Rattle.pe_resource.specs.declared.tree_error.ResourceTreeError.TheVariants as trees
 use Rattle.pe_c.specs.DirectoryFailures.{IsFailureAt, with_known}
-use Rattle.pe_c.specs.FailureNumbers.{IsFailureOf, IsTreeFailureOf, directory_failure_of, failure_of, moved, tree_failure_of}
+use Rattle.pe_c.specs.OldNumbers.{IsFailureOf, IsTreeFailureOf, directory_failure_of, failure_of, moved, tree_failure_of}
 use Rattle.pe_c.specs.declared.directory_failure.KnownNumbers.{KnownNumbers}
 use Rattle.pe_c.specs.declared.failure.Failure.{Failure}
 

@@ -1,5 +1,5 @@
 use Rattle.pe_c.proofs.StepFailures.{code_read, code_refused, codes_over}
-use Rattle.pe_c.proofs.step_failures.code_failure.Goals as goal
+use Rattle.pe_c.proofs.step_failures.unwinding.code_failure.Goals as goal
 
 pub returns-in-Some-Err : goal.returns-in-Some-Err
 returns-in-Some-Err c =
