@@ -83,3 +83,4 @@ pub mod NearMaps
 pub mod ExportWindows
 pub mod NearLists
 pub mod StepFailures
+pub mod ResourceFailures

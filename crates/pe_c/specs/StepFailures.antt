@@ -1,21 +1,22 @@
 -- Why a step of a walk is refused, or an item that is read by its key: by the refusal of the call that reads it.
-use Rattle.std.specs.Prelude.{◌≡◌, ℕ, ◌+◌, ◌%◌, ◌^◌, ◌==◌, ◌||◌, List, true, Option, Some, None, Result, if◌then◌else◌}
-use Rattle.pe_core.specs.Bytes.{holds, le}
-use Rattle.pe_core.specs.Refusals.{Refusal, Short}
+use Rattle.std.specs.Prelude.{◌≡◌, ℕ, ◌+◌, ◌-◌, ◌*◌, ◌/◌, ◌%◌, ◌^◌, ◌==◌, ◌||◌, min, nat_lt, List, length, true, Option, Some, None, Result, if◌then◌else◌}
+use Rattle.pe_core.specs.Bytes.{holds}
+use Rattle.pe_core.specs.Imports.{lookups_rva}
+use Rattle.pe_core.specs.Records.{import_entry}
+use Rattle.pe_core.specs.Refusals.{Refusal, Short, ImportName, CertificateRevision, CertificateType, CertificateSize, CertificateTable, Unmapped}
 use Rattle.pe_directories.specs.DirectoryRefusals.{BlockSize, BlockTruncated, NoArgument}
 use Rattle.pe_resource.specs.Leaves.{TreeRefusal}
 use Rattle.pe_unwind.specs.Links.{Table}
 use Rattle.pe_c.specs.Arm64.{StepsArm64Codes}
 use Rattle.pe_c.specs.Directories.{directory_number}
-use Rattle.pe_c.specs.DirectoryFailures.{numbers_there}
-use Rattle.pe_c.specs.FailureNumbers.{bytes_there, needed_in, no_numbers, number_there, numbers, refused_value}
+use Rattle.pe_c.specs.Exports.{or_zero}
+use Rattle.pe_c.specs.FailureNumbers.{bytes_there, needed_at, needed_in, no_numbers, number_there, numbers, refused_value}
 use Rattle.pe_c.specs.HandsOut.{result_number}
 use Rattle.pe_c.specs.OldNumbers.{IsWhy, SaysWhy, refused}
 use Rattle.pe_c.specs.ResourceLeaves.{TreeHandsOut, tree_number}
 use Rattle.pe_c.specs.Unwinding.{FollowsToRecord, StepsCodes}
 use Rattle.pe_c.specs.declared.arm64.codes.Arm64Code.{Arm64Code}
 use Rattle.pe_c.specs.declared.arm64.codes.Arm64CodeWalk.{Arm64CodeWalk}
-use Rattle.pe_c.specs.declared.directory_failure.KnownNumbers.{KnownNumbers}
 use Rattle.pe_c.specs.declared.failure.Failure.{Failure}
 use Rattle.pe_c.specs.declared.failure_numbers.ErrorNumbers.{ErrorNumbers}
 use Rattle.pe_c.specs.declared.imports.Imports.{Imports}
@@ -26,27 +27,70 @@ use Rattle.pe_c.specs.declared.unwinding.Code.{Code}
 use Rattle.pe_c.specs.declared.unwinding.CodeWalk.{CodeWalk}
 use Rattle.pe_c.specs.declared.unwinding.UnwindRecord.{UnwindRecord}
 
--- ---- what is known of the numbers of an error
+-- ---- the libraries of an import directory, and the imports of each; `offset` maps an RVA to its file offset, `w` is the size of an
+-- entry of a list in bytes
 
--- an RVA alone
-abbrev pub known_rva : ℕ → KnownNumbers
-known_rva rva = record { rva = rva; size = 0; offset = 0; needed = None; head = (0, 0, 0) }
+-- an entry is needed after the last whole one of a list that no zero entry ends
+abbrev pub end_of_list : ℕ → List ℕ → Option ℕ → ErrorNumbers
+end_of_list w b list = needed_at (or_zero list + (length b - or_zero list) / w * w) w
 
--- that n bytes are needed at an offset
-abbrev pub known_bytes : ℕ → ℕ → KnownNumbers
-known_bytes p n = record { rva = 0; size = 0; offset = p; needed = Some n; head = (0, 0, 0) }
+-- of the library that a walk is at: its record, 20 bytes, or its list is truncated; or its name is refused
+unfoldable pub library_numbers : (ℕ → Option ℕ) → ℕ → List ℕ → Libraries → ℕ → ErrorNumbers
+library_numbers offset w b walk n =
+    let e = import_entry b walk.next in
+    if holds b walk.next 20
+    then (if n == result_number Short then end_of_list w b (offset (lookups_rva e))
+    else if n == result_number Unmapped || n == result_number ImportName then refused_value e.name_rva
+    else no_numbers)
+    else needed_at walk.next 20
 
--- of the record of the library that a walk is at, 20 bytes: the RVA of the name; where it is truncated what it needs
-abbrev pub known_of_library : List ℕ → Libraries → KnownNumbers
-known_of_library b walk = if holds b walk.next 20 then known_rva (le b (walk.next + 12) 4) else known_bytes walk.next 20
+-- the RVA of a hint, in the low 31 bits of the entry that a walk over imports is at
+abbrev pub hint_rva : ℕ → List ℕ → Imports → ℕ
+hint_rva w b walk = number_there (bytes_there b walk.left) 0 w % 2 ^ 31
 
--- of the entry of the import that a walk is at, w bytes: the RVA of the hint, its low 31 bits
-abbrev pub known_of_import : ℕ → List ℕ → Imports → KnownNumbers
-known_of_import w b walk = known_rva (if holds b walk.left.offset w then le b walk.left.offset w % 2 ^ 31 else 0)
+-- of the import that a walk is at: its entry or its hint, 2 bytes, is truncated; or the RVA of the hint is refused
+unfoldable pub import_numbers : (ℕ → Option ℕ) → ℕ → List ℕ → Imports → ℕ → ErrorNumbers
+import_numbers offset w b walk n =
+    let rva = hint_rva w b walk in
+    if n == result_number Short
+    then (if nat_lt walk.left.length w then needed_in b walk.left walk.left.offset w else needed_in b walk.left (or_zero (offset rva)) 2)
+    else if n == result_number Unmapped || n == result_number ImportName then refused_value rva
+    else no_numbers
 
--- of the certificate that a walk is at: where the walk is and how long, and the certificate's header, 8 bytes
-abbrev pub known_of_certificate : List ℕ → Range → KnownNumbers
-known_of_certificate b walk = record { rva = 0; size = walk.length; offset = walk.offset; needed = Some 8; head = numbers_there b walk.offset }
+-- ---- certificates
+
+-- the header of a certificate, 8 bytes; none where they are not all there
+abbrev pub header_there : List ℕ → Range → List ℕ
+header_there b walk = bytes_there b (record { offset = walk.offset; length = 8 })
+
+-- of the certificate that a walk is at: its header or the range, or its length, its revision, its type
+unfoldable pub certificate_numbers : List ℕ → Range → ℕ → ErrorNumbers
+certificate_numbers b walk n =
+    let header = header_there b walk in
+    if n == result_number Short then needed_at walk.offset 8
+    else if n == result_number CertificateTable then numbers (min (walk.offset + walk.length) (2 ^ 64 - 1)) 0 0
+    else if n == result_number CertificateSize then numbers 0 (number_there header 0 4) 0
+    else if n == result_number CertificateRevision then refused_value (number_there header 4 2)
+    else if n == result_number CertificateType then refused_value (number_there header 6 2)
+    else no_numbers
+
+-- ---- base relocations
+
+-- of the block that a walk is at: its header has 8 bytes, the size is in the last 4
+unfoldable pub block_numbers : List ℕ → Range → ℕ → ErrorNumbers
+block_numbers b walk n =
+    let size = number_there (bytes_there b walk) 4 4 in
+    if n == result_number Short then needed_in b walk walk.offset 8
+    else if n == directory_number BlockSize then refused_value size
+    else if n == directory_number BlockTruncated then numbers 0 size walk.length
+    else no_numbers
+
+-- of the relocation that a walk is at, 2 bytes: a HIGHADJ without its argument, by its RVA
+unfoldable pub relocation_numbers : List ℕ → ℕ → Range → ℕ → ErrorNumbers
+relocation_numbers b page walk n =
+    if n == result_number Short then needed_in b walk walk.offset 2
+    else if n == directory_number NoArgument then refused_value (page + number_there (bytes_there b walk) 0 2 % 4096)
+    else no_numbers
 
 -- ---- the refusal of a step that a relation defines
 
@@ -82,21 +126,3 @@ TreeAgrees number (Some refusal) = number ≡ tree_number refusal
 
 abbrev pub TreesAgree : {X : Type 0} → Result (Option X) TreeRefusal → Option TreeRefusal → Type 0
 TreesAgree {X} answer refusal = (number : ℕ) (old new : X) → TreeHandsOut number old new answer → TreeAgrees number refusal
-
--- ---- base relocations
-
--- of the block that a walk is at: its header has 8 bytes, the size is in the last 4
-unfoldable pub block_numbers : List ℕ → Range → ℕ → ErrorNumbers
-block_numbers b walk n =
-    let size = number_there (bytes_there b walk) 4 4 in
-    if n == result_number Short then needed_in b walk walk.offset 8
-    else if n == directory_number BlockSize then refused_value size
-    else if n == directory_number BlockTruncated then numbers 0 size walk.length
-    else no_numbers
-
--- of the relocation that a walk is at, 2 bytes: a HIGHADJ without its argument, by its RVA
-unfoldable pub relocation_numbers : List ℕ → ℕ → Range → ℕ → ErrorNumbers
-relocation_numbers b page walk n =
-    if n == result_number Short then needed_in b walk walk.offset 2
-    else if n == directory_number NoArgument then refused_value (page + number_there (bytes_there b walk) 0 2 % 4096)
-    else no_numbers

@@ -19,6 +19,14 @@ pub const SHORT: u32 = 2;
 
 pub const IMPORT_NAME: u32 = 5;
 
+pub const CERTIFICATE_REVISION: u32 = 7;
+
+pub const CERTIFICATE_TYPE: u32 = 8;
+
+pub const CERTIFICATE_SIZE: u32 = 9;
+
+pub const CERTIFICATE_TABLE: u32 = 10;
+
 pub const UNMAPPED: u32 = 11;
 
 pub const BLOCK_SIZE: u32 = 301;

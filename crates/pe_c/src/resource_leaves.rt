@@ -85,7 +85,7 @@ fn byte_range(range: &Range) -> ByteRange
     }
 }
 
-fn position_of(walk: &ResourceLeaves) -> LeafPosition
+pub fn position_of(walk: &ResourceLeaves) -> LeafPosition
     ensures { result ≡ position_of walk.now }
 {
     LeafPosition {

@@ -1,17 +1,15 @@
 //! Why a step of a walk is refused, or an item that is read by its key, with the numbers of the error: which RVA is unmapped, which
 //! code is invalid. The result of a call is one number. These calls read the item again, by a copy of the walk, and say the rest.
 
-ghost use Rattle.std.specs.Prelude.{◌≡◌, ◌==◌, Ok};
+ghost use Rattle.std.specs.Prelude.{◌≡◌, ◌==◌, ◌<◌, Ok};
 ghost use Rattle.pe_core.specs.Imports.{entry_size};
 ghost use Rattle.pe_directories.specs.BaseRelocations.{first_block, first_relocation};
 ghost use Rattle.pe_c.specs.Certificates.{certificate_step};
 ghost use Rattle.pe_c.specs.Directories.{block_reported, first_in, relocation_reported, step_of};
-ghost use Rattle.pe_c.specs.DirectoryFailures.{IsWhyAt, SaysWhyAt};
-ghost use Rattle.pe_c.specs.FailureNumbers.{directory_refused, failure_by};
+ghost use Rattle.pe_c.specs.FailureNumbers.{directory_refused, failure_by, refused};
 ghost use Rattle.pe_c.specs.HandsOut.{HandsOutIf};
 ghost use Rattle.pe_c.specs.Imports.{import_step, library_step};
-ghost use Rattle.pe_c.specs.OldNumbers.{refused};
-ghost use Rattle.pe_c.specs.StepFailures.{block_numbers, known_bytes, known_of_certificate, known_of_import, known_of_library, known_rva, relocation_numbers};
+ghost use Rattle.pe_c.specs.StepFailures.{block_numbers, certificate_numbers, end_of_list, hint_rva, import_numbers, library_numbers, relocation_numbers};
 ghost use Rattle.pe_c.specs.Views.{map_of};
 
 pub mod arm64;
@@ -23,27 +21,33 @@ pub mod unwinding;
 
 use crate::base_relocations::{next_block, next_relocation};
 use crate::certificates::step as certificate_step;
-use crate::directory_failure::{KnownNumbers, failure_at, numbers_there};
 use crate::failure::{Failure, hand_out_failure};
 use crate::failure_numbers::{
-    BLOCK_SIZE, BLOCK_TRUNCATED, ErrorNumbers, NO_ARGUMENT, SHORT, bytes_there, directory_refused,
-    failure_with, needed_in, no_numbers, numbers, refused_value, u16_there, u32_there,
+    BLOCK_SIZE, BLOCK_TRUNCATED, CERTIFICATE_REVISION, CERTIFICATE_SIZE, CERTIFICATE_TABLE,
+    CERTIFICATE_TYPE, ErrorNumbers, IMPORT_NAME, NO_ARGUMENT, SHORT, UNMAPPED, bytes_there,
+    directory_refused, failure_with, needed_at, needed_in, no_numbers, numbers, refused,
+    refused_value, u16_there, u32_there,
 };
 use crate::imports::{Imports, Libraries, import_step, library_step};
 use crate::named_view::NamedView;
-use crate::old_numbers::why;
 use crate::ranges::{Range, slice_of};
-use crate::view::View;
-use pe_core::{lookup_number, lookup_size, read_u32, require_bytes};
+use crate::view::{View, map_by};
+use pe_core::{ImportDirectoryEntry, lookup_number, lookup_size, require_bytes};
 
 /// The size of a record of the import directory in bytes.
-const SIZE_OF_RECORD: usize = 20;
+const SIZE_OF_RECORD: u64 = 20;
 
-/// Where in such a record the RVA of the name is.
-const NAME_IN_RECORD: usize = 12;
+/// The size of a hint in bytes.
+const SIZE_OF_HINT: u64 = 2;
 
 /// The size of the header of a certificate in bytes.
 const SIZE_OF_HEADER: u64 = 8;
+
+/// Where in that header the revision is.
+const REVISION_IN_HEADER: usize = 4;
+
+/// Where in that header the type is.
+const TYPE_IN_HEADER: usize = 6;
 
 /// The size of the header of a block of base relocations in bytes.
 const SIZE_OF_BLOCK_HEADER: u64 = 8;
@@ -63,51 +67,43 @@ pub fn start_of(bytes: &[u8], range: &Range) -> u64 {
     }
 }
 
-/// An RVA alone.
-fn known_rva(rva: u32) -> KnownNumbers
-    ensures { result ≡ known_rva rva }
+/// That an entry of so many bytes is needed after the last whole one of a list from an offset on.
+fn end_of_list(bytes: &[u8], list: Option<usize>, width: usize) -> ErrorNumbers
+    requires { 0 < width }
+    ensures { result ≡ end_of_list width bytes.now list }
 {
-    KnownNumbers {
-        rva,
-        size: 0,
-        offset: 0,
-        needed: None,
-        head: (0, 0, 0),
+    let start = list.unwrap_or(0);
+    let whole = bytes.len().saturating_sub(start) / width * width;
+    needed_at((start + whole) as u64, width as u64)
+}
+
+/// The numbers of the failure of the library that a walk is at.
+#[tactic(auto, unfolding(crate::specs::StepFailures::library_numbers))]
+fn library_numbers(view: &View, walk: &Libraries, number: u32) -> ErrorNumbers
+    ensures { result ≡ library_numbers (map_of view.now)
+        (entry_size (view.now.image.now.width == 64)) view.now.bytes.now walk.now number }
+{
+    let Ok(entry) = ImportDirectoryEntry::parse(view.bytes, walk.next as usize) else {
+        return needed_at(walk.next, SIZE_OF_RECORD);
+    };
+    match number {
+        SHORT => {
+            let list = map_by(view, entry.lookups_rva());
+            end_of_list(view.bytes, list, lookup_size(view.image.width == 64))
+        }
+        UNMAPPED | IMPORT_NAME => refused_value(u64::from(entry.name_rva)),
+        _ => no_numbers(),
     }
 }
 
-/// That so many bytes are needed at an offset.
-fn known_bytes(offset: u64, needed: u64) -> KnownNumbers
-    ensures { result ≡ known_bytes offset needed }
-{
-    KnownNumbers {
-        rva: 0,
-        size: 0,
-        offset,
-        needed: Some(needed),
-        head: (0, 0, 0),
-    }
-}
-
-/// What is known of the record of the library that a walk is at.
-fn known_of_library(bytes: &[u8], walk: &Libraries) -> KnownNumbers
-    ensures { result ≡ known_of_library bytes.now walk.now }
-{
-    let offset = walk.next as usize;
-    match require_bytes(bytes, offset, SIZE_OF_RECORD) {
-        Ok(()) => known_rva(read_u32(bytes, offset + NAME_IN_RECORD)),
-        Err(_) => known_bytes(walk.next, SIZE_OF_RECORD as u64),
-    }
-}
-
-#[tactic(auto, using(crate::proofs::OldNumbers::of_known))]
 fn library_failure(view: &View, walk: &Libraries) -> Option<Failure>
-    ensures { IsWhyAt (Some (known_of_library view.now.bytes.now walk.now)) result
+    ensures { result ≡ failure_by (library_numbers (map_of view.now)
+        (entry_size (view.now.image.now.width == 64)) view.now.bytes.now walk.now)
         (refused (library_step (map_of view.now)
         (entry_size (view.now.image.now.width == 64)) view.now.bytes.now walk.now).0) }
 {
-    match why(library_step(&NamedView::alone(view), *walk).0) {
-        Some(failure) => Some(failure_at(&known_of_library(view.bytes, walk), failure)),
+    match refused(library_step(&NamedView::alone(view), *walk).0) {
+        Some(number) => Some(failure_with(number, library_numbers(view, walk, number))),
         None => None,
     }
 }
@@ -115,39 +111,61 @@ fn library_failure(view: &View, walk: &Libraries) -> Option<Failure>
 /// Returns why `pe_c_next_library` refuses the library that a walk is at, which does not move: the same result, and the numbers of
 /// that error. `NOTHING` where it does not refuse it.
 ///
-/// The RVA of `UNMAPPED` and of `IMPORT_NAME` is that of the library's name.
+/// The RVA of `UNMAPPED` and of `IMPORT_NAME` is that of the library's name. The offset of `SHORT` is that of the record, or the one in
+/// the list of imports at which an entry is truncated.
 #[unsafe(no_mangle)]
 pub extern "C" fn pe_c_library_failure(view: &View, walk: &Libraries, out: &mut Failure) -> u32
-    ensures { SaysWhyAt (Some (known_of_library view.now.bytes.now walk.now)) result out.old out.new
+    ensures { HandsOutIf result out.old out.new (Ok (failure_by (library_numbers (map_of view.now)
+        (entry_size (view.now.image.now.width == 64)) view.now.bytes.now walk.now)
         (refused (library_step (map_of view.now)
-        (entry_size (view.now.image.now.width == 64)) view.now.bytes.now walk.now).0) }
+        (entry_size (view.now.image.now.width == 64)) view.now.bytes.now walk.now).0))) }
 {
     hand_out_failure(library_failure(view, walk), out)
 }
 
-/// What is known of the entry of the import that a walk is at.
-fn known_of_import(view: &View, walk: &Imports) -> KnownNumbers
-    ensures { result ≡ known_of_import
+/// The RVA of the hint to which the entry leads that a walk over imports is at.
+fn hint_rva(view: &View, walk: &Imports) -> u32
+    ensures { result ≡ hint_rva
         (entry_size (view.now.image.now.width == 64)) view.now.bytes.now walk.now }
 {
     let is_64 = view.image.width == 64;
-    let offset = walk.left.offset as usize;
-    match require_bytes(view.bytes, offset, lookup_size(is_64)) {
-        Ok(()) => known_rva((lookup_number(view.bytes, offset, is_64) % 0x8000_0000) as u32),
-        Err(_) => known_rva(0),
+    let left = bytes_there(view.bytes, &walk.left);
+    match require_bytes(left, 0, lookup_size(is_64)) {
+        Ok(()) => (lookup_number(left, 0, is_64) % 0x8000_0000) as u32,
+        Err(_) => 0,
     }
 }
 
-#[tactic(auto, using(crate::proofs::OldNumbers::of_known))]
+/// The numbers of the failure of the import that a walk is at.
+#[tactic(auto, unfolding(crate::specs::StepFailures::import_numbers))]
+fn import_numbers(view: &View, walk: &Imports, number: u32) -> ErrorNumbers
+    ensures { result ≡ import_numbers (map_of view.now)
+        (entry_size (view.now.image.now.width == 64)) view.now.bytes.now walk.now number }
+{
+    let rva = hint_rva(view, walk);
+    let width = lookup_size(view.image.width == 64) as u64;
+    match number {
+        SHORT if walk.left.length < width => {
+            needed_in(view.bytes, &walk.left, walk.left.offset, width)
+        }
+        SHORT => {
+            let hint = map_by(view, rva).unwrap_or(0);
+            needed_in(view.bytes, &walk.left, hint as u64, SIZE_OF_HINT)
+        }
+        UNMAPPED | IMPORT_NAME => refused_value(u64::from(rva)),
+        _ => no_numbers(),
+    }
+}
+
 fn import_failure(view: &View, walk: &Imports) -> Option<Failure>
-    ensures { IsWhyAt (Some (known_of_import
-        (entry_size (view.now.image.now.width == 64)) view.now.bytes.now walk.now)) result
+    ensures { result ≡ failure_by (import_numbers (map_of view.now)
+        (entry_size (view.now.image.now.width == 64)) view.now.bytes.now walk.now)
         (refused (import_step (map_of view.now)
         (entry_size (view.now.image.now.width == 64)) view.now.bytes.now walk.now).0) }
 {
     let mut after = *walk;
-    match why(import_step(&NamedView::alone(view), &mut after)) {
-        Some(failure) => Some(failure_at(&known_of_import(view, walk), failure)),
+    match refused(import_step(&NamedView::alone(view), &mut after)) {
+        Some(number) => Some(failure_with(number, import_numbers(view, walk, number))),
         None => None,
     }
 }
@@ -157,35 +175,40 @@ fn import_failure(view: &View, walk: &Imports) -> Option<Failure>
 /// The RVA of `UNMAPPED` and of `IMPORT_NAME` is that of the hint before the import's name.
 #[unsafe(no_mangle)]
 pub extern "C" fn pe_c_import_failure(view: &View, walk: &Imports, out: &mut Failure) -> u32
-    ensures { SaysWhyAt (Some (known_of_import
-        (entry_size (view.now.image.now.width == 64)) view.now.bytes.now walk.now))
-        result out.old out.new
+    ensures { HandsOutIf result out.old out.new (Ok (failure_by (import_numbers (map_of view.now)
+        (entry_size (view.now.image.now.width == 64)) view.now.bytes.now walk.now)
         (refused (import_step (map_of view.now)
-        (entry_size (view.now.image.now.width == 64)) view.now.bytes.now walk.now).0) }
+        (entry_size (view.now.image.now.width == 64)) view.now.bytes.now walk.now).0))) }
 {
     hand_out_failure(import_failure(view, walk), out)
 }
 
-/// What is known of the certificate that a walk is at.
-fn known_of_certificate(bytes: &[u8], walk: &Range) -> KnownNumbers
-    ensures { result ≡ known_of_certificate bytes.now walk.now }
+/// The numbers of the failure of the certificate that a walk is at.
+#[tactic(auto, unfolding(crate::specs::StepFailures::certificate_numbers))]
+pub fn certificate_numbers(bytes: &[u8], walk: &Range, number: u32) -> ErrorNumbers
+    ensures { result ≡ certificate_numbers bytes.now walk.now number }
 {
-    KnownNumbers {
-        rva: 0,
-        size: walk.length,
+    let range = Range {
         offset: walk.offset,
-        needed: Some(SIZE_OF_HEADER),
-        head: numbers_there(bytes, walk.offset as usize),
+        length: SIZE_OF_HEADER,
+    };
+    let header = bytes_there(bytes, &range);
+    match number {
+        SHORT => needed_at(walk.offset, SIZE_OF_HEADER),
+        CERTIFICATE_TABLE => numbers(walk.offset.saturating_add(walk.length), 0, 0),
+        CERTIFICATE_SIZE => numbers(0, u64::from(u32_there(header, 0)), 0),
+        CERTIFICATE_REVISION => refused_value(u64::from(u16_there(header, REVISION_IN_HEADER))),
+        CERTIFICATE_TYPE => refused_value(u64::from(u16_there(header, TYPE_IN_HEADER))),
+        _ => no_numbers(),
     }
 }
 
-#[tactic(auto, using(crate::proofs::OldNumbers::of_known))]
 fn certificate_failure(bytes: &[u8], walk: &Range) -> Option<Failure>
-    ensures { IsWhyAt (Some (known_of_certificate bytes.now walk.now)) result
+    ensures { result ≡ failure_by (certificate_numbers bytes.now walk.now)
         (refused (certificate_step bytes.now walk.now).0) }
 {
-    match why(certificate_step(bytes, *walk).0) {
-        Some(failure) => Some(failure_at(&known_of_certificate(bytes, walk), failure)),
+    match refused(certificate_step(bytes, *walk).0) {
+        Some(number) => Some(failure_with(number, certificate_numbers(bytes, walk, number))),
         None => None,
     }
 }
@@ -193,8 +216,9 @@ fn certificate_failure(bytes: &[u8], walk: &Range) -> Option<Failure>
 /// The same of the certificate that a walk is at, which `pe_c_next_certificate` refuses.
 #[unsafe(no_mangle)]
 pub extern "C" fn pe_c_certificate_failure(bytes: &[u8], walk: &Range, out: &mut Failure) -> u32
-    ensures { SaysWhyAt (Some (known_of_certificate bytes.now walk.now)) result out.old out.new
-        (refused (certificate_step bytes.now walk.now).0) }
+    ensures { HandsOutIf result out.old out.new
+        (Ok (failure_by (certificate_numbers bytes.now walk.now)
+        (refused (certificate_step bytes.now walk.now).0))) }
 {
     hand_out_failure(certificate_failure(bytes, walk), out)
 }
