@@ -3082,8 +3082,7 @@ uint32_t pe_c_list_guard_entries(const pe_c_view *view, pe_c_guard_entries *walk
  *         printf("no section maps the RVA %#llx\n", (unsigned long long)failure.value);
  *
  * The numbers: of PE_C_SHORT `offset` and `needed`; of PE_C_UNMAPPED `value`, the RVA; of others those that each call
- * names. It is proved that a call returns the error of the step, and that numbers which this error does not have are 0. Of
- * libraries and imports the RVA is proved too, and of certificates every number; other numbers are tested. */
+ * names; each that an error does not have is 0. All of them are proved. */
 
 /* Of pe_c_next_library. PE_C_UNMAPPED, PE_C_IMPORT_NAME: `value`, the RVA of the library's name. */
 uint32_t pe_c_library_failure(const pe_c_view *view, const pe_c_libraries *walk, pe_c_failure *out) PE_C_RESULT(1, 2, 3);
@@ -3092,7 +3091,7 @@ uint32_t pe_c_library_failure(const pe_c_view *view, const pe_c_libraries *walk,
 uint32_t pe_c_import_failure(const pe_c_view *view, const pe_c_imports *walk, pe_c_failure *out) PE_C_RESULT(1, 2, 3);
 
 /* Of pe_c_unwind_record, which takes the same. PE_C_FUNCTION_LINK: `value`, the link, which is odd: the RVA of no entry,
- * plus 1; PE_C_FUNCTION_CYCLE: `value`, how many links were followed; PE_C_UNWIND_VERSION: `value`. */
+ * plus 1; PE_C_FUNCTION_CYCLE: `value`, the unwind RVA from which links never end; PE_C_UNWIND_VERSION: `value`. */
 uint32_t pe_c_unwind_record_failure(const pe_c_view *view, const pe_c_range *table, uint32_t unwind,
                                     pe_c_failure *out) PE_C_RESULT(1, 2, 4);
 

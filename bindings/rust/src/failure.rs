@@ -254,7 +254,7 @@ impl fmt::Display for Failure {
             Error::EXCEPTION_BOUNDS => write!(f, "exception directory ends at file offset {offset:#x}, past the end of the file"),
             Error::FUNCTION_INDEX => write!(f, "function index {value} is out of range"),
             Error::FUNCTION_LINK => write!(f, "link to RVA {value:#x} leads to no function entry"),
-            Error::FUNCTION_CYCLE => write!(f, "loop in unwind links or chained records, found after {value} steps"),
+            Error::FUNCTION_CYCLE => write!(f, "loop in unwind links or chained records from RVA {value:#x} on"),
             Error::UNWIND_VERSION => write!(f, "unknown unwind record version {value}"),
             Error::UNWIND_CODE => write!(f, "invalid unwind code {value:#x}"),
             Error::ARM64_VERSION => write!(f, "unknown ARM64 unwind record version {value}"),
