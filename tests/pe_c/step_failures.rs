@@ -277,7 +277,6 @@ fn resource_leaves(rt: HostRuntime) -> Result<(), Fail> {
         // The directory of languages is empty, or has more entries than there are bytes.
         ((0x66, 0), 0, error(TREE_NO_ENTRIES, [0x38, 0, 0])),
         ((0x66, 11), 0, error(SHORT, [0x68, 88, 0])),
-        // shows: pe_c/src/failure_numbers.rt moved Short
         // The name is truncated.
         ((0xA8, 3), 0, error(SHORT, [0xAA, 6, 0])),
     ] {

@@ -10,11 +10,11 @@ ghost use Rattle.pe_c.specs.ResourceLeaves.{leaves_start};
 use crate::arm64::functions;
 use crate::directories::table_at;
 use crate::failure::{Failure, hand_out_failure};
-use crate::old_numbers::{why, why_of_directory};
 use crate::image::{
     BASE_RELOCATION_TABLE, CERTIFICATE_TABLE, DELAY_IMPORT_DESCRIPTOR, Image, RESOURCE_TABLE,
     directory, is_absent, offset_of,
 };
+use crate::old_numbers::{why, why_of_directory};
 use crate::ranges::Range;
 use crate::resource_leaves::leaf_position;
 use crate::view::View;
