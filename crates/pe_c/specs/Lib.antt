@@ -83,3 +83,6 @@ pub mod NearMaps
 pub mod ExportWindows
 pub mod NearLists
 pub mod StepFailures
+pub mod DelayFailures
+pub mod BoundFailures
+pub mod SymbolFailures
