@@ -84,3 +84,6 @@ pub mod ExportWindows
 pub mod NearLists
 pub mod StepFailures
 pub mod ResourceFailures
+pub mod DelayFailures
+pub mod BoundFailures
+pub mod SymbolFailures

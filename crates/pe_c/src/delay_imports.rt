@@ -211,7 +211,7 @@ pub extern "C" fn pe_c_next_delay_import(
 }
 
 /// An entry of which the attributes alone are known.
-fn entry_with(attributes: u32) -> DelayImport
+pub fn entry_with(attributes: u32) -> DelayImport
     ensures { result ≡ entry_with attributes }
 {
     DelayImport {

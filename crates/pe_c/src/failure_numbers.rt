@@ -26,6 +26,7 @@ pub const CERTIFICATE_TYPE: u32 = 8;
 pub const CERTIFICATE_SIZE: u32 = 9;
 
 pub const CERTIFICATE_TABLE: u32 = 10;
+pub const STRING_TABLE: u32 = 6;
 
 pub const UNMAPPED: u32 = 11;
 
@@ -34,6 +35,12 @@ pub const BLOCK_SIZE: u32 = 301;
 pub const BLOCK_TRUNCATED: u32 = 302;
 
 pub const NO_ARGUMENT: u32 = 303;
+
+pub const VA_BELOW_BASE: u32 = 304;
+
+pub const DELAY_IMPORT_NAME: u32 = 307;
+
+pub const BOUND_IMPORT_NAME: u32 = 308;
 
 /// The numbers of a failure.
 #[derive(Clone, Copy)]

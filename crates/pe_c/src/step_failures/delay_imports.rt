@@ -1,39 +1,198 @@
 //! Why a DLL that is loaded late is refused, or what is imported of it.
 
+ghost use Rattle.std.specs.Prelude.{◌≡◌, Ok};
+ghost use Rattle.pe_directories.specs.ImageParts.{image_view, size_of_va};
+ghost use Rattle.pe_c.specs.DelayFailures.{address_in, address_numbers, delay_import_numbers, delayed_function_numbers, function_short, hint_at, name_offset, refused_address};
 ghost use Rattle.pe_c.specs.DelayImports.{first_library_in, first_of_walk};
 ghost use Rattle.pe_c.specs.Directories.{image_parts, step_of};
-ghost use Rattle.pe_c.specs.OldNumbers.{SaysWhy, directory_refused};
+ghost use Rattle.pe_c.specs.FailureNumbers.{directory_refused, failure_by, number_there};
+ghost use Rattle.pe_c.specs.HandsOut.{HandsOutIf};
 
-use crate::delay_imports::{DelayedFunctions, next_function, next_library};
+use crate::delay_imports::{DelayedFunctions, entry_with, next_function, next_library};
+use crate::directories::image_bytes;
 use crate::failure::{Failure, hand_out_failure};
+use crate::failure_numbers::{
+    DELAY_IMPORT_NAME, ErrorNumbers, SHORT, UNMAPPED, VA_BELOW_BASE, bytes_there,
+    directory_refused, failure_with, needed_at, needed_in, no_numbers, numbers, refused_value,
+    u32_there,
+};
 use crate::named_view::NamedView;
-use crate::old_numbers::why_of_directory_from;
 use crate::ranges::Range;
-use crate::step_failures::start_of;
 use crate::view::View;
+use pe_core::{lookup_number, lookup_size, require_bytes};
+use pe_directories::ImageBytes;
+
+/// The size of an entry in bytes.
+const SIZE_OF_ENTRY: u64 = 32;
+
+/// Where in an entry the address of its name is.
+const NAME_IN_ENTRY: usize = 4;
+
+/// Where in an entry the address of the table of what is imported is.
+const TABLE_IN_ENTRY: usize = 16;
+
+/// The size of the hint before a function's name in bytes.
+const SIZE_OF_HINT: u64 = 2;
+
+/// The numbers of the failure of an address.
+fn address_numbers(
+    image: &ImageBytes<'_>,
+    attributes: u32,
+    address: u64,
+    number: u32,
+) -> ErrorNumbers
+    ensures { result ≡ address_numbers (image_view image.now) attributes address number }
+{
+    match number {
+        UNMAPPED if attributes % 2 == 1 => refused_value(address),
+        UNMAPPED => refused_value(address.saturating_sub(image.image_base)),
+        VA_BELOW_BASE => refused_value(address),
+        _ => no_numbers(),
+    }
+}
+
+/// The file offset of the name of an entry, if its address has one.
+fn name_offset(image: &ImageBytes<'_>, entry: &[u8]) -> Option<usize>
+    ensures { result ≡ name_offset (image_view image.now) entry.now }
+{
+    let with_attributes = entry_with(u32_there(entry, 0));
+    match with_attributes.offset_of(image, u32_there(entry, NAME_IN_ENTRY)) {
+        Ok(offset) => Some(offset),
+        Err(_) => None,
+    }
+}
+
+/// The address of an entry that is refused, by the file offset of its name.
+fn refused_address(entry: &[u8], name: Option<usize>) -> u32
+    ensures { result ≡ refused_address entry.now name }
+{
+    match name {
+        None => u32_there(entry, NAME_IN_ENTRY),
+        Some(_) => u32_there(entry, TABLE_IN_ENTRY),
+    }
+}
+
+/// The numbers of the failure of the DLL that a walk is at.
+#[tactic(auto, unfolding(crate::specs::DelayFailures::delay_import_numbers))]
+fn delay_import_numbers(image: &ImageBytes<'_>, walk: &Range, number: u32) -> ErrorNumbers
+    ensures { result ≡ delay_import_numbers (image_view image.now) walk.now number }
+{
+    let entry = bytes_there(image.bytes, walk);
+    let name = name_offset(image, entry);
+    match number {
+        SHORT => needed_in(image.bytes, walk, walk.offset, SIZE_OF_ENTRY),
+        DELAY_IMPORT_NAME => numbers(name.unwrap_or(0) as u64, 0, 0),
+        _ => {
+            let address = refused_address(entry, name);
+            address_numbers(image, u32_there(entry, 0), u64::from(address), number)
+        }
+    }
+}
+
+fn delay_import_failure(view: &View, walk: &Range) -> Option<Failure>
+    ensures { result ≡ failure_by (delay_import_numbers (image_parts view.now.bytes.now
+        view.now.image.now view.now.sections.now) walk.now)
+        (directory_refused (step_of (λ x. x) (first_library_in (image_parts view.now.bytes.now
+        view.now.image.now view.now.sections.now) walk.now))) }
+{
+    let mut after = *walk;
+    match directory_refused(next_library(&NamedView::alone(view), &mut after)) {
+        Some(number) => {
+            let numbers = delay_import_numbers(&image_bytes(view), walk, number);
+            Some(failure_with(number, numbers))
+        }
+        None => None,
+    }
+}
 
 /// The same of the DLL that a walk over delay imports is at, which `pe_c_next_delay_import` refuses.
 #[unsafe(no_mangle)]
 pub extern "C" fn pe_c_delay_import_failure(view: &View, walk: &Range, out: &mut Failure) -> u32
-    ensures { SaysWhy result out.old out.new (directory_refused (step_of (λ x. x)
-        (first_library_in (image_parts view.now.bytes.now view.now.image.now view.now.sections.now)
-        walk.now))) }
+    ensures { HandsOutIf result out.old out.new (Ok (failure_by (delay_import_numbers
+        (image_parts view.now.bytes.now view.now.image.now view.now.sections.now) walk.now)
+        (directory_refused (step_of (λ x. x) (first_library_in (image_parts view.now.bytes.now
+        view.now.image.now view.now.sections.now) walk.now))))) }
 {
-    let mut after = *walk;
-    let start = start_of(view.bytes, walk);
-    hand_out_failure(
-        why_of_directory_from(start, next_library(&NamedView::alone(view), &mut after)),
-        out,
-    )
+    hand_out_failure(delay_import_failure(view, walk), out)
 }
 
-/// Where the number of a table starts that a walk is at, if it is truncated, from which the offset of its error counts; else 0.
-fn start_of_number(view: &View, left: &Range) -> u64 {
-    let width = if view.image.width == 64 { 8 } else { 4 };
-    if left.length < width {
-        start_of(view.bytes, left)
+/// The number at the start of a table of what is imported, 0 where it is truncated.
+fn lookup_there(table: &[u8], is_64: bool) -> u64
+    ensures { result ≡ number_there table.now 0 (size_of_va is_64) }
+{
+    match require_bytes(table, 0, lookup_size(is_64)) {
+        Ok(()) => lookup_number(table, 0, is_64),
+        Err(_) => 0,
+    }
+}
+
+/// The address in a number of such a table.
+fn address_in(is_64: bool, attributes: u32, lookup: u64) -> u64
+    ensures { result ≡ address_in is_64 attributes lookup }
+{
+    if is_64 && attributes % 2 == 0 {
+        lookup % 0x8000_0000_0000_0000
     } else {
-        0
+        lookup % 0x8000_0000
+    }
+}
+
+/// The file offset of the hint to which such a number leads, 0 where it has none.
+fn hint_at(image: &ImageBytes<'_>, attributes: u32, lookup: u64) -> u64
+    ensures { result ≡ hint_at (image_view image.now) attributes lookup }
+{
+    match entry_with(attributes).offset_of_hint(image, lookup) {
+        Ok(offset) => offset as u64,
+        Err(_) => 0,
+    }
+}
+
+/// The bytes that are needed of what a walk is at: those of the number, or those of the hint at an offset.
+fn function_short(image: &ImageBytes<'_>, left: &Range, hint: u64) -> ErrorNumbers
+    ensures { result ≡ function_short (image_view image.now) left.now hint }
+{
+    let width = lookup_size(image.is_64);
+    match require_bytes(bytes_there(image.bytes, left), 0, width) {
+        Ok(()) => needed_at(hint, SIZE_OF_HINT),
+        Err(_) => needed_in(image.bytes, left, left.offset, width as u64),
+    }
+}
+
+/// The numbers of the failure of what a walk is at.
+#[tactic(auto, unfolding(crate::specs::DelayFailures::delayed_function_numbers))]
+fn delayed_function_numbers(
+    image: &ImageBytes<'_>,
+    walk: &DelayedFunctions,
+    number: u32,
+) -> ErrorNumbers
+    ensures { result ≡ delayed_function_numbers (image_view image.now) walk.now number }
+{
+    let lookup = lookup_there(bytes_there(image.bytes, &walk.left), image.is_64);
+    let hint = hint_at(image, walk.attributes, lookup);
+    match number {
+        SHORT => function_short(image, &walk.left, hint),
+        DELAY_IMPORT_NAME => numbers(hint.saturating_add(SIZE_OF_HINT), 0, 0),
+        _ => {
+            let address = address_in(image.is_64, walk.attributes, lookup);
+            address_numbers(image, walk.attributes, address, number)
+        }
+    }
+}
+
+fn delayed_function_failure(view: &View, walk: &DelayedFunctions) -> Option<Failure>
+    ensures { result ≡ failure_by (delayed_function_numbers (image_parts view.now.bytes.now
+        view.now.image.now view.now.sections.now) walk.now)
+        (directory_refused (step_of (λ x. x) (first_of_walk view.now.image.now (image_parts
+        view.now.bytes.now view.now.image.now view.now.sections.now) walk.now))) }
+{
+    let mut left = walk.left;
+    let found = next_function(&NamedView::alone(view), walk.attributes, &mut left);
+    match directory_refused(found) {
+        Some(number) => {
+            let numbers = delayed_function_numbers(&image_bytes(view), walk, number);
+            Some(failure_with(number, numbers))
+        }
+        None => None,
     }
 }
 
@@ -44,12 +203,10 @@ pub extern "C" fn pe_c_delayed_function_failure(
     walk: &DelayedFunctions,
     out: &mut Failure,
 ) -> u32
-    ensures { SaysWhy result out.old out.new (directory_refused (step_of (λ x. x)
-        (first_of_walk view.now.image.now (image_parts view.now.bytes.now view.now.image.now
-        view.now.sections.now) walk.now))) }
+    ensures { HandsOutIf result out.old out.new (Ok (failure_by (delayed_function_numbers
+        (image_parts view.now.bytes.now view.now.image.now view.now.sections.now) walk.now)
+        (directory_refused (step_of (λ x. x) (first_of_walk view.now.image.now (image_parts
+        view.now.bytes.now view.now.image.now view.now.sections.now) walk.now))))) }
 {
-    let mut left = walk.left;
-    let start = start_of_number(view, &left);
-    let found = next_function(&NamedView::alone(view), walk.attributes, &mut left);
-    hand_out_failure(why_of_directory_from(start, found), out)
+    hand_out_failure(delayed_function_failure(view, walk), out)
 }
