@@ -83,3 +83,5 @@ pub mod NearMaps
 pub mod ExportWindows
 pub mod NearLists
 pub mod StepFailures
+pub mod UnwindFailures
+pub mod Arm64Failures
