@@ -206,7 +206,7 @@ fn unwind_records(rt: HostRuntime) -> Result<(), Fail> {
         // Of a link the RVA is one less.
         (0x4569, error(UNMAPPED, [0, 0, 0x4568])),
         (0x100F, error(FUNCTION_LINK, [0, 0, 0x100F])),
-        (0x1019, error(FUNCTION_CYCLE, [0, 0, 1])),
+        (0x1019, error(FUNCTION_CYCLE, [0, 0, 0x1019])),
         (0x1078, error(UNWIND_VERSION, [0, 0, 3])),
         // The function to which a record is chained has 12 bytes.
         (0x1084, error(SHORT, [0x88, 12, 0])),

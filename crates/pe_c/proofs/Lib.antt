@@ -93,3 +93,4 @@ pub mod ImageWriters
 pub mod NearMaps
 pub mod NearLists
 mod StepFailures
+mod UnwindFailures

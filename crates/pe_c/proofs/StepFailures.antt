@@ -12,14 +12,13 @@ use Rattle.pe_c.proofs.DirectoryFailures.{agree}
 use Rattle.pe_c.proofs.PlanEnds.{one_record}
 use Rattle.pe_c.specs.Arm64.{AnswersArm64Code, StepsArm64Codes, StepsOverArm64, WalksInArm64, left_of_stream}
 use Rattle.pe_c.specs.DirectoryFailures.{Agrees}
-use Rattle.pe_c.specs.OldNumbers.{IsFailureOf, IsWhy, refused, tree_refused}
+use Rattle.pe_c.specs.OldNumbers.{refused, tree_refused}
 use Rattle.pe_c.specs.HandsOut.{HandsOut}
 use Rattle.pe_c.specs.Ranges.{bytes_at}
-use Rattle.pe_c.specs.StepFailures.{IsWhyOfArm64Code, IsWhyOfCode, TreesAgree}
+use Rattle.pe_c.specs.StepFailures.{TreesAgree}
 use Rattle.pe_c.specs.Unwinding.{FollowsToRecord, HandsOutCode, HandsOutRecord, StepsCodes, WalksIn, code_stream_at, flat_answer, left_of}
 use Rattle.pe_c.specs.declared.arm64.codes.Arm64Code.{Arm64Code}
 use Rattle.pe_c.specs.declared.arm64.codes.Arm64CodeWalk.{Arm64CodeWalk}
-use Rattle.pe_c.specs.declared.failure.Failure.{Failure}
 use Rattle.pe_c.specs.declared.unwinding.Code.{Code}
 use Rattle.pe_c.specs.declared.unwinding.CodeWalk.{CodeWalk}
 use Rattle.pe_c.specs.declared.unwinding.UnwindRecord.{UnwindRecord}
@@ -75,24 +74,6 @@ pub codes_agree : (b : List ℕ) (w after : CodeWalk) (answer : Result (Option C
 codes_agree b w after answer s v number old new h =
     let same : refused (flat_answer h.0) ≡ refused (flat_answer s.0) = one_step (bytes_at b w.left) w v after h.0 s.0 h.1 s.1 in
     subst (λ (r : Option DirectoryRefusal). Agrees number r) (same ∙ ap (λ (a : Result (Option Code) Refusal). refused a) (sym s.2)) (agree (flat_answer h.0) number old new h.2)
-
--- ---- the failure of a step that returned this
-
-why_of_code : (b : List ℕ) (w after : CodeWalk) (given : Option (Result UnwindCode Error)) (found : Option Failure) → WalksIn (bytes_at b w.left) w given after → IsWhy found (refused (flat_answer given)) → IsWhyOfCode b w found
-why_of_code b w after given found s why = (flat_answer given, after, (given, s, refl), why)
-
-pub code_refused : (b : List ℕ) (w after : CodeWalk) (given : Option (Result UnwindCode Error)) (r : Result UnwindCode Error) (e : Error) (f : Failure) → WalksIn (bytes_at b w.left) w given after → given ≡ Some r → r ≡ Err e → IsFailureOf (Image (kind_of e)) f →
-    IsWhyOfCode b w (Some f)
-code_refused b w after given r e f s is error h = why_of_code b w after given (Some f) s (rw (is, error) h)
-
-pub code_read : (b : List ℕ) (w after : CodeWalk) (given : Option (Result UnwindCode Error)) (r : Result UnwindCode Error) (c : UnwindCode) → WalksIn (bytes_at b w.left) w given after → given ≡ Some r → r ≡ Ok c → IsWhyOfCode b w None
-code_read b w after given r c s is code = why_of_code b w after given None s (rw (is, code) tt)
-
-pub codes_over : (b : List ℕ) (w after : CodeWalk) (given : Option (Result UnwindCode Error)) → WalksIn (bytes_at b w.left) w given after → given ≡ None → IsWhyOfCode b w None
-codes_over b w after given s is = why_of_code b w after given None s (rw is tt)
-
-pub why_of_arm64_code : (b : List ℕ) (w after : Arm64CodeWalk) (answer : Result (Option Arm64Code) Refusal) (found : Option Failure) → StepsArm64Codes b w answer after → IsWhy found (refused answer) → IsWhyOfArm64Code b w found
-why_of_arm64_code b w after answer found s why = (answer, after, s, why)
 
 -- ---- codes of ARM64
 

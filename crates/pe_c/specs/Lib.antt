@@ -87,3 +87,5 @@ pub mod ResourceFailures
 pub mod DelayFailures
 pub mod BoundFailures
 pub mod SymbolFailures
+pub mod UnwindFailures
+pub mod Arm64Failures

@@ -92,31 +92,6 @@ relocation_numbers b page walk n =
     else if n == directory_number NoArgument then refused_value (page + number_there (bytes_there b walk) 0 2 % 4096)
     else no_numbers
 
--- ---- the refusal of a step that a relation defines
-
--- why the record of an unwind RVA is refused
-abbrev pub SaysWhyRecord : List ℕ → Result Table Refusal → ℕ → ℕ → Failure → Failure → Type 0
-SaysWhyRecord b links address number old new =
-    (answer : Result UnwindRecord Refusal) × FollowsToRecord b links address answer × SaysWhy number old new (refused answer)
-
--- why the code that a walk is at is refused
-abbrev pub IsWhyOfCode : List ℕ → CodeWalk → Option Failure → Type 0
-IsWhyOfCode b walk found =
-    (answer : Result (Option Code) Refusal) × (after : CodeWalk) × StepsCodes b walk answer after × IsWhy found (refused answer)
-
-abbrev pub SaysWhyCode : List ℕ → CodeWalk → ℕ → Failure → Failure → Type 0
-SaysWhyCode b walk number old new =
-    (answer : Result (Option Code) Refusal) × (after : CodeWalk) × StepsCodes b walk answer after × SaysWhy number old new (refused answer)
-
--- the same of a code of ARM64
-abbrev pub IsWhyOfArm64Code : List ℕ → Arm64CodeWalk → Option Failure → Type 0
-IsWhyOfArm64Code b walk found =
-    (answer : Result (Option Arm64Code) Refusal) × (after : Arm64CodeWalk) × StepsArm64Codes b walk answer after × IsWhy found (refused answer)
-
-abbrev pub SaysWhyArm64Code : List ℕ → Arm64CodeWalk → ℕ → Failure → Failure → Type 0
-SaysWhyArm64Code b walk number old new =
-    (answer : Result (Option Arm64Code) Refusal) × (after : Arm64CodeWalk) × StepsArm64Codes b walk answer after × SaysWhy number old new (refused answer)
-
 -- ---- what a failure says of a step over the leaves of a resource tree
 
 -- a call returned this number, and what refuses it is this

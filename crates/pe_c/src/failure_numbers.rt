@@ -10,7 +10,7 @@ ghost use Rattle.pe_c.specs.FailureNumbers.{bytes_there, directory_refused, fail
 use crate::failure::Failure;
 use crate::ranges::{Range, slice_of};
 use crate::results::{number_of, number_of_directory, number_of_tree};
-use pe_core::{Result, read_u16, read_u32, require_bytes};
+use pe_core::{Result, read_u8, read_u16, read_u32, require_bytes};
 use pe_directories::DirectoryError;
 use pe_resource::ResourceTreeError;
 
@@ -29,6 +29,26 @@ pub const CERTIFICATE_TABLE: u32 = 10;
 pub const STRING_TABLE: u32 = 6;
 
 pub const UNMAPPED: u32 = 11;
+
+pub const EXCEPTION_SIZE: u32 = 17;
+
+pub const EXCEPTION_OFFSET: u32 = 18;
+
+pub const EXCEPTION_BOUNDS: u32 = 19;
+
+pub const FUNCTION_LINK: u32 = 21;
+
+pub const FUNCTION_CYCLE: u32 = 22;
+
+pub const UNWIND_VERSION: u32 = 23;
+
+pub const UNWIND_CODE: u32 = 24;
+
+pub const ARM64_VERSION: u32 = 25;
+
+pub const ARM64_STREAM: u32 = 26;
+
+pub const ARM64_CUT: u32 = 27;
 
 pub const BLOCK_SIZE: u32 = 301;
 
@@ -88,6 +108,16 @@ pub fn refused_value(value: u64) -> ErrorNumbers
     ensures { result ≡ refused_value value }
 {
     numbers(0, 0, value)
+}
+
+/// The number of one byte at an offset, 0 where it is not there.
+pub fn u8_there(bytes: &[u8], offset: usize) -> u8
+    ensures { result ≡ number_there bytes.now offset 1 }
+{
+    match require_bytes(bytes, offset, 1) {
+        Ok(()) => read_u8(bytes, offset),
+        Err(_) => 0,
+    }
 }
 
 /// The number of two bytes at an offset, 0 where they are not there.
