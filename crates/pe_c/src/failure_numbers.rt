@@ -17,15 +17,43 @@ use pe_resource::ResourceTreeError;
 // The results that have numbers, as `results` has them.
 pub const SHORT: u32 = 2;
 
+pub const BAD_MAGIC: u32 = 3;
+
 pub const IMPORT_NAME: u32 = 5;
 
+pub const CERTIFICATE_REVISION: u32 = 7;
+
+pub const CERTIFICATE_TYPE: u32 = 8;
+
+pub const CERTIFICATE_SIZE: u32 = 9;
+
+pub const CERTIFICATE_TABLE_END: u32 = 10;
+
 pub const UNMAPPED: u32 = 11;
+
+pub const DEBUG_BOUNDS: u32 = 12;
+
+pub const DEBUG_SIZE: u32 = 13;
+
+pub const DEBUG_DATA: u32 = 14;
+
+pub const POGO_SIZE: u32 = 15;
+
+pub const EXCEPTION_SIZE: u32 = 17;
+
+pub const EXCEPTION_OFFSET: u32 = 18;
+
+pub const EXCEPTION_BOUNDS: u32 = 19;
+
+pub const RESOURCE_BOUNDS: u32 = 28;
 
 pub const BLOCK_SIZE: u32 = 301;
 
 pub const BLOCK_TRUNCATED: u32 = 302;
 
 pub const NO_ARGUMENT: u32 = 303;
+
+pub const CLR_HEADER_SIZE: u32 = 305;
 
 /// The numbers of a failure.
 #[derive(Clone, Copy)]
