@@ -1,7 +1,9 @@
--- Why the directories of an image are refused: by the refusal of the call that reads a directory.
-use Rattle.std.specs.Prelude.{◌≡◌, ℕ, ◌+◌, ◌-◌, ◌^◌, ◌==◌, ◌||◌, min, List, true, Option, Some, None, Result, if◌then◌else◌}
+-- Why the directories of an image are refused: by the refusal of the call that reads a directory, with the numbers by its bytes.
+use Rattle.std.specs.Prelude.{◌≡◌, ℕ, ◌+◌, ◌*◌, ◌-◌, ◌^◌, ◌==◌, ◌||◌, min, Bool, true, false, List, Option, Some, None, Result, if◌then◌else◌}
 use Rattle.pe_core.specs.Bytes.{holds, le}
-use Rattle.pe_core.specs.Refusals.{Refusal, Short, ImportName, CertificateRevision, CertificateType, CertificateSize, CertificateTable, Unmapped, DebugBounds, ExceptionSize, ExceptionOffset, ExceptionBounds}
+use Rattle.pe_core.specs.Records.{export_directory}
+use Rattle.pe_core.specs.Refusals.{Refusal, Short, ImportName, CertificateRevision, CertificateType, CertificateSize, CertificateTable, Unmapped, DebugBounds, ExceptionSize, ExceptionOffset, ExceptionBounds, ResourceBounds}
+use Rattle.pe_core.specs.declared.export.ExportDirectoryTable.{ExportDirectoryTable}
 use Rattle.pe_core.specs.declared.section_table.SectionTable.{SectionTable}
 use Rattle.pe_directories.specs.DirectoryRefusals.{DirectoryRefusal, ClrHeaderSize}
 use Rattle.pe_c.specs.BoundImports.{bound_imports_at}
@@ -10,7 +12,8 @@ use Rattle.pe_c.specs.Clr.{clr_header_at}
 use Rattle.pe_c.specs.Debug.{debug_entries_range}
 use Rattle.pe_c.specs.Directories.{DirectoryHandsOut, directory_number, table_at, tls_at}
 use Rattle.pe_c.specs.Exports.{or_zero, tables_at}
-use Rattle.pe_c.specs.OldNumbers.{IsFailureOf, directory_refused, refused}
+use Rattle.pe_c.specs.FailureNumbers.{directory_refused, needed_at, no_numbers, number_there, numbers, refused, refused_value}
+use Rattle.pe_c.specs.OldNumbers.{IsFailureOf}
 use Rattle.pe_c.specs.HandsOut.{HandsOutIf, result_number}
 use Rattle.pe_c.specs.ImageParts.{function_table}
 use Rattle.pe_c.specs.Images.{directory, map_of_image}
@@ -18,7 +21,9 @@ use Rattle.pe_c.specs.Imports.{libraries_at}
 use Rattle.pe_c.specs.LoadConfigs.{load_config_at}
 use Rattle.pe_c.specs.ResourceLeaves.{leaves_start}
 use Rattle.pe_c.specs.declared.directory_failure.KnownNumbers.{KnownNumbers}
+use Rattle.pe_c.specs.declared.directory_failure.NeededPart.{NeededPart}
 use Rattle.pe_c.specs.declared.failure.Failure.{Failure}
+use Rattle.pe_c.specs.declared.failure_numbers.ErrorNumbers.{ErrorNumbers}
 use Rattle.pe_c.specs.declared.image.Image.{Image}
 use Rattle.pe_c.specs.declared.ranges.Range.{Range}
 use Rattle.pe_c.specs.declared.results.TheConstants.{DONE, NOTHING}
@@ -29,7 +34,7 @@ certificate_table image = record { offset = (directory image 4).virtual_address;
 
 -- what refuses the directory with this index: the refusal of the call which reads it, of the certificate table that of the
 -- first step
-unfoldable pub directory_refusal : ℕ → List ℕ → Image → List SectionTable → Option DirectoryRefusal
+unfoldable pub directory_refusal : ℕ → List ℕ → Image → List SectionTable → Option ℕ
 directory_refusal i b image sections =
     if i == 0 then refused (tables_at b image sections)
     else if i == 1 then refused (libraries_at image sections)
@@ -45,40 +50,94 @@ directory_refusal i b image sections =
     else if i == 14 then directory_refused (clr_header_at b image sections)
     else None
 
--- ---- what a directory says of the numbers of its error
+-- ---- certificates
 
--- the file offset of the directory with this index: those of certificates and of bound imports are no RVAs
-abbrev pub directory_offset : ℕ → Image → List SectionTable → ℕ
-directory_offset i image sections =
-    if i == 4 || i == 11 then (directory image i).virtual_address
-    else or_zero (map_of_image image sections (directory image i).virtual_address)
-
--- how many bytes it needs there: its first record, or all of it
-abbrev pub directory_needs : ℕ → Image → Option ℕ
-directory_needs i image =
-    if i == 2 then Some 16
-    else if i == 4 then Some 8
-    else if i == 5 || i == 11 || i == 13 then Some (directory image i).size
-    else if i == 9 then Some (if image.width == 64 then 40 else 24)
-    else if i == 10 then Some 4
-    else if i == 14 then Some 72
-    else None
-
--- the first numbers there, of 4, 2 and 2 bytes: of a certificate its length, revision and type, of a CLR header first its size
+-- the first numbers at an offset, of 4, 2 and 2 bytes: of a certificate its length, revision and type
 abbrev pub numbers_there : List ℕ → ℕ → ℕ × ℕ × ℕ
 numbers_there b p = if holds b p 8 then (le b p 4, le b (p + 4) 2, le b (p + 6) 2) else (0, 0, 0)
 
--- where it is; not of exports, whose tables have RVAs of their own
-unfoldable pub known_of_directory : ℕ → List ℕ → Image → List SectionTable → Option KnownNumbers
-known_of_directory i b image sections =
-    if i == 0 then None
-    else Some (record {
-      rva = (directory image i).virtual_address;
-      size = (directory image i).size;
-      offset = directory_offset i image sections;
-      needed = directory_needs i image;
-      head = numbers_there b (directory_offset i image sections);
-    })
+-- where n bytes at an offset end, or the largest number that a failure has
+abbrev pub end_of : ℕ → ℕ → ℕ
+end_of p n = min (p + n) (2 ^ 64 - 1)
+
+-- the numbers of the failure of the certificate that a walk is at: its header has 8 bytes
+unfoldable pub certificate_numbers : List ℕ → Range → ℕ → ErrorNumbers
+certificate_numbers b walk n =
+    let head = numbers_there b walk.offset in
+    if n == result_number Short then needed_at walk.offset 8
+    else if n == result_number CertificateTable then numbers (end_of walk.offset walk.length) 0 0
+    else if n == result_number CertificateSize then numbers 0 head.0 0
+    else if n == result_number CertificateRevision then refused_value head.1
+    else if n == result_number CertificateType then refused_value head.2
+    else no_numbers
+
+-- ---- what a directory needs
+
+abbrev pub part : ℕ → ℕ → NeededPart
+part rva size = record { rva = rva; size = size }
+
+abbrev pub holds_at : List ℕ → ℕ → Option ℕ → Bool
+holds_at b n None = false
+holds_at b n (Some p) = holds b p n
+
+-- the part is there: its RVA is mapped, and its bytes are in the file; one without bytes is there, whatever its RVA
+abbrev pub is_there : (ℕ → Option ℕ) → List ℕ → NeededPart → Bool
+is_there offset b x = x.size == 0 || holds_at b x.size (offset x.rva)
+
+-- of the three tables of exports, of RVAs, of names and of ordinals, the first that is not there, or else the last
+abbrev pub missing_table : (ℕ → Option ℕ) → List ℕ → ExportDirectoryTable → NeededPart
+missing_table offset b d =
+    let addresses = part d.address_table_rva (4 * d.address_table_entries) in
+    let names = part d.name_pointer_rva (4 * d.number_of_name_pointers) in
+    let ordinals = part d.ordinal_table_rva (2 * d.number_of_name_pointers) in
+    if is_there offset b addresses then (if is_there offset b names then ordinals else names) else addresses
+
+-- of an export directory at this RVA what is not there: its 40 bytes, or a table
+unfoldable pub missing_export : (ℕ → Option ℕ) → List ℕ → ℕ → NeededPart
+missing_export offset b rva =
+    if is_there offset b (part rva 40) then missing_table offset b (export_directory b (or_zero (offset rva))) else part rva 40
+
+-- what the directory with this index needs: a part of exports; the first directory of resources, the TLS directory, the size of the
+-- load configuration, the CLR header; of any other all of it
+unfoldable pub needed_part : ℕ → List ℕ → Image → List SectionTable → NeededPart
+needed_part i b image sections =
+    let d = directory image i in
+    if i == 0 then missing_export (map_of_image image sections) b d.virtual_address
+    else if i == 2 then part d.virtual_address 16
+    else if i == 9 then part d.virtual_address (if image.width == 64 then 40 else 24)
+    else if i == 10 then part d.virtual_address 4
+    else if i == 14 then part d.virtual_address 72
+    else part d.virtual_address d.size
+
+-- where an RVA that it has is in the file, 0 where it is unmapped; those of bound imports are offsets
+abbrev pub directory_offset : ℕ → Image → List SectionTable → ℕ → ℕ
+directory_offset i image sections rva = if i == 11 then rva else or_zero (map_of_image image sections rva)
+
+-- the size of the entries after the first directory of resources, 8 bytes each: the sum of two counts, at most 65,535
+abbrev pub entries_size : List ℕ → ℕ → ℕ
+entries_size b p = if holds b p 16 then 8 * min (le b (p + 12) 2 + le b (p + 14) 2) 65535 else 0
+
+-- where resources at an offset end: all n bytes of them, or where these are there the entries
+abbrev pub resource_end : List ℕ → ℕ → ℕ → ℕ
+resource_end b p n = if holds b p n then end_of p (16 + entries_size b p) else end_of p n
+
+-- the numbers of the failure of the directory with this index; that of certificates is the failure of the first
+unfoldable pub directory_numbers : ℕ → List ℕ → Image → List SectionTable → ℕ → ErrorNumbers
+directory_numbers i b image sections n =
+    let d = directory image i in
+    let p = directory_offset i image sections d.virtual_address in
+    let needed = needed_part i b image sections in
+    if i == 4 then certificate_numbers b (certificate_table image) n
+    else if n == result_number Short then needed_at (directory_offset i image sections needed.rva) needed.size
+    else if n == result_number Unmapped then refused_value needed.rva
+    else if n == result_number ExceptionSize then refused_value d.size
+    else if n == result_number ExceptionOffset then numbers p 0 0
+    else if n == result_number DebugBounds || n == result_number ExceptionBounds then numbers (end_of p d.size) 0 0
+    else if n == result_number ResourceBounds then numbers (resource_end b p d.size) 0 0
+    else if n == directory_number ClrHeaderSize then refused_value (number_there b p 4)
+    else no_numbers
+
+-- ---- what is known of the numbers of an error
 
 abbrev pub with_numbers : Failure → ℕ → ℕ → ℕ → Failure
 with_numbers f offset needed value = record { offset = offset; needed = needed; value = value; result = f.result; spare = f.spare }
@@ -124,6 +183,19 @@ SaysWhyAt known number old new None = (number ≡ NOTHING) × (new ≡ old)
 SaysWhyAt known number old new (Some refusal) = (number ≡ DONE) × IsFailureAt known refusal new
 
 -- ---- what a failure says of a call
+
+-- a call returned this number, and what refuses it has this one: the call is done or returns nothing exactly where nothing does
+abbrev pub IsNumberOf : ℕ → Option ℕ → Type 0
+IsNumberOf number None = (number == DONE || number == NOTHING) ≡ true
+IsNumberOf number (Some refused) = number ≡ refused
+
+-- so does each call that hands out what is defined
+abbrev pub CallsReturn : {X : Type 0} → Result (Option X) Refusal → Option ℕ → Type 0
+CallsReturn {X} answer refused = (number : ℕ) (old new : X) → HandsOutIf number old new answer → IsNumberOf number refused
+
+-- the same of a directory that pe_directories reads
+abbrev pub DirectoryCallsReturn : {X : Type 0} → Result (Option X) DirectoryRefusal → Option ℕ → Type 0
+DirectoryCallsReturn {X} answer refused = (number : ℕ) (old new : X) → DirectoryHandsOut number old new answer → IsNumberOf number refused
 
 -- a call returned this number, and what refuses it is this: the call is done or returns nothing exactly where nothing does
 abbrev pub Agrees : ℕ → Option DirectoryRefusal → Type 0

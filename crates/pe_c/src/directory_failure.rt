@@ -1,15 +1,23 @@
 //! Why a directory of an image is refused, with the numbers of the error: where it is, how many bytes are needed, which RVA is
 //! unmapped. The result of a call is one number. This call reads the directory again, and says the rest.
 
-ghost use Rattle.std.specs.Prelude.{◌≡◌};
-ghost use Rattle.pe_c.specs.DirectoryFailures.{IsWhyAt, SaysWhyAt, certificate_table, directory_needs, directory_offset, known_of_directory, directory_refusal, failure_at, numbers_there, with_known};
-ghost use Rattle.pe_c.specs.OldNumbers.{IsWhy, refused};
+ghost use Rattle.std.specs.Prelude.{◌≡◌, Ok};
+ghost use Rattle.pe_c.specs.DirectoryFailures.{certificate_numbers, certificate_table, directory_numbers, directory_offset, directory_refusal, entries_size, failure_at, is_there, missing_export, missing_table, needed_part, numbers_there, part, resource_end};
+ghost use Rattle.pe_c.specs.FailureNumbers.{failure_by, refused};
+ghost use Rattle.pe_c.specs.HandsOut.{HandsOutIf};
 ghost use Rattle.pe_c.specs.ImageParts.{function_table};
+ghost use Rattle.pe_c.specs.Images.{map_of_image};
 ghost use Rattle.pe_c.specs.ResourceLeaves.{leaves_start};
 
 use crate::arm64::functions;
 use crate::directories::table_at;
 use crate::failure::{Failure, hand_out_failure};
+use crate::failure_numbers::{
+    CERTIFICATE_REVISION, CERTIFICATE_SIZE, CERTIFICATE_TABLE_END, CERTIFICATE_TYPE,
+    CLR_HEADER_SIZE, DEBUG_BOUNDS, EXCEPTION_BOUNDS, EXCEPTION_OFFSET, EXCEPTION_SIZE,
+    ErrorNumbers, IMPORT_NAME, RESOURCE_BOUNDS, SHORT, UNMAPPED, directory_refused, failure_with,
+    needed_at, no_numbers, numbers, refused, refused_value, u32_there,
+};
 use crate::image::{
     BASE_RELOCATION_TABLE, CERTIFICATE_TABLE, DELAY_IMPORT_DESCRIPTOR, Image, RESOURCE_TABLE,
     directory, is_absent, offset_of,
@@ -21,32 +29,26 @@ use crate::view::View;
 use crate::{
     bound_imports, certificates, clr, debug, exports, imports, load_config, tls, unwinding,
 };
-use pe_core::{COFF_MACHINE_X86_64, read_u16, read_u32, require_bytes};
+use pe_core::{
+    COFF_MACHINE_X86_64, DataDirectory, ExportDirectoryTable, read_u16, read_u32, require_bytes,
+};
 
-// The results of which `KnownNumbers` says the numbers, as `results` has them.
-const SHORT: u32 = 2;
+/// The size of an export directory in bytes.
+const SIZE_OF_EXPORT_DIRECTORY: usize = 40;
 
-const IMPORT_NAME: u32 = 5;
+/// The size of a directory of resources in bytes.
+const SIZE_OF_RESOURCE_DIRECTORY: u64 = 16;
 
-const CERTIFICATE_REVISION: u32 = 7;
+/// The size of the header of a certificate in bytes.
+const SIZE_OF_CERTIFICATE_HEADER: u64 = 8;
 
-const CERTIFICATE_TYPE: u32 = 8;
-
-const CERTIFICATE_SIZE: u32 = 9;
-
-const CERTIFICATE_TABLE_END: u32 = 10;
-
-const UNMAPPED: u32 = 11;
-
-const DEBUG_BOUNDS: u32 = 12;
-
-const EXCEPTION_SIZE: u32 = 17;
-
-const EXCEPTION_OFFSET: u32 = 18;
-
-const EXCEPTION_BOUNDS: u32 = 19;
-
-const CLR_HEADER_SIZE: u32 = 305;
+/// What a directory needs: so many bytes at an RVA. Of bound imports that is a file offset.
+#[derive(Clone, Copy)]
+pub struct NeededPart {
+    pub rva: u32,
+    /// In bytes.
+    pub size: u64,
+}
 
 /// Where a directory or an item of a walk is, and how many bytes it needs. The numbers of its error are these, where they can be: of
 /// what reads it the contract says the kind of an error, and no number.
@@ -64,32 +66,6 @@ pub struct KnownNumbers {
     pub head: (u32, u16, u16),
 }
 
-/// The file offset of the directory with an index. 0 where it is unmapped.
-fn directory_offset(view: &View, index: u32) -> u64
-    ensures { result ≡ directory_offset index view.now.image.now view.now.sections.now }
-{
-    let rva = directory(view.image, index as usize).virtual_address;
-    if index == 4 || index == 11 {
-        return u64::from(rva);
-    }
-    offset_of(rva, view.image, view.sections).unwrap_or(0) as u64
-}
-
-/// How many bytes it needs there.
-fn directory_needs(image: &Image, index: u32) -> Option<u64>
-    ensures { result ≡ directory_needs index image.now }
-{
-    match index {
-        2 => Some(16),
-        4 => Some(8),
-        5 | 11 | 13 => Some(u64::from(directory(image, index as usize).size)),
-        9 => Some(if image.width == 64 { 40 } else { 24 }),
-        10 => Some(4),
-        14 => Some(72),
-        _ => None,
-    }
-}
-
 /// The first numbers at an offset. Zeros where its 8 bytes are not there.
 pub fn numbers_there(bytes: &[u8], offset: usize) -> (u32, u16, u16)
     ensures { result ≡ numbers_there bytes.now offset }
@@ -102,26 +78,6 @@ pub fn numbers_there(bytes: &[u8], offset: usize) -> (u32, u16, u16)
         ),
         Err(_) => (0, 0, 0),
     }
-}
-
-/// What the directory with an index says of its errors. `None` of exports, whose tables have RVAs of their own.
-#[tactic(auto, unfolding(crate::specs::DirectoryFailures::known_of_directory))]
-fn known_of_directory(view: &View, index: u32) -> Option<KnownNumbers>
-    ensures { result ≡ known_of_directory index view.now.bytes.now view.now.image.now
-        view.now.sections.now }
-{
-    if index == 0 {
-        return None;
-    }
-    let directory = directory(view.image, index as usize);
-    let offset = directory_offset(view, index);
-    Some(KnownNumbers {
-        rva: directory.virtual_address,
-        size: u64::from(directory.size),
-        offset,
-        needed: directory_needs(view.image, index),
-        head: numbers_there(view.bytes, offset as usize),
-    })
 }
 
 /// A failure with the numbers that are known of it.
@@ -154,16 +110,6 @@ pub fn failure_at(known: &KnownNumbers, failure: Failure) -> Failure
     }
 }
 
-/// The same; where nothing is known, with its own numbers.
-fn with_known(known: Option<KnownNumbers>, failure: Failure) -> Failure
-    ensures { result ≡ with_known known failure }
-{
-    match known {
-        Some(known) => failure_at(&known, failure),
-        None => failure,
-    }
-}
-
 /// The certificate table as a walk at its start.
 fn certificate_table(image: &Image) -> Range
     ensures { result ≡ certificate_table image.now }
@@ -175,61 +121,219 @@ fn certificate_table(image: &Image) -> Range
     }
 }
 
-/// The failure of the first directory of resources.
-fn resource_failure(view: &View) -> Option<Failure>
-    ensures { IsWhy result (refused (leaves_start view.now.bytes.now view.now.image.now
-        view.now.sections.now)) }
+/// What refuses the first directory of resources.
+fn resource_refusal(view: &View) -> Option<u32>
+    ensures { result ≡ refused (leaves_start view.now.bytes.now view.now.image.now
+        view.now.sections.now) }
 {
     let directory = directory(view.image, RESOURCE_TABLE);
     if is_absent(directory) {
         return None;
     }
-    why(leaf_position(view, directory))
+    refused(leaf_position(view, directory))
 }
 
-/// The failure of the function table of an image for x64 or ARM64.
-fn function_failure(view: &View) -> Option<Failure>
-    ensures { IsWhy result (refused (function_table view.now.bytes.now view.now.image.now
-        view.now.sections.now)) }
+/// What refuses the function table of an image for x64 or ARM64.
+fn function_refusal(view: &View) -> Option<u32>
+    ensures { result ≡ refused (function_table view.now.bytes.now view.now.image.now
+        view.now.sections.now) }
 {
     if view.image.machine == COFF_MACHINE_X86_64 {
-        why(unwinding::table_of(view))
+        refused(unwinding::table_of(view))
     } else {
-        why(functions::table_of(view))
+        refused(functions::table_of(view))
     }
 }
 
-/// The failure of the directory with an index.
+/// What refuses the directory with an index.
 #[tactic(auto, unfolding(crate::specs::DirectoryFailures::directory_refusal))]
-fn directory_failure(view: &View, index: u32) -> Option<Failure>
-    ensures { IsWhy result
-        (directory_refusal index view.now.bytes.now view.now.image.now view.now.sections.now) }
+fn directory_refusal(view: &View, index: u32) -> Option<u32>
+    ensures { result ≡ directory_refusal index view.now.bytes.now view.now.image.now
+        view.now.sections.now }
 {
     match index {
-        0 => why(exports::tables_at(view)),
-        1 => why(imports::libraries_at(view)),
-        2 => resource_failure(view),
-        3 => function_failure(view),
-        4 => why(certificates::step(view.bytes, certificate_table(view.image)).0),
-        5 => why_of_directory(table_at(view, BASE_RELOCATION_TABLE)),
-        6 => why(debug::table_of(view)),
-        9 => why_of_directory(tls::tls_at(view)),
-        10 => why_of_directory(load_config::load_config_at(view)),
-        11 => why_of_directory(bound_imports::bound_imports_at(view)),
-        13 => why_of_directory(table_at(view, DELAY_IMPORT_DESCRIPTOR)),
-        14 => why_of_directory(clr::clr_header_at(view)),
+        0 => refused(exports::tables_at(view)),
+        1 => refused(imports::libraries_at(view)),
+        2 => resource_refusal(view),
+        3 => function_refusal(view),
+        4 => refused(certificates::step(view.bytes, certificate_table(view.image)).0),
+        5 => directory_refused(table_at(view, BASE_RELOCATION_TABLE)),
+        6 => refused(debug::table_of(view)),
+        9 => directory_refused(tls::tls_at(view)),
+        10 => directory_refused(load_config::load_config_at(view)),
+        11 => directory_refused(bound_imports::bound_imports_at(view)),
+        13 => directory_refused(table_at(view, DELAY_IMPORT_DESCRIPTOR)),
+        14 => directory_refused(clr::clr_header_at(view)),
         _ => None,
     }
 }
 
-/// The same with the numbers that the directory says.
-#[tactic(auto, using(crate::proofs::OldNumbers::of_known))]
-fn known_failure(view: &View, index: u32) -> Option<Failure>
-    ensures { IsWhyAt (known_of_directory index view.now.bytes.now view.now.image.now view.now.sections.now) result
+/// The numbers of the failure of the certificate that a walk is at.
+#[tactic(auto, unfolding(crate::specs::DirectoryFailures::certificate_numbers))]
+pub fn certificate_numbers(bytes: &[u8], walk: &Range, number: u32) -> ErrorNumbers
+    ensures { result ≡ certificate_numbers bytes.now walk.now number }
+{
+    let (length, revision, kind) = numbers_there(bytes, walk.offset as usize);
+    match number {
+        SHORT => needed_at(walk.offset, SIZE_OF_CERTIFICATE_HEADER),
+        CERTIFICATE_TABLE_END => numbers(walk.offset.saturating_add(walk.length), 0, 0),
+        CERTIFICATE_SIZE => numbers(0, u64::from(length), 0),
+        CERTIFICATE_REVISION => refused_value(u64::from(revision)),
+        CERTIFICATE_TYPE => refused_value(u64::from(kind)),
+        _ => no_numbers(),
+    }
+}
+
+fn part(rva: u32, size: u64) -> NeededPart
+    ensures { result ≡ part rva size }
+{
+    NeededPart { rva, size }
+}
+
+/// Whether a part is there: its RVA is mapped, and its bytes are in the file. One without bytes is.
+fn is_there(view: &View, part: &NeededPart) -> bool
+    ensures { result ≡ is_there (map_of_image view.now.image.now view.now.sections.now)
+        view.now.bytes.now part.now }
+{
+    if part.size == 0 {
+        return true;
+    }
+    match offset_of(part.rva, view.image, view.sections) {
+        Some(offset) => require_bytes(view.bytes, offset, part.size as usize).is_ok(),
+        None => false,
+    }
+}
+
+/// The first table of an export directory that is not there, of addresses, names and ordinals; or else the last.
+fn missing_table(view: &View, exports: &ExportDirectoryTable) -> NeededPart
+    ensures { result ≡ missing_table (map_of_image view.now.image.now view.now.sections.now)
+        view.now.bytes.now exports.now }
+{
+    let names = u64::from(exports.number_of_name_pointers);
+    let addresses = part(
+        exports.address_table_rva,
+        4 * u64::from(exports.address_table_entries),
+    );
+    if !is_there(view, &addresses) {
+        return addresses;
+    }
+    let names_table = part(exports.name_pointer_rva, 4 * names);
+    if !is_there(view, &names_table) {
+        return names_table;
+    }
+    part(exports.ordinal_table_rva, 2 * names)
+}
+
+/// What is not there of an export directory at an RVA: the directory itself, or a table.
+#[tactic(auto, unfolding(crate::specs::DirectoryFailures::missing_export))]
+fn missing_export(view: &View, rva: u32) -> NeededPart
+    ensures { result ≡ missing_export (map_of_image view.now.image.now view.now.sections.now)
+        view.now.bytes.now rva }
+{
+    let Some(offset) = offset_of(rva, view.image, view.sections) else {
+        return part(rva, SIZE_OF_EXPORT_DIRECTORY as u64);
+    };
+    match require_bytes(view.bytes, offset, SIZE_OF_EXPORT_DIRECTORY) {
+        Ok(()) => missing_table(view, &ExportDirectoryTable::at(view.bytes, offset)),
+        Err(_) => part(rva, SIZE_OF_EXPORT_DIRECTORY as u64),
+    }
+}
+
+/// What the directory with an index needs: of exports the part that is not there.
+#[tactic(auto, unfolding(crate::specs::DirectoryFailures::needed_part))]
+fn needed_part(view: &View, index: u32) -> NeededPart
+    ensures { result ≡ needed_part index view.now.bytes.now view.now.image.now
+        view.now.sections.now }
+{
+    let DataDirectory {
+        virtual_address,
+        size,
+    } = directory(view.image, index as usize);
+    match index {
+        0 => missing_export(view, virtual_address),
+        2 => part(virtual_address, SIZE_OF_RESOURCE_DIRECTORY),
+        9 => part(
+            virtual_address,
+            if view.image.width == 64 { 40 } else { 24 },
+        ),
+        10 => part(virtual_address, 4),
+        14 => part(virtual_address, 72),
+        _ => part(virtual_address, u64::from(size)),
+    }
+}
+
+/// Where an RVA of the directory with an index is in the file, 0 where it is unmapped. Those of bound imports are offsets.
+fn directory_offset(view: &View, index: u32, rva: u32) -> u64
+    ensures { result
+        ≡ directory_offset index view.now.image.now view.now.sections.now rva }
+{
+    if index == 11 {
+        return u64::from(rva);
+    }
+    offset_of(rva, view.image, view.sections).unwrap_or(0) as u64
+}
+
+/// The size of the entries of the first directory of resources, which is at an offset.
+fn entries_size(bytes: &[u8], offset: usize) -> u64
+    ensures { result ≡ entries_size bytes.now offset }
+{
+    match require_bytes(bytes, offset, SIZE_OF_RESOURCE_DIRECTORY as usize) {
+        Ok(()) => {
+            let named = read_u16(bytes, offset + 12);
+            8 * u64::from(named.saturating_add(read_u16(bytes, offset + 14)))
+        }
+        Err(_) => 0,
+    }
+}
+
+/// Where resources at an offset end, of which there are so many bytes.
+fn resource_end(bytes: &[u8], offset: u64, size: u32) -> u64
+    ensures { result ≡ resource_end bytes.now offset size }
+{
+    match require_bytes(bytes, offset as usize, size as usize) {
+        Ok(()) => {
+            let entries = entries_size(bytes, offset as usize);
+            offset.saturating_add(SIZE_OF_RESOURCE_DIRECTORY + entries)
+        }
+        Err(_) => offset.saturating_add(u64::from(size)),
+    }
+}
+
+/// The numbers of the failure of the directory with an index.
+#[tactic(auto, unfolding(crate::specs::DirectoryFailures::directory_numbers))]
+fn directory_numbers(view: &View, index: u32, number: u32) -> ErrorNumbers
+    ensures { result ≡ directory_numbers index view.now.bytes.now view.now.image.now
+        view.now.sections.now number }
+{
+    if index == 4 {
+        return certificate_numbers(view.bytes, &certificate_table(view.image), number);
+    }
+    let DataDirectory {
+        virtual_address,
+        size,
+    } = directory(view.image, index as usize);
+    let offset = directory_offset(view, index, virtual_address);
+    let needed = needed_part(view, index);
+    match number {
+        SHORT => needed_at(directory_offset(view, index, needed.rva), needed.size),
+        UNMAPPED => refused_value(u64::from(needed.rva)),
+        EXCEPTION_SIZE => refused_value(u64::from(size)),
+        EXCEPTION_OFFSET => numbers(offset, 0, 0),
+        DEBUG_BOUNDS | EXCEPTION_BOUNDS => { numbers(offset.saturating_add(u64::from(size)), 0, 0) }
+        RESOURCE_BOUNDS => numbers(resource_end(view.bytes, offset, size), 0, 0),
+        CLR_HEADER_SIZE => refused_value(u64::from(u32_there(view.bytes, offset as usize))),
+        _ => no_numbers(),
+    }
+}
+
+/// The failure of the directory with an index.
+fn directory_failure(view: &View, index: u32) -> Option<Failure>
+    ensures { result ≡ failure_by
+        (directory_numbers index view.now.bytes.now view.now.image.now view.now.sections.now)
         (directory_refusal index view.now.bytes.now view.now.image.now view.now.sections.now) }
 {
-    match directory_failure(view, index) {
-        Some(failure) => Some(with_known(known_of_directory(view, index), failure)),
+    match directory_refusal(view, index) {
+        Some(number) => Some(failure_with(number, directory_numbers(view, index, number))),
         None => None,
     }
 }
@@ -243,9 +347,9 @@ fn known_failure(view: &View, index: u32) -> Option<Failure>
 /// `pe_c_tls`, `pe_c_load_config`, `pe_c_bound_imports`, `pe_c_delay_imports` and `pe_c_clr_header`.
 #[unsafe(no_mangle)]
 pub extern "C" fn pe_c_directory_failure(view: &View, index: u32, out: &mut Failure) -> u32
-    ensures { SaysWhyAt (known_of_directory index view.now.bytes.now view.now.image.now view.now.sections.now)
-        result out.old out.new
-        (directory_refusal index view.now.bytes.now view.now.image.now view.now.sections.now) }
+    ensures { HandsOutIf result out.old out.new (Ok (failure_by
+        (directory_numbers index view.now.bytes.now view.now.image.now view.now.sections.now)
+        (directory_refusal index view.now.bytes.now view.now.image.now view.now.sections.now))) }
 {
-    hand_out_failure(known_failure(view, index), out)
+    hand_out_failure(directory_failure(view, index), out)
 }

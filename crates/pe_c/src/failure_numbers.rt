@@ -17,7 +17,11 @@ use pe_resource::ResourceTreeError;
 // The results that have numbers, as `results` has them.
 pub const SHORT: u32 = 2;
 
+pub const BAD_MAGIC: u32 = 3;
+
 pub const IMPORT_NAME: u32 = 5;
+
+pub const STRING_TABLE: u32 = 6;
 
 pub const CERTIFICATE_REVISION: u32 = 7;
 
@@ -26,9 +30,16 @@ pub const CERTIFICATE_TYPE: u32 = 8;
 pub const CERTIFICATE_SIZE: u32 = 9;
 
 pub const CERTIFICATE_TABLE: u32 = 10;
-pub const STRING_TABLE: u32 = 6;
 
 pub const UNMAPPED: u32 = 11;
+
+pub const DEBUG_BOUNDS: u32 = 12;
+
+pub const DEBUG_SIZE: u32 = 13;
+
+pub const DEBUG_DATA: u32 = 14;
+
+pub const POGO_SIZE: u32 = 15;
 
 pub const EXCEPTION_SIZE: u32 = 17;
 
@@ -50,6 +61,8 @@ pub const ARM64_STREAM: u32 = 26;
 
 pub const ARM64_CUT: u32 = 27;
 
+pub const RESOURCE_BOUNDS: u32 = 28;
+
 pub const BLOCK_SIZE: u32 = 301;
 
 pub const BLOCK_TRUNCATED: u32 = 302;
@@ -57,6 +70,8 @@ pub const BLOCK_TRUNCATED: u32 = 302;
 pub const NO_ARGUMENT: u32 = 303;
 
 pub const VA_BELOW_BASE: u32 = 304;
+
+pub const CLR_HEADER_SIZE: u32 = 305;
 
 pub const DELAY_IMPORT_NAME: u32 = 307;
 

@@ -21,7 +21,7 @@ ghost use Rattle.pe_c.specs.Debug.{characteristics_of, checksum_of, debug_entrie
 ghost use Rattle.pe_c.specs.DebugFailures.{record_refusal};
 ghost use Rattle.pe_c.specs.DelayImports.{first_library_in, first_of_walk};
 ghost use Rattle.pe_c.specs.Directories.{block_reported, first_in, relocation_reported, step_of, table_at, tls_at};
-ghost use Rattle.pe_c.specs.DirectoryFailures.{Agrees, AllAgree, DirectoriesAgree, certificate_table, directory_refusal};
+ghost use Rattle.pe_c.specs.DirectoryFailures.{Agrees, AllAgree, CallsReturn, DirectoriesAgree, DirectoryCallsReturn, certificate_table, directory_refusal};
 ghost use Rattle.pe_c.specs.Exports.{tables_at};
 ghost use Rattle.pe_c.specs.Failures.{Explains, first_failure, image_failure, object_section_failures, section_failures, te_failures, te_section_failures};
 ghost use Rattle.pe_c.specs.OldNumbers.{directory_refused, refused, tree_refused};
@@ -64,57 +64,57 @@ pub fn failures_are_those_of_the_calls()
 {}
 
 /// `pe_c_directory_failure` has a failure exactly where the call that reads the directory returns an error, with its number.
-#[tactic(auto, using(crate::proofs::DirectoryFailures::agree, crate::proofs::DirectoryFailures::directories_agree), unfolding(crate::specs::DirectoryFailures::directory_refusal))]
+#[tactic(auto, using(crate::proofs::DirectoryFailures::calls_return, crate::proofs::DirectoryFailures::directory_calls_return), unfolding(crate::specs::DirectoryFailures::directory_refusal))]
 pub fn directory_failures_are_those_of_the_calls()
     ensures exports { (b : List ℕ) (image : Image) (sections : List SectionTable)
-        → AllAgree (tables_at b image sections) (directory_refusal 0 b image sections) }
+        → CallsReturn (tables_at b image sections) (directory_refusal 0 b image sections) }
     ensures imports { (b : List ℕ) (image : Image) (sections : List SectionTable)
-        → AllAgree (libraries_at image sections) (directory_refusal 1 b image sections) }
+        → CallsReturn (libraries_at image sections) (directory_refusal 1 b image sections) }
     ensures resources { (b : List ℕ) (image : Image) (sections : List SectionTable)
-        → AllAgree (leaves_start b image sections) (directory_refusal 2 b image sections) }
+        → CallsReturn (leaves_start b image sections) (directory_refusal 2 b image sections) }
     ensures functions { (b : List ℕ) (image : Image) (sections : List SectionTable)
         → image.machine ≡ COFF_MACHINE_X86_64
-        → AllAgree (exception_table_at COFF_MACHINE_X86_64 12 b image sections image.mode) (directory_refusal 3 b image sections) }
+        → CallsReturn (exception_table_at COFF_MACHINE_X86_64 12 b image sections image.mode) (directory_refusal 3 b image sections) }
     ensures arm64_functions { (b : List ℕ) (image : Image) (sections : List SectionTable)
         → (image.machine == COFF_MACHINE_X86_64) ≡ false
-        → AllAgree (exception_table_at COFF_MACHINE_ARM64 8 b image sections image.mode) (directory_refusal 3 b image sections) }
+        → CallsReturn (exception_table_at COFF_MACHINE_ARM64 8 b image sections image.mode) (directory_refusal 3 b image sections) }
     ensures certificates { (b : List ℕ) (image : Image) (sections : List SectionTable)
-        → AllAgree (certificate_step b (certificate_table image)).0 (directory_refusal 4 b image sections) }
+        → CallsReturn (certificate_step b (certificate_table image)).0 (directory_refusal 4 b image sections) }
     ensures relocations { (b : List ℕ) (image : Image) (sections : List SectionTable)
-        → DirectoriesAgree (table_at 5 b image sections) (directory_refusal 5 b image sections) }
+        → DirectoryCallsReturn (table_at 5 b image sections) (directory_refusal 5 b image sections) }
     ensures debug_entries { (b : List ℕ) (image : Image) (sections : List SectionTable)
-        → AllAgree (debug_entries_range b image sections image.mode) (directory_refusal 6 b image sections) }
+        → CallsReturn (debug_entries_range b image sections image.mode) (directory_refusal 6 b image sections) }
     ensures tls { (b : List ℕ) (image : Image) (sections : List SectionTable)
-        → DirectoriesAgree (tls_at b image sections) (directory_refusal 9 b image sections) }
+        → DirectoryCallsReturn (tls_at b image sections) (directory_refusal 9 b image sections) }
     ensures load_config { (b : List ℕ) (image : Image) (sections : List SectionTable)
-        → DirectoriesAgree (load_config_at b image sections) (directory_refusal 10 b image sections) }
+        → DirectoryCallsReturn (load_config_at b image sections) (directory_refusal 10 b image sections) }
     ensures bound_imports { (b : List ℕ) (image : Image) (sections : List SectionTable)
-        → DirectoriesAgree (bound_imports_at b image) (directory_refusal 11 b image sections) }
+        → DirectoryCallsReturn (bound_imports_at b image) (directory_refusal 11 b image sections) }
     ensures delay_imports { (b : List ℕ) (image : Image) (sections : List SectionTable)
-        → DirectoriesAgree (table_at 13 b image sections) (directory_refusal 13 b image sections) }
+        → DirectoryCallsReturn (table_at 13 b image sections) (directory_refusal 13 b image sections) }
     ensures clr_header { (b : List ℕ) (image : Image) (sections : List SectionTable)
-        → DirectoriesAgree (clr_header_at b image sections) (directory_refusal 14 b image sections) }
+        → DirectoryCallsReturn (clr_header_at b image sections) (directory_refusal 14 b image sections) }
 {}
 
 /// `pe_c_debug_failure` has a failure exactly where the call that reads the record returns an error, with its number.
-#[tactic(auto, using(crate::proofs::DirectoryFailures::agree), unfolding(crate::specs::DebugFailures::record_refusal))]
+#[tactic(auto, using(crate::proofs::DirectoryFailures::calls_return), unfolding(crate::specs::DebugFailures::record_refusal))]
 pub fn debug_failures_are_those_of_the_calls()
     ensures symbol_keys { (b : List ℕ) (mode : ℕ) (e : ImageDebugDirectory)
-        → AllAgree (key_of b mode e) (record_refusal 0 b mode e) }
+        → CallsReturn (key_of b mode e) (record_refusal 0 b mode e) }
     ensures pdb20 { (b : List ℕ) (mode : ℕ) (e : ImageDebugDirectory)
-        → AllAgree (pdb20_of b mode e) (record_refusal 1 b mode e) }
+        → CallsReturn (pdb20_of b mode e) (record_refusal 1 b mode e) }
     ensures features { (b : List ℕ) (mode : ℕ) (e : ImageDebugDirectory)
-        → AllAgree (features_of b mode e) (record_refusal 2 b mode e) }
+        → CallsReturn (features_of b mode e) (record_refusal 2 b mode e) }
     ensures characteristics { (b : List ℕ) (mode : ℕ) (e : ImageDebugDirectory)
-        → AllAgree (characteristics_of b mode e) (record_refusal 3 b mode e) }
+        → CallsReturn (characteristics_of b mode e) (record_refusal 3 b mode e) }
     ensures repro { (b : List ℕ) (mode : ℕ) (e : ImageDebugDirectory)
-        → AllAgree (repro_of b mode e) (record_refusal 4 b mode e) }
+        → CallsReturn (repro_of b mode e) (record_refusal 4 b mode e) }
     ensures pogo { (b : List ℕ) (mode : ℕ) (e : ImageDebugDirectory)
-        → AllAgree (pogo_of b mode e) (record_refusal 5 b mode e) }
+        → CallsReturn (pogo_of b mode e) (record_refusal 5 b mode e) }
     ensures embedded { (b : List ℕ) (mode : ℕ) (e : ImageDebugDirectory)
-        → AllAgree (embedded_of b mode e) (record_refusal 6 b mode e) }
+        → CallsReturn (embedded_of b mode e) (record_refusal 6 b mode e) }
     ensures checksums { (b : List ℕ) (mode : ℕ) (e : ImageDebugDirectory)
-        → AllAgree (checksum_of b mode e) (record_refusal 7 b mode e) }
+        → CallsReturn (checksum_of b mode e) (record_refusal 7 b mode e) }
 {}
 
 /// A call that says why a step is refused, or what is read by its key, says so exactly where the call that makes the step or reads it
