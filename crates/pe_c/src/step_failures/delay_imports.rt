@@ -1,8 +1,9 @@
 //! Why a DLL that is loaded late is refused, or what is imported of it.
 
 ghost use Rattle.pe_c.specs.DelayImports.{first_library_in, first_of_walk};
-ghost use Rattle.pe_c.specs.Directories.{image_parts, step_of};
+ghost use Rattle.pe_c.specs.Directories.{step_of};
 ghost use Rattle.pe_c.specs.OldNumbers.{SaysWhy, directory_refused};
+ghost use Rattle.pe_c.specs.Views.{map_of};
 
 use crate::delay_imports::{DelayedFunctions, next_function, next_library};
 use crate::failure::{Failure, hand_out_failure};
@@ -16,8 +17,7 @@ use crate::view::View;
 #[unsafe(no_mangle)]
 pub extern "C" fn pe_c_delay_import_failure(view: &View, walk: &Range, out: &mut Failure) -> u32
     ensures { SaysWhy result out.old out.new (directory_refused (step_of (λ x. x)
-        (first_library_in (image_parts view.now.bytes.now view.now.image.now view.now.sections.now)
-        walk.now))) }
+        (first_library_in (map_of view.now) view.now.bytes.now view.now.image.now walk.now))) }
 {
     let mut after = *walk;
     let start = start_of(view.bytes, walk);
@@ -45,8 +45,7 @@ pub extern "C" fn pe_c_delayed_function_failure(
     out: &mut Failure,
 ) -> u32
     ensures { SaysWhy result out.old out.new (directory_refused (step_of (λ x. x)
-        (first_of_walk view.now.image.now (image_parts view.now.bytes.now view.now.image.now
-        view.now.sections.now) walk.now))) }
+        (first_of_walk (map_of view.now) view.now.bytes.now view.now.image.now walk.now))) }
 {
     let mut left = walk.left;
     let start = start_of_number(view, &left);
