@@ -1,6 +1,7 @@
-/* Reads an image with an index of its sections or without: indexes FILE index|none list|step|offset MOST
+/* Reads an image with an index of its sections or without: indexes FILE index|none list|step|offset|delayed|together MOST
  *
- * Of the exports that have a name MOST are read, by pe_c_list_exports or pe_c_next_export, or MOST RVAs are mapped by pe_c_offset. How
+ * Of the exports that have a name MOST are read, by pe_c_list_exports or pe_c_next_export; or of what is imported of the first
+ * delay-loaded DLL, by pe_c_next_delayed_function or pe_c_list_delayed_functions_together; or MOST RVAs are mapped by pe_c_offset. How
  * many there are is printed. The text `index` makes the index alone where MOST is 0. */
 #include "reading.h"
 
@@ -40,6 +41,38 @@ static uint64_t step_exports(const pe_c_view *view, uint64_t most)
     return count;
 }
 
+/* The functions of the first delay-loaded DLL, MOST at most, a step a call. */
+static uint64_t step_delayed(const pe_c_view *view, uint64_t most)
+{
+    pe_c_range walk = PE_C_EMPTY;
+    pe_c_delay_import dll = PE_C_EMPTY;
+    pe_c_delayed_function entry = PE_C_EMPTY;
+    if (pe_c_delay_imports(view, &walk) != PE_C_DONE || pe_c_next_delay_import(view, &walk, &dll) != PE_C_DONE)
+        return 0;
+    uint64_t count = 0;
+    while (count < most && pe_c_next_delayed_function(view, &dll.functions, &entry) == PE_C_DONE)
+        count++;
+    return count;
+}
+
+/* The same in one call that reads the names together. */
+static uint64_t list_delayed(const pe_c_view *view, uint64_t most)
+{
+    pe_c_range walk = PE_C_EMPTY;
+    pe_c_delay_import dll = PE_C_EMPTY;
+    if (pe_c_delay_imports(view, &walk) != PE_C_DONE || pe_c_next_delay_import(view, &walk, &dll) != PE_C_DONE)
+        return 0;
+    pe_c_run *runs = calloc(most + 1, sizeof *runs);
+    pe_c_delayed_function *entries = calloc(most + 1, sizeof *entries);
+    uint64_t written = 0;
+    if (runs == NULL || entries == NULL
+        || pe_c_list_delayed_functions_together(view, &dll.functions, runs, most, entries, most, &written) != PE_C_DONE)
+        written = 0;
+    free(runs);
+    free(entries);
+    return written;
+}
+
 /* Offsets of RVAs in the last section. */
 static uint64_t map_offsets(const pe_c_view *view, uint64_t most)
 {
@@ -69,9 +102,11 @@ int main(int argc, char **argv)
         view.entries = (size_t)entries;
     }
     const uint64_t most = strtoull(argv[4], NULL, 10);
-    printf("%llu\n", (unsigned long long)(strcmp(argv[3], "list") == 0 ? list_exports(&view, most)
-                                          : strcmp(argv[3], "step") == 0 ? step_exports(&view, most)
-                                                                         : map_offsets(&view, most)));
+    printf("%llu\n", (unsigned long long)(strcmp(argv[3], "list") == 0       ? list_exports(&view, most)
+                                          : strcmp(argv[3], "step") == 0     ? step_exports(&view, most)
+                                          : strcmp(argv[3], "delayed") == 0  ? step_delayed(&view, most)
+                                          : strcmp(argv[3], "together") == 0 ? list_delayed(&view, most)
+                                                                             : map_offsets(&view, most)));
     free(bytes);
     free((void *)view.sections);
     free(index);

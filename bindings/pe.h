@@ -433,11 +433,11 @@ uint32_t pe_c_headers(const uint8_t *bytes, size_t length, uint32_t mode, pe_c_h
 /* Makes an index of the sections at the start of the array, and writes how many entries it has: two for each section. The
  * array has to have four for each, of which the second half is left open; what follows is unchanged. Calls that take a view
  * with these entries return what they return without them. pe_c_offset, pe_c_section_at, pe_c_range_at, pe_c_map and the
- * steps and lists of exports, imports and resource leaves map an RVA by it in steps that grow with the logarithm of the
- * number of sections, not with that number itself: 65,535 in a hostile file. Other calls make no use of it. Few calls, and
- * images with few sections, as most, gain nothing by it. No entries, and PE_C_DONE, where no section is searched: in an
- * image as loaded, and where the file alignment is not a power of two. An index in the view that is passed makes no
- * difference. An index of other sections gives wrong offsets, and no other harm.
+ * steps and lists of exports, imports, delay imports and resource leaves map an RVA by it in steps that grow with the
+ * logarithm of the number of sections, not with that number itself: 65,535 in a hostile file. Other calls make no use of
+ * it. Few calls, and images with few sections, as most, gain nothing by it. No entries, and PE_C_DONE, where no section is
+ * searched: in an image as loaded, and where the file alignment is not a power of two. An index in the view that is passed
+ * makes no difference. An index of other sections gives wrong offsets, and no other harm.
  * Errors: PE_C_ROOM where the array has too few entries; then `written` is how many it has to have. */
 uint32_t pe_c_index(const pe_c_view *view, pe_c_index_entry *room, size_t entries, uint64_t *written) PE_C_RESULT(1, 4);
 
@@ -3037,8 +3037,8 @@ uint32_t pe_c_list_delayed_functions_together(const pe_c_view *view, pe_c_delaye
 
 /* Lists the functions of all delay-loaded DLLs, one DLL after the other, and reads the names of the DLLs and of their
  * functions together. With a run for each of the entries and one for each DLL that is left, or more, a call takes about as
- * long as to sort these and to read each byte a few times, however many names share a text; and it tests the sections in
- * turn for each address, also where the view has an index. With fewer, as with none, further names are read to their end
+ * long as to sort these and to read each byte a few times, however many names share a text; and without an index in the
+ * view it tests the sections in turn for each address. With fewer runs, as with none, further names are read to their end
  * each, also those of DLLs without a function. DLLs may share a table, whose functions are listed for each of them:
  * `number_of_entries` bounds what a call takes. What is in `runs` after the call is left open. Errors: PE_C_ROOM; those of
  * pe_c_next_delay_import and pe_c_next_delayed_function, in the order of the walk. */

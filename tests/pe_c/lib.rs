@@ -14,6 +14,7 @@ mod debug;
 mod debug_failure;
 mod debug_walks;
 mod delay_imports;
+mod delay_imports_by_index;
 mod directory_failure;
 mod directory_tables;
 mod dump;

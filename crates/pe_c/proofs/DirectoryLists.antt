@@ -11,7 +11,6 @@ use Rattle.pe_directories.specs.BaseRelocations.{Block, block_of, blocks_end, fi
 use Rattle.pe_directories.specs.BoundImports.{Bound, bound_at, bound_forwarder_at, bound_imports_end, bound_name, bound_of, bound_size, first_bound_import, name_or_refusal}
 use Rattle.pe_directories.specs.DelayImports.{delay_import_at, delay_imports_end, first_delay_import}
 use Rattle.pe_directories.specs.DirectoryRefusals.{DirectoryRefusal, Image, BlockSize, BlockTruncated, NoArgument, of_image}
-use Rattle.pe_directories.specs.ImageParts.{ImageView}
 use Rattle.pe_directories.specs.Walks.{Items}
 use Rattle.pe_directories.specs.declared.base_relocation.BaseRelocation.{BaseRelocation}
 use Rattle.pe_directories.specs.declared.delay_import.DelayImport.{DelayImport}
@@ -34,6 +33,7 @@ use Rattle.pe_c.specs.declared.base_relocations.RelocationBlock.{RelocationBlock
 use Rattle.pe_c.specs.declared.bound_imports.BoundForwarder.{BoundForwarder}
 use Rattle.pe_c.specs.declared.bound_imports.BoundImport.{BoundImport}
 use Rattle.pe_c.specs.declared.delay_imports.DelayLibrary.{DelayLibrary}
+use Rattle.pe_c.specs.declared.image.Image as images
 use Rattle.pe_c.specs.declared.ranges.Range.{Range}
 
 -- ---- what stands first, and what it leaves
@@ -188,17 +188,17 @@ relocations_outside page b w r e = refused _ _ _ _ _ _ _ _ (relocation_walk page
 
 -- ---- delay imports
 
-delay_walk : (i : ImageView) → Read i.bytes first_delay_import (λ (w : Range) (e : DelayImport). library_of i e) (λ x. 32)
-delay_walk i = read_further i.bytes first_delay_import (λ (w : Range) (e : DelayImport). library_of i e) (λ x. 32) delay_taken no_delay_import
+delay_walk : (offset : ℕ → Option ℕ) (b : List ℕ) (image : images.Image) → Read b first_delay_import (λ (w : Range) (e : DelayImport). library_of offset b image e) (λ x. 32)
+delay_walk offset b image = read_further b first_delay_import (λ (w : Range) (e : DelayImport). library_of offset b image e) (λ x. 32) delay_taken no_delay_import
 
-pub libraries_in_turn : (i : ImageView) (w : Range) (s : List ℕ) (items : List (Result DelayImport DirectoryRefusal)) → bytes_at i.bytes w ≡ Ok s → Items first_delay_import s items →
-    ReturnsItems (StepsDelayLibraries i) w (read_items (library_of i) items)
-libraries_in_turn i w s items h f =
-    subst (λ (ys : List (Result DelayLibrary DirectoryRefusal)). ReturnsItems (StepsDelayLibraries i) w ys) (same_read (library_of i) (λ w x. range_after w 32) w items)
-    (in_turn _ _ _ _ _ _ _ _ (delay_walk i) w s items h f)
+pub libraries_in_turn : (offset : ℕ → Option ℕ) (b : List ℕ) (image : images.Image) (w : Range) (s : List ℕ) (items : List (Result DelayImport DirectoryRefusal)) → bytes_at b w ≡ Ok s → Items first_delay_import s items →
+    ReturnsItems (StepsDelayLibraries offset b image) w (read_items (library_of offset b image) items)
+libraries_in_turn offset b image w s items h f =
+    subst (λ (ys : List (Result DelayLibrary DirectoryRefusal)). ReturnsItems (StepsDelayLibraries offset b image) w ys) (same_read (library_of offset b image) (λ w x. range_after w 32) w items)
+    (in_turn _ _ _ _ _ _ _ _ (delay_walk offset b image) w s items h f)
 
-pub libraries_outside : (i : ImageView) (w : Range) (r : Refusal) → bytes_at i.bytes w ≡ Err r → ReturnsItems (StepsDelayLibraries i) w (Err (Image r) ∷ [])
-libraries_outside i w r e = refused _ _ _ _ _ _ _ _ (delay_walk i) w (Image r) (sees_refusal first_delay_import i.bytes w r e)
+pub libraries_outside : (offset : ℕ → Option ℕ) (b : List ℕ) (image : images.Image) (w : Range) (r : Refusal) → bytes_at b w ≡ Err r → ReturnsItems (StepsDelayLibraries offset b image) w (Err (Image r) ∷ [])
+libraries_outside offset b image w r e = refused _ _ _ _ _ _ _ _ (delay_walk offset b image) w (Image r) (sees_refusal first_delay_import b w r e)
 
 -- ---- bound imports
 

@@ -9,19 +9,24 @@ use Rattle.pe_core.specs.Bytes.{holds, le, range, record_at}
 use Rattle.pe_core.specs.Refusals.{Short, BadMagic, Refusal, outcome, ◌>>=◌}
 use Rattle.pe_core.specs.Text.{text_at}
 use Rattle.pe_core.specs.declared.byte_range.ByteRange.{ByteRange}
+use Rattle.pe_core.specs.declared.section_table.SectionTable.{SectionTable}
 use Rattle.pe_directories.specs.Clr.{Metadata, Stream, first_stream, header_size, metadata_at, metadata_of, name_field, name_length, named, stream_of}
 use Rattle.pe_directories.specs.DelayImports.{Name, Ordinal, delay_dll, delay_name, hint_and_name, hint_offset, imported_by, name_or_refusal, offset_in_entry, ordinal_flag}
 use Rattle.pe_directories.specs.DirectoryRefusals.{DirectoryRefusal, Image, of_image}
 use Rattle.pe_directories.specs.ImageParts.{ImageView}
 use Rattle.pe_directories.specs.declared.delay_import.DelayImport.{DelayImport}
+use Rattle.pe_c.proofs.DelayAddresses.{same_dll, same_function}
 use Rattle.pe_c.proofs.ExportParts.{text_stands}
 use Rattle.pe_c.proofs.LeftBytes.{there}
 use Rattle.pe_c.specs.Clr.{content_of, first_stream_in, metadata_reported, stream_reported}
 use Rattle.pe_c.specs.DelayImports.{dll_range, function_of}
+use Rattle.pe_c.specs.DelayLaws.{dll_reported, function_reported}
+use Rattle.pe_c.specs.Images.{map_of_image}
 use Rattle.pe_c.specs.Ranges.{IsRange, bytes_at, range_of}
-use Rattle.pe_c.specs.Directories.{first_of}
+use Rattle.pe_c.specs.Directories.{first_of, image_parts}
 use Rattle.pe_c.specs.declared.clr.MetadataStreams.{MetadataStreams}
 use Rattle.pe_c.specs.declared.delay_imports.DelayedFunction.{DelayedFunction}
+use Rattle.pe_c.specs.declared.image.Image as images
 use Rattle.pe_c.specs.declared.ranges.Range.{Range}
 
 -- ---- the metadata root
@@ -192,8 +197,12 @@ dll_by : (i : ImageView) (at : Result ℕ DirectoryRefusal) (name : List ℕ) (r
 dll_by i (Err refusal) name r e f = absurd cc
 dll_by i (Ok p) name r e f = let same : range_of_name name p ≡ r = cc in subst (λ (x : Range). IsRange i.bytes x name) same (delay_stands i p name e)
 
-pub name_of_dll_stands : (i : ImageView) (e : DelayImport) (name : List ℕ) (r : Range) → delay_dll i e ≡ Ok name → dll_range i e ≡ Ok r → IsRange i.bytes r name
-name_of_dll_stands i e name r h f = dll_by i (offset_in_entry i e e.name) name r h (sym (rw h refl) ∙ f)
+dll_stands : (i : ImageView) (e : DelayImport) (name : List ℕ) (r : Range) → delay_dll i e ≡ Ok name → dll_reported i e ≡ Ok r → IsRange i.bytes r name
+dll_stands i e name r h f = dll_by i (offset_in_entry i e e.name) name r h (sym (rw h refl) ∙ f)
+
+pub name_of_dll_stands : (b : List ℕ) (image : images.Image) (sections : List SectionTable) (e : DelayImport) (name : List ℕ) (r : Range) →
+    delay_dll (image_parts b image sections) e ≡ Ok name → dll_range (map_of_image image sections) b image e ≡ Ok r → IsRange b r name
+name_of_dll_stands b image sections e name r h f = dll_stands (image_parts b image sections) e name r h (sym (same_dll b image sections e) ∙ f)
 
 -- a function's name follows its hint
 abbrev function_named : ℕ → List ℕ → ℕ → DelayedFunction
@@ -223,7 +232,10 @@ named_function : (i : ImageView) (e : DelayImport) (number hint : ℕ) (name : L
 unfolding imported_by
 named_function i e number hint name f h g = function_by i (hint_offset i e number) (number % 2 ^ 16) hint (nat_le (ordinal_flag i.is_64) number) name f h g
 
-pub name_of_function_stands : (i : ImageView) (e : DelayImport) (number hint : ℕ) (name : List ℕ) (f : DelayedFunction) →
-    imported_by i e number ≡ Ok (Name hint name) → function_of i e number ≡ Ok f → IsRange i.bytes f.name name
-unfolding function_of
-name_of_function_stands i e number hint name f h g = named_function i e number hint name f h (sym (rw h refl) ∙ g)
+function_stands : (i : ImageView) (e : DelayImport) (number hint : ℕ) (name : List ℕ) (f : DelayedFunction) →
+    imported_by i e number ≡ Ok (Name hint name) → (imported_by i e number >>= function_reported (hint_offset i e number)) ≡ Ok f → IsRange i.bytes f.name name
+function_stands i e number hint name f h g = named_function i e number hint name f h (sym (rw h refl) ∙ g)
+
+pub name_of_function_stands : (b : List ℕ) (image : images.Image) (sections : List SectionTable) (e : DelayImport) (number hint : ℕ) (name : List ℕ) (f : DelayedFunction) →
+    imported_by (image_parts b image sections) e number ≡ Ok (Name hint name) → function_of (map_of_image image sections) b image e.attributes number ≡ Ok f → IsRange b f.name name
+name_of_function_stands b image sections e number hint name f h g = function_stands (image_parts b image sections) e number hint name f h (sym (same_function b image sections e number) ∙ g)

@@ -8,6 +8,7 @@ pub mod DirectoryFailures
 pub mod OldNumbers
 pub mod DirectoryParts
 pub mod DirectoryRuns
+pub mod DelayAddresses
 pub mod DirectoryLists
 pub mod NumberLists
 pub mod GuardLists

@@ -27,7 +27,7 @@ use Rattle.pe_c.specs.Clr as clr
 use Rattle.pe_c.specs.DelayImports.{library_of}
 use Rattle.pe_c.specs.DirectoryRuns.{StepsDelayLibraries}
 use Rattle.pe_c.specs.Directories.{image_parts, table_at}
-use Rattle.pe_c.specs.Images.{directory, is_absent}
+use Rattle.pe_c.specs.Images.{directory, is_absent, map_of_image}
 use Rattle.pe_c.specs.Ranges.{bytes_at, range_of}
 use Rattle.pe_c.specs.Runs.{ReturnsItems, read_items}
 use Rattle.pe_c.specs.declared.clr.Metadata as reported
@@ -71,9 +71,9 @@ blocks_of_image b image sections w table items e f g = blocks_in_turn b w table 
 
 pub libraries_of_image : (b : List ℕ) (image : images.Image) (sections : List SectionTable) (w : Range) (table : List ℕ) (items : List (Result DelayImport DirectoryRefusal)) → table_at 13 b image sections ≡ Ok (Some w) →
     walk_table (image_parts b image sections) (directory image 13) ≡ Ok (Some table) → Items first_delay_import table items →
-    ReturnsItems (StepsDelayLibraries (image_parts b image sections)) w (read_items (library_of (image_parts b image sections)) items)
+    ReturnsItems (StepsDelayLibraries (map_of_image image sections) b image) w (read_items (library_of (map_of_image image sections) b image) items)
 libraries_of_image b image sections w table items e f g =
-    libraries_in_turn (image_parts b image sections) w table items (table_bytes 13 b image sections w table e f) g
+    libraries_in_turn (map_of_image image sections) b image w table items (table_bytes 13 b image sections w table e f) g
 
 -- ---- the directory of bound imports, whose RVA is a file offset
 

@@ -6,20 +6,22 @@ use Rattle.std.proofs.lemmas.List.{places, same_lists, drop_all}
 use Rattle.pe_core.specs.Bytes.{holds, le, range}
 use Rattle.pe_core.specs.Refusals.{Refusal, Short, ◌>>=◌}
 use Rattle.pe_core.specs.declared.section_table.SectionTable.{SectionTable}
-use Rattle.pe_directories.specs.DelayImports.{hint_offset, imported_by, lookup_table, offset_in_entry}
+use Rattle.pe_directories.specs.DelayImports.{lookup_table}
 use Rattle.pe_directories.specs.DirectoryRefusals.{DirectoryRefusal, Image}
-use Rattle.pe_directories.specs.ImageParts.{ImageView, offset_of_va, size_of_va}
+use Rattle.pe_directories.specs.ImageParts.{offset_of_va, size_of_va}
 use Rattle.pe_directories.specs.Tls.{callback_table}
 use Rattle.pe_directories.specs.VaTables.{first_va}
 use Rattle.pe_directories.specs.Walks.{First, Items}
 use Rattle.pe_directories.specs.declared.delay_import.DelayImport.{DelayImport}
 use Rattle.pe_directories.specs.declared.tls.TlsDirectory.{TlsDirectory}
+use Rattle.pe_c.proofs.DelayAddresses.{same_offset}
 use Rattle.pe_c.proofs.DirectoryLists.{held}
 use Rattle.pe_c.proofs.DirectoryRuns.{IsWalk, Takes, as_they_are, goes_on, in_turn, makes_read, makes_reported, moved, moves_reported, next_range, over_range, refused, same_read, sees, sees_refusal, unless}
 use Rattle.pe_c.proofs.LeftBytes.{size_of}
-use Rattle.pe_c.specs.DelayImports.{entry_with, function_of, functions_after, functions_of}
+use Rattle.pe_c.specs.DelayImports.{address_offset, function_of, functions_after, functions_of}
 use Rattle.pe_c.specs.DirectoryRuns.{StepsCallbacks, StepsDelayedFunctions}
 use Rattle.pe_c.specs.Directories.{callbacks_at, first_in, first_va_in, image_parts, left_after, range_left, read_first}
+use Rattle.pe_c.specs.Images.{map_of_image}
 use Rattle.pe_c.specs.Ranges.{bytes_at, no_bytes, range_after}
 use Rattle.pe_c.specs.Runs.{ReturnsItems, and_after, read_in_turn, read_items}
 use Rattle.pe_c.specs.declared.delay_imports.DelayedFunction.{DelayedFunction}
@@ -85,11 +87,11 @@ pub callbacks_outside : (b : List ℕ) (image : images.Image) (w : Range) (r : R
 callbacks_outside b image w r some e =
     refused _ _ _ _ _ _ _ _ (callback_walk image b) w (Image r) (sees_numbers image b w some ∙ sees_refusal (first_va (wide image)) b w r e)
 
-abbrev pub function_read : ImageView → DelayedFunctions → ℕ → Result DelayedFunction DirectoryRefusal
-function_read i w number = function_of i (entry_with w.attributes) number
+abbrev pub function_read : (ℕ → Option ℕ) → List ℕ → images.Image → DelayedFunctions → ℕ → Result DelayedFunction DirectoryRefusal
+function_read offset b image w number = function_of offset b image w.attributes number
 
-abbrev pub numbers_at : images.Image → ImageView → DelayedFunctions → First ℕ (List ℕ)
-numbers_at image i w = first_va_in image i.bytes w.left
+abbrev pub numbers_at : List ℕ → images.Image → DelayedFunctions → First ℕ (List ℕ)
+numbers_at b image w = first_va_in image b w.left
 
 abbrev pub past_function : images.Image → DelayedFunctions → ℕ → DelayedFunctions
 past_function image w x = record w { left = range_after w.left (size_of_va (wide image)) }
@@ -104,39 +106,38 @@ functions_by : (w : DelayedFunctions) (t : List ℕ) (a : Result DelayedFunction
 functions_by w t (Ok y) = refl
 functions_by w t (Err r) = refl
 
-functions_move : (i : ImageView) (w : DelayedFunctions) (f : First ℕ (List ℕ)) → functions_after w (read_first (function_read i w) f) ≡ moved (function_read i w) (next_function w) (over_functions w) w f
-functions_move i w None = refl
-functions_move i w (Some (Ok x)) = functions_by w x.1 (function_read i w x.0)
-functions_move i w (Some (Err r)) = refl
+functions_move : (offset : ℕ → Option ℕ) (b : List ℕ) (image : images.Image) (w : DelayedFunctions) (f : First ℕ (List ℕ)) → functions_after w (read_first (function_read offset b image w) f) ≡ moved (function_read offset b image w) (next_function w) (over_functions w) w f
+functions_move offset b image w None = refl
+functions_move offset b image w (Some (Ok x)) = functions_by w x.1 (function_read offset b image w x.0)
+functions_move offset b image w (Some (Err r)) = refl
 
-function_walk : (image : images.Image) (i : ImageView) → IsWalk (StepsDelayedFunctions image i) (first_va (wide image)) (numbers_at image i) (function_read i) (past_function image) next_function over_functions (λ w s. HoldsNumbers i.bytes w.left s)
-function_walk image i = record {
-  sees = λ w s h. sees_numbers image i.bytes w.left h.1 ∙ sees (first_va (wide image)) i.bytes w.left s h.0;
-  makes = makes_read (function_read i) (numbers_at image i) functions_after next_function over_functions (functions_move i);
+function_walk : (offset : ℕ → Option ℕ) (b : List ℕ) (image : images.Image) → IsWalk (StepsDelayedFunctions offset b image) (first_va (wide image)) (numbers_at b image) (function_read offset b image) (past_function image) next_function over_functions (λ w s. HoldsNumbers b w.left s)
+function_walk offset b image = record {
+  sees = λ w s h. sees_numbers image b w.left h.1 ∙ sees (first_va (wide image)) b w.left s h.0;
+  makes = makes_read (function_read offset b image) (numbers_at b image) functions_after next_function over_functions (functions_move offset b image);
   goes_on = λ w s x t h e.
-      let on = numbers_go_on i.bytes w.left s t (size_of_va (wide image)) h (va_taken (wide image) s x t e).0 (va_taken (wide image) s x t e).1 in
+      let on = numbers_go_on b w.left s t (size_of_va (wide image)) h (va_taken (wide image) s x t e).0 (va_taken (wide image) s x t e).1 in
       (ap (λ (r : Range). record w { left = r }) on.0, on.1);
   ends = λ w. refl;
 }
 
 -- the attributes stay
-same_functions : (image : images.Image) (i : ImageView) (read : ℕ → Result DelayedFunction DirectoryRefusal) (w : DelayedFunctions) (items : List (Result ℕ DirectoryRefusal)) →
-    ((n : ℕ) → function_read i w n ≡ read n) → read_in_turn (function_read i) (past_function image) w items ≡ read_items read items
-same_functions image i read w [] same = refl
-same_functions image i read w (Ok x ∷ items) same =
-    ap (λ (a : Result DelayedFunction DirectoryRefusal). and_after a (read_in_turn (function_read i) (past_function image) (past_function image w x) items)) (same x)
-    ∙ ap (λ (ys : List (Result DelayedFunction DirectoryRefusal)). and_after (read x) ys) (same_functions image i read (past_function image w x) items same)
-same_functions image i read w (Err r ∷ items) same = refl
+same_functions : (offset : ℕ → Option ℕ) (b : List ℕ) (image : images.Image) (w : DelayedFunctions) (items : List (Result ℕ DirectoryRefusal)) →
+    read_in_turn (function_read offset b image) (past_function image) w items ≡ read_items (function_of offset b image w.attributes) items
+same_functions offset b image w [] = refl
+same_functions offset b image w (Ok x ∷ items) =
+    ap (λ (ys : List (Result DelayedFunction DirectoryRefusal)). and_after (function_of offset b image w.attributes x) ys) (same_functions offset b image (past_function image w x) items)
+same_functions offset b image w (Err r ∷ items) = refl
 
-pub functions_in_turn : (image : images.Image) (i : ImageView) (w : DelayedFunctions) (s : List ℕ) (items : List (Result ℕ DirectoryRefusal)) → 0 < w.left.offset + w.left.length → bytes_at i.bytes w.left ≡ Ok s → Items (first_va (wide image)) s items →
-    ReturnsItems (StepsDelayedFunctions image i) w (read_items (function_of i (entry_with w.attributes)) items)
-functions_in_turn image i w s items some h f =
-    subst (λ (ys : List (Result DelayedFunction DirectoryRefusal)). ReturnsItems (StepsDelayedFunctions image i) w ys) (same_functions image i (function_of i (entry_with w.attributes)) w items (λ n. refl))
-    (in_turn _ _ _ _ _ _ _ _ (function_walk image i) w s items (h, some) f)
+pub functions_in_turn : (offset : ℕ → Option ℕ) (b : List ℕ) (image : images.Image) (w : DelayedFunctions) (s : List ℕ) (items : List (Result ℕ DirectoryRefusal)) → 0 < w.left.offset + w.left.length → bytes_at b w.left ≡ Ok s → Items (first_va (wide image)) s items →
+    ReturnsItems (StepsDelayedFunctions offset b image) w (read_items (function_of offset b image w.attributes) items)
+functions_in_turn offset b image w s items some h f =
+    subst (λ (ys : List (Result DelayedFunction DirectoryRefusal)). ReturnsItems (StepsDelayedFunctions offset b image) w ys) (same_functions offset b image w items)
+    (in_turn _ _ _ _ _ _ _ _ (function_walk offset b image) w s items (h, some) f)
 
-pub functions_outside : (image : images.Image) (i : ImageView) (w : DelayedFunctions) (r : Refusal) → 0 < w.left.offset + w.left.length → bytes_at i.bytes w.left ≡ Err r → ReturnsItems (StepsDelayedFunctions image i) w (Err (Image r) ∷ [])
-functions_outside image i w r some e =
-    refused _ _ _ _ _ _ _ _ (function_walk image i) w (Image r) (sees_numbers image i.bytes w.left some ∙ sees_refusal (first_va (wide image)) i.bytes w.left r e)
+pub functions_outside : (offset : ℕ → Option ℕ) (b : List ℕ) (image : images.Image) (w : DelayedFunctions) (r : Refusal) → 0 < w.left.offset + w.left.length → bytes_at b w.left ≡ Err r → ReturnsItems (StepsDelayedFunctions offset b image) w (Err (Image r) ∷ [])
+functions_outside offset b image w r some e =
+    refused _ _ _ _ _ _ _ _ (function_walk offset b image) w (Image r) (sees_numbers image b w.left some ∙ sees_refusal (first_va (wide image)) b w.left r e)
 
 -- ---- tables of numbers that start at an offset and have no length
 
@@ -193,38 +194,32 @@ unfolding callback_table
 callbacks_of_image b image sections tls w table items some e g f =
     callbacks_from b image (tls.address_of_callbacks == 0) (offset_of_va (image_parts b image sections) tls.address_of_callbacks) w table items some e g f
 
-functions_by_offset : (image : images.Image) (i : ImageView) (read : ℕ → Result DelayedFunction DirectoryRefusal) (attributes p : ℕ) (items : List (Result ℕ DirectoryRefusal)) → ((n : ℕ) → function_of i (entry_with attributes) n ≡ read n) →
-    0 < length i.bytes → Items (first_va (wide image)) (drop p i.bytes) items →
-    ((bytes_at i.bytes (tail_from i.bytes p) ≡ Ok (drop p i.bytes)) ⊎ ((bytes_at i.bytes (tail_from i.bytes p) ≡ Err Short) × (drop p i.bytes ≡ []))) →
-    ReturnsItems (StepsDelayedFunctions image i) (record { left = tail_from i.bytes p; attributes = attributes; spare = 0 }) (read_items read items)
-functions_by_offset image i read attributes p items same some f (inl h) =
-    subst (λ (ys : List (Result DelayedFunction DirectoryRefusal)). ReturnsItems (StepsDelayedFunctions image i) (record { left = tail_from i.bytes p; attributes = attributes; spare = 0 }) ys)
-    (same_functions image i read (record { left = tail_from i.bytes p; attributes = attributes; spare = 0 }) items same)
-    (in_turn _ _ _ _ _ _ _ _ (function_walk image i) (record { left = tail_from i.bytes p; attributes = attributes; spare = 0 }) (drop p i.bytes) items (h, some_left (length i.bytes) p some) f)
-functions_by_offset image i read attributes p items same some f (inr h) =
-    subst (λ (xs : List (Result ℕ DirectoryRefusal)). ReturnsItems (StepsDelayedFunctions image i) (record { left = tail_from i.bytes p; attributes = attributes; spare = 0 }) (read_items read xs))
+functions_by_offset : (offset : ℕ → Option ℕ) (b : List ℕ) (image : images.Image) (attributes p : ℕ) (items : List (Result ℕ DirectoryRefusal)) →
+    0 < length b → Items (first_va (wide image)) (drop p b) items →
+    ((bytes_at b (tail_from b p) ≡ Ok (drop p b)) ⊎ ((bytes_at b (tail_from b p) ≡ Err Short) × (drop p b ≡ []))) →
+    ReturnsItems (StepsDelayedFunctions offset b image) (record { left = tail_from b p; attributes = attributes; spare = 0 }) (read_items (function_of offset b image attributes) items)
+functions_by_offset offset b image attributes p items some f (inl h) =
+    functions_in_turn offset b image (record { left = tail_from b p; attributes = attributes; spare = 0 }) (drop p b) items (some_left (length b) p some) h f
+functions_by_offset offset b image attributes p items some f (inr h) =
+    subst (λ (xs : List (Result ℕ DirectoryRefusal)). ReturnsItems (StepsDelayedFunctions offset b image) (record { left = tail_from b p; attributes = attributes; spare = 0 }) (read_items (function_of offset b image attributes) xs))
     (sym (truncated (wide image) items (subst (λ (d : List ℕ). Items (first_va (wide image)) d items) h.1 f)))
-    (functions_outside image i (record { left = tail_from i.bytes p; attributes = attributes; spare = 0 }) Short (some_left (length i.bytes) p some) h.0)
+    (functions_outside offset b image (record { left = tail_from b p; attributes = attributes; spare = 0 }) Short (some_left (length b) p some) h.0)
 
-functions_from : (image : images.Image) (i : ImageView) (read : ℕ → Result DelayedFunction DirectoryRefusal) (attributes : ℕ) (at : Result ℕ DirectoryRefusal) (w : DelayedFunctions) (table : List ℕ) (items : List (Result ℕ DirectoryRefusal)) →
-    ((n : ℕ) → function_of i (entry_with attributes) n ≡ read n) → 0 < length i.bytes →
-    ◌≡◌ {A = Result DelayedFunctions DirectoryRefusal} (at >>= λ p. Ok (record { left = record { offset = p; length = length i.bytes - p }; attributes = attributes; spare = 0 })) (Ok w) →
-    ◌≡◌ {A = Result (Option (List ℕ)) DirectoryRefusal} (at >>= λ p. Ok (Some (drop p i.bytes))) (Ok (Some table)) →
-    Items (first_va (wide image)) table items → ReturnsItems (StepsDelayedFunctions image i) w (read_items read items)
-functions_from image i read attributes (Err r) w table items same some e g f = absurd (cc (e))
-functions_from image i read attributes (Ok p) w table items same some e g f =
-    let walk : record { left = tail_from i.bytes p; attributes = attributes; spare = 0 } ≡ w = cc (e) in
-    let bytes : drop p i.bytes ≡ table = cc (g) in
-    subst (λ (v : DelayedFunctions). ReturnsItems (StepsDelayedFunctions image i) v (read_items read items)) walk
-    (functions_by_offset image i read attributes p items same some (subst (λ (d : List ℕ). Items (first_va (wide image)) d items) (sym bytes) f) (tail_there i.bytes p (holds i.bytes p (length i.bytes - p)) refl))
-
--- what a number imports depends on no more of the entry than its attributes
-same_entry : (i : ImageView) (e : DelayImport) (n : ℕ) → function_of i (entry_with e.attributes) n ≡ function_of i e n
-unfolding function_of imported_by hint_offset
-same_entry i e n = refl
+functions_from : (offset : ℕ → Option ℕ) (b : List ℕ) (image : images.Image) (attributes : ℕ) (at : Result ℕ DirectoryRefusal) (w : DelayedFunctions) (table : List ℕ) (items : List (Result ℕ DirectoryRefusal)) → 0 < length b →
+    ◌≡◌ {A = Result DelayedFunctions DirectoryRefusal} (at >>= λ p. Ok (record { left = record { offset = p; length = length b - p }; attributes = attributes; spare = 0 })) (Ok w) →
+    ◌≡◌ {A = Result (Option (List ℕ)) DirectoryRefusal} (at >>= λ p. Ok (Some (drop p b))) (Ok (Some table)) →
+    Items (first_va (wide image)) table items → ReturnsItems (StepsDelayedFunctions offset b image) w (read_items (function_of offset b image attributes) items)
+functions_from offset b image attributes (Err r) w table items some e g f = absurd (cc (e))
+functions_from offset b image attributes (Ok p) w table items some e g f =
+    let walk : record { left = tail_from b p; attributes = attributes; spare = 0 } ≡ w = cc (e) in
+    let bytes : drop p b ≡ table = cc (g) in
+    subst (λ (v : DelayedFunctions). ReturnsItems (StepsDelayedFunctions offset b image) v (read_items (function_of offset b image attributes) items)) walk
+    (functions_by_offset offset b image attributes p items some (subst (λ (d : List ℕ). Items (first_va (wide image)) d items) (sym bytes) f) (tail_there b p (holds b p (length b - p)) refl))
 
 pub functions_of_library : (b : List ℕ) (image : images.Image) (sections : List SectionTable) (e : DelayImport) (w : DelayedFunctions) (table : List ℕ) (items : List (Result ℕ DirectoryRefusal)) → 0 < length b →
-    functions_of (image_parts b image sections) e ≡ Ok w → lookup_table (image_parts b image sections) e ≡ Ok (Some table) → Items (first_va (wide image)) table items →
-    ReturnsItems (StepsDelayedFunctions image (image_parts b image sections)) w (read_items (function_of (image_parts b image sections) e) items)
+    functions_of (map_of_image image sections) b image e ≡ Ok w → lookup_table (image_parts b image sections) e ≡ Ok (Some table) → Items (first_va (wide image)) table items →
+    ReturnsItems (StepsDelayedFunctions (map_of_image image sections) b image) w (read_items (function_of (map_of_image image sections) b image e.attributes) items)
 functions_of_library b image sections e w table items some h g f =
-    functions_from image (image_parts b image sections) (function_of (image_parts b image sections) e) e.attributes (offset_in_entry (image_parts b image sections) e e.import_name_table) w table items (same_entry (image_parts b image sections) e) some h g f
+    let offset = map_of_image image sections in
+    let same = ap (λ (at : Result ℕ DirectoryRefusal). ◌>>=◌ {B = Option (List ℕ)} at (λ p. Ok (Some (drop p b)))) (same_offset b image sections e e.import_name_table) in
+    functions_from offset b image e.attributes (address_offset offset image.base e.attributes e.import_name_table) w table items some h (same ∙ g) f

@@ -6,7 +6,6 @@ use Rattle.pe_directories.specs.BaseRelocations.{Block, first_block, first_reloc
 use Rattle.pe_directories.specs.BoundImports.{Bound, bound_name}
 use Rattle.pe_directories.specs.Clr.{Stream, header_size}
 use Rattle.pe_directories.specs.DirectoryRefusals.{DirectoryRefusal, of_image}
-use Rattle.pe_directories.specs.ImageParts.{ImageView}
 use Rattle.pe_directories.specs.Walks.{First}
 use Rattle.pe_directories.specs.declared.base_relocation.BaseRelocation.{BaseRelocation}
 use Rattle.pe_directories.specs.declared.bound_import.BoundForwarder as forwarders
@@ -93,13 +92,13 @@ ReturnsStreams b metadata walk items =
     ReturnsItems (StepsStreams b) walk (streams_reported walk items)
     × EachHas (HasStream b metadata) (streams_reported walk items) items
 
--- ---- delay imports; `i` is the image as pe_directories takes it
+-- ---- delay imports; `offset` maps an RVA to its file offset
 
-abbrev pub StepsDelayLibraries : ImageView → Range → Result (Option DelayLibrary) DirectoryRefusal → Range → Type 0
-StepsDelayLibraries i = StepsBy (λ walk x. x) (first_library_in i) left_after
+abbrev pub StepsDelayLibraries : (ℕ → Option ℕ) → List ℕ → images.Image → Range → Result (Option DelayLibrary) DirectoryRefusal → Range → Type 0
+StepsDelayLibraries offset b image = StepsBy (λ walk x. x) (first_library_in offset b image) left_after
 
-abbrev pub StepsDelayedFunctions : images.Image → ImageView → DelayedFunctions → Result (Option DelayedFunction) DirectoryRefusal → DelayedFunctions → Type 0
-StepsDelayedFunctions image i = StepsBy (λ walk x. x) (first_of_walk image i) functions_after
+abbrev pub StepsDelayedFunctions : (ℕ → Option ℕ) → List ℕ → images.Image → DelayedFunctions → Result (Option DelayedFunction) DirectoryRefusal → DelayedFunctions → Type 0
+StepsDelayedFunctions offset b image = StepsBy (λ walk x. x) (first_of_walk offset b image) functions_after
 
 -- ---- bound imports
 

@@ -6,6 +6,7 @@ pub mod Clr
 pub mod Debug
 pub mod DebugWalks
 pub mod DelayImports
+pub mod DelayLaws
 pub mod ExportAddresses
 pub mod Exports
 pub mod Images

@@ -4,7 +4,6 @@ use Rattle.std.specs.Option.{option_map}
 use Rattle.pe_core.specs.Refusals.{◌>>=◌}
 use Rattle.pe_core.specs.declared.section_table.SectionTable.{SectionTable}
 use Rattle.pe_directories.specs.DirectoryRefusals.{DirectoryRefusal}
-use Rattle.pe_directories.specs.ImageParts.{ImageView}
 use Rattle.pe_c.specs.DelayImports.{first_library_in, first_of_walk, functions_after}
 use Rattle.pe_c.specs.DirectoryRuns.{StepsDelayedFunctions}
 use Rattle.pe_c.specs.Directories.{left_after, step_of, table_at}
@@ -19,7 +18,7 @@ use Rattle.pe_c.specs.declared.library_functions.LibraryFunction.{LibraryFunctio
 use Rattle.pe_c.specs.declared.library_functions.LibraryFunctions.{LibraryFunctions}
 use Rattle.pe_c.specs.declared.ranges.Range.{Range}
 
--- ---- a walk; `i` is the image as pe_directories takes it
+-- ---- a walk; `offset` maps an RVA to its file offset
 
 -- a walk before the first of these DLLs
 abbrev pub before_first : Range → LibraryFunctions
@@ -53,9 +52,10 @@ turn_by_library walk (Ok (Some library)) rest = (None, at_library walk rest libr
 turn_by_library walk (Ok None) rest = (Some (Ok None), record walk { libraries = rest })
 turn_by_library walk (Err refusal) rest = (Some (Err refusal), all_over walk)
 
-abbrev pub next_library : ImageView → LibraryFunctions → Turn
-next_library i walk =
-    turn_by_library walk (step_of (λ x. x) (first_library_in i walk.libraries)) (left_after walk.libraries (first_library_in i walk.libraries))
+abbrev pub next_library : (ℕ → Option ℕ) → List ℕ → Image → LibraryFunctions → Turn
+next_library offset b image walk =
+    let first = first_library_in offset b image walk.libraries in
+    turn_by_library walk (step_of (λ x. x) first) (left_after walk.libraries first)
 
 -- by what the walk over the functions of the DLL returns, and the walk after it; or else this
 abbrev pub turn_by_function : LibraryFunctions → Turn → Result (Option DelayedFunction) DirectoryRefusal → DelayedFunctions → Turn
@@ -64,9 +64,10 @@ turn_by_function walk otherwise (Ok None) left = otherwise
 turn_by_function walk otherwise (Err refusal) left = (Some (Err refusal), all_over walk)
 
 -- a turn: the next function of the DLL; where it has none left, the next DLL
-unfoldable pub turn : Image → ImageView → LibraryFunctions → Turn
-turn image i walk =
-    turn_by_function walk (next_library i walk) (step_of (λ x. x) (first_of_walk image i walk.functions)) (functions_after walk.functions (first_of_walk image i walk.functions))
+unfoldable pub turn : (ℕ → Option ℕ) → List ℕ → Image → LibraryFunctions → Turn
+turn offset b image walk =
+    let first = first_of_walk offset b image walk.functions in
+    turn_by_function walk (next_library offset b image walk) (step_of (λ x. x) first) (functions_after walk.functions first)
 
 -- what all steps of a walk return, without turns, is `of_libraries` below, by the law walks_give_all_delayed_functions
 -- turns by which DLLs without a function begin, so many, and then one that returns this
@@ -75,8 +76,8 @@ Turns make zero old answer new = (Some answer, new) ≡ make old
 Turns make (suc n) old answer new = (between : LibraryFunctions) × ((None, between) ≡ make old) × Turns make n between answer new
 
 -- a step: turns, up to the first that returns something
-abbrev pub StepsLibraryFunctions : Image → ImageView → LibraryFunctions → Result (Option LibraryFunction) DirectoryRefusal → LibraryFunctions → Type 0
-StepsLibraryFunctions image i old answer new = (n : ℕ) × Turns (turn image i) n old answer new
+abbrev pub StepsLibraryFunctions : (ℕ → Option ℕ) → List ℕ → Image → LibraryFunctions → Result (Option LibraryFunction) DirectoryRefusal → LibraryFunctions → Type 0
+StepsLibraryFunctions offset b image old answer new = (n : ℕ) × Turns (turn offset b image) n old answer new
 
 -- ---- whole walks
 
@@ -91,7 +92,8 @@ of_libraries functions begun (Ok x ∷ libraries) = then_items (of_library x.nam
 of_libraries functions begun (Err refusal ∷ libraries) = Err refusal ∷ []
 
 -- these are the items of the functions of each of these DLLs
-abbrev pub AreFunctionsOf : Image → ImageView → (DelayLibrary → List (Result DelayedFunction DirectoryRefusal)) → List (Result DelayLibrary DirectoryRefusal) → Type 0
-AreFunctionsOf image i functions [] = Unit {0}
-AreFunctionsOf image i functions (Ok x ∷ libraries) = ReturnsItems (StepsDelayedFunctions image i) x.functions (functions x) × AreFunctionsOf image i functions libraries
-AreFunctionsOf image i functions (Err refusal ∷ libraries) = Unit {0}
+abbrev pub AreFunctionsOf : (ℕ → Option ℕ) → List ℕ → Image → (DelayLibrary → List (Result DelayedFunction DirectoryRefusal)) → List (Result DelayLibrary DirectoryRefusal) → Type 0
+AreFunctionsOf offset b image functions [] = Unit {0}
+AreFunctionsOf offset b image functions (Ok x ∷ libraries) =
+    ReturnsItems (StepsDelayedFunctions offset b image) x.functions (functions x) × AreFunctionsOf offset b image functions libraries
+AreFunctionsOf offset b image functions (Err refusal ∷ libraries) = Unit {0}

@@ -1,11 +1,11 @@
 -- Walks that a call starts for an image, each with the bytes that pe_directories reads there.
-use Rattle.std.specs.Prelude.{◌≡◌, ℕ, List, Some, Result, Ok}
+use Rattle.std.specs.Prelude.{◌≡◌, ℕ, List, Option, Some, Result, Ok}
 use Rattle.pe_core.specs.declared.section_table.SectionTable.{SectionTable}
 use Rattle.pe_directories.specs.Clr.{clr_metadata}
 use Rattle.pe_directories.specs.Clr as roots
 use Rattle.pe_directories.specs.DelayImports.{lookup_table}
 use Rattle.pe_directories.specs.DirectoryRefusals.{DirectoryRefusal}
-use Rattle.pe_directories.specs.ImageParts.{ImageView, walk_table}
+use Rattle.pe_directories.specs.ImageParts.{walk_table}
 use Rattle.pe_directories.specs.Tls.{callback_table}
 use Rattle.pe_directories.specs.declared.clr.ClrHeader.{ClrHeader}
 use Rattle.pe_directories.specs.declared.delay_import.DelayImport.{DelayImport}
@@ -14,7 +14,7 @@ use Rattle.pe_c.specs.Clr.{clr_metadata_at}
 use Rattle.pe_c.specs.DelayImports.{function_of, functions_of, library_of}
 use Rattle.pe_c.specs.Directories.{callbacks_at, image_parts, table_at}
 use Rattle.pe_c.specs.DirectoryRuns.{StepsDelayLibraries, StepsDelayedFunctions}
-use Rattle.pe_c.specs.Images.{directory}
+use Rattle.pe_c.specs.Images.{directory, map_of_image}
 use Rattle.pe_c.specs.Runs.{ReturnsItems, read_items}
 use Rattle.pe_c.specs.declared.clr.Metadata.{Metadata}
 use Rattle.pe_c.specs.declared.delay_imports.DelayedFunctions.{DelayedFunctions}
@@ -38,13 +38,15 @@ pub record StartsStreams (b : List ℕ) (image : Image) (sections : List Section
 
 -- the walk over what is imported of the DLL of an entry, and the bytes of its table
 pub record StartsFunctions (b : List ℕ) (image : Image) (sections : List SectionTable) (entry : DelayImport) (walk : DelayedFunctions) (table : List ℕ) : Type 0 where
-  pub started : functions_of (image_parts b image sections) entry ≡ Ok walk
+  pub started : functions_of (map_of_image image sections) b image entry ≡ Ok walk
   pub read : lookup_table (image_parts b image sections) entry ≡ Ok (Some table)
 
 -- a walk over delay imports returns these entries, each with the range of its DLL's name and the walk over what is imported of it
-abbrev pub ReturnsDelayLibraries : ImageView → Range → List (Result DelayImport DirectoryRefusal) → Type 0
-ReturnsDelayLibraries i walk items = ReturnsItems (StepsDelayLibraries i) walk (read_items (library_of i) items)
+abbrev pub ReturnsDelayLibraries : (ℕ → Option ℕ) → List ℕ → Image → Range → List (Result DelayImport DirectoryRefusal) → Type 0
+ReturnsDelayLibraries offset b image walk items =
+    ReturnsItems (StepsDelayLibraries offset b image) walk (read_items (library_of offset b image) items)
 
--- a walk over what is imported of the DLL of an entry returns what these numbers of its table import
-abbrev pub ReturnsFunctions : Image → ImageView → DelayImport → DelayedFunctions → List (Result ℕ DirectoryRefusal) → Type 0
-ReturnsFunctions image i entry walk items = ReturnsItems (StepsDelayedFunctions image i) walk (read_items (function_of i entry) items)
+-- a walk over what is imported of the DLL of an entry with these attributes returns what these numbers of its table import
+abbrev pub ReturnsFunctions : (ℕ → Option ℕ) → List ℕ → Image → ℕ → DelayedFunctions → List (Result ℕ DirectoryRefusal) → Type 0
+ReturnsFunctions offset b image attributes walk items =
+    ReturnsItems (StepsDelayedFunctions offset b image) walk (read_items (function_of offset b image attributes) items)

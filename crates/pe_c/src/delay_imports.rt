@@ -4,23 +4,23 @@
 //! https://learn.microsoft.com/windows/win32/debug/pe-format#delay-load-import-tables-image-only
 
 ghost use Rattle.std.specs.Prelude.{◌≡◌, ◌≤◌, length};
+ghost use Rattle.pe_directories.specs.DelayImports.{ordinal_flag};
 ghost use Rattle.pe_directories.specs.DirectoryRefusals.{directory_answer};
-ghost use Rattle.pe_directories.specs.ImageParts.{image_view};
-ghost use Rattle.pe_c.specs.DelayImports.{library_of, dll_range, entry_with, first_library_in, first_function_in, first_of_walk, function_of, functions_after, functions_of, name_range, ordinal_in};
-ghost use Rattle.pe_c.specs.Directories.{DirectoryHandsOut, image_parts, left_after, step_of, table_at};
+ghost use Rattle.pe_c.specs.DelayImports.{address_in, address_offset, library_of, dll_range, first_library_in, first_function_in, first_of_walk, function_of, functions_after, functions_of, name_range, named_at, ordinal_in, rva_of};
+ghost use Rattle.pe_c.specs.Directories.{DirectoryHandsOut, left_after, step_of, table_at};
 ghost use Rattle.pe_c.specs.NearMaps.{IsWindow};
 ghost use Rattle.pe_c.specs.Views.{map_of};
 
-use crate::directories::{Result, image_bytes, range_left, table_at};
-use crate::image::DELAY_IMPORT_DESCRIPTOR;
+use crate::directories::{Result, range_left, table_at};
+use crate::image::{DELAY_IMPORT_DESCRIPTOR, Image};
 use crate::named_view::NamedView;
 use crate::near_map::{NO_WINDOW, Window, map_near};
 use crate::ranges::{NO_BYTES, Range, slice_of};
 use crate::results::hand_out_found;
 use crate::text_runs::Run;
-use crate::view::View;
-use pe_core::u16_at;
-use pe_directories::{DelayImport, DelayImports, DirectoryError, ImageBytes, VaTable};
+use crate::view::{View, map_u64};
+use pe_core::{Error, Reason, u16_at};
+use pe_directories::{DelayImport, DelayImports, DirectoryError, VaTable};
 
 /// The size of the hint before a function's name in bytes.
 const SIZE_OF_HINT: usize = 2;
@@ -73,12 +73,46 @@ pub extern "C" fn pe_c_delay_imports(view: &View, out: &mut Range) -> u32
     hand_out_found(table_at(view, DELAY_IMPORT_DESCRIPTOR), out)
 }
 
+/// The RVA of an address in an entry with these attributes.
+fn rva_of(image: &Image, attributes: u32, address: u64) -> Result<u64>
+    ensures { directory_answer (λ x. x) result ≡ rva_of image.now.base attributes address }
+{
+    if attributes % 2 == 1 {
+        return Ok(address);
+    }
+    if address < image.base {
+        return Err(DirectoryError::VaBelowBase(address));
+    }
+    Ok(address - image.base)
+}
+
+/// The file offset of such an address.
+#[tactic(auto, unfolding(crate::specs::DelayImports::address_offset))]
+pub fn address_offset(view: &View, attributes: u32, address: u64) -> Result<usize>
+    ensures { directory_answer (λ p. p) result ≡ address_offset (map_of view.now)
+        view.now.image.now.base attributes address }
+{
+    let rva = rva_of(view.image, attributes, address)?;
+    match map_u64(view, rva) {
+        Some(offset) => Ok(offset),
+        None => Err(DirectoryError::Image(Error::Malformed(Reason::Unmapped(rva)))),
+    }
+}
+
+/// The file offset of an address for the room of names, by the window of the last one: none where `address_offset` refuses it. An
+/// RVA of more than 32 bits has none either, which costs the steps a name that is read by itself.
+pub fn offset_near(view: &View, attributes: u32, address: u64, near: &mut Window) -> Option<usize>
+    requires { IsWindow (map_of view.now) near.old }
+    ensures { IsWindow (map_of view.now) near.new }
+{
+    let rva = rva_of(view.image, attributes, address).ok()?;
+    map_near(view, u32::try_from(rva).ok()?, near)
+}
+
 /// The range of the name at an offset.
-#[tactic(auto, unfolding(pe_directories::specs::DelayImports::delay_name))]
+#[tactic(auto, unfolding(crate::specs::DelayImports::name_range))]
 fn name_range(names: &NamedView<'_>, offset: usize) -> Result<Range>
-    ensures { directory_answer (λ r. r) result ≡ name_range
-        (image_parts names.now.view.now.bytes.now names.now.view.now.image.now
-        names.now.view.now.sections.now) offset }
+    ensures { directory_answer (λ r. r) result ≡ name_range names.now.view.now.bytes.now offset }
 {
     match names.text_at(offset) {
         Some(name) => Ok(Range {
@@ -91,23 +125,24 @@ fn name_range(names: &NamedView<'_>, offset: usize) -> Result<Range>
 
 /// The range of the name of an entry's DLL.
 fn dll_range(names: &NamedView<'_>, entry: &DelayImport) -> Result<Range>
-    ensures { directory_answer (λ r. r) result ≡ dll_range
-        (image_parts names.now.view.now.bytes.now names.now.view.now.image.now
-        names.now.view.now.sections.now) entry.now }
+    ensures { directory_answer (λ r. r) result ≡ dll_range (map_of names.now.view.now)
+        names.now.view.now.bytes.now names.now.view.now.image.now entry.now }
 {
-    let offset = entry.offset_of(&image_bytes(names.view), entry.name)?;
+    let offset = address_offset(names.view, entry.attributes, u64::from(entry.name))?;
     name_range(names, offset)
 }
 
 /// A walk over what is imported of an entry's DLL.
-fn functions_of(image: &ImageBytes<'_>, entry: &DelayImport) -> Result<DelayedFunctions>
-    ensures { directory_answer (λ w. w) result ≡ functions_of (image_view image.now) entry.now }
+fn functions_of(view: &View, entry: &DelayImport) -> Result<DelayedFunctions>
+    ensures { directory_answer (λ w. w) result ≡ functions_of (map_of view.now)
+        view.now.bytes.now view.now.image.now entry.now }
 {
-    let offset = entry.offset_of(image, entry.import_name_table)?;
+    let table = u64::from(entry.import_name_table);
+    let offset = address_offset(view, entry.attributes, table)?;
     Ok(DelayedFunctions {
         left: Range {
             offset: offset as u64,
-            length: image.bytes.len().saturating_sub(offset) as u64,
+            length: view.bytes.len().saturating_sub(offset) as u64,
         },
         attributes: entry.attributes,
         spare: 0,
@@ -116,25 +151,22 @@ fn functions_of(image: &ImageBytes<'_>, entry: &DelayImport) -> Result<DelayedFu
 
 /// An entry as callers get it.
 fn library_of(names: &NamedView<'_>, entry: DelayImport) -> Result<DelayLibrary>
-    ensures { directory_answer (λ x. x) result ≡ library_of
-        (image_parts names.now.view.now.bytes.now names.now.view.now.image.now
-        names.now.view.now.sections.now) entry }
+    ensures { directory_answer (λ x. x) result ≡ library_of (map_of names.now.view.now)
+        names.now.view.now.bytes.now names.now.view.now.image.now entry }
 {
     Ok(DelayLibrary {
         name: dll_range(names, &entry)?,
-        functions: functions_of(&image_bytes(names.view), &entry)?,
+        functions: functions_of(names.view, &entry)?,
         descriptor: entry,
     })
 }
 
 /// The next DLL of a walk. It is over after an error.
 pub fn next_library(names: &NamedView<'_>, walk: &mut Range) -> Result<Option<DelayLibrary>>
-    ensures library { directory_answer (λ x. x) result ≡ step_of (λ x. x) (first_library_in
-        (image_parts names.now.view.now.bytes.now names.now.view.now.image.now
-        names.now.view.now.sections.now) walk.old) }
-    ensures walk { walk.new ≡ left_after walk.old (first_library_in
-        (image_parts names.now.view.now.bytes.now names.now.view.now.image.now
-        names.now.view.now.sections.now) walk.old) }
+    ensures library { directory_answer (λ x. x) result ≡ step_of (λ x. x) (first_library_in (map_of names.now.view.now)
+        names.now.view.now.bytes.now names.now.view.now.image.now walk.old) }
+    ensures walk { walk.new ≡ left_after walk.old (first_library_in (map_of names.now.view.now)
+        names.now.view.now.bytes.now names.now.view.now.image.now walk.old) }
 {
     let range = *walk;
     *walk = NO_BYTES;
@@ -146,20 +178,6 @@ pub fn next_library(names: &NamedView<'_>, walk: &mut Range) -> Result<Option<De
     let library = library_of(names, entry?)?;
     *walk = range_left(range, entries.rest());
     Ok(Some(library))
-}
-
-/// The file offset of an address in an entry with these attributes, none where it is not mapped. It takes the view's index, which
-/// the steps of these walks do not, so it serves the room of names alone: what that has changes no result.
-pub fn offset_near(view: &View, attributes: u32, address: u64, near: &mut Window) -> Option<usize>
-    requires { IsWindow (map_of view.now) near.old }
-    ensures { IsWindow (map_of view.now) near.new }
-{
-    let rva = if attributes % 2 == 1 {
-        address
-    } else {
-        address.checked_sub(view.image.base)?
-    };
-    map_near(view, u32::try_from(rva).ok()?, near)
 }
 
 /// Writes the offsets of the names of the next DLLs to a room, as starts, of as many as it has room for, and returns how many they
@@ -201,65 +219,72 @@ pub extern "C" fn pe_c_next_delay_import(
     out: &mut DelayLibrary,
 ) -> u32
     ensures library { DirectoryHandsOut result out.old out.new (step_of (λ x. x)
-        (first_library_in (image_parts view.now.bytes.now view.now.image.now view.now.sections.now)
-        walk.old)) }
+        (first_library_in (map_of view.now) view.now.bytes.now view.now.image.now walk.old)) }
     ensures walk { walk.new ≡ left_after walk.old
-        (first_library_in (image_parts view.now.bytes.now view.now.image.now view.now.sections.now)
-        walk.old) }
+        (first_library_in (map_of view.now) view.now.bytes.now view.now.image.now walk.old) }
 {
     hand_out_found(next_library(&NamedView::alone(view), walk), out)
 }
 
-/// An entry of which the attributes alone are known.
-pub fn entry_with(attributes: u32) -> DelayImport
-    ensures { result ≡ entry_with attributes }
+/// The least number of a table that is an ordinal: its highest bit is set.
+fn ordinal_flag(is_64: bool) -> u64
+    ensures { result ≡ ordinal_flag is_64 }
 {
-    DelayImport {
-        attributes,
-        name: 0,
-        module_handle: 0,
-        import_address_table: 0,
-        import_name_table: 0,
-        bound_import_address_table: 0,
-        unload_information_table: 0,
-        time_date_stamp: 0,
-    }
+    if is_64 { 1 << 63 } else { 1 << 31 }
 }
 
 /// The ordinal that a number of the table is: its low 16 bits, if its highest bit is set.
 fn ordinal_in(lookup: u64, is_64: bool) -> Option<u32>
     ensures { result ≡ ordinal_in is_64 lookup }
 {
-    let flag = if is_64 { 1 << 63 } else { 1 << 31 };
-    if lookup < flag {
+    if lookup < ordinal_flag(is_64) {
         return None;
     }
     Some((lookup % (1 << 16)) as u32)
 }
 
-/// What a number of the table imports, as callers get it.
-#[tactic(auto, unfolding(crate::specs::DelayImports::function_of, pe_directories::specs::DelayImports::imported_by, pe_directories::specs::DelayImports::hint_and_name, pe_directories::specs::DelayImports::delay_name))]
-fn function_of(names: &NamedView<'_>, entry: &DelayImport, lookup: u64) -> Result<DelayedFunction>
-    ensures { directory_answer (λ x. x) result ≡ function_of
-        (image_parts names.now.view.now.bytes.now names.now.view.now.image.now
-        names.now.view.now.sections.now) entry.now lookup }
+/// The address of a hint that a number of the table leads to.
+pub fn address_in(is_64: bool, attributes: u32, lookup: u64) -> u64
+    ensures { result ≡ address_in is_64 attributes lookup }
 {
-    let image = image_bytes(names.view);
-    if let Some(ordinal) = ordinal_in(lookup, image.is_64) {
-        return Ok(DelayedFunction {
-            name: NO_BYTES,
-            ordinal,
-            has_name: 0,
-        });
+    if attributes % 2 == 1 {
+        lookup % (1 << 31)
+    } else {
+        lookup % ordinal_flag(is_64)
     }
-    let offset = entry.offset_of_hint(&image, lookup)?;
-    let hint = u16_at(image.bytes, offset)?;
+}
+
+/// The import by name whose hint is at an offset.
+#[tactic(auto, unfolding(crate::specs::DelayImports::named_at))]
+fn named_at(names: &NamedView<'_>, offset: usize) -> Result<DelayedFunction>
+    ensures { directory_answer (λ x. x) result ≡ named_at names.now.view.now.bytes.now offset }
+{
+    let hint = u16_at(names.view.bytes, offset)?;
     let name = name_range(names, offset + SIZE_OF_HINT)?;
     Ok(DelayedFunction {
         name,
         ordinal: u32::from(hint),
         has_name: 1,
     })
+}
+
+/// What a number of the table imports, as callers get it.
+#[tactic(auto, unfolding(crate::specs::DelayImports::function_of))]
+fn function_of(names: &NamedView<'_>, attributes: u32, lookup: u64) -> Result<DelayedFunction>
+    ensures { directory_answer (λ x. x) result ≡ function_of (map_of names.now.view.now)
+        names.now.view.now.bytes.now names.now.view.now.image.now attributes lookup }
+{
+    let is_64 = names.view.image.width == 64;
+    if let Some(ordinal) = ordinal_in(lookup, is_64) {
+        return Ok(DelayedFunction {
+            name: NO_BYTES,
+            ordinal,
+            has_name: 0,
+        });
+    }
+    let address = address_in(is_64, attributes, lookup);
+    let offset = address_offset(names.view, attributes, address)?;
+    named_at(names, offset)
 }
 
 /// The next function of a walk, whose attributes and bytes left are these. It is over after an error.
@@ -269,15 +294,11 @@ pub fn next_function(
     left: &mut Range,
 ) -> Result<Option<DelayedFunction>>
     ensures function { directory_answer (λ x. x) result ≡ step_of (λ x. x)
-        (first_function_in names.now.view.now.image.now
-        (image_parts names.now.view.now.bytes.now names.now.view.now.image.now
-        names.now.view.now.sections.now)
-        attributes left.old) }
+        (first_function_in (map_of names.now.view.now)
+        names.now.view.now.bytes.now names.now.view.now.image.now attributes left.old) }
     ensures left { left.new ≡ left_after left.old
-        (first_function_in names.now.view.now.image.now
-        (image_parts names.now.view.now.bytes.now names.now.view.now.image.now
-        names.now.view.now.sections.now)
-        attributes left.old) }
+        (first_function_in (map_of names.now.view.now)
+        names.now.view.now.bytes.now names.now.view.now.image.now attributes left.old) }
 {
     let range = *left;
     if range.offset == 0 && range.length == 0 {
@@ -290,7 +311,7 @@ pub fn next_function(
         *left = range;
         return Ok(None);
     };
-    let function = function_of(names, &entry_with(attributes), lookup?)?;
+    let function = function_of(names, attributes, lookup?)?;
     *left = range_left(range, table.rest());
     Ok(Some(function))
 }
@@ -312,19 +333,14 @@ pub fn put_function_names(
         return count;
     };
     let is_64 = view.image.width == 64;
-    // An address is the low 31 bits of a number, and a virtual one of PE32+ the low 63.
-    let end = if is_64 && walk.attributes % 2 == 0 {
-        1 << 63
-    } else {
-        1 << 31
-    };
     let mut table = VaTable::new(bytes, is_64);
     for i in 0..room.len() {
         let Some(Ok(lookup)) = table.next() else {
             break;
         };
         // An ordinal, and a name that is not mapped, cost a run that is not asked for.
-        let offset = offset_near(view, walk.attributes, lookup % end, near).unwrap_or(0);
+        let address = address_in(is_64, walk.attributes, lookup);
+        let offset = offset_near(view, walk.attributes, address, near).unwrap_or(0);
         room[i] = Run::at(offset.saturating_add(SIZE_OF_HINT));
         count = i + 1;
     }
@@ -344,11 +360,9 @@ pub extern "C" fn pe_c_next_delayed_function(
     out: &mut DelayedFunction,
 ) -> u32
     ensures function { DirectoryHandsOut result out.old out.new (step_of (λ x. x)
-        (first_of_walk view.now.image.now (image_parts view.now.bytes.now view.now.image.now
-        view.now.sections.now) walk.old)) }
+        (first_of_walk (map_of view.now) view.now.bytes.now view.now.image.now walk.old)) }
     ensures walk { walk.new ≡ functions_after walk.old
-        (first_of_walk view.now.image.now (image_parts view.now.bytes.now view.now.image.now
-        view.now.sections.now) walk.old) }
+        (first_of_walk (map_of view.now) view.now.bytes.now view.now.image.now walk.old) }
 {
     let attributes = walk.attributes;
     hand_out_found(

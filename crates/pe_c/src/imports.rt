@@ -109,7 +109,7 @@ fn require_offset(rva: u32, image: &Image, sections: &[SectionTable]) -> Result<
 fn require_offset_by(view: &View, rva: u32) -> Result<usize>
     ensures { Returns result (mapped (map_of view.now rva)) }
 {
-    let sections = sections_by(view.sections, view.index, rva);
+    let sections = sections_by(view.sections, view.index, u64::from(rva));
     require_offset(rva, view.image, sections)
 }
 

@@ -5,7 +5,7 @@
 ghost use Rattle.std.specs.Prelude.{◌≡◌, ◌<◌, ◌≤◌, IfNone, length};
 ghost use Rattle.std.specs.Option.{option_map};
 ghost use Rattle.pe_directories.specs.DirectoryRefusals.{directory_answer};
-ghost use Rattle.pe_c.specs.Directories.{DirectoryHandsOut, image_parts};
+ghost use Rattle.pe_c.specs.Directories.{DirectoryHandsOut};
 ghost use Rattle.pe_c.specs.LibraryFunctions.{StepsLibraryFunctions, all_over, at_library, before_first, library_functions_at, next_library, turn, with_library};
 ghost use Rattle.pe_c.specs.NearMaps.{IsWindow};
 ghost use Rattle.pe_c.specs.Views.{map_of};
@@ -134,9 +134,7 @@ fn turn(
     walk: LibraryFunctions,
 ) -> (Option<Result<Option<LibraryFunction>>>, LibraryFunctions)
     ensures turn { (option_map (directory_answer (λ x. x)) result.0, result.1) ≡ turn
-        names.now.view.now.image.now
-        (image_parts names.now.view.now.bytes.now names.now.view.now.image.now
-        names.now.view.now.sections.now) walk }
+        (map_of names.now.view.now) names.now.view.now.bytes.now names.now.view.now.image.now walk }
     ensures onward { IfNone result.0 (result.1.libraries.length < walk.libraries.length) }
 {
     let mut left = walk.functions.left;
@@ -163,8 +161,7 @@ fn next_library(
     walk: LibraryFunctions,
 ) -> (Option<Result<Option<LibraryFunction>>>, LibraryFunctions)
     ensures turn { (option_map (directory_answer (λ x. x)) result.0, result.1) ≡ next_library
-        (image_parts names.now.view.now.bytes.now names.now.view.now.image.now
-        names.now.view.now.sections.now) walk }
+        (map_of names.now.view.now) names.now.view.now.bytes.now names.now.view.now.image.now walk }
     ensures onward { IfNone result.0 (result.1.libraries.length < walk.libraries.length) }
 {
     let mut rest = walk.libraries;
@@ -183,9 +180,8 @@ fn next_library(
 
 /// One step: the next function, of whichever DLL.
 pub fn step(names: &NamedView<'_>, walk: &mut LibraryFunctions) -> Result<Option<LibraryFunction>>
-    ensures { StepsLibraryFunctions names.now.view.now.image.now
-        (image_parts names.now.view.now.bytes.now names.now.view.now.image.now
-        names.now.view.now.sections.now) walk.old (directory_answer (λ x. x) result) walk.new }
+    ensures { StepsLibraryFunctions (map_of names.now.view.now)
+        names.now.view.now.bytes.now names.now.view.now.image.now walk.old (directory_answer (λ x. x) result) walk.new }
 {
     loop {
         let (given, after) = turn(names, *walk);

@@ -48,7 +48,7 @@ fn started_until(entries: &[IndexEntry], rva: u32) -> Started
     while bits > 0 {
         bits -= 1;
         let more = count + power_of_two(bits);
-        if start_by(entries, rva, more) {
+        if start_by(entries, u64::from(rva), more) {
             count = more;
         } else {
             end = end.min(start_of_last(entries, more));

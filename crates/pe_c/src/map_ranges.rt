@@ -59,7 +59,7 @@ fn range_at(view: &View, rva: u32) -> Option<Range>
     if !options(view.image.mode).resolve_rva {
         return bytes_between(view.bytes, u64::from(rva), view.bytes.len() as u64);
     }
-    let sections = sections_by(view.sections, view.index, rva);
+    let sections = sections_by(view.sections, view.index, u64::from(rva));
     range_by_sections(view.bytes, sections, view.image.file_alignment, rva)
 }
 

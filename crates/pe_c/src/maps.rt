@@ -96,7 +96,7 @@ fn section_by(view: &View, rva: u32) -> Option<usize>
     if view.index.is_empty() {
         return section_in(view.image, view.sections, rva);
     }
-    let number = number_found(view.index, rva);
+    let number = number_found(view.index, u64::from(rva));
     match section_in(view.image, numbered(view.sections, number), rva) {
         Some(_) => Some((number as usize).saturating_sub(1)),
         None => None,

@@ -140,7 +140,7 @@ fn content_of(view: &View, leaf: &pe_resource::ResourceLeaf) -> (Range, u32)
     ensures { result ≡ content_of view.now.bytes.now (map_of view.now) leaf.now.data_entry }
 {
     let (image, rva) = (view.image, leaf.data_entry.offset_to_data);
-    let sections = sections_by(view.sections, view.index, rva);
+    let sections = sections_by(view.sections, view.index, u64::from(rva));
     let opts = options(image.mode);
     match leaf.content_range(view.bytes, sections, image.file_alignment, &opts) {
         Ok(range) => (range_of(range), DONE),

@@ -1,16 +1,21 @@
 //! Laws of the ranges that calls return of directories which pe_directories reads.
 
 ghost use Rattle.pe_c.specs.Clr.{content_of, first_stream_in, metadata_reported, stream_reported};
-ghost use Rattle.pe_c.specs.DelayImports.{dll_range, function_of};
+ghost use Rattle.pe_c.specs.DelayImports.{dll_range, function_of, functions_of};
+ghost use Rattle.pe_c.specs.DelayLaws.{dll_reported, function_reported, table_reported};
+ghost use Rattle.pe_c.specs.Directories.{image_parts};
+ghost use Rattle.pe_c.specs.Images.{map_of_image};
 ghost use Rattle.pe_c.specs.Ranges.{IsRange, bytes_at, range_of};
 ghost use Rattle.pe_c.specs.declared.clr.MetadataStreams.{MetadataStreams};
 ghost use Rattle.pe_c.specs.declared.delay_imports.DelayedFunction.{DelayedFunction};
+ghost use Rattle.pe_c.specs.declared.image.Image.{Image};
 ghost use Rattle.pe_c.specs.declared.ranges.Range.{Range};
 ghost use Rattle.pe_core.specs.Bytes.{range};
+ghost use Rattle.pe_core.specs.Refusals.{◌>>=◌};
 ghost use Rattle.pe_core.specs.declared.byte_range.ByteRange.{ByteRange};
+ghost use Rattle.pe_core.specs.declared.section_table.SectionTable.{SectionTable};
 ghost use Rattle.pe_directories.specs.Clr.{Metadata, Stream, metadata_of};
-ghost use Rattle.pe_directories.specs.DelayImports.{Name, delay_dll, imported_by};
-ghost use Rattle.pe_directories.specs.ImageParts.{ImageView};
+ghost use Rattle.pe_directories.specs.DelayImports.{Name, delay_dll, hint_offset, imported_by};
 ghost use Rattle.pe_directories.specs.declared.delay_import.DelayImport.{DelayImport};
 ghost use Rattle.std.specs.Prelude.{◌≡◌, ℕ, ◌+◌, ◌≤◌, List, length, IfSome, Ok, Some};
 
@@ -38,10 +43,28 @@ pub fn ranges_of_streams_are_their_parts()
 
 /// The ranges of the names of delay imports lie in the bytes, and are these names.
 pub fn ranges_of_delay_imports_are_their_names()
-    ensures dll { (i : ImageView) (e : DelayImport) (name : List ℕ) (r : Range) →
-        delay_dll i e ≡ Ok name → dll_range i e ≡ Ok r → IsRange i.bytes r name }
-    ensures function { (i : ImageView) (e : DelayImport)
-        (number hint : ℕ) (name : List ℕ) (f : DelayedFunction) →
-        imported_by i e number ≡ Ok (Name hint name) → function_of i e number ≡ Ok f →
-        IsRange i.bytes f.name name }
+    ensures dll { (b : List ℕ) (image : Image) (sections : List SectionTable) (e : DelayImport)
+        (name : List ℕ) (r : Range) → delay_dll (image_parts b image sections) e ≡ Ok name →
+        dll_range (map_of_image image sections) b image e ≡ Ok r → IsRange b r name }
+    ensures function { (b : List ℕ) (image : Image) (sections : List SectionTable)
+        (e : DelayImport) (number hint : ℕ) (name : List ℕ) (f : DelayedFunction) →
+        imported_by (image_parts b image sections) e number ≡ Ok (Name hint name) →
+        function_of (map_of_image image sections) b image e.attributes number ≡ Ok f →
+        IsRange b f.name name }
+{}
+
+/// Where RVAs are mapped by the sections of the image, steps over delay imports return what pe_directories defines, or the same
+/// refusal: the name of a DLL, the table of what is imported of it, and what a number of the table imports.
+pub fn delay_imports_are_those_of_the_image()
+    ensures dll { (b : List ℕ) (image : Image) (sections : List SectionTable) (e : DelayImport) →
+        dll_range (map_of_image image sections) b image e
+        ≡ dll_reported (image_parts b image sections) e }
+    ensures table { (b : List ℕ) (image : Image) (sections : List SectionTable) (e : DelayImport) →
+        functions_of (map_of_image image sections) b image e
+        ≡ table_reported (image_parts b image sections) e }
+    ensures function { (b : List ℕ) (image : Image) (sections : List SectionTable)
+        (e : DelayImport) (number : ℕ) →
+        function_of (map_of_image image sections) b image e.attributes number
+        ≡ (imported_by (image_parts b image sections) e number
+        >>= function_reported (hint_offset (image_parts b image sections) e number)) }
 {}

@@ -8,7 +8,6 @@ ghost use Rattle.pe_core.specs.Sections.{sections_at};
 ghost use Rattle.pe_core.specs.declared.header.TheConstants.{COFF_MACHINE_ARM64, COFF_MACHINE_X86_64};
 ghost use Rattle.pe_core.specs.declared.section_table.SectionTable.{SectionTable};
 ghost use Rattle.pe_directories.specs.BaseRelocations.{first_block, first_relocation};
-ghost use Rattle.pe_directories.specs.ImageParts.{ImageView};
 ghost use Rattle.pe_records.specs.declared.debug.ImageDebugDirectory.{ImageDebugDirectory};
 ghost use Rattle.pe_unwind.specs.Links.{Table};
 ghost use Rattle.pe_unwind.specs.declared.arm64.function.Arm64RuntimeFunction.{Arm64RuntimeFunction};
@@ -148,12 +147,12 @@ pub fn step_failures_are_those_of_the_calls()
         → StepsArm64Codes b walk answer after
         → (v : Arm64CodeWalk) (number : ℕ) (old new : Arm64Code) → AnswersArm64Code b walk v number old new
         → Agrees number (refused answer) }
-    ensures delay_imports { (i : ImageView) (walk : Range)
-        → DirectoriesAgree (step_of (λ x. x) (first_library_in i walk))
-        (directory_refused (step_of (λ x. x) (first_library_in i walk))) }
-    ensures delayed_functions { (image : Image) (i : ImageView) (walk : DelayedFunctions)
-        → DirectoriesAgree (step_of (λ x. x) (first_of_walk image i walk))
-        (directory_refused (step_of (λ x. x) (first_of_walk image i walk))) }
+    ensures delay_imports { (offset : ℕ → Option ℕ) (b : List ℕ) (image : Image) (walk : Range)
+        → DirectoriesAgree (step_of (λ x. x) (first_library_in offset b image walk))
+        (directory_refused (step_of (λ x. x) (first_library_in offset b image walk))) }
+    ensures delayed_functions { (offset : ℕ → Option ℕ) (b : List ℕ) (image : Image) (walk : DelayedFunctions)
+        → DirectoriesAgree (step_of (λ x. x) (first_of_walk offset b image walk))
+        (directory_refused (step_of (λ x. x) (first_of_walk offset b image walk))) }
     ensures bound_imports { (b : List ℕ) (table walk : Range)
         → DirectoriesAgree (step_of (λ x. x) (first_bound b table walk))
         (directory_refused (step_of (λ x. x) (first_bound b table walk))) }

@@ -1,7 +1,6 @@
 //! Laws of lists in one call: what list calls write, one after the other, is what the steps of the walk return.
 
 ghost use Rattle.std.specs.Prelude.{ℕ, Option, List};
-ghost use Rattle.pe_directories.specs.ImageParts.{ImageView};
 ghost use Rattle.pe_c.specs.Arm64.{StepsArm64Codes};
 ghost use Rattle.pe_c.specs.DebugWalks.{StepsPogoEntries};
 ghost use Rattle.pe_c.specs.Directories.{directory_number};
@@ -40,11 +39,11 @@ pub fn lists_are_what_steps_return()
     ensures relocation_blocks { (b : List ℕ) → GiveLists directory_number (StepsBlocks b) }
     ensures relocations { (page : ℕ) (b : List ℕ) →
         GiveLists directory_number (StepsRelocations page b) }
-    ensures delay_imports { (i : ImageView) →
-        GiveLists directory_number (StepsDelayLibraries i) }
-    ensures delayed_functions { (image : Image) (i : ImageView) →
-        GiveLists directory_number (StepsDelayedFunctions image i) }
-    ensures library_functions { (image : Image) (i : ImageView) →
-        GiveLists directory_number (StepsLibraryFunctions image i) }
+    ensures delay_imports { (offset : ℕ → Option ℕ) (b : List ℕ) (image : Image) →
+        GiveLists directory_number (StepsDelayLibraries offset b image) }
+    ensures delayed_functions { (offset : ℕ → Option ℕ) (b : List ℕ) (image : Image) →
+        GiveLists directory_number (StepsDelayedFunctions offset b image) }
+    ensures library_functions { (offset : ℕ → Option ℕ) (b : List ℕ) (image : Image) →
+        GiveLists directory_number (StepsLibraryFunctions offset b image) }
     ensures pogo_entries { (b : List ℕ) → GiveLists result_number (StepsPogoEntries b) }
 {}

@@ -14,7 +14,6 @@ ghost use Rattle.pe_directories.specs.Clr as roots;
 ghost use Rattle.pe_directories.specs.DelayImports.{first_delay_import};
 ghost use Rattle.pe_directories.specs.DirectoryRefusals.{DirectoryRefusal};
 ghost use Rattle.pe_directories.specs.DirectoryRefusals as refusals;
-ghost use Rattle.pe_directories.specs.ImageParts.{ImageView};
 ghost use Rattle.pe_directories.specs.VaTables.{first_va};
 ghost use Rattle.pe_directories.specs.Walks.{Items};
 ghost use Rattle.pe_directories.specs.declared.base_relocation.BaseRelocation.{BaseRelocation};
@@ -25,9 +24,8 @@ ghost use Rattle.pe_resource.specs.Leaves.{TreeRefusal};
 ghost use Rattle.pe_resource.specs.declared.leaves.ResourceLeaf as trees;
 ghost use Rattle.pe_c.specs.BoundImports.{bound_imports_at};
 ghost use Rattle.pe_c.specs.Clr.{streams_in};
-ghost use Rattle.pe_c.specs.DelayImports.{entry_with};
 ghost use Rattle.pe_c.specs.DirectoryRuns.{HasBlock, HasBound, StepsBlocks, StepsBoundImports, StepsCallbacks, StepsDelayLibraries, StepsDelayedFunctions, StepsForwarders, StepsRelocations, StepsStreams, forwarders_reported, relocations_reported, ReturnsBlocks, ReturnsBounds, ReturnsStreams};
-ghost use Rattle.pe_c.specs.Directories.{image_parts, table_at};
+ghost use Rattle.pe_c.specs.Directories.{table_at};
 ghost use Rattle.pe_c.specs.Images.{directory, map_of_image};
 ghost use Rattle.pe_c.specs.Imports.{StepsImports, StepsLibraries, libraries_at};
 ghost use Rattle.pe_c.specs.LibraryFunctions.{AreFunctionsOf, StepsLibraryFunctions, library_functions_at};
@@ -127,28 +125,29 @@ pub fn walks_give_the_delay_imports()
     ensures of_image { (b : List ℕ) (image : Image) (sections : List SectionTable) (walk : Range)
         (table : List ℕ) (items : List (Result DelayImport DirectoryRefusal)) →
         StartsTable 13 b image sections walk table → Items first_delay_import table items →
-        ReturnsDelayLibraries (image_parts b image sections) walk items }
-    ensures libraries { (image : ImageView) (walk : Range) (bytes : List ℕ)
-        (items : List (Result DelayImport DirectoryRefusal)) →
-        bytes_at image.bytes walk ≡ Ok bytes → Items first_delay_import bytes items →
-        ReturnsDelayLibraries image walk items }
-    ensures libraries_outside { (image : ImageView) (walk : Range) (refusal : Refusal) →
-        bytes_at image.bytes walk ≡ Err refusal → ReturnsItems (StepsDelayLibraries image) walk
-        (Err (refusals.Image refusal) ∷ []) }
+        ReturnsDelayLibraries (map_of_image image sections) b image walk items }
+    ensures libraries { (offset : ℕ → Option ℕ) (b : List ℕ) (image : Image) (walk : Range)
+        (bytes : List ℕ) (items : List (Result DelayImport DirectoryRefusal)) →
+        bytes_at b walk ≡ Ok bytes → Items first_delay_import bytes items →
+        ReturnsDelayLibraries offset b image walk items }
+    ensures libraries_outside { (offset : ℕ → Option ℕ) (b : List ℕ) (image : Image)
+        (walk : Range) (refusal : Refusal) → bytes_at b walk ≡ Err refusal →
+        ReturnsItems (StepsDelayLibraries offset b image) walk (Err (refusals.Image refusal) ∷ []) }
     ensures of_library { (b : List ℕ) (image : Image) (sections : List SectionTable)
         (entry : DelayImport) (walk : DelayedFunctions) (table : List ℕ)
         (items : List (Result ℕ DirectoryRefusal)) → 0 < length b →
         StartsFunctions b image sections entry walk table →
         Items (first_va (image.width == 64)) table items →
-        ReturnsFunctions image (image_parts b image sections) entry walk items }
-    ensures functions { (image : Image) (i : ImageView) (walk : DelayedFunctions) (bytes : List ℕ)
-        (items : List (Result ℕ DirectoryRefusal)) → 0 < walk.left.offset + walk.left.length →
-        bytes_at i.bytes walk.left ≡ Ok bytes → Items (first_va (image.width == 64)) bytes items →
-        ReturnsFunctions image i (entry_with walk.attributes) walk items }
-    ensures functions_outside { (image : Image) (i : ImageView) (walk : DelayedFunctions)
-        (refusal : Refusal) → 0 < walk.left.offset + walk.left.length →
-        bytes_at i.bytes walk.left ≡ Err refusal →
-        ReturnsItems (StepsDelayedFunctions image i) walk (Err (refusals.Image refusal) ∷ []) }
+        ReturnsFunctions (map_of_image image sections) b image entry.attributes walk items }
+    ensures functions { (offset : ℕ → Option ℕ) (b : List ℕ) (image : Image)
+        (walk : DelayedFunctions) (bytes : List ℕ) (items : List (Result ℕ DirectoryRefusal)) →
+        0 < walk.left.offset + walk.left.length →
+        bytes_at b walk.left ≡ Ok bytes → Items (first_va (image.width == 64)) bytes items →
+        ReturnsFunctions offset b image walk.attributes walk items }
+    ensures functions_outside { (offset : ℕ → Option ℕ) (b : List ℕ) (image : Image)
+        (walk : DelayedFunctions) (refusal : Refusal) → 0 < walk.left.offset + walk.left.length →
+        bytes_at b walk.left ≡ Err refusal → ReturnsItems (StepsDelayedFunctions offset b image) walk
+        (Err (refusals.Image refusal) ∷ []) }
 {}
 
 /// A walk over the imports of all libraries returns what the walk over the imports of its library has left, and then, for each
@@ -187,18 +186,18 @@ pub fn walks_give_all_delayed_functions()
         (functions : DelayLibrary → List (Result DelayedFunction DirectoryRefusal)) →
         table_at 13 b image sections ≡ Ok (Some start) →
         library_functions_at b image sections ≡ Ok (Some walk) →
-        ReturnsItems (StepsDelayLibraries (image_parts b image sections)) start libraries →
-        AreFunctionsOf image (image_parts b image sections) functions libraries →
-        ReturnsItems (StepsLibraryFunctions image (image_parts b image sections)) walk
+        ReturnsItems (StepsDelayLibraries (map_of_image image sections) b image) start libraries →
+        AreFunctionsOf (map_of_image image sections) b image functions libraries →
+        ReturnsItems (StepsLibraryFunctions (map_of_image image sections) b image) walk
         (delayed.of_libraries functions 0 libraries) }
-    ensures functions { (image : Image) (i : ImageView) (walk : LibraryFunctions)
-        (own : List (Result DelayedFunction DirectoryRefusal))
+    ensures functions { (offset : ℕ → Option ℕ) (b : List ℕ) (image : Image)
+        (walk : LibraryFunctions) (own : List (Result DelayedFunction DirectoryRefusal))
         (libraries : List (Result DelayLibrary DirectoryRefusal))
         (functions : DelayLibrary → List (Result DelayedFunction DirectoryRefusal)) →
-        ReturnsItems (StepsDelayedFunctions image i) walk.functions own →
-        ReturnsItems (StepsDelayLibraries i) walk.libraries libraries →
-        AreFunctionsOf image i functions libraries →
-        ReturnsItems (StepsLibraryFunctions image i) walk (then_items
+        ReturnsItems (StepsDelayedFunctions offset b image) walk.functions own →
+        ReturnsItems (StepsDelayLibraries offset b image) walk.libraries libraries →
+        AreFunctionsOf offset b image functions libraries →
+        ReturnsItems (StepsLibraryFunctions offset b image) walk (then_items
         (delayed.of_library walk.library_name walk.begun own)
         (delayed.of_libraries functions walk.begun libraries)) }
 {}

@@ -1,9 +1,10 @@
 //! Lists of the DLLs whose imports are delayed, and of what is imported of each.
 
 ghost use Rattle.std.specs.Prelude.{◌≡◌};
-ghost use Rattle.pe_c.specs.Directories.{directory_number, image_parts};
+ghost use Rattle.pe_c.specs.Directories.{directory_number};
 ghost use Rattle.pe_c.specs.DirectoryRuns.{StepsDelayLibraries, StepsDelayedFunctions};
 ghost use Rattle.pe_c.specs.Lists.{HandsOutList, Numbered};
+ghost use Rattle.pe_c.specs.Views.{map_of};
 
 use crate::delay_imports::{
     DelayLibrary, DelayedFunction, DelayedFunctions, next_function, next_library, put_dll_names,
@@ -19,7 +20,7 @@ use crate::view::View;
 
 impl<'a> Steps<Range, DelayLibrary> for NamedView<'a> {
     ghost steps = { λ s. Numbered directory_number (StepsDelayLibraries
-        (image_parts s.view.now.bytes.now s.view.now.image.now s.view.now.sections.now)) };
+        (map_of s.view.now) s.view.now.bytes.now s.view.now.image.now) };
 
     fn step(&self, walk: &mut Range) -> Result<Option<DelayLibrary>, u32> {
         match next_library(self, walk) {
@@ -29,7 +30,7 @@ impl<'a> Steps<Range, DelayLibrary> for NamedView<'a> {
     }
 }
 
-/// Lists the DLLs of a walk, as `pe_c_next_delay_import` returns them, and moves the walk past them. It makes no use of an index.
+/// Lists the DLLs of a walk, as `pe_c_next_delay_import` returns them, and moves the walk past them.
 ///
 /// Errors: `ROOM` where `entries` is empty; those of `pe_c_next_delay_import`.
 #[unsafe(no_mangle)]
@@ -40,7 +41,7 @@ pub extern "C" fn pe_c_list_delay_imports(
     written: &mut u64,
 ) -> u32
     ensures { HandsOutList (Numbered directory_number (StepsDelayLibraries
-        (image_parts view.now.bytes.now view.now.image.now view.now.sections.now)))
+        (map_of view.now) view.now.bytes.now view.now.image.now))
         result walk.old walk.new entries.old entries.new written.old written.new }
 {
     let libraries = NamedView::alone(view);
@@ -61,7 +62,7 @@ pub extern "C" fn pe_c_list_delay_imports_together(
     written: &mut u64,
 ) -> u32
     ensures { HandsOutList (Numbered directory_number (StepsDelayLibraries
-        (image_parts view.now.bytes.now view.now.image.now view.now.sections.now)))
+        (map_of view.now) view.now.bytes.now view.now.image.now))
         result walk.old walk.new entries.old entries.new written.old written.new }
 {
     let room = first_runs(runs, entries.len());
@@ -71,8 +72,8 @@ pub extern "C" fn pe_c_list_delay_imports_together(
 }
 
 impl<'a> Steps<DelayedFunctions, DelayedFunction> for NamedView<'a> {
-    ghost steps = { λ s. Numbered directory_number (StepsDelayedFunctions s.view.now.image.now
-        (image_parts s.view.now.bytes.now s.view.now.image.now s.view.now.sections.now)) };
+    ghost steps = { λ s. Numbered directory_number (StepsDelayedFunctions
+        (map_of s.view.now) s.view.now.bytes.now s.view.now.image.now) };
 
     fn step(&self, walk: &mut DelayedFunctions) -> Result<Option<DelayedFunction>, u32> {
         match next_function(self, walk.attributes, &mut walk.left) {
@@ -82,8 +83,7 @@ impl<'a> Steps<DelayedFunctions, DelayedFunction> for NamedView<'a> {
     }
 }
 
-/// Lists what is imported of a DLL, as `pe_c_next_delayed_function` returns it, and moves the walk past it. It makes no use of an
-/// index.
+/// Lists what is imported of a DLL, as `pe_c_next_delayed_function` returns it, and moves the walk past it.
 ///
 /// Errors: `ROOM` where `entries` is empty; those of `pe_c_next_delayed_function`.
 #[unsafe(no_mangle)]
@@ -93,8 +93,8 @@ pub extern "C" fn pe_c_list_delayed_functions(
     entries: &mut [DelayedFunction],
     written: &mut u64,
 ) -> u32
-    ensures { HandsOutList (Numbered directory_number (StepsDelayedFunctions view.now.image.now
-        (image_parts view.now.bytes.now view.now.image.now view.now.sections.now)))
+    ensures { HandsOutList (Numbered directory_number (StepsDelayedFunctions
+        (map_of view.now) view.now.bytes.now view.now.image.now))
         result walk.old walk.new entries.old entries.new written.old written.new }
 {
     let functions = NamedView::alone(view);
@@ -115,8 +115,8 @@ pub extern "C" fn pe_c_list_delayed_functions_together(
     entries: &mut [DelayedFunction],
     written: &mut u64,
 ) -> u32
-    ensures { HandsOutList (Numbered directory_number (StepsDelayedFunctions view.now.image.now
-        (image_parts view.now.bytes.now view.now.image.now view.now.sections.now)))
+    ensures { HandsOutList (Numbered directory_number (StepsDelayedFunctions
+        (map_of view.now) view.now.bytes.now view.now.image.now))
         result walk.old walk.new entries.old entries.new written.old written.new }
 {
     let room = first_runs(runs, entries.len());

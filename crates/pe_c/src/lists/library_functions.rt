@@ -1,9 +1,10 @@
 //! The list of the functions of all delay-loaded DLLs.
 
 ghost use Rattle.std.specs.Prelude.{◌≡◌};
-ghost use Rattle.pe_c.specs.Directories.{directory_number, image_parts};
+ghost use Rattle.pe_c.specs.Directories.{directory_number};
 ghost use Rattle.pe_c.specs.LibraryFunctions.{StepsLibraryFunctions};
 ghost use Rattle.pe_c.specs.Lists.{HandsOutList, Numbered};
+ghost use Rattle.pe_c.specs.Views.{map_of};
 
 use crate::library_functions::{LibraryFunction, LibraryFunctions, put_names, step};
 use crate::lists::{Steps, hand_out_list};
@@ -13,8 +14,8 @@ use crate::text_runs::Run;
 use crate::view::View;
 
 impl<'a> Steps<LibraryFunctions, LibraryFunction> for NamedView<'a> {
-    ghost steps = { λ s. Numbered directory_number (StepsLibraryFunctions s.view.now.image.now
-        (image_parts s.view.now.bytes.now s.view.now.image.now s.view.now.sections.now)) };
+    ghost steps = { λ s. Numbered directory_number (StepsLibraryFunctions
+        (map_of s.view.now) s.view.now.bytes.now s.view.now.image.now) };
 
     fn step(&self, walk: &mut LibraryFunctions) -> Result<Option<LibraryFunction>, u32> {
         match step(self, walk) {
@@ -28,8 +29,7 @@ impl<'a> Steps<LibraryFunctions, LibraryFunction> for NamedView<'a> {
 /// functions of each, one DLL after the other, and moves the walk past them. DLLs without a function are read too. Names are read
 /// together, those of the DLLs and those of their functions: with one of `runs` for each of `entries` and one for each DLL that
 /// is left, or more, a call takes about as long as to sort these and to read each byte a few times, however many of the names
-/// share a text. With less room further names are read to their end each. What is in `runs` after the call is left open. The
-/// steps make no use of an index.
+/// share a text. With less room further names are read to their end each. What is in `runs` after the call is left open.
 ///
 /// DLLs may share a table, whose functions are listed for each of them: the room in `entries` bounds what a call takes.
 ///
@@ -43,8 +43,8 @@ pub extern "C" fn pe_c_list_all_delayed_functions_together(
     entries: &mut [LibraryFunction],
     written: &mut u64,
 ) -> u32
-    ensures { HandsOutList (Numbered directory_number (StepsLibraryFunctions view.now.image.now
-        (image_parts view.now.bytes.now view.now.image.now view.now.sections.now)))
+    ensures { HandsOutList (Numbered directory_number (StepsLibraryFunctions
+        (map_of view.now) view.now.bytes.now view.now.image.now))
         result walk.old walk.new entries.old entries.new written.old written.new }
 {
     let count = put_names(view, walk, entries.len(), runs);

@@ -1,15 +1,17 @@
 //! Why a DLL that is loaded late is refused, or what is imported of it.
 
-ghost use Rattle.std.specs.Prelude.{◌≡◌, Ok};
-ghost use Rattle.pe_directories.specs.ImageParts.{image_view, size_of_va};
-ghost use Rattle.pe_c.specs.DelayFailures.{address_in, address_numbers, delay_import_numbers, delayed_function_numbers, function_short, hint_at, name_offset, refused_address};
+ghost use Rattle.std.specs.Prelude.{◌≡◌, ◌==◌, Ok};
+ghost use Rattle.pe_directories.specs.ImageParts.{size_of_va};
+ghost use Rattle.pe_c.specs.DelayFailures.{address_numbers, delay_import_numbers, delayed_function_numbers, function_short, hint_at, name_offset, refused_address};
 ghost use Rattle.pe_c.specs.DelayImports.{first_library_in, first_of_walk};
-ghost use Rattle.pe_c.specs.Directories.{image_parts, step_of};
+ghost use Rattle.pe_c.specs.Directories.{step_of};
 ghost use Rattle.pe_c.specs.FailureNumbers.{directory_refused, failure_by, number_there};
 ghost use Rattle.pe_c.specs.HandsOut.{HandsOutIf};
+ghost use Rattle.pe_c.specs.Views.{map_of};
 
-use crate::delay_imports::{DelayedFunctions, entry_with, next_function, next_library};
-use crate::directories::image_bytes;
+use crate::delay_imports::{
+    DelayedFunctions, address_in, address_offset, next_function, next_library,
+};
 use crate::failure::{Failure, hand_out_failure};
 use crate::failure_numbers::{
     DELAY_IMPORT_NAME, ErrorNumbers, SHORT, UNMAPPED, VA_BELOW_BASE, bytes_there,
@@ -20,7 +22,6 @@ use crate::named_view::NamedView;
 use crate::ranges::Range;
 use crate::view::View;
 use pe_core::{lookup_number, lookup_size, require_bytes};
-use pe_directories::ImageBytes;
 
 /// The size of an entry in bytes.
 const SIZE_OF_ENTRY: u64 = 32;
@@ -35,28 +36,23 @@ const TABLE_IN_ENTRY: usize = 16;
 const SIZE_OF_HINT: u64 = 2;
 
 /// The numbers of the failure of an address.
-fn address_numbers(
-    image: &ImageBytes<'_>,
-    attributes: u32,
-    address: u64,
-    number: u32,
-) -> ErrorNumbers
-    ensures { result ≡ address_numbers (image_view image.now) attributes address number }
+fn address_numbers(base: u64, attributes: u32, address: u64, number: u32) -> ErrorNumbers
+    ensures { result ≡ address_numbers base attributes address number }
 {
     match number {
         UNMAPPED if attributes % 2 == 1 => refused_value(address),
-        UNMAPPED => refused_value(address.saturating_sub(image.image_base)),
+        UNMAPPED => refused_value(address.saturating_sub(base)),
         VA_BELOW_BASE => refused_value(address),
         _ => no_numbers(),
     }
 }
 
 /// The file offset of the name of an entry, if its address has one.
-fn name_offset(image: &ImageBytes<'_>, entry: &[u8]) -> Option<usize>
-    ensures { result ≡ name_offset (image_view image.now) entry.now }
+fn name_offset(view: &View, entry: &[u8]) -> Option<usize>
+    ensures { result ≡ name_offset (map_of view.now) view.now.image.now.base entry.now }
 {
-    let with_attributes = entry_with(u32_there(entry, 0));
-    match with_attributes.offset_of(image, u32_there(entry, NAME_IN_ENTRY)) {
+    let address = u64::from(u32_there(entry, NAME_IN_ENTRY));
+    match address_offset(view, u32_there(entry, 0), address) {
         Ok(offset) => Some(offset),
         Err(_) => None,
     }
@@ -74,33 +70,31 @@ fn refused_address(entry: &[u8], name: Option<usize>) -> u32
 
 /// The numbers of the failure of the DLL that a walk is at.
 #[tactic(auto, unfolding(crate::specs::DelayFailures::delay_import_numbers))]
-fn delay_import_numbers(image: &ImageBytes<'_>, walk: &Range, number: u32) -> ErrorNumbers
-    ensures { result ≡ delay_import_numbers (image_view image.now) walk.now number }
+fn delay_import_numbers(view: &View, walk: &Range, number: u32) -> ErrorNumbers
+    ensures { result ≡ delay_import_numbers (map_of view.now) view.now.bytes.now view.now.image.now
+        walk.now number }
 {
-    let entry = bytes_there(image.bytes, walk);
-    let name = name_offset(image, entry);
+    let entry = bytes_there(view.bytes, walk);
+    let name = name_offset(view, entry);
     match number {
-        SHORT => needed_in(image.bytes, walk, walk.offset, SIZE_OF_ENTRY),
+        SHORT => needed_in(view.bytes, walk, walk.offset, SIZE_OF_ENTRY),
         DELAY_IMPORT_NAME => numbers(name.unwrap_or(0) as u64, 0, 0),
         _ => {
-            let address = refused_address(entry, name);
-            address_numbers(image, u32_there(entry, 0), u64::from(address), number)
+            let address = u64::from(refused_address(entry, name));
+            address_numbers(view.image.base, u32_there(entry, 0), address, number)
         }
     }
 }
 
 fn delay_import_failure(view: &View, walk: &Range) -> Option<Failure>
-    ensures { result ≡ failure_by (delay_import_numbers (image_parts view.now.bytes.now
-        view.now.image.now view.now.sections.now) walk.now)
-        (directory_refused (step_of (λ x. x) (first_library_in (image_parts view.now.bytes.now
-        view.now.image.now view.now.sections.now) walk.now))) }
+    ensures { result ≡ failure_by (delay_import_numbers (map_of view.now) view.now.bytes.now
+        view.now.image.now walk.now)
+        (directory_refused (step_of (λ x. x) (first_library_in (map_of view.now)
+        view.now.bytes.now view.now.image.now walk.now))) }
 {
     let mut after = *walk;
     match directory_refused(next_library(&NamedView::alone(view), &mut after)) {
-        Some(number) => {
-            let numbers = delay_import_numbers(&image_bytes(view), walk, number);
-            Some(failure_with(number, numbers))
-        }
+        Some(number) => Some(failure_with(number, delay_import_numbers(view, walk, number))),
         None => None,
     }
 }
@@ -109,9 +103,9 @@ fn delay_import_failure(view: &View, walk: &Range) -> Option<Failure>
 #[unsafe(no_mangle)]
 pub extern "C" fn pe_c_delay_import_failure(view: &View, walk: &Range, out: &mut Failure) -> u32
     ensures { HandsOutIf result out.old out.new (Ok (failure_by (delay_import_numbers
-        (image_parts view.now.bytes.now view.now.image.now view.now.sections.now) walk.now)
-        (directory_refused (step_of (λ x. x) (first_library_in (image_parts view.now.bytes.now
-        view.now.image.now view.now.sections.now) walk.now))))) }
+        (map_of view.now) view.now.bytes.now view.now.image.now walk.now)
+        (directory_refused (step_of (λ x. x) (first_library_in (map_of view.now)
+        view.now.bytes.now view.now.image.now walk.now))))) }
 {
     hand_out_failure(delay_import_failure(view, walk), out)
 }
@@ -126,72 +120,57 @@ fn lookup_there(table: &[u8], is_64: bool) -> u64
     }
 }
 
-/// The address in a number of such a table.
-fn address_in(is_64: bool, attributes: u32, lookup: u64) -> u64
-    ensures { result ≡ address_in is_64 attributes lookup }
-{
-    if is_64 && attributes % 2 == 0 {
-        lookup % 0x8000_0000_0000_0000
-    } else {
-        lookup % 0x8000_0000
-    }
-}
-
 /// The file offset of the hint to which such a number leads, 0 where it has none.
-fn hint_at(image: &ImageBytes<'_>, attributes: u32, lookup: u64) -> u64
-    ensures { result ≡ hint_at (image_view image.now) attributes lookup }
+fn hint_at(view: &View, attributes: u32, lookup: u64) -> u64
+    ensures { result ≡ hint_at (map_of view.now) view.now.image.now attributes lookup }
 {
-    match entry_with(attributes).offset_of_hint(image, lookup) {
+    let address = address_in(view.image.width == 64, attributes, lookup);
+    match address_offset(view, attributes, address) {
         Ok(offset) => offset as u64,
         Err(_) => 0,
     }
 }
 
 /// The bytes that are needed of what a walk is at: those of the number, or those of the hint at an offset.
-fn function_short(image: &ImageBytes<'_>, left: &Range, hint: u64) -> ErrorNumbers
-    ensures { result ≡ function_short (image_view image.now) left.now hint }
+fn function_short(bytes: &[u8], is_64: bool, left: &Range, hint: u64) -> ErrorNumbers
+    ensures { result ≡ function_short bytes.now is_64 left.now hint }
 {
-    let width = lookup_size(image.is_64);
-    match require_bytes(bytes_there(image.bytes, left), 0, width) {
+    let width = lookup_size(is_64);
+    match require_bytes(bytes_there(bytes, left), 0, width) {
         Ok(()) => needed_at(hint, SIZE_OF_HINT),
-        Err(_) => needed_in(image.bytes, left, left.offset, width as u64),
+        Err(_) => needed_in(bytes, left, left.offset, width as u64),
     }
 }
 
 /// The numbers of the failure of what a walk is at.
 #[tactic(auto, unfolding(crate::specs::DelayFailures::delayed_function_numbers))]
-fn delayed_function_numbers(
-    image: &ImageBytes<'_>,
-    walk: &DelayedFunctions,
-    number: u32,
-) -> ErrorNumbers
-    ensures { result ≡ delayed_function_numbers (image_view image.now) walk.now number }
+fn delayed_function_numbers(view: &View, walk: &DelayedFunctions, number: u32) -> ErrorNumbers
+    ensures { result ≡ delayed_function_numbers (map_of view.now) view.now.bytes.now
+        view.now.image.now walk.now number }
 {
-    let lookup = lookup_there(bytes_there(image.bytes, &walk.left), image.is_64);
-    let hint = hint_at(image, walk.attributes, lookup);
+    let is_64 = view.image.width == 64;
+    let lookup = lookup_there(bytes_there(view.bytes, &walk.left), is_64);
+    let hint = hint_at(view, walk.attributes, lookup);
     match number {
-        SHORT => function_short(image, &walk.left, hint),
+        SHORT => function_short(view.bytes, is_64, &walk.left, hint),
         DELAY_IMPORT_NAME => numbers(hint.saturating_add(SIZE_OF_HINT), 0, 0),
         _ => {
-            let address = address_in(image.is_64, walk.attributes, lookup);
-            address_numbers(image, walk.attributes, address, number)
+            let address = address_in(is_64, walk.attributes, lookup);
+            address_numbers(view.image.base, walk.attributes, address, number)
         }
     }
 }
 
 fn delayed_function_failure(view: &View, walk: &DelayedFunctions) -> Option<Failure>
-    ensures { result ≡ failure_by (delayed_function_numbers (image_parts view.now.bytes.now
-        view.now.image.now view.now.sections.now) walk.now)
-        (directory_refused (step_of (λ x. x) (first_of_walk view.now.image.now (image_parts
-        view.now.bytes.now view.now.image.now view.now.sections.now) walk.now))) }
+    ensures { result ≡ failure_by (delayed_function_numbers (map_of view.now) view.now.bytes.now
+        view.now.image.now walk.now)
+        (directory_refused (step_of (λ x. x) (first_of_walk (map_of view.now) view.now.bytes.now
+        view.now.image.now walk.now))) }
 {
     let mut left = walk.left;
     let found = next_function(&NamedView::alone(view), walk.attributes, &mut left);
     match directory_refused(found) {
-        Some(number) => {
-            let numbers = delayed_function_numbers(&image_bytes(view), walk, number);
-            Some(failure_with(number, numbers))
-        }
+        Some(number) => Some(failure_with(number, delayed_function_numbers(view, walk, number))),
         None => None,
     }
 }
@@ -204,9 +183,9 @@ pub extern "C" fn pe_c_delayed_function_failure(
     out: &mut Failure,
 ) -> u32
     ensures { HandsOutIf result out.old out.new (Ok (failure_by (delayed_function_numbers
-        (image_parts view.now.bytes.now view.now.image.now view.now.sections.now) walk.now)
-        (directory_refused (step_of (λ x. x) (first_of_walk view.now.image.now (image_parts
-        view.now.bytes.now view.now.image.now view.now.sections.now) walk.now))))) }
+        (map_of view.now) view.now.bytes.now view.now.image.now walk.now)
+        (directory_refused (step_of (λ x. x) (first_of_walk (map_of view.now) view.now.bytes.now
+        view.now.image.now walk.now))))) }
 {
     hand_out_failure(delayed_function_failure(view, walk), out)
 }

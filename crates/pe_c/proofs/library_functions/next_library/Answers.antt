@@ -1,5 +1,5 @@
 use Rattle.std.proofs.Common.{◌≡◌, ◌<◌, Result, Option, Ok, sym, ap, subst, ◌∙◌}
-use Rattle.pe_c.specs.Directories.{image_parts}
+use Rattle.pe_c.specs.Views.{map_of}
 use Rattle.pe_c.specs.declared.delay_imports.DelayLibrary.{DelayLibrary}
 use Rattle.pe_c.specs.declared.library_functions.LibraryFunctions.{LibraryFunctions}
 use Rattle.pe_c.specs.declared.ranges.Range.{Range}
@@ -9,7 +9,6 @@ use Rattle.pe_c.proofs.library_functions.next_library.Goals as goal
 pub returns-in-Ok-Some-clause-onward : goal.returns-in-Ok-Some-clause-onward
 returns-in-Ok-Some-clause-onward c =
     let view = c.args.names.now.view.now in
-    let i = image_parts view.bytes.now view.image.now view.sections.now in
     let given = sym c.in-Ok-Some.ensures.library ∙ ap (λ (o : Option DelayLibrary). Ok o) c.in-Ok-Some.field-0-is in
     subst (λ (w : LibraryFunctions). w.libraries.length < c.args.walk.libraries.length) (sym c.at_library.ensures)
-    (subst (λ (r : Range). r.length < c.args.walk.libraries.length) (sym c.in-Ok-Some.ensures.walk) (shorter i c.args.walk.libraries c.in-Ok-Some.library given))
+    (subst (λ (r : Range). r.length < c.args.walk.libraries.length) (sym c.in-Ok-Some.ensures.walk) (shorter (map_of view) view.bytes.now view.image.now c.args.walk.libraries c.in-Ok-Some.library given))

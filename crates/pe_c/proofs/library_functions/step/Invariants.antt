@@ -1,7 +1,7 @@
 use Rattle.std.proofs.Common.{Option, Result}
 use Rattle.pe_directories.specs.DirectoryRefusals.{DirectoryRefusal}
-use Rattle.pe_c.specs.Directories.{image_parts}
 use Rattle.pe_c.specs.LibraryFunctions.{StepsLibraryFunctions}
+use Rattle.pe_c.specs.Views.{map_of}
 use Rattle.pe_c.specs.declared.library_functions.LibraryFunction.{LibraryFunction}
 use Rattle.pe_c.specs.declared.library_functions.LibraryFunctions.{LibraryFunctions}
 use Rattle.pe_c.proofs.library_functions.step.Given as goal
@@ -9,8 +9,8 @@ use Rattle.pe_c.proofs.library_functions.step.Given as goal
 -- a step from here is one from the start
 abbrev pub invariant-loop-given : goal.invariant-loop-given
 invariant-loop-given l = (answer : Result (Option LibraryFunction) DirectoryRefusal) (v : LibraryFunctions) →
-    StepsLibraryFunctions l.names.view.now.image.now (image_parts l.names.view.now.bytes.now l.names.view.now.image.now l.names.view.now.sections.now) l.walk answer v →
-    StepsLibraryFunctions l.names.view.now.image.now (image_parts l.names.view.now.bytes.now l.names.view.now.image.now l.names.view.now.sections.now) l.initial.walk answer v
+    StepsLibraryFunctions (map_of l.names.view.now) l.names.view.now.bytes.now l.names.view.now.image.now l.walk answer v →
+    StepsLibraryFunctions (map_of l.names.view.now) l.names.view.now.bytes.now l.names.view.now.image.now l.initial.walk answer v
 
 -- each DLL takes bytes of the directory
 abbrev pub decreases-loop-given : goal.decreases-loop-given

@@ -44,13 +44,13 @@ pub returns-clause-relocations : goal.returns-clause-relocations
 returns-clause-relocations c page b = give_lists directory_number (StepsRelocations page b)
 
 pub returns-clause-delay_imports : goal.returns-clause-delay_imports
-returns-clause-delay_imports c i = give_lists directory_number (StepsDelayLibraries i)
+returns-clause-delay_imports c offset b image = give_lists directory_number (StepsDelayLibraries offset b image)
 
 pub returns-clause-delayed_functions : goal.returns-clause-delayed_functions
-returns-clause-delayed_functions c image i = give_lists directory_number (StepsDelayedFunctions image i)
+returns-clause-delayed_functions c offset b image = give_lists directory_number (StepsDelayedFunctions offset b image)
 
 pub returns-clause-library_functions : goal.returns-clause-library_functions
-returns-clause-library_functions c image i = give_lists directory_number (StepsLibraryFunctions image i)
+returns-clause-library_functions c offset b image = give_lists directory_number (StepsLibraryFunctions offset b image)
 
 pub returns-clause-pogo_entries : goal.returns-clause-pogo_entries
 returns-clause-pogo_entries c b = give_lists result_number (StepsPogoEntries b)
