@@ -5,7 +5,6 @@ pub mod CertificateRuns
 pub mod CodeRuns
 pub mod DigestParts
 pub mod DirectoryFailures
-pub mod OldNumbers
 pub mod DirectoryParts
 pub mod DirectoryRuns
 pub mod DelayAddresses

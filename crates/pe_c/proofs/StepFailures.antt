@@ -2,8 +2,6 @@
 use Rattle.std.proofs.Common.{◌≡◌, ℕ, ◌<◌, List, [], ◌∷◌, length, map, Option, Some, None, Result, Ok, Err, refl, sym, ap, subst, ◌∙◌, arith}
 use Rattle.pe_core.specs.Refusals.{Refusal, answer_of, kind_of}
 use Rattle.pe_core.specs.declared.error.Error.{Error}
-use Rattle.pe_directories.specs.DirectoryRefusals.{DirectoryRefusal, Image}
-use Rattle.pe_resource.specs.Leaves.{TreeRefusal}
 use Rattle.pe_unwind.proofs.Streams.{one_reading}
 use Rattle.pe_unwind.specs.CodeStream.{CodeStream, ReturnsCode}
 use Rattle.pe_unwind.specs.Links.{Table}
@@ -11,22 +9,15 @@ use Rattle.pe_unwind.specs.declared.unwind_code.UnwindCode.{UnwindCode}
 use Rattle.pe_c.proofs.DirectoryFailures.{agree}
 use Rattle.pe_c.proofs.PlanEnds.{one_record}
 use Rattle.pe_c.specs.Arm64.{AnswersArm64Code, StepsArm64Codes, StepsOverArm64, WalksInArm64, left_of_stream}
-use Rattle.pe_c.specs.DirectoryFailures.{Agrees}
-use Rattle.pe_c.specs.OldNumbers.{refused, tree_refused}
-use Rattle.pe_c.specs.HandsOut.{HandsOut}
+use Rattle.pe_c.specs.FailureNumbers.{Agrees, refused}
+use Rattle.pe_c.specs.HandsOut.{HandsOut, result_number}
 use Rattle.pe_c.specs.Ranges.{bytes_at}
-use Rattle.pe_c.specs.StepFailures.{TreesAgree}
 use Rattle.pe_c.specs.Unwinding.{FollowsToRecord, HandsOutCode, HandsOutRecord, StepsCodes, WalksIn, code_stream_at, flat_answer, left_of}
 use Rattle.pe_c.specs.declared.arm64.codes.Arm64Code.{Arm64Code}
 use Rattle.pe_c.specs.declared.arm64.codes.Arm64CodeWalk.{Arm64CodeWalk}
 use Rattle.pe_c.specs.declared.unwinding.Code.{Code}
 use Rattle.pe_c.specs.declared.unwinding.CodeWalk.{CodeWalk}
 use Rattle.pe_c.specs.declared.unwinding.UnwindRecord.{UnwindRecord}
-
-pub trees_agree : {X : Type 0} (answer : Result (Option X) TreeRefusal) → TreesAgree answer (tree_refused answer)
-trees_agree (Ok (Some x)) number old new h = rw h.0 refl
-trees_agree (Ok None) number old new h = rw h.0 refl
-trees_agree (Err refusal) number old new h = h.0
 
 -- ---- unwind records
 
@@ -58,7 +49,7 @@ one_of_stream s t u (Some (Ok c)) (Some (Ok d)) g h = refl
 one_of_stream s t u (Some (Ok c)) (Some (Err f)) g h = absurd (h.1 c g.0 g.1)
 one_of_stream s t u (Some (Err e)) None g h = absurd (empty_or_some s.content h.0 g.0)
 one_of_stream s t u (Some (Err e)) (Some (Ok d)) g h = absurd (g.1 d h.0 h.1)
-one_of_stream s t u (Some (Err e)) (Some (Err f)) g h = ap (λ (r : Refusal). Some (Image r)) (one_kind s t u e f g h)
+one_of_stream s t u (Some (Err e)) (Some (Err f)) g h = ap (λ (r : Refusal). Some (result_number r)) (one_kind s t u e f g h)
 
 one_step : (r : Result (List ℕ) Refusal) (w u v : CodeWalk) (x y : Option (Result UnwindCode Error)) → WalksIn r w x u → WalksIn r w y v → refused (flat_answer x) ≡ refused (flat_answer y)
 one_step (Ok bytes) w u v x y g h =
@@ -67,13 +58,13 @@ one_step (Err r) w u v None y g h = absurd g
 one_step (Err r) w u v (Some (Ok c)) y g h = absurd g
 one_step (Err r) w u v (Some (Err e)) None g h = absurd h
 one_step (Err r) w u v (Some (Err e)) (Some (Ok d)) g h = absurd h
-one_step (Err r) w u v (Some (Err e)) (Some (Err f)) g h = ap (λ (k : Refusal). Some (Image k)) (g.0 ∙ sym h.0)
+one_step (Err r) w u v (Some (Err e)) (Some (Err f)) g h = ap (λ (k : Refusal). Some (result_number k)) (g.0 ∙ sym h.0)
 
 pub codes_agree : (b : List ℕ) (w after : CodeWalk) (answer : Result (Option Code) Refusal) → StepsCodes b w answer after → (v : CodeWalk) (number : ℕ) (old new : Code) → HandsOutCode b w v number old new →
     Agrees number (refused answer)
 codes_agree b w after answer s v number old new h =
     let same : refused (flat_answer h.0) ≡ refused (flat_answer s.0) = one_step (bytes_at b w.left) w v after h.0 s.0 h.1 s.1 in
-    subst (λ (r : Option DirectoryRefusal). Agrees number r) (same ∙ ap (λ (a : Result (Option Code) Refusal). refused a) (sym s.2)) (agree (flat_answer h.0) number old new h.2)
+    subst (λ (r : Option ℕ). Agrees number r) (same ∙ ap (λ (a : Result (Option Code) Refusal). refused a) (sym s.2)) (agree (flat_answer h.0) number old new h.2)
 
 -- ---- codes of ARM64
 
@@ -86,7 +77,7 @@ one_of_arm64_stream bytes w u v (Ok (Some c)) (Ok (Some d)) g h = refl
 one_of_arm64_stream bytes w u v (Ok (Some c)) (Err s) g h = absurd (h.2 g.0 g.1)
 one_of_arm64_stream bytes w u v (Err r) (Ok None) g h = absurd (empty_or_some bytes h.0 g.1)
 one_of_arm64_stream bytes w u v (Err r) (Ok (Some d)) g h = absurd (g.2 h.0 h.1)
-one_of_arm64_stream bytes w u v (Err r) (Err s) g h = ap (λ (k : Refusal). Some (Image k)) (g.0 ∙ sym h.0)
+one_of_arm64_stream bytes w u v (Err r) (Err s) g h = ap (λ (k : Refusal). Some (result_number k)) (g.0 ∙ sym h.0)
 
 one_arm64_step : (r : Result (List ℕ) Refusal) (w u v : Arm64CodeWalk) (x y : Result (Option Arm64Code) Refusal) → WalksInArm64 r w x u → WalksInArm64 r w y v → refused x ≡ refused y
 one_arm64_step (Ok bytes) w u v x y g h = one_of_arm64_stream bytes w u v x y g h
@@ -96,4 +87,4 @@ pub arm64_codes_agree : (b : List ℕ) (w after : Arm64CodeWalk) (answer : Resul
     Agrees number (refused answer)
 arm64_codes_agree b w after answer s v number old new h =
     let same : refused h.0 ≡ refused answer = one_arm64_step (left_of_stream b w) w v after h.0 answer h.1 s in
-    subst (λ (r : Option DirectoryRefusal). Agrees number r) same (agree h.0 number old new h.2)
+    subst (λ (r : Option ℕ). Agrees number r) same (agree h.0 number old new h.2)

@@ -1,32 +1,28 @@
 -- Why the directories of an image are refused: by the refusal of the call that reads a directory, with the numbers by its bytes.
-use Rattle.std.specs.Prelude.{◌≡◌, ℕ, ◌+◌, ◌*◌, ◌-◌, ◌^◌, ◌==◌, ◌||◌, min, Bool, true, false, List, Option, Some, None, Result, if◌then◌else◌}
+use Rattle.std.specs.Prelude.{◌≡◌, ℕ, ◌+◌, ◌*◌, ◌-◌, ◌^◌, ◌==◌, ◌||◌, min, Bool, false, List, Option, Some, None, if◌then◌else◌}
 use Rattle.pe_core.specs.Bytes.{holds, le}
 use Rattle.pe_core.specs.Records.{export_directory}
-use Rattle.pe_core.specs.Refusals.{Refusal, Short, ImportName, CertificateRevision, CertificateType, CertificateSize, CertificateTable, Unmapped, DebugBounds, ExceptionSize, ExceptionOffset, ExceptionBounds, ResourceBounds}
+use Rattle.pe_core.specs.Refusals.{Short, Unmapped, DebugBounds, ExceptionSize, ExceptionOffset, ExceptionBounds, ResourceBounds}
 use Rattle.pe_core.specs.declared.export.ExportDirectoryTable.{ExportDirectoryTable}
 use Rattle.pe_core.specs.declared.section_table.SectionTable.{SectionTable}
-use Rattle.pe_directories.specs.DirectoryRefusals.{DirectoryRefusal, ClrHeaderSize}
+use Rattle.pe_directories.specs.DirectoryRefusals.{ClrHeaderSize}
 use Rattle.pe_c.specs.BoundImports.{bound_imports_at}
 use Rattle.pe_c.specs.Certificates.{certificate_step}
 use Rattle.pe_c.specs.Clr.{clr_header_at}
 use Rattle.pe_c.specs.Debug.{debug_entries_range}
-use Rattle.pe_c.specs.Directories.{DirectoryHandsOut, directory_number, table_at, tls_at}
+use Rattle.pe_c.specs.Directories.{directory_number, table_at, tls_at}
 use Rattle.pe_c.specs.Exports.{or_zero, tables_at}
 use Rattle.pe_c.specs.FailureNumbers.{directory_refused, needed_at, no_numbers, number_there, numbers, refused, refused_value}
-use Rattle.pe_c.specs.OldNumbers.{IsFailureOf}
-use Rattle.pe_c.specs.HandsOut.{HandsOutIf, result_number}
+use Rattle.pe_c.specs.HandsOut.{result_number}
 use Rattle.pe_c.specs.ImageParts.{function_table}
 use Rattle.pe_c.specs.Images.{directory, map_of_image}
 use Rattle.pe_c.specs.Imports.{libraries_at}
 use Rattle.pe_c.specs.LoadConfigs.{load_config_at}
 use Rattle.pe_c.specs.ResourceLeaves.{leaves_start}
-use Rattle.pe_c.specs.declared.directory_failure.KnownNumbers.{KnownNumbers}
 use Rattle.pe_c.specs.declared.directory_failure.NeededPart.{NeededPart}
-use Rattle.pe_c.specs.declared.failure.Failure.{Failure}
 use Rattle.pe_c.specs.declared.failure_numbers.ErrorNumbers.{ErrorNumbers}
 use Rattle.pe_c.specs.declared.image.Image.{Image}
 use Rattle.pe_c.specs.declared.ranges.Range.{Range}
-use Rattle.pe_c.specs.declared.results.TheConstants.{DONE, NOTHING}
 
 -- the certificate table, as a walk at its start
 abbrev pub certificate_table : Image → Range
@@ -50,28 +46,11 @@ directory_refusal i b image sections =
     else if i == 14 then directory_refused (clr_header_at b image sections)
     else None
 
--- ---- certificates
-
--- the first numbers at an offset, of 4, 2 and 2 bytes: of a certificate its length, revision and type
-abbrev pub numbers_there : List ℕ → ℕ → ℕ × ℕ × ℕ
-numbers_there b p = if holds b p 8 then (le b p 4, le b (p + 4) 2, le b (p + 6) 2) else (0, 0, 0)
+-- ---- what a directory needs
 
 -- where n bytes at an offset end, or the largest number that a failure has
 abbrev pub end_of : ℕ → ℕ → ℕ
 end_of p n = min (p + n) (2 ^ 64 - 1)
-
--- the numbers of the failure of the certificate that a walk is at: its header has 8 bytes
-unfoldable pub certificate_numbers : List ℕ → Range → ℕ → ErrorNumbers
-certificate_numbers b walk n =
-    let head = numbers_there b walk.offset in
-    if n == result_number Short then needed_at walk.offset 8
-    else if n == result_number CertificateTable then numbers (end_of walk.offset walk.length) 0 0
-    else if n == result_number CertificateSize then numbers 0 head.0 0
-    else if n == result_number CertificateRevision then refused_value head.1
-    else if n == result_number CertificateType then refused_value head.2
-    else no_numbers
-
--- ---- what a directory needs
 
 abbrev pub part : ℕ → ℕ → NeededPart
 part rva size = record { rva = rva; size = size }
@@ -136,76 +115,3 @@ directory_numbers i b image sections n =
     else if n == result_number ResourceBounds then numbers (resource_end b p d.size) 0 0
     else if n == directory_number ClrHeaderSize then refused_value (number_there b p 4)
     else no_numbers
-
--- ---- what is known of the numbers of an error
-
-abbrev pub with_numbers : Failure → ℕ → ℕ → ℕ → Failure
-with_numbers f offset needed value = record { offset = offset; needed = needed; value = value; result = f.result; spare = f.spare }
-
-abbrev pub short_at : KnownNumbers → Option ℕ → Failure → Failure
-short_at known None f = f
-short_at known (Some needed) f = with_numbers f known.offset needed 0
-
--- a failure with the numbers that are known of such an error; any other has its own
-unfoldable pub failure_at : KnownNumbers → Failure → Failure
-failure_at known f =
-    if f.result == result_number Short then short_at known known.needed f
-    else if f.result == result_number Unmapped || f.result == result_number ImportName then with_numbers f 0 0 known.rva
-    else if f.result == result_number ExceptionSize then with_numbers f 0 0 known.size
-    else if f.result == result_number ExceptionOffset then with_numbers f known.offset 0 0
-    else if f.result == result_number CertificateTable || f.result == result_number DebugBounds || f.result == result_number ExceptionBounds
-    then with_numbers f (min (known.offset + known.size) (2 ^ 64 - 1)) 0 0
-    else if f.result == result_number CertificateSize then with_numbers f 0 known.head.0 0
-    else if f.result == result_number CertificateRevision then with_numbers f 0 0 known.head.1
-    else if f.result == result_number CertificateType then with_numbers f 0 0 known.head.2
-    else if f.result == directory_number ClrHeaderSize then with_numbers f 0 0 known.head.0
-    else f
-
-abbrev pub with_known : Option KnownNumbers → Failure → Failure
-with_known None f = f
-with_known (Some known) f = failure_at known f
-
--- the failure of an error of this kind, with the numbers that are known
-pub record IsFailureAt (known : Option KnownNumbers) (refusal : DirectoryRefusal) (f : Failure) : Type 0 where
-  pub own : Failure
-  pub of_kind : IsFailureOf refusal own
-  pub failure : f ≡ with_known known own
-
-abbrev pub IsWhyAt : Option KnownNumbers → Option Failure → Option DirectoryRefusal → Type 0
-IsWhyAt known None None = Unit {0}
-IsWhyAt known None (Some refusal) = ⊥
-IsWhyAt known (Some f) None = ⊥
-IsWhyAt known (Some f) (Some refusal) = IsFailureAt known refusal f
-
--- DONE and that failure, or NOTHING where there is none: then `out` is unchanged
-abbrev pub SaysWhyAt : Option KnownNumbers → ℕ → Failure → Failure → Option DirectoryRefusal → Type 0
-SaysWhyAt known number old new None = (number ≡ NOTHING) × (new ≡ old)
-SaysWhyAt known number old new (Some refusal) = (number ≡ DONE) × IsFailureAt known refusal new
-
--- ---- what a failure says of a call
-
--- a call returned this number, and what refuses it has this one: the call is done or returns nothing exactly where nothing does
-abbrev pub IsNumberOf : ℕ → Option ℕ → Type 0
-IsNumberOf number None = (number == DONE || number == NOTHING) ≡ true
-IsNumberOf number (Some refused) = number ≡ refused
-
--- so does each call that hands out what is defined
-abbrev pub CallsReturn : {X : Type 0} → Result (Option X) Refusal → Option ℕ → Type 0
-CallsReturn {X} answer refused = (number : ℕ) (old new : X) → HandsOutIf number old new answer → IsNumberOf number refused
-
--- the same of a directory that pe_directories reads
-abbrev pub DirectoryCallsReturn : {X : Type 0} → Result (Option X) DirectoryRefusal → Option ℕ → Type 0
-DirectoryCallsReturn {X} answer refused = (number : ℕ) (old new : X) → DirectoryHandsOut number old new answer → IsNumberOf number refused
-
--- a call returned this number, and what refuses it is this: the call is done or returns nothing exactly where nothing does
-abbrev pub Agrees : ℕ → Option DirectoryRefusal → Type 0
-Agrees number None = (number == DONE || number == NOTHING) ≡ true
-Agrees number (Some refusal) = number ≡ directory_number refusal
-
--- so does each call that hands out what is defined
-abbrev pub AllAgree : {X : Type 0} → Result (Option X) Refusal → Option DirectoryRefusal → Type 0
-AllAgree {X} answer refusal = (number : ℕ) (old new : X) → HandsOutIf number old new answer → Agrees number refusal
-
--- the same of a directory that pe_directories reads
-abbrev pub DirectoriesAgree : {X : Type 0} → Result (Option X) DirectoryRefusal → Option DirectoryRefusal → Type 0
-DirectoriesAgree {X} answer refusal = (number : ℕ) (old new : X) → DirectoryHandsOut number old new answer → Agrees number refusal

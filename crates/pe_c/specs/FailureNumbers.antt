@@ -1,18 +1,19 @@
 -- What refuses a call as a number, and the numbers of that failure. An offset, a start or an end is the offset of the failure, bytes
 -- that are needed are its needed bytes, and any other number is its value; of a relocation's kind the RVA is the offset. A kind of
 -- failure that has none here is all zeros.
-use Rattle.std.specs.Prelude.{ℕ, ◌+◌, List, [], Option, Some, None, Result, Ok, Err, if◌then◌else◌}
+use Rattle.std.specs.Prelude.{◌≡◌, ℕ, ◌==◌, ◌||◌, List, [], true, Option, Some, None, Result, Ok, Err, if◌then◌else◌}
 use Rattle.pe_core.specs.Bytes.{holds, le}
 use Rattle.pe_core.specs.Refusals.{Refusal}
 use Rattle.pe_directories.specs.DirectoryRefusals.{DirectoryRefusal}
 use Rattle.pe_resource.specs.Leaves.{TreeRefusal}
-use Rattle.pe_c.specs.Directories.{directory_number}
-use Rattle.pe_c.specs.HandsOut.{result_number}
+use Rattle.pe_c.specs.Directories.{DirectoryHandsOut, directory_number}
+use Rattle.pe_c.specs.HandsOut.{HandsOutIf, result_number}
 use Rattle.pe_c.specs.Ranges.{bytes_at}
-use Rattle.pe_c.specs.ResourceLeaves.{tree_number}
+use Rattle.pe_c.specs.ResourceLeaves.{TreeHandsOut, tree_number}
 use Rattle.pe_c.specs.declared.failure.Failure.{Failure}
 use Rattle.pe_c.specs.declared.failure_numbers.ErrorNumbers.{ErrorNumbers}
 use Rattle.pe_c.specs.declared.ranges.Range.{Range}
+use Rattle.pe_c.specs.declared.results.TheConstants.{DONE, NOTHING}
 
 -- ---- the numbers of a failure
 
@@ -69,3 +70,22 @@ failure_with number n = record { offset = n.offset; needed = n.needed; value = n
 abbrev pub failure_by : (ℕ → ErrorNumbers) → Option ℕ → Option Failure
 failure_by numbers_of None = None
 failure_by numbers_of (Some number) = Some (failure_with number (numbers_of number))
+
+-- ---- what a failure says of a call
+
+-- a call returned this number, and what refuses it has that one: the call is done or returns nothing exactly where nothing refuses it
+abbrev pub Agrees : ℕ → Option ℕ → Type 0
+Agrees number None = (number == DONE || number == NOTHING) ≡ true
+Agrees number (Some refusal) = number ≡ refusal
+
+-- so does each call that hands out what is defined
+abbrev pub AllAgree : {X : Type 0} → Result (Option X) Refusal → Option ℕ → Type 0
+AllAgree {X} answer refusal = (number : ℕ) (old new : X) → HandsOutIf number old new answer → Agrees number refusal
+
+-- the same of a directory that pe_directories reads
+abbrev pub DirectoriesAgree : {X : Type 0} → Result (Option X) DirectoryRefusal → Option ℕ → Type 0
+DirectoriesAgree {X} answer refusal = (number : ℕ) (old new : X) → DirectoryHandsOut number old new answer → Agrees number refusal
+
+-- the same of a resource tree
+abbrev pub TreesAgree : {X : Type 0} → Result (Option X) TreeRefusal → Option ℕ → Type 0
+TreesAgree {X} answer refusal = (number : ℕ) (old new : X) → TreeHandsOut number old new answer → Agrees number refusal

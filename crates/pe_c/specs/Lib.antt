@@ -50,7 +50,6 @@ pub mod Maps
 pub mod Coff
 pub mod Te
 pub mod Failures
-pub mod OldNumbers
 pub mod FailureNumbers
 pub mod DirectoryFailures
 pub mod DebugFailures

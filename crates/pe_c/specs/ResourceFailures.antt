@@ -12,7 +12,6 @@ use Rattle.pe_resource.specs.declared.leaf_position.LeafPosition.{LeafPosition}
 use Rattle.pe_c.specs.FailureNumbers.{bytes_there, needed_at, no_numbers, numbers}
 use Rattle.pe_c.specs.ResourceLeaves.{position_of}
 use Rattle.pe_c.specs.declared.failure_numbers.ErrorNumbers.{ErrorNumbers}
-use Rattle.pe_c.specs.declared.ranges.Range.{Range}
 use Rattle.pe_c.specs.declared.resource_leaves.ResourceLeaves.{ResourceLeaves}
 
 -- n bytes are needed at offset p of data that start at this offset of the file

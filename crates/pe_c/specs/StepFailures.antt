@@ -1,31 +1,19 @@
 -- Why a step of a walk is refused, or an item that is read by its key: by the refusal of the call that reads it.
-use Rattle.std.specs.Prelude.{◌≡◌, ℕ, ◌+◌, ◌-◌, ◌*◌, ◌/◌, ◌%◌, ◌^◌, ◌==◌, ◌||◌, min, nat_lt, List, length, true, Option, Some, None, Result, if◌then◌else◌}
+use Rattle.std.specs.Prelude.{◌≡◌, ℕ, ◌+◌, ◌-◌, ◌*◌, ◌/◌, ◌%◌, ◌^◌, ◌==◌, ◌||◌, min, nat_lt, List, length, Option, if◌then◌else◌}
 use Rattle.pe_core.specs.Bytes.{holds}
 use Rattle.pe_core.specs.Imports.{lookups_rva}
 use Rattle.pe_core.specs.Records.{import_entry}
-use Rattle.pe_core.specs.Refusals.{Refusal, Short, ImportName, CertificateRevision, CertificateType, CertificateSize, CertificateTable, Unmapped}
+use Rattle.pe_core.specs.Refusals.{Short, ImportName, CertificateRevision, CertificateType, CertificateSize, CertificateTable, Unmapped}
 use Rattle.pe_directories.specs.DirectoryRefusals.{BlockSize, BlockTruncated, NoArgument}
-use Rattle.pe_resource.specs.Leaves.{TreeRefusal}
-use Rattle.pe_unwind.specs.Links.{Table}
-use Rattle.pe_c.specs.Arm64.{StepsArm64Codes}
 use Rattle.pe_c.specs.Directories.{directory_number}
 use Rattle.pe_c.specs.Exports.{or_zero}
 use Rattle.pe_c.specs.FailureNumbers.{bytes_there, needed_at, needed_in, no_numbers, number_there, numbers, refused_value}
 use Rattle.pe_c.specs.HandsOut.{result_number}
-use Rattle.pe_c.specs.OldNumbers.{IsWhy, SaysWhy, refused}
-use Rattle.pe_c.specs.ResourceLeaves.{TreeHandsOut, tree_number}
-use Rattle.pe_c.specs.Unwinding.{FollowsToRecord, StepsCodes}
-use Rattle.pe_c.specs.declared.arm64.codes.Arm64Code.{Arm64Code}
-use Rattle.pe_c.specs.declared.arm64.codes.Arm64CodeWalk.{Arm64CodeWalk}
-use Rattle.pe_c.specs.declared.failure.Failure.{Failure}
+use Rattle.pe_c.specs.OldNumbers.{refused}
 use Rattle.pe_c.specs.declared.failure_numbers.ErrorNumbers.{ErrorNumbers}
 use Rattle.pe_c.specs.declared.imports.Imports.{Imports}
 use Rattle.pe_c.specs.declared.imports.Libraries.{Libraries}
 use Rattle.pe_c.specs.declared.ranges.Range.{Range}
-use Rattle.pe_c.specs.declared.results.TheConstants.{DONE, NOTHING}
-use Rattle.pe_c.specs.declared.unwinding.Code.{Code}
-use Rattle.pe_c.specs.declared.unwinding.CodeWalk.{CodeWalk}
-use Rattle.pe_c.specs.declared.unwinding.UnwindRecord.{UnwindRecord}
 
 -- ---- the libraries of an import directory, and the imports of each; `offset` maps an RVA to its file offset, `w` is the size of an
 -- entry of a list in bytes
@@ -91,13 +79,3 @@ relocation_numbers b page walk n =
     if n == result_number Short then needed_in b walk walk.offset 2
     else if n == directory_number NoArgument then refused_value (page + number_there (bytes_there b walk) 0 2 % 4096)
     else no_numbers
-
--- ---- what a failure says of a step over the leaves of a resource tree
-
--- a call returned this number, and what refuses it is this
-abbrev pub TreeAgrees : ℕ → Option TreeRefusal → Type 0
-TreeAgrees number None = (number == DONE || number == NOTHING) ≡ true
-TreeAgrees number (Some refusal) = number ≡ tree_number refusal
-
-abbrev pub TreesAgree : {X : Type 0} → Result (Option X) TreeRefusal → Option TreeRefusal → Type 0
-TreesAgree {X} answer refusal = (number : ℕ) (old new : X) → TreeHandsOut number old new answer → TreeAgrees number refusal

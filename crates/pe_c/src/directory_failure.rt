@@ -2,7 +2,7 @@
 //! unmapped. The result of a call is one number. This call reads the directory again, and says the rest.
 
 ghost use Rattle.std.specs.Prelude.{◌≡◌, Ok};
-ghost use Rattle.pe_c.specs.DirectoryFailures.{certificate_numbers, certificate_table, directory_numbers, directory_offset, directory_refusal, entries_size, failure_at, is_there, missing_export, missing_table, needed_part, numbers_there, part, resource_end};
+ghost use Rattle.pe_c.specs.DirectoryFailures.{certificate_table, directory_numbers, directory_offset, directory_refusal, entries_size, is_there, missing_export, missing_table, needed_part, part, resource_end};
 ghost use Rattle.pe_c.specs.FailureNumbers.{failure_by, refused};
 ghost use Rattle.pe_c.specs.HandsOut.{HandsOutIf};
 ghost use Rattle.pe_c.specs.ImageParts.{function_table};
@@ -13,25 +13,22 @@ use crate::arm64::functions;
 use crate::directories::table_at;
 use crate::failure::{Failure, hand_out_failure};
 use crate::failure_numbers::{
-    CERTIFICATE_REVISION, CERTIFICATE_SIZE, CERTIFICATE_TABLE_END, CERTIFICATE_TYPE,
     CLR_HEADER_SIZE, DEBUG_BOUNDS, EXCEPTION_BOUNDS, EXCEPTION_OFFSET, EXCEPTION_SIZE,
-    ErrorNumbers, IMPORT_NAME, RESOURCE_BOUNDS, SHORT, UNMAPPED, directory_refused, failure_with,
-    needed_at, no_numbers, numbers, refused, refused_value, u32_there,
+    ErrorNumbers, RESOURCE_BOUNDS, SHORT, UNMAPPED, directory_refused, failure_with, needed_at,
+    no_numbers, numbers, refused, refused_value, u32_there,
 };
 use crate::image::{
     BASE_RELOCATION_TABLE, CERTIFICATE_TABLE, DELAY_IMPORT_DESCRIPTOR, Image, RESOURCE_TABLE,
     directory, is_absent, offset_of,
 };
-use crate::old_numbers::{why, why_of_directory};
 use crate::ranges::Range;
 use crate::resource_leaves::leaf_position;
+use crate::step_failures::certificate_numbers;
 use crate::view::View;
 use crate::{
     bound_imports, certificates, clr, debug, exports, imports, load_config, tls, unwinding,
 };
-use pe_core::{
-    COFF_MACHINE_X86_64, DataDirectory, ExportDirectoryTable, read_u16, read_u32, require_bytes,
-};
+use pe_core::{COFF_MACHINE_X86_64, DataDirectory, ExportDirectoryTable, read_u16, require_bytes};
 
 /// The size of an export directory in bytes.
 const SIZE_OF_EXPORT_DIRECTORY: usize = 40;
@@ -39,75 +36,12 @@ const SIZE_OF_EXPORT_DIRECTORY: usize = 40;
 /// The size of a directory of resources in bytes.
 const SIZE_OF_RESOURCE_DIRECTORY: u64 = 16;
 
-/// The size of the header of a certificate in bytes.
-const SIZE_OF_CERTIFICATE_HEADER: u64 = 8;
-
 /// What a directory needs: so many bytes at an RVA. Of bound imports that is a file offset.
 #[derive(Clone, Copy)]
 pub struct NeededPart {
     pub rva: u32,
     /// In bytes.
     pub size: u64,
-}
-
-/// Where a directory or an item of a walk is, and how many bytes it needs. The numbers of its error are these, where they can be: of
-/// what reads it the contract says the kind of an error, and no number.
-#[derive(Clone, Copy)]
-pub struct KnownNumbers {
-    /// The RVA of the directory, or of what is read. Of certificates and of bound imports it is a file offset.
-    pub rva: u32,
-    /// In bytes.
-    pub size: u64,
-    /// File offset.
-    pub offset: u64,
-    /// How many bytes it needs there.
-    pub needed: Option<u64>,
-    /// The first numbers there: of a certificate its length, revision and type, of a CLR header first its size.
-    pub head: (u32, u16, u16),
-}
-
-/// The first numbers at an offset. Zeros where its 8 bytes are not there.
-pub fn numbers_there(bytes: &[u8], offset: usize) -> (u32, u16, u16)
-    ensures { result ≡ numbers_there bytes.now offset }
-{
-    match require_bytes(bytes, offset, 8) {
-        Ok(()) => (
-            read_u32(bytes, offset),
-            read_u16(bytes, offset + 4),
-            read_u16(bytes, offset + 6),
-        ),
-        Err(_) => (0, 0, 0),
-    }
-}
-
-/// A failure with the numbers that are known of it.
-#[tactic(auto, unfolding(crate::specs::DirectoryFailures::failure_at))]
-pub fn failure_at(known: &KnownNumbers, failure: Failure) -> Failure
-    ensures { result ≡ failure_at known.now failure }
-{
-    let end = known.offset.saturating_add(known.size);
-    let own = (failure.offset, failure.needed, failure.value);
-    let (offset, needed, value) = match failure.result {
-        SHORT => match known.needed {
-            Some(needed) => (known.offset, needed, 0),
-            None => own,
-        },
-        UNMAPPED | IMPORT_NAME => (0, 0, u64::from(known.rva)),
-        EXCEPTION_SIZE => (0, 0, known.size),
-        EXCEPTION_OFFSET => (known.offset, 0, 0),
-        CERTIFICATE_TABLE_END | DEBUG_BOUNDS | EXCEPTION_BOUNDS => (end, 0, 0),
-        CERTIFICATE_SIZE => (0, u64::from(known.head.0), 0),
-        CERTIFICATE_REVISION => (0, 0, u64::from(known.head.1)),
-        CERTIFICATE_TYPE => (0, 0, u64::from(known.head.2)),
-        CLR_HEADER_SIZE => (0, 0, u64::from(known.head.0)),
-        _ => own,
-    };
-    Failure {
-        offset,
-        needed,
-        value,
-        ..failure
-    }
 }
 
 /// The certificate table as a walk at its start.
@@ -165,22 +99,6 @@ fn directory_refusal(view: &View, index: u32) -> Option<u32>
         13 => directory_refused(table_at(view, DELAY_IMPORT_DESCRIPTOR)),
         14 => directory_refused(clr::clr_header_at(view)),
         _ => None,
-    }
-}
-
-/// The numbers of the failure of the certificate that a walk is at.
-#[tactic(auto, unfolding(crate::specs::DirectoryFailures::certificate_numbers))]
-pub fn certificate_numbers(bytes: &[u8], walk: &Range, number: u32) -> ErrorNumbers
-    ensures { result ≡ certificate_numbers bytes.now walk.now number }
-{
-    let (length, revision, kind) = numbers_there(bytes, walk.offset as usize);
-    match number {
-        SHORT => needed_at(walk.offset, SIZE_OF_CERTIFICATE_HEADER),
-        CERTIFICATE_TABLE_END => numbers(walk.offset.saturating_add(walk.length), 0, 0),
-        CERTIFICATE_SIZE => numbers(0, u64::from(length), 0),
-        CERTIFICATE_REVISION => refused_value(u64::from(revision)),
-        CERTIFICATE_TYPE => refused_value(u64::from(kind)),
-        _ => no_numbers(),
     }
 }
 

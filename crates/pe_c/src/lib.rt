@@ -50,7 +50,6 @@ mod named_view;
 mod near_exports;
 mod near_imports;
 mod near_map;
-mod old_numbers;
 mod overlay;
 mod plan;
 mod ranges;

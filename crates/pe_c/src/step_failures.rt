@@ -30,7 +30,7 @@ use crate::failure_numbers::{
 };
 use crate::imports::{Imports, Libraries, import_step, library_step};
 use crate::named_view::NamedView;
-use crate::ranges::{Range, slice_of};
+use crate::ranges::Range;
 use crate::view::{View, map_by};
 use pe_core::{ImportDirectoryEntry, lookup_number, lookup_size, require_bytes};
 
@@ -57,15 +57,6 @@ const SIZE_IN_BLOCK: usize = 4;
 
 /// The size of a relocation in bytes, without an argument.
 const SIZE_OF_RELOCATION: u64 = 2;
-
-/// The file offset at which the bytes of a range start, from which offsets in them count; 0 where they are not all there: the error
-/// that says so has the offset of the file.
-pub fn start_of(bytes: &[u8], range: &Range) -> u64 {
-    match slice_of(bytes, range) {
-        Ok(_) => range.offset,
-        Err(_) => 0,
-    }
-}
 
 /// That an entry of so many bytes is needed after the last whole one of a list from an offset on.
 fn end_of_list(bytes: &[u8], list: Option<usize>, width: usize) -> ErrorNumbers

@@ -20,15 +20,14 @@ ghost use Rattle.pe_c.specs.Debug.{characteristics_of, checksum_of, debug_entrie
 ghost use Rattle.pe_c.specs.DebugFailures.{record_refusal};
 ghost use Rattle.pe_c.specs.DelayImports.{first_library_in, first_of_walk};
 ghost use Rattle.pe_c.specs.Directories.{block_reported, first_in, relocation_reported, step_of, table_at, tls_at};
-ghost use Rattle.pe_c.specs.DirectoryFailures.{Agrees, AllAgree, CallsReturn, DirectoriesAgree, DirectoryCallsReturn, certificate_table, directory_refusal};
+ghost use Rattle.pe_c.specs.DirectoryFailures.{certificate_table, directory_refusal};
 ghost use Rattle.pe_c.specs.Exports.{tables_at};
+ghost use Rattle.pe_c.specs.FailureNumbers.{Agrees, AllAgree, DirectoriesAgree, TreesAgree, directory_refused, refused, tree_refused};
 ghost use Rattle.pe_c.specs.Failures.{Explains, first_failure, image_failure, object_section_failures, section_failures, te_failures, te_section_failures};
-ghost use Rattle.pe_c.specs.OldNumbers.{directory_refused, refused, tree_refused};
 ghost use Rattle.pe_c.specs.Images.{image_at};
 ghost use Rattle.pe_c.specs.Imports.{import_step, libraries_at, library_step};
 ghost use Rattle.pe_c.specs.LoadConfigs.{load_config_at};
 ghost use Rattle.pe_c.specs.ResourceLeaves.{first_item, items_left, leaves_start};
-ghost use Rattle.pe_c.specs.StepFailures.{TreesAgree};
 ghost use Rattle.pe_c.specs.Te.{te_image_at, te_section};
 ghost use Rattle.pe_c.specs.Unwinding.{FollowsToRecord, HandsOutCode, HandsOutRecord, StepsCodes, exception_table_at};
 ghost use Rattle.pe_c.specs.declared.arm64.codes.Arm64Code.{Arm64Code};
@@ -63,63 +62,63 @@ pub fn failures_are_those_of_the_calls()
 {}
 
 /// `pe_c_directory_failure` has a failure exactly where the call that reads the directory returns an error, with its number.
-#[tactic(auto, using(crate::proofs::DirectoryFailures::calls_return, crate::proofs::DirectoryFailures::directory_calls_return), unfolding(crate::specs::DirectoryFailures::directory_refusal))]
+#[tactic(auto, using(crate::proofs::DirectoryFailures::agree, crate::proofs::DirectoryFailures::directories_agree), unfolding(crate::specs::DirectoryFailures::directory_refusal))]
 pub fn directory_failures_are_those_of_the_calls()
     ensures exports { (b : List ℕ) (image : Image) (sections : List SectionTable)
-        → CallsReturn (tables_at b image sections) (directory_refusal 0 b image sections) }
+        → AllAgree (tables_at b image sections) (directory_refusal 0 b image sections) }
     ensures imports { (b : List ℕ) (image : Image) (sections : List SectionTable)
-        → CallsReturn (libraries_at image sections) (directory_refusal 1 b image sections) }
+        → AllAgree (libraries_at image sections) (directory_refusal 1 b image sections) }
     ensures resources { (b : List ℕ) (image : Image) (sections : List SectionTable)
-        → CallsReturn (leaves_start b image sections) (directory_refusal 2 b image sections) }
+        → AllAgree (leaves_start b image sections) (directory_refusal 2 b image sections) }
     ensures functions { (b : List ℕ) (image : Image) (sections : List SectionTable)
         → image.machine ≡ COFF_MACHINE_X86_64
-        → CallsReturn (exception_table_at COFF_MACHINE_X86_64 12 b image sections image.mode) (directory_refusal 3 b image sections) }
+        → AllAgree (exception_table_at COFF_MACHINE_X86_64 12 b image sections image.mode) (directory_refusal 3 b image sections) }
     ensures arm64_functions { (b : List ℕ) (image : Image) (sections : List SectionTable)
         → (image.machine == COFF_MACHINE_X86_64) ≡ false
-        → CallsReturn (exception_table_at COFF_MACHINE_ARM64 8 b image sections image.mode) (directory_refusal 3 b image sections) }
+        → AllAgree (exception_table_at COFF_MACHINE_ARM64 8 b image sections image.mode) (directory_refusal 3 b image sections) }
     ensures certificates { (b : List ℕ) (image : Image) (sections : List SectionTable)
-        → CallsReturn (certificate_step b (certificate_table image)).0 (directory_refusal 4 b image sections) }
+        → AllAgree (certificate_step b (certificate_table image)).0 (directory_refusal 4 b image sections) }
     ensures relocations { (b : List ℕ) (image : Image) (sections : List SectionTable)
-        → DirectoryCallsReturn (table_at 5 b image sections) (directory_refusal 5 b image sections) }
+        → DirectoriesAgree (table_at 5 b image sections) (directory_refusal 5 b image sections) }
     ensures debug_entries { (b : List ℕ) (image : Image) (sections : List SectionTable)
-        → CallsReturn (debug_entries_range b image sections image.mode) (directory_refusal 6 b image sections) }
+        → AllAgree (debug_entries_range b image sections image.mode) (directory_refusal 6 b image sections) }
     ensures tls { (b : List ℕ) (image : Image) (sections : List SectionTable)
-        → DirectoryCallsReturn (tls_at b image sections) (directory_refusal 9 b image sections) }
+        → DirectoriesAgree (tls_at b image sections) (directory_refusal 9 b image sections) }
     ensures load_config { (b : List ℕ) (image : Image) (sections : List SectionTable)
-        → DirectoryCallsReturn (load_config_at b image sections) (directory_refusal 10 b image sections) }
+        → DirectoriesAgree (load_config_at b image sections) (directory_refusal 10 b image sections) }
     ensures bound_imports { (b : List ℕ) (image : Image) (sections : List SectionTable)
-        → DirectoryCallsReturn (bound_imports_at b image) (directory_refusal 11 b image sections) }
+        → DirectoriesAgree (bound_imports_at b image) (directory_refusal 11 b image sections) }
     ensures delay_imports { (b : List ℕ) (image : Image) (sections : List SectionTable)
-        → DirectoryCallsReturn (table_at 13 b image sections) (directory_refusal 13 b image sections) }
+        → DirectoriesAgree (table_at 13 b image sections) (directory_refusal 13 b image sections) }
     ensures clr_header { (b : List ℕ) (image : Image) (sections : List SectionTable)
-        → DirectoryCallsReturn (clr_header_at b image sections) (directory_refusal 14 b image sections) }
+        → DirectoriesAgree (clr_header_at b image sections) (directory_refusal 14 b image sections) }
 {}
 
 /// `pe_c_debug_failure` has a failure exactly where the call that reads the record returns an error, with its number.
-#[tactic(auto, using(crate::proofs::DirectoryFailures::calls_return), unfolding(crate::specs::DebugFailures::record_refusal))]
+#[tactic(auto, using(crate::proofs::DirectoryFailures::agree), unfolding(crate::specs::DebugFailures::record_refusal))]
 pub fn debug_failures_are_those_of_the_calls()
     ensures symbol_keys { (b : List ℕ) (mode : ℕ) (e : ImageDebugDirectory)
-        → CallsReturn (key_of b mode e) (record_refusal 0 b mode e) }
+        → AllAgree (key_of b mode e) (record_refusal 0 b mode e) }
     ensures pdb20 { (b : List ℕ) (mode : ℕ) (e : ImageDebugDirectory)
-        → CallsReturn (pdb20_of b mode e) (record_refusal 1 b mode e) }
+        → AllAgree (pdb20_of b mode e) (record_refusal 1 b mode e) }
     ensures features { (b : List ℕ) (mode : ℕ) (e : ImageDebugDirectory)
-        → CallsReturn (features_of b mode e) (record_refusal 2 b mode e) }
+        → AllAgree (features_of b mode e) (record_refusal 2 b mode e) }
     ensures characteristics { (b : List ℕ) (mode : ℕ) (e : ImageDebugDirectory)
-        → CallsReturn (characteristics_of b mode e) (record_refusal 3 b mode e) }
+        → AllAgree (characteristics_of b mode e) (record_refusal 3 b mode e) }
     ensures repro { (b : List ℕ) (mode : ℕ) (e : ImageDebugDirectory)
-        → CallsReturn (repro_of b mode e) (record_refusal 4 b mode e) }
+        → AllAgree (repro_of b mode e) (record_refusal 4 b mode e) }
     ensures pogo { (b : List ℕ) (mode : ℕ) (e : ImageDebugDirectory)
-        → CallsReturn (pogo_of b mode e) (record_refusal 5 b mode e) }
+        → AllAgree (pogo_of b mode e) (record_refusal 5 b mode e) }
     ensures embedded { (b : List ℕ) (mode : ℕ) (e : ImageDebugDirectory)
-        → CallsReturn (embedded_of b mode e) (record_refusal 6 b mode e) }
+        → AllAgree (embedded_of b mode e) (record_refusal 6 b mode e) }
     ensures checksums { (b : List ℕ) (mode : ℕ) (e : ImageDebugDirectory)
-        → CallsReturn (checksum_of b mode e) (record_refusal 7 b mode e) }
+        → AllAgree (checksum_of b mode e) (record_refusal 7 b mode e) }
 {}
 
 /// A call that says why a step is refused, or what is read by its key, says so exactly where the call that makes the step or reads it
 /// returns an error, with its number. Where a definition says what a step returns, both calls have that one: the clause says that the
 /// number is its refusal's. Where a relation does, it is of any two answers.
-#[tactic(auto, using(crate::proofs::DirectoryFailures::agree, crate::proofs::DirectoryFailures::directories_agree, crate::proofs::StepFailures::trees_agree))]
+#[tactic(auto, using(crate::proofs::DirectoryFailures::agree, crate::proofs::DirectoryFailures::directories_agree, crate::proofs::DirectoryFailures::trees_agree))]
 pub fn step_failures_are_those_of_the_calls()
     ensures libraries { (offset : ℕ → Option ℕ) (w : ℕ) (b : List ℕ) (walk : Libraries)
         → AllAgree (library_step offset w b walk).0 (refused (library_step offset w b walk).0) }

@@ -1,9 +1,9 @@
 //! Why the unwind record of an ARM64 function is refused, or one of its codes.
 
-ghost use Rattle.std.specs.Prelude.{◌≡◌, ◌+◌, ◌*◌, ◌≤◌, length, Ok};
+ghost use Rattle.std.specs.Prelude.{◌≡◌, ◌+◌, ◌*◌, ◌≤◌, Ok};
 ghost use Rattle.pe_unwind.specs.Arm64Record.{code_words, extension_view, scope_count};
 ghost use Rattle.pe_c.specs.Arm64.{arm64_record_of};
-ghost use Rattle.pe_c.specs.Arm64Failures.{IsWhyOfArm64Code, SaysWhyArm64Code, arm64_code_numbers, arm64_parts, arm64_record_numbers, record_rva, unmapped_rva};
+ghost use Rattle.pe_c.specs.Arm64Failures.{IsWhyOfArm64Code, SaysWhyArm64Code, arm64_code_numbers, arm64_parts, arm64_record_numbers};
 ghost use Rattle.pe_c.specs.FailureNumbers.{failure_by, refused};
 ghost use Rattle.pe_c.specs.HandsOut.{HandsOutIf};
 ghost use Rattle.pe_c.specs.UnwindFailures.{first_truncated};

@@ -1,6 +1,6 @@
 //! Why the unwind record of an x64 function is refused, or one of its codes.
 
-ghost use Rattle.std.specs.Prelude.{◌≡◌, ◌≤◌, ◌%◌, length, Some, None, if◌then◌else◌};
+ghost use Rattle.std.specs.Prelude.{◌≡◌, ◌≤◌, ◌%◌, Some, None, if◌then◌else◌};
 ghost use Rattle.pe_core.specs.Bytes.{holds};
 ghost use Rattle.pe_unwind.specs.Links.{next};
 ghost use Rattle.pe_c.specs.FailureNumbers.{failure_by, needed_at, refused};
