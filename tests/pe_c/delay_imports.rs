@@ -169,6 +169,7 @@ fn names_and_tables(rt: HostRuntime) -> Result<(), Fail> {
         ..wide
     };
     for (image, attributes, name, table, want) in [
+        // shows: pe_c/src/delay_imports.rt address_offset Unmapped
         (&wide, 1, 0x2000, 0x1054, UNMAPPED),
         (&wide, 1, 0x1044, 0x2000, UNMAPPED),
         // The last byte of all is a name, which is empty; after it there is none, and the name is tested first.
