@@ -33,8 +33,8 @@ head_needed kind b p =
     else if kind == 6 then needed_at p 8
     else needed_at p 4
 
--- how many bytes a record of this kind at offset p has in the file: of Repro the hash, whose length is in the first 4 bytes; of any
--- other kind the size in the entry
+-- how many bytes a record of this kind at offset p has in the file: of Repro the hash, whose length is in the first 4 bytes; of
+-- any other kind the size in the entry
 abbrev pub data_needed : ℕ → List ℕ → ℕ → ImageDebugDirectory → ℕ
 data_needed kind b p e = if kind == 4 then number_there b p 4 else e.size_of_data
 

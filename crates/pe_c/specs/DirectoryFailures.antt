@@ -55,6 +55,7 @@ end_of p n = min (p + n) (2 ^ 64 - 1)
 abbrev pub part : ℕ → ℕ → NeededPart
 part rva size = record { rva = rva; size = size }
 
+-- n bytes follow an offset, if there is one
 abbrev pub holds_at : List ℕ → ℕ → Option ℕ → Bool
 holds_at b n None = false
 holds_at b n (Some p) = holds b p n
@@ -76,8 +77,8 @@ unfoldable pub missing_export : (ℕ → Option ℕ) → List ℕ → ℕ → Ne
 missing_export offset b rva =
     if is_there offset b (part rva 40) then missing_table offset b (export_directory b (or_zero (offset rva))) else part rva 40
 
--- what the directory with this index needs: a part of exports; the first directory of resources, the TLS directory, the size of the
--- load configuration, the CLR header; of any other all of it
+-- what the directory with this index needs: a part of exports; the first directory of resources, the TLS directory, the size of
+-- the load configuration, the CLR header; of any other all of it
 unfoldable pub needed_part : ℕ → List ℕ → Image → List SectionTable → NeededPart
 needed_part i b image sections =
     let d = directory image i in
