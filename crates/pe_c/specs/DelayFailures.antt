@@ -1,5 +1,5 @@
--- Why a DLL that is loaded late is refused, or what is imported of it: the numbers of the failure. `i` is the image as pe_directories
--- takes it.
+-- Why a DLL that is loaded late is refused, or what is imported of it: the numbers of the failure. `i` is the image as
+-- pe_directories takes it.
 use Rattle.std.specs.Prelude.{ℕ, ◌+◌, ◌-◌, ◌%◌, ◌^◌, ◌==◌, ◌&&◌, min, Bool, List, Option, Some, None, if◌then◌else◌}
 use Rattle.std.specs.Result.{result_ok}
 use Rattle.pe_core.specs.Bytes.{holds}
