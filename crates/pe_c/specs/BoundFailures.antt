@@ -9,19 +9,19 @@ use Rattle.pe_c.specs.HandsOut.{result_number}
 use Rattle.pe_c.specs.declared.failure_numbers.ErrorNumbers.{ErrorNumbers}
 use Rattle.pe_c.specs.declared.ranges.Range.{Range}
 
--- how many bytes an entry needs that starts a part of the directory: 8, and 8 for each of its forwarders, whose number stands in the
--- last 2 of the first 8
+-- how many bytes the entry at the start of a part of the directory needs: 8, and 8 for each of its forwarders, whose number is in
+-- the last 2 of the first 8
 abbrev pub size_needed : List ℕ → ℕ
 size_needed left = 8 + 8 * number_there left 6 2
 
--- the bytes of the entry that a walk is at; where these are there, those of the directory, which has the name
+-- the bytes of the entry that a walk is at, with its forwarders; or, where they are there, those of the directory with the names
 abbrev pub bound_short : List ℕ → Range → Range → ErrorNumbers
 bound_short b table walk =
     let left = bytes_there b walk in
     if holds left 0 (size_needed left) then needed_at table.offset table.length
     else needed_in b walk walk.offset (size_needed left)
 
--- of the entry that a walk is at: where its name is in the directory stands in 2 bytes after its time stamp, which has 4
+-- of the entry that a walk is at: the offset of its name in the directory is in the 2 bytes after its time stamp, which has 4
 unfoldable pub bound_numbers : List ℕ → Range → Range → ℕ → ErrorNumbers
 bound_numbers b table walk n =
     if n == result_number Short then bound_short b table walk

@@ -6,11 +6,13 @@ use Rattle.pe_c.specs.HandsOut.{result_number}
 use Rattle.pe_c.specs.declared.failure_numbers.ErrorNumbers.{ErrorNumbers}
 use Rattle.pe_c.specs.declared.ranges.Range.{Range}
 
--- the last 4 of the 8 bytes of a name as a number: for a name in the string table its offset there. An entry has 18 bytes, its name first
+-- the number in the last 4 of the 8 bytes of a name, which for a name in the string table is its offset there; an entry has 18
+-- bytes, its name first
 abbrev pub string_offset_at : List ℕ → Range → ℕ → ℕ
 string_offset_at b table index = number_there (bytes_there b table) (18 * index + 4) 4
 
--- of the name of the symbol in an entry: both tables are needed, of two that are not there that of the strings
+-- of the name of the symbol in an entry: the bytes of a table that is not there, first of the strings; that number where the name
+-- is no text, also of a name in the 8 bytes
 unfoldable pub symbol_name_numbers : List ℕ → Range → Range → ℕ → ℕ → ErrorNumbers
 symbol_name_numbers b table strings index n =
     if n == result_number Short then needed_in b strings table.offset table.length
