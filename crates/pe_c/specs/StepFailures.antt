@@ -1,30 +1,20 @@
 -- Why a step of a walk is refused, or an item that is read by its key: by the refusal of the call that reads it.
 use Rattle.std.specs.Prelude.{◌≡◌, ℕ, ◌+◌, ◌%◌, ◌^◌, ◌==◌, ◌||◌, List, true, Option, Some, None, Result, if◌then◌else◌}
 use Rattle.pe_core.specs.Bytes.{holds, le}
-use Rattle.pe_core.specs.Refusals.{Refusal, Short}
+use Rattle.pe_core.specs.Refusals.{Short}
 use Rattle.pe_directories.specs.DirectoryRefusals.{BlockSize, BlockTruncated, NoArgument}
 use Rattle.pe_resource.specs.Leaves.{TreeRefusal}
-use Rattle.pe_unwind.specs.Links.{Table}
-use Rattle.pe_c.specs.Arm64.{StepsArm64Codes}
 use Rattle.pe_c.specs.Directories.{directory_number}
 use Rattle.pe_c.specs.DirectoryFailures.{numbers_there}
 use Rattle.pe_c.specs.FailureNumbers.{bytes_there, needed_in, no_numbers, number_there, numbers, refused_value}
 use Rattle.pe_c.specs.HandsOut.{result_number}
-use Rattle.pe_c.specs.OldNumbers.{IsWhy, SaysWhy, refused}
 use Rattle.pe_c.specs.ResourceLeaves.{TreeHandsOut, tree_number}
-use Rattle.pe_c.specs.Unwinding.{FollowsToRecord, StepsCodes}
-use Rattle.pe_c.specs.declared.arm64.codes.Arm64Code.{Arm64Code}
-use Rattle.pe_c.specs.declared.arm64.codes.Arm64CodeWalk.{Arm64CodeWalk}
 use Rattle.pe_c.specs.declared.directory_failure.KnownNumbers.{KnownNumbers}
-use Rattle.pe_c.specs.declared.failure.Failure.{Failure}
 use Rattle.pe_c.specs.declared.failure_numbers.ErrorNumbers.{ErrorNumbers}
 use Rattle.pe_c.specs.declared.imports.Imports.{Imports}
 use Rattle.pe_c.specs.declared.imports.Libraries.{Libraries}
 use Rattle.pe_c.specs.declared.ranges.Range.{Range}
 use Rattle.pe_c.specs.declared.results.TheConstants.{DONE, NOTHING}
-use Rattle.pe_c.specs.declared.unwinding.Code.{Code}
-use Rattle.pe_c.specs.declared.unwinding.CodeWalk.{CodeWalk}
-use Rattle.pe_c.specs.declared.unwinding.UnwindRecord.{UnwindRecord}
 
 -- ---- what is known of the numbers of an error
 

@@ -3,7 +3,7 @@
 ghost use Rattle.std.specs.Prelude.{◌≡◌, ◌+◌, ◌*◌, ◌≤◌, length, Ok};
 ghost use Rattle.pe_unwind.specs.Arm64Record.{code_words, extension_view, scope_count};
 ghost use Rattle.pe_c.specs.Arm64.{arm64_record_of};
-ghost use Rattle.pe_c.specs.Arm64Failures.{IsWhyOfArm64Code, SaysWhyArm64Code, arm64_code_numbers, arm64_parts, arm64_record_numbers, record_rva, unmapped_rva};
+ghost use Rattle.pe_c.specs.Arm64Failures.{IsWhyOfArm64Code, SaysWhyArm64Code, arm64_code_numbers, arm64_parts, arm64_record_numbers};
 ghost use Rattle.pe_c.specs.FailureNumbers.{failure_by, refused};
 ghost use Rattle.pe_c.specs.HandsOut.{HandsOutIf};
 ghost use Rattle.pe_c.specs.UnwindFailures.{first_truncated};
@@ -171,8 +171,8 @@ fn code_failure(bytes: &[u8], walk: &Arm64CodeWalk) -> Option<Failure>
     failure_of_code(walk, number)
 }
 
-/// The same of the ARM64 code that a walk is at, which `pe_c_next_arm64_code` refuses. The offset of `ARM64_CUT` counts from the start
-/// of the codes.
+/// The same of the ARM64 code that a walk is at, which `pe_c_next_arm64_code` refuses. The offset of `ARM64_CUT` counts from the
+/// start of the codes.
 #[unsafe(no_mangle)]
 pub extern "C" fn pe_c_arm64_code_failure(
     bytes: &[u8],
