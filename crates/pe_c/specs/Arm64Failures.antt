@@ -20,8 +20,8 @@ use Rattle.pe_c.specs.declared.image.Image.{Image}
 
 -- ---- codes
 
--- of the code that a walk is at: the range of what is left; what is left of no stream by its length; a truncated code by its offset,
--- which counts from the start of the stream
+-- of the code that a walk is at: the range of what is left; what can be left of no stream by its length; a truncated code by its
+-- offset, which counts from the start of the stream
 unfoldable pub arm64_code_numbers : Arm64CodeWalk → ℕ → ErrorNumbers
 arm64_code_numbers walk n =
     if n == result_number Short then needed_at walk.left.offset walk.left.length
@@ -36,7 +36,8 @@ IsWhyOfArm64Code b walk found =
     × (found ≡ failure_by (arm64_code_numbers walk) (refused answer))
 
 abbrev pub SaysWhyArm64Code : List ℕ → Arm64CodeWalk → ℕ → Failure → Failure → Type 0
-SaysWhyArm64Code b walk number old new = (found : Option Failure) × IsWhyOfArm64Code b walk found × HandsOutIf number old new (Ok found)
+SaysWhyArm64Code b walk number old new =
+    (found : Option Failure) × IsWhyOfArm64Code b walk found × HandsOutIf number old new (Ok found)
 
 -- ---- records
 

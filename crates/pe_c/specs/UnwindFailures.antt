@@ -29,8 +29,8 @@ slots_of_code v op info =
     else if op == UWOP_SAVE_NONVOL_FAR || op == UWOP_SAVE_XMM128_FAR || op == UWOP_SPARE_CODE then 3
     else 1
 
--- how many bytes the code at the start of these needs: its first slot or, where that is there, all of its slots; the opcode is in the
--- low half of the second byte, the operation info in the high half
+-- how many bytes the code at the start of these needs: its first slot or, where that is there, all of its slots; the opcode is in
+-- the low half of the second byte, the operation info in the high half
 unfoldable pub code_needs : ℕ → List ℕ → ℕ
 code_needs v bytes =
     let second = number_there bytes 1 1 in
@@ -47,7 +47,8 @@ code_numbers b walk n =
 -- why the code that a walk is at is refused
 abbrev pub IsWhyOfCode : List ℕ → CodeWalk → Option Failure → Type 0
 IsWhyOfCode b walk found =
-    (answer : Result (Option Code) Refusal) × (after : CodeWalk) × StepsCodes b walk answer after × (found ≡ failure_by (code_numbers b walk) (refused answer))
+    (answer : Result (Option Code) Refusal) × (after : CodeWalk) × StepsCodes b walk answer after
+    × (found ≡ failure_by (code_numbers b walk) (refused answer))
 
 abbrev pub SaysWhyCode : List ℕ → CodeWalk → ℕ → Failure → Failure → Type 0
 SaysWhyCode b walk number old new = (found : Option Failure) × IsWhyOfCode b walk found × HandsOutIf number old new (Ok found)
@@ -63,28 +64,36 @@ first_truncated b (part ∷ parts) = if holds b part.0 part.1 then first_truncat
 abbrev pub ending_size : ℕ → ℕ
 ending_size flags = if is_chained flags then 12 else if handles_exceptions flags || handles_termination flags then 4 else 0
 
--- the parts of the record at offset p, in the order in which they are tested: the version, the header, the codes and what follows them
+-- the parts of the record at offset p, in the order in which they are tested: the byte with the version, the header, the codes
+-- and what follows them
 unfoldable pub record_parts : List ℕ → ℕ → List (ℕ × ℕ)
 record_parts b p =
     (p, 1) ∷ (p, 4) ∷ (p + 4, 2 * count_at b p) ∷ (after_codes b p, ending_size (flags_at b p)) ∷ []
 
+-- what is needed of the record at offset p, which is found by the function table at a range: that range, or the first part of the
+-- record that is truncated
+abbrev pub found_needs : List ℕ → Range → ℕ → ErrorNumbers
+found_needs b table p =
+    if holds b table.offset table.length then first_truncated b (record_parts b p) else needed_at table.offset table.length
+
 -- the function table at a range; without entries where that is not inside the bytes
 abbrev pub table_there : List ℕ → Image → List SectionTable → Range → Table
-table_there b image sections table = record { entries = bytes_there b table; start = table.offset; offset = map_of_image image sections }
+table_there b image sections table =
+    record { entries = bytes_there b table; start = table.offset; offset = map_of_image image sections }
 
 -- the links from an unwind RVA end at this one, which has no next one; or they never end
 abbrev pub LinksEnd : Table → ℕ → Option ℕ → Type 0
 LinksEnd t u (Some v) = Reaches t u v × (next t v ≡ None)
 LinksEnd t u None = IsEndless t u
 
--- of the record of an unwind RVA u, by the RVA at which its links end: an odd one is a link, which leads to the RVA one less, and that
--- is unmapped, or no entry of the table starts there; an even one is the record's. Links that never end by u itself. The version of a
--- record is in the low bits of its first byte
+-- of the record of an unwind RVA u, by the RVA v at which its links end. An even v is that of the record; an odd one is a link,
+-- which leads to the RVA one less: it is unmapped, or no entry of the table starts there. Links that never end are refused by u.
+-- The version of a record is in the low 3 bits of its first byte
 unfoldable pub record_numbers : List ℕ → Image → List SectionTable → Range → ℕ → Option ℕ → ℕ → ErrorNumbers
 record_numbers b image sections table u last n =
     let v = or_zero last in
     let p = or_zero (map_of_image image sections v) in
-    if n == result_number Short then (if holds b table.offset table.length then first_truncated b (record_parts b p) else needed_at table.offset table.length)
+    if n == result_number Short then found_needs b table p
     else if n == result_number Unmapped then refused_value (v - v % 2)
     else if n == result_number FunctionLink then refused_value v
     else if n == result_number FunctionCycle then refused_value u
@@ -95,7 +104,8 @@ record_numbers b image sections table u last n =
 abbrev pub IsWhyOfRecord : List ℕ → Image → List SectionTable → Range → ℕ → Option Failure → Type 0
 IsWhyOfRecord b image sections table u found =
     (answer : Result UnwindRecord Refusal) × (last : Option ℕ) × FollowsToRecord b (links_at b image sections table) u answer
-    × LinksEnd (table_there b image sections table) u last × (found ≡ failure_by (record_numbers b image sections table u last) (refused answer))
+    × LinksEnd (table_there b image sections table) u last
+    × (found ≡ failure_by (record_numbers b image sections table u last) (refused answer))
 
 abbrev pub SaysWhyRecord : List ℕ → Image → List SectionTable → Range → ℕ → ℕ → Failure → Failure → Type 0
 SaysWhyRecord b image sections table u number old new =

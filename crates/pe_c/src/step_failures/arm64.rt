@@ -171,8 +171,8 @@ fn code_failure(bytes: &[u8], walk: &Arm64CodeWalk) -> Option<Failure>
     failure_of_code(walk, number)
 }
 
-/// The same of the ARM64 code that a walk is at, which `pe_c_next_arm64_code` refuses. The offset of `ARM64_CUT` counts from the start
-/// of the codes.
+/// The same of the ARM64 code that a walk is at, which `pe_c_next_arm64_code` refuses. The offset of `ARM64_CUT` counts from the
+/// start of the codes.
 #[unsafe(no_mangle)]
 pub extern "C" fn pe_c_arm64_code_failure(
     bytes: &[u8],

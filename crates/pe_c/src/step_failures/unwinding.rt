@@ -4,7 +4,7 @@ ghost use Rattle.std.specs.Prelude.{◌≡◌, ◌≤◌, ◌%◌, Some, None, i
 ghost use Rattle.pe_core.specs.Bytes.{holds};
 ghost use Rattle.pe_unwind.specs.Links.{next};
 ghost use Rattle.pe_c.specs.FailureNumbers.{failure_by, needed_at, refused};
-ghost use Rattle.pe_c.specs.UnwindFailures.{IsWhyOfCode, IsWhyOfRecord, LinksEnd, SaysWhyCode, SaysWhyRecord, code_needs, code_numbers, ending_size, first_truncated, record_numbers, record_parts, slots_of_code, table_there};
+ghost use Rattle.pe_c.specs.UnwindFailures.{IsWhyOfCode, IsWhyOfRecord, LinksEnd, SaysWhyCode, SaysWhyRecord, code_needs, code_numbers, ending_size, first_truncated, found_needs, record_numbers, record_parts, slots_of_code, table_there};
 ghost use Rattle.pe_c.specs.Unwinding.{flat_answer};
 
 use crate::failure::{Failure, hand_out_failure};
@@ -129,9 +129,7 @@ fn record_needs(bytes: &[u8], offset: usize) -> ErrorNumbers
 
 /// The same of a record that is found by the function table at a range, whose bytes are read first.
 fn found_needs(bytes: &[u8], table: &Range, offset: usize) -> ErrorNumbers
-    ensures { result ≡ (if holds bytes.now table.now.offset table.now.length
-        then first_truncated bytes.now (record_parts bytes.now offset)
-        else needed_at table.now.offset table.now.length) }
+    ensures { result ≡ found_needs bytes.now table.now offset }
 {
     match truncated(bytes, table.offset as usize, table.length as usize) {
         Some(numbers) => numbers,
@@ -195,8 +193,8 @@ fn record_failure(view: &View, table: &Range, unwind: u32) -> Option<Failure>
 
 /// The same of the unwind record of an unwind RVA, which `pe_c_unwind_record` refuses. `table` is the function table.
 ///
-/// `FUNCTION_CYCLE` has that RVA, whose links never end, `FUNCTION_LINK` the one at which they end, and `UNMAPPED` the RVA of the entry
-/// or of the record to which that leads.
+/// The RVA of `FUNCTION_CYCLE` is `unwind`, whose links never end, that of `FUNCTION_LINK` the one at which they end, and that of
+/// `UNMAPPED` is of the entry or of the record to which this one leads.
 #[unsafe(no_mangle)]
 pub extern "C" fn pe_c_unwind_record_failure(
     view: &View,
