@@ -19,6 +19,7 @@ use Rattle.pe_c.specs.Images.{directory, map_of_image}
 use Rattle.pe_c.specs.Imports.{libraries_at}
 use Rattle.pe_c.specs.LoadConfigs.{load_config_at}
 use Rattle.pe_c.specs.ResourceLeaves.{leaves_start}
+use Rattle.pe_c.specs.StepFailures.{certificate_numbers}
 use Rattle.pe_c.specs.declared.directory_failure.NeededPart.{NeededPart}
 use Rattle.pe_c.specs.declared.failure_numbers.ErrorNumbers.{ErrorNumbers}
 use Rattle.pe_c.specs.declared.image.Image.{Image}
