@@ -1,6 +1,6 @@
 -- Delay imports as callers get them of what pe_directories defines. Steps return these where RVAs are mapped by the sections of
 -- the image: the law `delay_imports_are_those_of_the_image`.
-use Rattle.std.specs.Prelude.{ℕ, ◌+◌, ◌-◌, List, length, Result, Ok}
+use Rattle.std.specs.Prelude.{ℕ, ◌+◌, ◌-◌, length, Result, Ok}
 use Rattle.pe_core.specs.Refusals.{◌>>=◌}
 use Rattle.pe_directories.specs.DelayImports.{Function, Ordinal, Name, delay_dll, hint_offset, imported_by, offset_in_entry}
 use Rattle.pe_directories.specs.DirectoryRefusals.{DirectoryRefusal}
