@@ -1,8 +1,8 @@
 -- Delay imports as callers get them of what pe_directories defines. Steps return these where RVAs are mapped by the sections of
 -- the image: the law `delay_imports_are_those_of_the_image`.
-use Rattle.std.specs.Prelude.{ℕ, ◌+◌, ◌-◌, List, length, Result, Ok}
+use Rattle.std.specs.Prelude.{ℕ, ◌+◌, ◌-◌, length, Result, Ok}
 use Rattle.pe_core.specs.Refusals.{◌>>=◌}
-use Rattle.pe_directories.specs.DelayImports.{Function, Ordinal, Name, delay_dll, offset_in_entry}
+use Rattle.pe_directories.specs.DelayImports.{Function, Ordinal, Name, delay_dll, hint_offset, imported_by, offset_in_entry}
 use Rattle.pe_directories.specs.DirectoryRefusals.{DirectoryRefusal}
 use Rattle.pe_directories.specs.ImageParts.{ImageView}
 use Rattle.pe_directories.specs.declared.delay_import.DelayImport.{DelayImport}
@@ -21,8 +21,12 @@ table_reported i e =
     offset_in_entry i e e.import_name_table
     >>= λ p. Ok (record { left = record { offset = p; length = length i.bytes - p }; attributes = e.attributes; spare = 0 })
 
--- what a number of the table imports, where the hint has this file offset: a name follows a hint of 2 bytes
+-- what is imported, where the hint has this file offset: a name follows a hint of 2 bytes
 abbrev pub function_reported : Result ℕ DirectoryRefusal → Function → Result DelayedFunction DirectoryRefusal
 function_reported hint_at (Ordinal ordinal) = Ok (record { name = no_bytes; ordinal = ordinal; has_name = 0 })
 function_reported hint_at (Name hint name) =
     hint_at >>= λ p. Ok (record { name = record { offset = p + 2; length = length name }; ordinal = hint; has_name = 1 })
+
+-- what a number of the table imports
+abbrev pub import_reported : ImageView → DelayImport → ℕ → Result DelayedFunction DirectoryRefusal
+import_reported i e number = imported_by i e number >>= function_reported (hint_offset i e number)

@@ -2,7 +2,7 @@
 
 ghost use Rattle.pe_c.specs.Clr.{content_of, first_stream_in, metadata_reported, stream_reported};
 ghost use Rattle.pe_c.specs.DelayImports.{dll_range, function_of, functions_of};
-ghost use Rattle.pe_c.specs.DelayLaws.{dll_reported, function_reported, table_reported};
+ghost use Rattle.pe_c.specs.DelayLaws.{dll_reported, import_reported, table_reported};
 ghost use Rattle.pe_c.specs.Directories.{image_parts};
 ghost use Rattle.pe_c.specs.Images.{map_of_image};
 ghost use Rattle.pe_c.specs.Ranges.{IsRange, bytes_at, range_of};
@@ -11,11 +11,10 @@ ghost use Rattle.pe_c.specs.declared.delay_imports.DelayedFunction.{DelayedFunct
 ghost use Rattle.pe_c.specs.declared.image.Image.{Image};
 ghost use Rattle.pe_c.specs.declared.ranges.Range.{Range};
 ghost use Rattle.pe_core.specs.Bytes.{range};
-ghost use Rattle.pe_core.specs.Refusals.{◌>>=◌};
 ghost use Rattle.pe_core.specs.declared.byte_range.ByteRange.{ByteRange};
 ghost use Rattle.pe_core.specs.declared.section_table.SectionTable.{SectionTable};
 ghost use Rattle.pe_directories.specs.Clr.{Metadata, Stream, metadata_of};
-ghost use Rattle.pe_directories.specs.DelayImports.{Name, delay_dll, hint_offset, imported_by};
+ghost use Rattle.pe_directories.specs.DelayImports.{Name, delay_dll, imported_by};
 ghost use Rattle.pe_directories.specs.declared.delay_import.DelayImport.{DelayImport};
 ghost use Rattle.std.specs.Prelude.{◌≡◌, ℕ, ◌+◌, ◌≤◌, List, length, IfSome, Ok, Some};
 
@@ -65,6 +64,5 @@ pub fn delay_imports_are_those_of_the_image()
     ensures function { (b : List ℕ) (image : Image) (sections : List SectionTable)
         (e : DelayImport) (number : ℕ) →
         function_of (map_of_image image sections) b image e.attributes number
-        ≡ (imported_by (image_parts b image sections) e number
-        >>= function_reported (hint_offset (image_parts b image sections) e number)) }
+        ≡ import_reported (image_parts b image sections) e number }
 {}
