@@ -95,10 +95,10 @@ ReturnsStreams b metadata walk items =
 -- ---- delay imports; `offset` maps an RVA to its file offset
 
 abbrev pub StepsDelayLibraries : (ℕ → Option ℕ) → List ℕ → images.Image → Range → Result (Option DelayLibrary) DirectoryRefusal → Range → Type 0
-StepsDelayLibraries offset b image = StepsBy (λ walk x. x) (first_library_in offset b image) left_after
+StepsDelayLibraries offset b image old answer new = StepsBy (λ walk x. x) (first_library_in offset b image) left_after old answer new
 
 abbrev pub StepsDelayedFunctions : (ℕ → Option ℕ) → List ℕ → images.Image → DelayedFunctions → Result (Option DelayedFunction) DirectoryRefusal → DelayedFunctions → Type 0
-StepsDelayedFunctions offset b image = StepsBy (λ walk x. x) (first_of_walk offset b image) functions_after
+StepsDelayedFunctions offset b image old answer new = StepsBy (λ walk x. x) (first_of_walk offset b image) functions_after old answer new
 
 -- ---- bound imports
 

@@ -1,4 +1,5 @@
-use Rattle.std.proofs.Common.{◌+◌, ◌-◌, ◌∙◌, sym, ap, rules, arith}
+use Rattle.std.proofs.Common.{◌≡◌, ◌+◌, ◌-◌, ◌∙◌, true, false, sym, subst, ap, rules, arith}
+use Rattle.pe_c.specs.SectionIndexes.{start_by}
 use Rattle.pe_frame.proofs.Halving.{grows, halved}
 use Rattle.pe_c.proofs.IndexSearches.{start_inside}
 use Rattle.pe_c.proofs.ViewRuns.{alike_down, alike_first, alike_last, alike_up}
@@ -14,7 +15,7 @@ loop-bits-init c = record {
 
 pub loop-bits-preserved-then-start_by : goal.loop-bits-preserved-then-start_by
 loop-bits-preserved-then-start_by c =
-    let passed = sym c.start_by.ensures ∙ c.if-start_by.true in
+    let passed = subst (λ x. start_by c.args.entries.now x (c.loop-bits.count + c.power_of_two.result) ≡ true) c.from.ensures (sym c.start_by.ensures ∙ c.if-start_by.true) in
     record {
       alike = alike_up c.args.entries.now c.args.rva c.loop-bits.bits c.loop-bits.count _ c.loop-bits.end c.loop-bits.invariant.alike (omega arith) (ap (λ n. c.loop-bits.count + n) c.power_of_two.ensures) passed;
       bits = omega (arith, c.loop-bits.invariant.bits);
@@ -24,7 +25,7 @@ loop-bits-preserved-then-start_by c =
 
 pub loop-bits-preserved : goal.loop-bits-preserved
 loop-bits-preserved c =
-    let failed = sym c.start_by.ensures ∙ c.if-start_by.false in
+    let failed = subst (λ x. start_by c.args.entries.now x (c.loop-bits.count + c.power_of_two.result) ≡ false) c.from.ensures (sym c.start_by.ensures ∙ c.if-start_by.false) in
     record {
       alike = alike_down c.args.entries.now c.args.rva c.loop-bits.bits c.loop-bits.count _ c.loop-bits.end _ c.loop-bits.invariant.alike (omega arith) (ap (λ n. c.loop-bits.count + n) c.power_of_two.ensures) failed (omega (arith, c.ranges.rva.fits)) (search (rules, c.start_of_last.ensures));
       bits = omega (arith, c.loop-bits.invariant.bits);
