@@ -1,6 +1,5 @@
 -- The tables that head a directory with fields of their own: that of exports, and each directory of a resource tree.
 use Rattle.std.specs.Prelude.{ℕ, ◌+◌, ◌*◌, List, length, Option, Some, None, Result, Ok, if◌then◌else◌}
-use Rattle.std.specs.Option.{option_map}
 use Rattle.pe_core.specs.Bytes.{record_at}
 use Rattle.pe_core.specs.Records as records
 use Rattle.pe_core.specs.Refusals.{Refusal, ◌>>=◌}
@@ -14,7 +13,7 @@ use Rattle.pe_resource.specs.declared.entry.ResourceEntry as trees
 use Rattle.pe_c.specs.Images.{export_directory, is_absent, map_of_image}
 use Rattle.pe_c.specs.Ranges.{bytes_at}
 use Rattle.pe_c.specs.ResourceLeaves.{name_in}
-use Rattle.pe_c.specs.Walks.{next_of, walk_of}
+use Rattle.pe_c.specs.Walks.{next_of}
 use Rattle.pe_c.specs.declared.directory_tables.ExportFields.{ExportFields}
 use Rattle.pe_c.specs.declared.directory_tables.ResourceDirectory.{ResourceDirectory}
 use Rattle.pe_c.specs.declared.directory_tables.ResourceItem.{ResourceItem}

@@ -1,5 +1,5 @@
 -- Unwind records that are written without what others take. Only contracts of private functions cite it.
-use Rattle.std.specs.Prelude.{◌≡◌, ℕ, ◌+◌, List, Bool, true, false, Result, Ok}
+use Rattle.std.specs.Prelude.{◌≡◌, ℕ, ◌+◌, List, Bool, true, false, Ok}
 use Rattle.pe_c.specs.Unwinding.{flat_record_at, six_zeros}
 use Rattle.pe_c.specs.declared.unwinding.CodeWalk.{CodeWalk}
 use Rattle.pe_c.specs.declared.unwinding.UnwindRecord.{UnwindRecord}

@@ -1,5 +1,5 @@
 -- An unwind record with its codes in one call, and all codes of a record.
-use Rattle.std.specs.Prelude.{◌≡◌, ◌⊎◌, ℕ, ◌==◌, ◌<◌, List, ◌++◌, length, drop, Option, None, Result, Ok, Err, if◌then◌else◌}
+use Rattle.std.specs.Prelude.{◌≡◌, ◌⊎◌, ℕ, ◌==◌, ◌<◌, List, ◌++◌, length, drop, Option, Result, Ok, Err, if◌then◌else◌}
 use Rattle.pe_core.specs.Refusals.{Refusal}
 use Rattle.pe_core.specs.declared.error.Error.{Error}
 use Rattle.pe_unwind.specs.CodeStream.{CodeStream, ReturnsCode}

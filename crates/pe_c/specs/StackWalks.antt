@@ -1,5 +1,5 @@
 -- Walks of a stack on x64 in records of a caller.
-use Rattle.std.specs.Prelude.{ℕ, ◌-◌}
+use Rattle.std.specs.Prelude.{◌-◌}
 use Rattle.std.specs.Option.{unwrap_or}
 use Rattle.pe_frame.specs.declared.walk.StackFrame.{StackFrame}
 use Rattle.pe_frame.specs.declared.walk.WalkEnd.{WalkEnd}

@@ -1,6 +1,5 @@
 -- An image as calls take it in one argument.
-use Rattle.std.specs.Prelude.{ℕ, List, Option}
-use Rattle.pe_c.specs.declared.section_index.IndexEntry.{IndexEntry}
+use Rattle.std.specs.Prelude.{ℕ, Option}
 use Rattle.pe_c.specs.declared.view.View.{View}
 use Rattle.pe_c.specs.Images.{map_of_image}
 use Rattle.pe_c.specs.SectionIndexes.{sections_by}
