@@ -39,6 +39,7 @@ const SIZE_OF_RESOURCE_DIRECTORY: u64 = 16;
 /// What a directory needs: so many bytes at an RVA. Of bound imports that is a file offset.
 #[derive(Clone, Copy)]
 pub struct NeededPart {
+    /// Where it is needed.
     pub rva: u32,
     /// In bytes.
     pub size: u64,

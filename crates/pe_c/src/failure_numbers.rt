@@ -80,8 +80,11 @@ pub const BOUND_IMPORT_NAME: u32 = 308;
 /// The numbers of a failure.
 #[derive(Clone, Copy)]
 pub struct ErrorNumbers {
+    /// Of what is truncated or refused, or where it ends.
     pub offset: u64,
+    /// How many bytes are needed.
     pub needed: u64,
+    /// The number that is refused.
     pub value: u64,
 }
 

@@ -281,7 +281,7 @@ fn record_at(bytes: &[u8], offset: usize) -> Result<UnwindRecord>
 /// compilers write no links.
 #[cold]
 #[inline(never)]
-fn linked_offset(view: &View, table: &Range, unwind: u32) -> Result<usize>
+pub fn linked_offset(view: &View, table: &Range, unwind: u32) -> Result<usize>
     ensures { FindsOffset (links_at view.now.bytes.now view.now.image.now view.now.sections.now
         table.now) unwind
         (answer_of result) }

@@ -29,6 +29,7 @@ ghost use Rattle.pe_c.specs.Imports.{import_step, libraries_at, library_step};
 ghost use Rattle.pe_c.specs.LoadConfigs.{load_config_at};
 ghost use Rattle.pe_c.specs.ResourceLeaves.{first_item, items_left, leaves_start};
 ghost use Rattle.pe_c.specs.Te.{te_image_at, te_section};
+ghost use Rattle.pe_c.specs.UnwindFailures.{LinksEnd};
 ghost use Rattle.pe_c.specs.Unwinding.{FollowsToRecord, HandsOutCode, HandsOutRecord, StepsCodes, exception_table_at};
 ghost use Rattle.pe_c.specs.declared.arm64.codes.Arm64Code.{Arm64Code};
 ghost use Rattle.pe_c.specs.declared.arm64.codes.Arm64CodeWalk.{Arm64CodeWalk};
@@ -117,8 +118,9 @@ pub fn debug_failures_are_those_of_the_calls()
 
 /// A call that says why a step is refused, or what is read by its key, says so exactly where the call that makes the step or reads it
 /// returns an error, with its number. Where a definition says what a step returns, both calls have that one: the clause says that the
-/// number is its refusal's. Where a relation does, it is of any two answers.
-#[tactic(auto, using(crate::proofs::DirectoryFailures::agree, crate::proofs::DirectoryFailures::directories_agree, crate::proofs::DirectoryFailures::trees_agree))]
+/// number is its refusal's. Where a relation does, it is of any two answers; and the RVA at which links end, by which the numbers of
+/// unwind records are, is one.
+#[tactic(auto, using(crate::proofs::UnwindFailures::links_end_once, crate::proofs::DirectoryFailures::agree, crate::proofs::DirectoryFailures::directories_agree, crate::proofs::DirectoryFailures::trees_agree))]
 pub fn step_failures_are_those_of_the_calls()
     ensures libraries { (offset : ℕ → Option ℕ) (w : ℕ) (b : List ℕ) (walk : Libraries)
         → AllAgree (library_step offset w b walk).0 (refused (library_step offset w b walk).0) }
@@ -127,6 +129,7 @@ pub fn step_failures_are_those_of_the_calls()
     ensures unwind_records { (b : List ℕ) (links : Result Table Refusal) (a : ℕ) (answer : Result UnwindRecord Refusal)
         → FollowsToRecord b links a answer
         → (number : ℕ) (old new : UnwindRecord) → HandsOutRecord b links a number old new → Agrees number (refused answer) }
+    ensures links { (t : Table) (u : ℕ) (x y : Option ℕ) → LinksEnd t u x → LinksEnd t u y → x ≡ y }
     ensures codes { (b : List ℕ) (walk after : CodeWalk) (answer : Result (Option Code) Refusal)
         → StepsCodes b walk answer after
         → (v : CodeWalk) (number : ℕ) (old new : Code) → HandsOutCode b walk v number old new → Agrees number (refused answer) }

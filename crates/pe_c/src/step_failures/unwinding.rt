@@ -14,9 +14,9 @@ use crate::failure_numbers::{
 };
 use crate::image::offset_of;
 use crate::ranges::Range;
-use crate::unwinding::{CodeWalk, next_code, read_record};
+use crate::unwinding::{CodeWalk, linked_offset, next_code, read_record};
 use crate::view::View;
-use pe_core::{Result, read_u8, read_u32, require_bytes};
+use pe_core::{Error, Reason, Result, read_u8, read_u32, require_bytes};
 use pe_unwind::UnwindCode;
 
 /// The size of an entry of the function table in bytes.
@@ -91,6 +91,19 @@ fn last_link(view: &View, table: &Range, unwind: u32) -> Option<u32>
         }
     }
     None
+}
+
+/// The same. Links that never end are told as `pe_c_unwind_record` tells them: after about as many as a loop has, while more than
+/// entries would be followed above.
+#[tactic(auto, using(crate::proofs::UnwindFailures::linked_endless))]
+fn links_end(view: &View, table: &Range, unwind: u32) -> Option<u32>
+    ensures { LinksEnd (table_there view.now.bytes.now view.now.image.now
+        view.now.sections.now table.now) unwind result }
+{
+    match linked_offset(view, table, unwind) {
+        Err(Error::Malformed(Reason::FunctionCycle(_))) => None,
+        _ => last_link(view, table, unwind),
+    }
 }
 
 /// The size in bytes of what follows the codes of a record with these flags.
@@ -187,7 +200,7 @@ fn record_failure(view: &View, table: &Range, unwind: u32) -> Option<Failure>
         unwind result }
 {
     let number = refused(read_record(view, table, unwind));
-    let last = last_link(view, table, unwind);
+    let last = links_end(view, table, unwind);
     failure_of_record(view, table, unwind, last, number)
 }
 
