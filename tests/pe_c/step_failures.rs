@@ -14,7 +14,7 @@ use super::made::{
     DIRECTORY_BOUND_IMPORT_NAME, DIRECTORY_DELAY_IMPORT_NAME, DIRECTORY_NO_ARGUMENT,
     DIRECTORY_VA_BELOW_BASE, EXCEPTION_SIZE, FUNCTION_CYCLE, FUNCTION_LINK, IMPORT_NAME,
     NO_FAILURE, SHORT, STRING_TABLE, TREE_NO_ENTRIES, TREE_NOT_DATA, TREE_NOT_DIRECTORY, UNMAPPED,
-    UNWIND_CODE, UNWIND_VERSION, X64, image, range, sections, view,
+    UNWIND_CODE, UNWIND_VERSION, X64, image, range, section, sections, view,
 };
 use super::resource_leaves::{NO_LEAF, of_size, start, walk as leaves_of, with_tree};
 use super::unwinding::with_records;
@@ -224,6 +224,28 @@ fn unwind_records(rt: HostRuntime) -> Result<(), Fail> {
             pe_c_unwind_record_failure(view, &range(12, 0x85), unwind, out)
         });
         assert_eq!(rt; found, error(SHORT, [12, 0x85, 0]));
+    }
+    Ok(())
+}
+
+/// 20,000 entries at RVA 1000h, each a link to the first, which is one to itself, after 20,000 sections that cover nothing. To follow
+/// as many links as there are entries would take minutes here.
+#[test]
+fn links_that_never_end_are_told_early(rt: HostRuntime) -> Result<(), Fail> {
+    let mut bytes = Vec::new(rt.alloc());
+    bytes.resize(20_000 * 12, 0)?;
+    for entry in 0..20_000 {
+        bytes[12 * entry + 8..12 * entry + 12].copy_from_slice(&0x1001_u32.to_le_bytes());
+    }
+    let mut many = Vec::new(rt.alloc());
+    many.resize(20_000, section(0x8000_0000, 1, 0, 0))?;
+    many.push(section(0x1000, 0x4_0000, 0, 0x4_0000))?;
+    let (mut out, image) = (NO_FAILURE, image(X64));
+    for unwind in [0x1001, 0x1001 + 12] {
+        let view = view(&bytes, &image, &many);
+        let answer = pe_c_unwind_record_failure(&view, &range(0, 240_000), unwind, &mut out);
+        let wanted = error(FUNCTION_CYCLE, [0, 0, u64::from(unwind)]);
+        assert_eq!(rt; said_with(answer, &out), wanted);
     }
     Ok(())
 }
