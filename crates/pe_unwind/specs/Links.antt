@@ -5,27 +5,26 @@ use Rattle.pe_core.specs.SectionMap.{SectionMapView, map_view, offset_in}
 use Rattle.pe_core.specs.declared.options.ParseOptions.{ParseOptions}
 use Rattle.pe_core.specs.declared.section_table.SectionTable.{SectionTable}
 use Rattle.pe_core.specs.Chains.{after}
-use Rattle.pe_unwind.specs.declared.links.Links.{Links}
 use Rattle.pe_unwind.specs.ExceptionTable.{ExceptionView, table_of}
 use Rattle.pe_unwind.specs.FunctionTable.{function_at}
 
--- the bytes of a function table, its file offset, and the section map
+-- the bytes of a function table, its file offset, and the map from RVAs to file offsets
 pub record Table : Type 0 where
   pub entries : List ℕ
   pub start : ℕ
   pub offset : ℕ → Option ℕ
 
+-- the table of these bytes, at this file offset, by a map
+abbrev pub linked_table : List ℕ → ℕ → (ℕ → Option ℕ) → Table
+linked_table entries start offset = record { entries = entries; start = start; offset = offset }
+
 -- the table of an exception directory, by a section map
 abbrev pub links_by : ExceptionView → SectionMapView → Table
-links_by v m = record { entries = table_of v; start = v.start; offset = offset_in m }
+links_by v m = linked_table (table_of v) v.start (offset_in m)
 
 -- the same by the map of these sections, with these options and the directory's own file alignment
 abbrev pub links_of : ExceptionView → List SectionTable → ParseOptions → Table
 links_of v sections opts = links_by v (map_view opts sections v.alignment)
-
--- the same, as the code that follows links has it
-abbrev pub table_view : Links → Table
-table_view l = record { entries = l.table.now; start = l.start; offset = offset_in l.sections.now }
 
 -- how many whole entries there are
 abbrev pub table_count : Table → ℕ

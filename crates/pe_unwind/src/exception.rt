@@ -8,7 +8,7 @@ use crate::arm64::function::{
 use crate::arm64::info::Arm64UnwindInfo;
 use crate::arm64::lookup::search_arm64;
 use crate::function_table::{RuntimeFunction, RuntimeFunctionIterator, SIZE_OF_FUNCTION, search};
-use crate::links::Links;
+use crate::links::linked_record_offset;
 use crate::unwind_info::UnwindInfo;
 use pe_core::{
     ByteRange, CountedTable, DataDirectory, Error, ParseOptions, Reason, Result, SectionMap,
@@ -67,7 +67,7 @@ impl<'a> ExceptionData<'a> {
     ghost use Rattle.pe_unwind.specs.Arm64Unwinding.{offset_of_function, info_of_function};
     ghost use Rattle.pe_unwind.specs.FunctionTable.{functions, function_items, items_of_functions, Finds};
     ghost use Rattle.pe_core.specs.SectionMap.{map_view};
-    ghost use Rattle.pe_unwind.specs.Links.{IsEndless, links_by, links_of, table_view};
+    ghost use Rattle.pe_unwind.specs.Links.{IsEndless, links_by, links_of};
     ghost use Rattle.pe_unwind.specs.Unwinding.{FindsRecord, Unwinds, UnwindsFound, UnwindsAt};
     ghost use Rattle.pe_unwind.specs.UnwindRecord.{unwind_view};
 
@@ -300,17 +300,6 @@ impl<'a> ExceptionData<'a> {
         SectionMap::new(sections, self.file_alignment, opts)
     }
 
-    /// The links between the entries of the table, by a section map.
-    fn links<'b>(&self, sections: &'b SectionMap<'b>) -> Links<'a, 'b>
-        ensures { table_view result ≡ links_by self.now sections.now }
-    {
-        Links {
-            table: self.table_bytes(),
-            start: self.offset,
-            sections,
-        }
-    }
-
     /// The file offset of the unwind record of an unwind RVA, as `unwind_info_address` of an entry has it. An even RVA
     /// is that of the record. An odd one is a link to the entry at that RVA minus one, whose unwind RVA is followed
     /// instead.
@@ -327,7 +316,7 @@ impl<'a> ExceptionData<'a> {
             (links_of self.now sections.now opts.now) unwind_address (answer_of result) }
     {
         let sections = self.section_map(sections, opts);
-        self.links(&sections).record_offset(unwind_address)
+        linked_record_offset(self.table_bytes(), self.offset, &sections, unwind_address)
     }
 
     /// The unwind record of an x64 function, with the default options. Errors: those of `get_unwind_info_with_opts`.
@@ -377,16 +366,15 @@ impl<'a> ExceptionData<'a> {
         ensures cycle { (answer_by unwind_view result ≡ Err FunctionCycle)
             ↔ IsEndless (links_by self.now sections.now) function.unwind_info_address }
     {
-        let links = self.links(sections);
-        self.linked_record(&links, function.unwind_info_address)
+        self.linked_record(sections, function.unwind_info_address)
     }
 
     /// The unwind record at the end of the links from an unwind RVA.
-    fn linked_record(&self, links: &Links<'a, '_>, address: u32) -> Result<UnwindInfo<'a>>
-        ensures { Unwinds
-            (table_view links.now) self.now.content address (answer_by unwind_view result) }
+    fn linked_record(&self, sections: &SectionMap<'_>, address: u32) -> Result<UnwindInfo<'a>>
+        ensures { Unwinds (links_by self.now sections.now)
+            self.now.content address (answer_by unwind_view result) }
     {
-        let offset = links.record_offset(address)?;
+        let offset = linked_record_offset(self.table_bytes(), self.offset, sections, address)?;
         UnwindInfo::parse(self.bytes, offset)
     }
 
@@ -471,8 +459,7 @@ impl<'a> ExceptionData<'a> {
             return Ok(None);
         };
         let sections = self.section_map(sections, opts);
-        let links = self.links(&sections);
-        let info = self.linked_record(&links, function.unwind_info_address)?;
+        let info = self.linked_record(&sections, function.unwind_info_address)?;
         Ok(Some(info))
     }
 }

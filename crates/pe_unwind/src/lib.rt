@@ -31,12 +31,13 @@ pub use arm64::function::{
     Arm64RuntimeFunctionIterator,
 };
 pub use arm64::info::{Arm64ExceptionHandler, Arm64UnwindInfo};
-pub use arm64::lookup::search_arm64;
+pub use arm64::lookup::{last_start_arm64, search_arm64};
 pub use arm64::words::{
     Arm64EpilogScope, Arm64EpilogScopeIterator, Arm64UnwindExtension, Arm64UnwindHeader,
 };
 pub use exception::ExceptionData;
 pub use function_table::{RuntimeFunction, RuntimeFunctionIterator, search};
+pub use links::{RvaMap, linked_record_offset};
 pub use register::Register;
 pub use scope_table::{ScopeTableEntry, ScopeTableIterator};
 pub use unwind_code::{StackFrameOffset, UnwindCode, UnwindCodeIterator, UnwindOperation};

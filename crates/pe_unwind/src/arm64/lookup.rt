@@ -6,7 +6,7 @@ ghost use Rattle.std.specs.Prelude.{◌≡◌, ℕ, ◌+◌, ◌≤◌, length};
 ghost use Rattle.pe_core.specs.Refusals.{Returns, answer_of};
 ghost use Rattle.pe_unwind.specs.Arm64Functions.{arm64_functions};
 ghost use Rattle.pe_unwind.specs.Arm64Lookup.{FindsArm64, length_of_arm64};
-ghost use Rattle.pe_unwind.specs.Lookup.{digits};
+ghost use Rattle.pe_unwind.specs.Lookup.{FindsStart, digits};
 
 use super::function::Arm64RuntimeFunction;
 use super::words::Arm64UnwindHeader;
@@ -37,6 +37,22 @@ impl Arm64RuntimeFunction {
     }
 }
 
+/// Returns the ARM64 entry at which a lookup of an RVA stops, by binary search of the starts alone: it starts at or before the RVA,
+/// and the next one after it. `None` if the search stops before the first entry. Whether the function covers the RVA is the caller's
+/// test, by its `length`: for it the caller may map the RVA of the record himself, as by an index of the sections. It reads at most
+/// as many entries as their number has binary digits, which `table` counts.
+#[tactic(auto, unfolding(crate::specs::Arm64Functions::arm64_functions))]
+pub fn last_start_arm64(table: &mut CountedTable, rva: u32) -> Option<Arm64RuntimeFunction>
+    ensures found { FindsStart (λ f. f.begin_address)
+        (arm64_functions table.old.content) rva result }
+    ensures kept { table.new.content ≡ table.old.content }
+    ensures counted { table.old.count ≤ table.new.count }
+    ensures cost { table.new.count ≤ table.old.count + digits
+        (length (arm64_functions table.old.content)) }
+{
+    last_start::<Arm64RuntimeFunction>(table, rva)
+}
+
 /// Returns the ARM64 entry that covers an RVA, by binary search of the entries. It reads at most as many of them as their
 /// number has binary digits, which `table` counts, and at most one unwind record. `bytes` is the whole file.
 ///
@@ -45,7 +61,7 @@ impl Arm64RuntimeFunction {
 /// position, so there it returns what a linear scan finds. In any other table which position it is depends on the search.
 ///
 /// Errors, of the first entry's record alone: `Unmapped` if its RVA is not mapped; `Short` if its header is truncated.
-#[tactic(auto, unfolding(crate::specs::Arm64Functions::arm64_functions), using(crate::proofs::Arm64Searches::finds_no_entry, crate::proofs::Arm64Searches::finds_refused, crate::proofs::Arm64Searches::finds_long_enough, crate::proofs::Arm64Searches::finds_too_short))]
+#[tactic(auto, using(crate::proofs::Arm64Searches::finds_no_entry, crate::proofs::Arm64Searches::finds_refused, crate::proofs::Arm64Searches::finds_long_enough, crate::proofs::Arm64Searches::finds_too_short))]
 pub fn search_arm64(
     table: &mut CountedTable,
     rva: u32,
@@ -59,7 +75,7 @@ pub fn search_arm64(
     ensures cost { table.new.count ≤ table.old.count + digits
         (length (arm64_functions table.old.content)) }
 {
-    let Some(function) = last_start::<Arm64RuntimeFunction>(table, rva) else {
+    let Some(function) = last_start_arm64(table, rva) else {
         return Ok(None);
     };
     let length = function.length(bytes, sections)?;
