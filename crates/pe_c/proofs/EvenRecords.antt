@@ -1,5 +1,6 @@
 -- An even unwind RVA is no link: its record is at that RVA.
-use Rattle.std.proofs.Common.{◌≡◌, ◌⊎◌, inl, inr, arith, ℕ, ◌+◌, ◌-◌, ◌*◌, ◌/◌, ◌%◌, ◌<◌, ◌≤◌, true, List, [], ◌∷◌, Option, Some, Result, Ok, refl, sym, subst}
+use Rattle.std.proofs.Common.{◌≡◌, ◌⊎◌, inl, inr, arith, ℕ, ◌+◌, ◌-◌, ◌*◌, ◌/◌, ◌%◌, ◌<◌, ◌≤◌, true, List, [], ◌∷◌, length, Option, Some, Result, Ok, refl, ap, sym, subst, ◌∙◌}
+use Rattle.std.specs.Prelude.{◌==◌}
 use Rattle.pe_core.specs.Refusals.{Refusal, ◌>>=◌}
 use Rattle.std.specs.Int.{is_power_of_two}
 use Rattle.std.specs.List.{slice_get}
@@ -12,15 +13,17 @@ use Rattle.pe_c.specs.Images.{map_of_image}
 use Rattle.pe_c.specs.Ranges.{bytes_at}
 use Rattle.pe_c.specs.HandsOut.{HandsOut}
 use Rattle.pe_c.specs.Unwinding.{FindsOffset, FollowsToRecord, HandsOutRecord, flat_record_at, links_at}
-use Rattle.pe_c.specs.declared.image.Image.{Image}
 use Rattle.pe_c.specs.declared.ranges.Range.{Range}
 use Rattle.pe_c.specs.declared.results.TheConstants.{DONE}
 use Rattle.pe_c.specs.declared.unwinding.UnwindRecord.{UnwindRecord}
-use Rattle.pe_unwind.specs.Links.{Table}
+use Rattle.pe_c.specs.declared.view.View.{View}
+use Rattle.pe_c.specs.Views.{map_of}
+use Rattle.pe_c.proofs.NearMaps.{all_sections}
+use Rattle.pe_unwind.specs.Links.{Table, linked_table}
 
-pub even_offsets : (b : List ℕ) (image : Image) (s : List SectionTable) (table : Range) (u : ℕ) (entries : List ℕ) → bytes_at b table ≡ Ok entries → u % 2 ≡ 0 → FindsOffset (links_at b image s table) u (mapped (map_of_image image s u))
-even_offsets b image s table u entries inside even =
-    subst (λ (x : Result (List ℕ) Refusal). FindsOffset (x >>= λ e. Ok (record { entries = e; start = table.offset; offset = map_of_image image s })) u (mapped (map_of_image image s u)))
+pub even_offsets : (offset : ℕ → Option ℕ) (b : List ℕ) (table : Range) (u : ℕ) (entries : List ℕ) → bytes_at b table ≡ Ok entries → u % 2 ≡ 0 → FindsOffset (links_at offset b table) u (mapped (offset u))
+even_offsets offset b table u entries inside even =
+    subst (λ (x : Result (List ℕ) Refusal). FindsOffset (x >>= λ e. Ok (linked_table e table.offset offset)) u (mapped (offset u)))
     (sym inside) (Ok u, ((0, refl), even), refl)
 
 -- the first section maps an RVA that it covers, by tests that round the RVA down
@@ -39,10 +42,14 @@ pub below_some : (size page : ℕ) → ((size ≡ 0 → ⊥) × (page < size)) �
 below_some size page (inl below) some = below.1
 below_some size page (inr none) some = absurd (omega (arith, none, some))
 
--- where the section map has an offset, the record is there
-pub near_offset : (b : List ℕ) (image : Image) (s : List SectionTable) (table : Range) (u p : ℕ) (entries : List ℕ) → bytes_at b table ≡ Ok entries → u % 2 ≡ 0 → map_of_image image s u ≡ Some p → FindsOffset (links_at b image s table) u (Ok p)
-near_offset b image s table u p entries inside even here =
-    subst (λ (x : Option ℕ). FindsOffset (links_at b image s table) u (mapped x)) here (even_offsets b image s table u entries inside even)
+-- where the map has an offset, the record is there
+pub near_offset : (offset : ℕ → Option ℕ) (b : List ℕ) (table : Range) (u p : ℕ) (entries : List ℕ) → bytes_at b table ≡ Ok entries → u % 2 ≡ 0 → offset u ≡ Some p → FindsOffset (links_at offset b table) u (Ok p)
+near_offset offset b table u p entries inside even here =
+    subst (λ (x : Option ℕ). FindsOffset (links_at offset b table) u (mapped x)) here (even_offsets offset b table u entries inside even)
+
+-- without an index the map is that of the sections
+pub by_sections : (v : View) (u p : ℕ) → true ≡ (length v.index.now == 0) → map_of_image v.image.now v.sections.now u ≡ Some p → map_of v u ≡ Some p
+by_sections v u p none here = ap (λ (s : List SectionTable). map_of_image v.image.now s u) (all_sections v.sections.now v.index.now u none) ∙ here
 
 -- a record at the offset that is found is that of the RVA
 pub near_follows : (b : List ℕ) (links : Result Table Refusal) (u p : ℕ) (r : UnwindRecord) → FindsOffset links u (Ok p) → flat_record_at b p ≡ Ok r → FollowsToRecord b links u (Ok r)

@@ -1,6 +1,7 @@
 pub mod AddressEntries
 pub mod Addresses
 pub mod Arm64CodeRuns
+pub mod Arm64Maps
 pub mod CertificateRuns
 pub mod CodeRuns
 pub mod DigestParts

@@ -98,7 +98,7 @@ as_loaded true alignment sections rva off small = absurd cc
 
 -- ---- by a view
 
-all_sections : (sections : List SectionTable) (es : List IndexEntry) (x : ℕ) → true ≡ (length es == 0) → sections_by sections es x ≡ sections
+pub all_sections : (sections : List SectionTable) (es : List IndexEntry) (x : ℕ) → true ≡ (length es == 0) → sections_by sections es x ≡ sections
 unfolding sections_by
 all_sections sections [] x none = refl
 all_sections sections (e ∷ es) x none = absurd (grind (arith, nat_tests))

@@ -8,22 +8,19 @@ use Rattle.pe_core.specs.Chains.{after}
 use Rattle.pe_core.specs.Refusals.{Refusal, FunctionCycle, Short, ◌>>=◌}
 use Rattle.pe_core.specs.SectionMap.{mapped}
 use Rattle.pe_core.specs.declared.error.Error.{Error}
-use Rattle.pe_core.specs.declared.section_table.SectionTable.{SectionTable}
 use Rattle.pe_unwind.proofs.LinkChains.{cycle_is_endless, cycles}
-use Rattle.pe_unwind.specs.Links.{Follows, IsEndless, Table, next, table_count}
+use Rattle.pe_unwind.specs.Links.{Follows, IsEndless, Table, linked_table, next, table_count}
 use Rattle.pe_unwind.specs.Unwinding.{FindsRecord}
 use Rattle.pe_unwind.specs.declared.unwind_code.UnwindCode.{UnwindCode}
 use Rattle.pe_c.specs.Arm64.{StepsArm64Codes}
 use Rattle.pe_c.specs.Arm64Failures.{IsWhyOfArm64Code, arm64_code_numbers}
 use Rattle.pe_c.specs.FailureNumbers.{failure_by, or_no_bytes, refused}
-use Rattle.pe_c.specs.Images.{map_of_image}
 use Rattle.pe_c.specs.Ranges.{bytes_at}
 use Rattle.pe_c.specs.UnwindFailures.{IsWhyOfCode, IsWhyOfRecord, LinksEnd, code_numbers, record_numbers, table_there}
 use Rattle.pe_c.specs.Unwinding.{FindsOffset, FollowsToRecord, WalksIn, flat_answer, links_at}
 use Rattle.pe_c.specs.declared.arm64.codes.Arm64Code.{Arm64Code}
 use Rattle.pe_c.specs.declared.arm64.codes.Arm64CodeWalk.{Arm64CodeWalk}
 use Rattle.pe_c.specs.declared.failure.Failure.{Failure}
-use Rattle.pe_c.specs.declared.image.Image.{Image}
 use Rattle.pe_c.specs.declared.ranges.Range.{Range}
 use Rattle.pe_c.specs.declared.unwinding.CodeWalk.{CodeWalk}
 use Rattle.pe_c.specs.declared.unwinding.UnwindRecord.{UnwindRecord}
@@ -67,22 +64,22 @@ short_alone : (held : Bool) (bytes : List ℕ) → (if held then Ok bytes else E
 short_alone true bytes h = cc
 short_alone false bytes h = cc
 
-by_entries : (r : Result (List ℕ) Refusal) (start : ℕ) (offset : ℕ → Option ℕ) (u : ℕ) (answer : Result ℕ Refusal) → (r ≡ Err FunctionCycle → ⊥) → FindsOffset (r >>= λ entries. Ok (record { entries = entries; start = start; offset = offset })) u answer → answer ≡ Err FunctionCycle →
-    IsEndless (record { entries = or_no_bytes r; start = start; offset = offset }) u
-by_entries (Ok entries) start offset u answer other f h = found_endless (record { entries = entries; start = start; offset = offset }) u answer f h
+by_entries : (r : Result (List ℕ) Refusal) (start : ℕ) (offset : ℕ → Option ℕ) (u : ℕ) (answer : Result ℕ Refusal) → (r ≡ Err FunctionCycle → ⊥) → FindsOffset (r >>= λ entries. Ok (linked_table entries start offset)) u answer → answer ≡ Err FunctionCycle →
+    IsEndless (linked_table (or_no_bytes r) start offset) u
+by_entries (Ok entries) start offset u answer other f h = found_endless (linked_table entries start offset) u answer f h
 by_entries (Err k) start offset u answer other f h = absurd (other (other_value k FunctionCycle (sym f ∙ h)))
 
-pub linked_endless : (b : List ℕ) (image : Image) (sections : List SectionTable) (table : Range) (u : ℕ) (answer : Result ℕ Refusal) → FindsOffset (links_at b image sections table) u answer → answer ≡ Err FunctionCycle →
-    LinksEnd (table_there b image sections table) u None
-linked_endless b image sections table u answer f h =
-    by_entries (bytes_at b table) table.offset (map_of_image image sections) u answer
+pub linked_endless : (offset : ℕ → Option ℕ) (b : List ℕ) (table : Range) (u : ℕ) (answer : Result ℕ Refusal) → FindsOffset (links_at offset b table) u answer → answer ≡ Err FunctionCycle →
+    LinksEnd (table_there offset b table) u None
+linked_endless offset b table u answer f h =
+    by_entries (bytes_at b table) table.offset offset u answer
     (short_alone (holds b table.offset table.length) (range b table.offset table.length)) f h
 
 -- ---- why a step is refused that returned this
 
-pub why_of_record : (b : List ℕ) (image : Image) (sections : List SectionTable) (table : Range) (u : ℕ) (answer : Result UnwindRecord Refusal) (last : Option ℕ) (found : Option Failure) → FollowsToRecord b (links_at b image sections table) u answer → LinksEnd (table_there b image sections table) u last → found ≡ failure_by (record_numbers b image sections table u last) (refused answer) →
-    IsWhyOfRecord b image sections table u found
-why_of_record b image sections table u answer last found f ends why = (answer, last, f, ends, why)
+pub why_of_record : (offset : ℕ → Option ℕ) (b : List ℕ) (table : Range) (u : ℕ) (answer : Result UnwindRecord Refusal) (last : Option ℕ) (found : Option Failure) → FollowsToRecord b (links_at offset b table) u answer → LinksEnd (table_there offset b table) u last → found ≡ failure_by (record_numbers offset b table u last) (refused answer) →
+    IsWhyOfRecord offset b table u found
+why_of_record offset b table u answer last found f ends why = (answer, last, f, ends, why)
 
 pub why_of_code : (b : List ℕ) (w after : CodeWalk) (given : Option (Result UnwindCode Error)) (found : Option Failure) → WalksIn (bytes_at b w.left) w given after → found ≡ failure_by (code_numbers b w) (refused (flat_answer given)) →
     IsWhyOfCode b w found

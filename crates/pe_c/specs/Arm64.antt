@@ -1,18 +1,18 @@
 -- The functions of ARM64 images, and how their frames are unwound.
 use Rattle.std.specs.Prelude.{◌≡◌, ℕ, ◌+◌, ◌*◌, ◌%◌, ◌<◌, ◌==◌, nat_le, List, [], ◌∷◌, length, Option, Some, None, Result, Ok, Err, if◌then◌else◌}
 use Rattle.pe_core.specs.Bytes.{le}
-use Rattle.pe_core.specs.Refusals.{Refusal, Arm64Stream, Arm64Cut, kind_of, outcome, ◌>>=◌}
-use Rattle.pe_core.specs.SectionMap.{map_view}
+use Rattle.pe_core.specs.Refusals.{Refusal, Arm64Stream, Arm64Cut, ExceptionSize, kind_of, outcome, ◌>>=◌}
+use Rattle.pe_core.specs.SectionMap.{mapped}
 use Rattle.pe_core.specs.declared.error.Error.{Error}
 use Rattle.pe_core.specs.declared.section_table.SectionTable.{SectionTable}
 use Rattle.pe_unwind.specs.Arm64Encoding.{bit, encoding, StartsWithArm64Code, StartsWithNoArm64Code}
 use Rattle.pe_unwind.specs.Arm64Functions.{is_packed, arm64_function_of, arm64_functions}
-use Rattle.pe_unwind.specs.Arm64Lookup.{FindsArm64, length_of_arm64}
+use Rattle.pe_unwind.specs.Arm64Lookup.{FindsArm64, length_in_record}
 use Rattle.pe_unwind.specs.Arm64Record.{Arm64HandlerView, Arm64InfoView, info_at, scopes_offset}
 use Rattle.pe_unwind.specs.Arm64Tiling.{stream_at}
-use Rattle.pe_unwind.specs.Arm64Unwinding.{offset_of_function}
 use Rattle.pe_unwind.specs.Arm64Words.{bits, has_epilog}
-use Rattle.pe_unwind.specs.ExceptionTable.{exception_at}
+use Rattle.pe_unwind.specs.Arm64Unwinding.{offset_of_function}
+use Rattle.pe_unwind.specs.ExceptionTable.{ExceptionView, exception_at, exception_at_offset}
 use Rattle.pe_unwind.specs.declared.arm64.codes.Arm64CustomStackCase.{Arm64CustomStackCase}
 use Rattle.pe_unwind.specs.declared.arm64.codes.Arm64CustomStackCase.TheVariants.{TrapFrame, MachineFrame, Context, EcContext, ClearUnwoundToCall}
 use Rattle.pe_unwind.specs.declared.arm64.codes.Arm64UnwindCode.{Arm64UnwindCode}
@@ -37,9 +37,14 @@ use Rattle.pe_c.specs.declared.ranges.Range.{Range}
 abbrev pub arm64_function_in : List ℕ → Range → ℕ → Result Arm64RuntimeFunction Refusal
 arm64_function_in b table index = bytes_at b table >>= λ entries. arm64_function_of entries index
 
--- the length of an entry's function, by the section map of the image, in the mode in which it is read
-abbrev pub arm64_length_in : List ℕ → Image → List SectionTable → Arm64RuntimeFunction → Result ℕ Refusal
-arm64_length_in b image sections = length_of_arm64 b (map_view (options_of image.mode) sections image.file_alignment)
+-- the RVA of a function's record, where its unwind data is not packed: a multiple of 4
+abbrev pub record_rva : Arm64RuntimeFunction → ℕ
+record_rva f = 4 * bits f.unwind_data 2 30
+
+-- the length of an entry's function: packed into the entry, or in its unwind record, which a map of RVAs finds
+unfoldable pub arm64_length_by : (ℕ → Option ℕ) → List ℕ → Arm64RuntimeFunction → Result ℕ Refusal
+arm64_length_by offset b f =
+    if is_packed f then Ok (4 * bits f.unwind_data 2 11) else (mapped (offset (record_rva f)) >>= length_in_record b)
 
 -- the result of a lookup of an RVA in these entries, or what refuses the table
 abbrev pub LocatesArm64In : (Arm64RuntimeFunction → Result ℕ Refusal) → Result (List ℕ) Refusal → ℕ → Result (Option Arm64RuntimeFunction) Refusal → Type 0
@@ -47,9 +52,9 @@ LocatesArm64In length_of (Err refusal) a answer = answer ≡ Err refusal
 LocatesArm64In length_of (Ok entries) a answer = FindsArm64 length_of (arm64_functions entries) a answer
 
 -- what a call for a lookup returns
-abbrev pub HandsOutArm64Found : List ℕ → Image → List SectionTable → Range → ℕ → ℕ → Arm64RuntimeFunction → Arm64RuntimeFunction → Type 0
-HandsOutArm64Found b image sections table a number old new =
-    (answer : Result (Option Arm64RuntimeFunction) Refusal) × LocatesArm64In (arm64_length_in b image sections) (bytes_at b table) a answer × HandsOutIf number old new answer
+abbrev pub HandsOutArm64Found : (ℕ → Option ℕ) → List ℕ → Range → ℕ → ℕ → Arm64RuntimeFunction → Arm64RuntimeFunction → Type 0
+HandsOutArm64Found offset b table a number old new =
+    (answer : Result (Option Arm64RuntimeFunction) Refusal) × LocatesArm64In (arm64_length_by offset b) (bytes_at b table) a answer × HandsOutIf number old new answer
 
 -- the fields of an entry's unwind data, read as packed
 abbrev pub packed_fields : Arm64RuntimeFunction → Arm64Packed
@@ -109,11 +114,25 @@ abbrev pub info_in : List ℕ → Option (Result ℕ Refusal) → Result (Option
 info_in b None = Ok None
 info_in b (Some offset) = offset >>= λ p. flat_info_at b p >>= λ r. Ok (Some r)
 
+-- the exception data of an image, with entries of 8 bytes, by a map of RVAs; or what refuses it
+abbrev pub arm64_exceptions : (ℕ → Option ℕ) → List ℕ → Image → Result ExceptionView Refusal
+arm64_exceptions offset b image =
+    let d = exception_directory image in
+    if d.size % 8 == 0 then exception_at_offset b d.size image.file_alignment (offset d.virtual_address) else Err ExceptionSize
+
+-- the file offset of a function's record; none where its unwind data is packed
+abbrev pub arm64_record_offset : (ℕ → Option ℕ) → Arm64RuntimeFunction → Option (Result ℕ Refusal)
+arm64_record_offset offset f = if is_packed f then None else Some (mapped (offset (record_rva f)))
+
 -- the record of a function, or none where its unwind data is packed
-abbrev pub arm64_record_of : List ℕ → Image → List SectionTable → ℕ → Arm64RuntimeFunction → Result (Option Arm64Record) Refusal
-arm64_record_of b image sections mode f =
-    exception_at 8 b (exception_directory image) sections image.file_alignment (options_of mode)
-    >>= λ v. info_in b (offset_of_function v sections (options_of mode) f)
+abbrev pub arm64_record_of : (ℕ → Option ℕ) → List ℕ → Image → Arm64RuntimeFunction → Result (Option Arm64Record) Refusal
+arm64_record_of offset b image f = arm64_exceptions offset b image >>= λ v. info_in b (arm64_record_offset offset f)
+
+-- the same as pe_unwind finds it, by an image's sections. The law `arm64_records_are_those_of_the_image` cites it
+abbrev pub arm64_record_in : List ℕ → Image → List SectionTable → Arm64RuntimeFunction → Result (Option Arm64Record) Refusal
+arm64_record_in b image sections f =
+    exception_at 8 b (exception_directory image) sections image.file_alignment (options_of image.mode)
+    >>= λ v. info_in b (offset_of_function v sections (options_of image.mode) f)
 
 -- ---- epilog scopes
 

@@ -2,15 +2,14 @@
 use Rattle.std.specs.Prelude.{◌≡◌, ℕ, ◌+◌, ◌-◌, ◌*◌, ◌^◌, ◌==◌, min, is_some, List, [], ◌∷◌, Option, Result, Ok, if◌then◌else◌}
 use Rattle.pe_core.specs.Bytes.{le}
 use Rattle.pe_core.specs.Refusals.{Refusal, Arm64Cut, Arm64Stream, Arm64Version, ExceptionBounds, ExceptionOffset, ExceptionSize, Short, Unmapped}
-use Rattle.pe_core.specs.declared.section_table.SectionTable.{SectionTable}
 use Rattle.pe_unwind.specs.Arm64Record.{code_words, extension_at, extension_size, handler_size, scope_count, scopes_offset}
 use Rattle.pe_unwind.specs.Arm64Words.{bits}
 use Rattle.pe_unwind.specs.declared.arm64.function.Arm64RuntimeFunction.{Arm64RuntimeFunction}
-use Rattle.pe_c.specs.Arm64.{StepsArm64Codes}
+use Rattle.pe_c.specs.Arm64.{StepsArm64Codes, record_rva}
 use Rattle.pe_c.specs.Exports.{or_zero}
 use Rattle.pe_c.specs.FailureNumbers.{failure_by, needed_at, no_numbers, number_there, numbers, refused, refused_value}
 use Rattle.pe_c.specs.HandsOut.{HandsOutIf, result_number}
-use Rattle.pe_c.specs.Images.{exception_directory, map_of_image}
+use Rattle.pe_c.specs.Images.{exception_directory}
 use Rattle.pe_c.specs.UnwindFailures.{first_truncated}
 use Rattle.pe_c.specs.declared.arm64.codes.Arm64Code.{Arm64Code}
 use Rattle.pe_c.specs.declared.arm64.codes.Arm64CodeWalk.{Arm64CodeWalk}
@@ -51,24 +50,20 @@ arm64_parts b p =
     let q = scopes_offset p header in
     (p, 4) ∷ (p + 4, extension_size header) ∷ (q, scopes) ∷ (q + scopes, codes) ∷ (q + scopes + codes, handler_size header) ∷ []
 
--- the RVA of a function's record, where its unwind data is not packed: a multiple of 4
-abbrev pub record_rva : Arm64RuntimeFunction → ℕ
-record_rva f = 4 * bits f.unwind_data 2 30
-
 -- the RVA that is unmapped: that of the exception directory or, where it is mapped, that of the record
-abbrev pub unmapped_rva : Image → List SectionTable → Arm64RuntimeFunction → ℕ
-unmapped_rva image sections f =
-    if is_some (map_of_image image sections (exception_directory image).virtual_address) then record_rva f
+abbrev pub unmapped_rva : (ℕ → Option ℕ) → Image → Arm64RuntimeFunction → ℕ
+unmapped_rva offset image f =
+    if is_some (offset (exception_directory image).virtual_address) then record_rva f
     else (exception_directory image).virtual_address
 
 -- of the record of a function, and of the exception directory, which is tested first: by its size, its file offset, or its end
-unfoldable pub arm64_record_numbers : List ℕ → Image → List SectionTable → Arm64RuntimeFunction → ℕ → ErrorNumbers
-arm64_record_numbers b image sections f n =
+unfoldable pub arm64_record_numbers : (ℕ → Option ℕ) → List ℕ → Image → Arm64RuntimeFunction → ℕ → ErrorNumbers
+arm64_record_numbers offset b image f n =
     let size = (exception_directory image).size in
-    let table = or_zero (map_of_image image sections (exception_directory image).virtual_address) in
-    let p = or_zero (map_of_image image sections (record_rva f)) in
+    let table = or_zero (offset (exception_directory image).virtual_address) in
+    let p = or_zero (offset (record_rva f)) in
     if n == result_number Short then first_truncated b (arm64_parts b p)
-    else if n == result_number Unmapped then refused_value (unmapped_rva image sections f)
+    else if n == result_number Unmapped then refused_value (unmapped_rva offset image f)
     else if n == result_number ExceptionSize then refused_value size
     else if n == result_number ExceptionOffset then numbers table 0 0
     else if n == result_number ExceptionBounds then numbers (min (table + size) (2 ^ 64 - 1)) 0 0

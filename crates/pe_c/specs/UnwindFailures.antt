@@ -2,17 +2,14 @@
 use Rattle.std.specs.Prelude.{◌≡◌, ℕ, ◌+◌, ◌-◌, ◌*◌, ◌/◌, ◌%◌, ◌==◌, ◌&&◌, ◌||◌, List, [], ◌∷◌, Option, Some, None, Result, Ok, if◌then◌else◌}
 use Rattle.pe_core.specs.Bytes.{holds}
 use Rattle.pe_core.specs.Refusals.{Refusal, FunctionCycle, FunctionLink, Short, Unmapped, UnwindCode, UnwindVersion}
-use Rattle.pe_core.specs.declared.section_table.SectionTable.{SectionTable}
-use Rattle.pe_unwind.specs.Links.{IsEndless, Reaches, Table, next}
+use Rattle.pe_unwind.specs.Links.{IsEndless, Reaches, Table, linked_table, next}
 use Rattle.pe_unwind.specs.UnwindRecord.{after_codes, count_at, flags_at, handles_exceptions, handles_termination, is_chained}
 use Rattle.pe_c.specs.Exports.{or_zero}
 use Rattle.pe_c.specs.FailureNumbers.{bytes_there, failure_by, needed_at, needed_in, no_numbers, number_there, refused, refused_value}
 use Rattle.pe_c.specs.HandsOut.{HandsOutIf, result_number}
-use Rattle.pe_c.specs.Images.{map_of_image}
 use Rattle.pe_c.specs.Unwinding.{FollowsToRecord, StepsCodes, links_at}
 use Rattle.pe_c.specs.declared.failure.Failure.{Failure}
 use Rattle.pe_c.specs.declared.failure_numbers.ErrorNumbers.{ErrorNumbers}
-use Rattle.pe_c.specs.declared.image.Image.{Image}
 use Rattle.pe_c.specs.declared.ranges.Range.{Range}
 use Rattle.pe_c.specs.declared.step_failures.unwinding.TheConstants.{UWOP_ALLOC_LARGE, UWOP_EPILOG, UWOP_SAVE_NONVOL, UWOP_SAVE_NONVOL_FAR, UWOP_SAVE_XMM128, UWOP_SAVE_XMM128_FAR, UWOP_SPARE_CODE}
 use Rattle.pe_c.specs.declared.unwinding.Code.{Code}
@@ -76,10 +73,9 @@ abbrev pub found_needs : List ℕ → Range → ℕ → ErrorNumbers
 found_needs b table p =
     if holds b table.offset table.length then first_truncated b (record_parts b p) else needed_at table.offset table.length
 
--- the function table at a range; without entries where that is not inside the bytes
-abbrev pub table_there : List ℕ → Image → List SectionTable → Range → Table
-table_there b image sections table =
-    record { entries = bytes_there b table; start = table.offset; offset = map_of_image image sections }
+-- the function table at a range, by a map of RVAs; without entries where the range is not inside the bytes
+abbrev pub table_there : (ℕ → Option ℕ) → List ℕ → Range → Table
+table_there offset b table = linked_table (bytes_there b table) table.offset offset
 
 -- the links from an unwind RVA end at this one, which has no next one; or they never end
 abbrev pub LinksEnd : Table → ℕ → Option ℕ → Type 0
@@ -89,10 +85,10 @@ LinksEnd t u None = IsEndless t u
 -- of the record of an unwind RVA u, by the RVA v at which its links end. An even v is that of the record; an odd one is a link,
 -- which leads to the RVA one less: it is unmapped, or no entry of the table starts there. Links that never end are refused by u.
 -- The version of a record is in the low 3 bits of its first byte
-unfoldable pub record_numbers : List ℕ → Image → List SectionTable → Range → ℕ → Option ℕ → ℕ → ErrorNumbers
-record_numbers b image sections table u last n =
+unfoldable pub record_numbers : (ℕ → Option ℕ) → List ℕ → Range → ℕ → Option ℕ → ℕ → ErrorNumbers
+record_numbers offset b table u last n =
     let v = or_zero last in
-    let p = or_zero (map_of_image image sections v) in
+    let p = or_zero (offset v) in
     if n == result_number Short then found_needs b table p
     else if n == result_number Unmapped then refused_value (v - v % 2)
     else if n == result_number FunctionLink then refused_value v
@@ -101,12 +97,12 @@ record_numbers b image sections table u last n =
     else no_numbers
 
 -- why the record of an unwind RVA is refused, where the function table is at this range
-abbrev pub IsWhyOfRecord : List ℕ → Image → List SectionTable → Range → ℕ → Option Failure → Type 0
-IsWhyOfRecord b image sections table u found =
-    (answer : Result UnwindRecord Refusal) × (last : Option ℕ) × FollowsToRecord b (links_at b image sections table) u answer
-    × LinksEnd (table_there b image sections table) u last
-    × (found ≡ failure_by (record_numbers b image sections table u last) (refused answer))
+abbrev pub IsWhyOfRecord : (ℕ → Option ℕ) → List ℕ → Range → ℕ → Option Failure → Type 0
+IsWhyOfRecord offset b table u found =
+    (answer : Result UnwindRecord Refusal) × (last : Option ℕ) × FollowsToRecord b (links_at offset b table) u answer
+    × LinksEnd (table_there offset b table) u last
+    × (found ≡ failure_by (record_numbers offset b table u last) (refused answer))
 
-abbrev pub SaysWhyRecord : List ℕ → Image → List SectionTable → Range → ℕ → ℕ → Failure → Failure → Type 0
-SaysWhyRecord b image sections table u number old new =
-    (found : Option Failure) × IsWhyOfRecord b image sections table u found × HandsOutIf number old new (Ok found)
+abbrev pub SaysWhyRecord : (ℕ → Option ℕ) → List ℕ → Range → ℕ → ℕ → Failure → Failure → Type 0
+SaysWhyRecord offset b table u number old new =
+    (found : Option Failure) × IsWhyOfRecord offset b table u found × HandsOutIf number old new (Ok found)

@@ -7,7 +7,7 @@ use Rattle.pe_core.specs.declared.section_table.SectionTable.{SectionTable}
 use Rattle.pe_unwind.specs.CodeStream.{CodeStream, ReturnsCode}
 use Rattle.pe_unwind.specs.ExceptionTable.{ExceptionView, exception_at, table_range, function_of}
 use Rattle.pe_unwind.specs.FunctionTable.{functions, Finds}
-use Rattle.pe_unwind.specs.Links.{Table}
+use Rattle.pe_unwind.specs.Links.{Table, linked_table}
 use Rattle.pe_unwind.specs.Offsets.{handler_data_of}
 use Rattle.pe_unwind.specs.UnwindRecord.{HandlerView, Exception, Termination, UnwindInfoView, unwind_tests, unwind_record, scope_table_size}
 use Rattle.pe_unwind.specs.Unwinding.{FindsRecord}
@@ -20,7 +20,7 @@ use Rattle.pe_unwind.specs.declared.unwind_code.UnwindOperation.{UnwindOperation
 use Rattle.pe_unwind.specs.declared.unwind_code.UnwindOperation.TheVariants.{PushNonVolatile, Alloc, SetFPRegister, SaveNonVolatile, SaveXMM, Epilog, SaveXMM128, PushMachineFrame, Noop}
 use Rattle.pe_frame.specs.Undoing.{bytes_above}
 use Rattle.pe_c.specs.Exports.{one_if_some}
-use Rattle.pe_c.specs.Images.{exception_directory, is_absent, map_of_image}
+use Rattle.pe_c.specs.Images.{exception_directory, is_absent}
 use Rattle.pe_c.specs.HandsOut.{HandsOut, HandsOutIf}
 use Rattle.pe_c.specs.Modes.{options_of}
 use Rattle.pe_c.specs.Ranges.{no_bytes, range_of, last_range, bytes_at}
@@ -110,10 +110,9 @@ flat_record_at b p = outcome (unwind_tests b p) (unwind_record b p) >>= λ i. Ok
 abbrev pub image_exceptions : List ℕ → Image → List SectionTable → ℕ → Result ExceptionView Refusal
 image_exceptions b image sections mode = exception_at 12 b (exception_directory image) sections image.file_alignment (options_of mode)
 
--- the links between the entries of the function table at a range, or what refuses the range
-abbrev pub links_at : List ℕ → Image → List SectionTable → Range → Result Table Refusal
-links_at b image sections table =
-    bytes_at b table >>= λ entries. Ok (record { entries = entries; start = table.offset; offset = map_of_image image sections })
+-- the links between the entries of the function table at a range, by a map of RVAs; or what refuses the range
+abbrev pub links_at : (ℕ → Option ℕ) → List ℕ → Range → Result Table Refusal
+links_at offset b table = bytes_at b table >>= λ entries. Ok (linked_table entries table.offset offset)
 
 -- the file offset of the record of an unwind RVA by the links of a table, or what refuses the table
 abbrev pub FindsOffset : Result Table Refusal → ℕ → Result ℕ Refusal → Type 0

@@ -1,6 +1,7 @@
 //! Laws over the definitions of `specs/`. Each is the contract of a function that does nothing, so that a caller's
 //! proof can cite it by calling the function.
 
+pub mod arm64;
 pub mod coff;
 pub mod debug;
 pub mod directories;
@@ -23,6 +24,7 @@ ghost use Rattle.pe_c.specs.DebugWalks.{StepsPogoEntries, entries_reported};
 ghost use Rattle.pe_c.specs.ExportAddresses.{address_table, addresses_in, exported_with, exported_at};
 ghost use Rattle.pe_c.specs.Exports.{StepsExports, count_of, tables_or_short, reported_entry, reported_from, walk_over, with_tables};
 ghost use Rattle.pe_c.specs.ImageOfCalls.{IsImageOfCalls};
+ghost use Rattle.pe_c.specs.Images.{map_of_image};
 ghost use Rattle.pe_c.specs.Imports.{libraries_at};
 ghost use Rattle.pe_c.specs.Parts.{HasTables, ImportsInTurn, ReportsExport, ReportsLibraries, ReportsLibrariesUntil, import_records_at};
 ghost use Rattle.pe_c.specs.Modes.{options_of};
@@ -121,7 +123,7 @@ pub fn function_tables_have_their_links()
         exception_table_at COFF_MACHINE_X86_64 12 b image sections image.mode ≡ Ok (Some table) →
         (v : ExceptionView) × (image_exceptions b image sections image.mode ≡ Ok v)
         × (v.content ≡ b)
-        × (links_at b image sections table ≡ Ok (links_of v sections (options_of image.mode))) }
+        × (links_at (map_of_image image sections) b table ≡ Ok (links_of v sections (options_of image.mode))) }
 {}
 
 /// The plan that `pe_c_plan_from` starts for a function of a table, one record a step, is that of pe_plan. Where a step

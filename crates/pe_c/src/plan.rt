@@ -7,6 +7,7 @@ ghost use Rattle.std.specs.Prelude.{◌≡◌};
 ghost use Rattle.pe_core.specs.Refusals.{answer_of};
 ghost use Rattle.pe_c.specs.Plans.{goes_on, ended, plan_from, returned_record, after_record, StepsPlan, HandsOutPlan};
 ghost use Rattle.pe_c.specs.Unwinding.{links_at};
+ghost use Rattle.pe_c.specs.Views.{map_of};
 
 use crate::ranges::Range;
 use crate::results::{DONE, hand_out_some};
@@ -91,8 +92,7 @@ fn advance(plan: &mut Plan, next: UnwindRecord) -> Result<Option<UnwindRecord>>
 }
 
 fn next_record(view: &View, table: &Range, plan: &mut Plan) -> Result<Option<UnwindRecord>>
-    ensures { StepsPlan view.now.bytes.now (links_at view.now.bytes.now view.now.image.now
-        view.now.sections.now table.now) plan.old
+    ensures { StepsPlan view.now.bytes.now (links_at (map_of view.now) view.now.bytes.now table.now) plan.old
         (answer_of result) plan.new }
 {
     if plan.is_over != 0 {
@@ -118,8 +118,7 @@ pub extern "C" fn pe_c_next_record(
     plan: &mut Plan,
     out: &mut UnwindRecord,
 ) -> u32
-    ensures { HandsOutPlan view.now.bytes.now (links_at view.now.bytes.now view.now.image.now
-        view.now.sections.now table.now)
+    ensures { HandsOutPlan view.now.bytes.now (links_at (map_of view.now) view.now.bytes.now table.now)
         plan.old plan.new result out.old out.new }
 {
     hand_out_some(next_record(view, table, plan), out)

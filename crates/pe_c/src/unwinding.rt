@@ -17,20 +17,21 @@ ghost use Rattle.pe_frame.specs.Undoing.{bytes_above};
 ghost use Rattle.pe_c.specs.Exports.{one_if_some};
 ghost use Rattle.pe_c.specs.NearRecords.{PutsRecord, codes_after};
 ghost use Rattle.pe_c.specs.Unwinding.{exception_table_at, HandsOutFound, function_in, or_no_function, handler_kind, handler_address, handler_range, flat_record, flat_record_at, FindsOffset, FollowsToRecord, HandsOutRecord, links_at, from_frame, saving, plain, flat, StepsOver, WalksIn, HandsOutCode, scopes_at};
+ghost use Rattle.pe_c.specs.Views.{map_of};
 ghost use Rattle.pe_c.specs.Walks.{next_of, walk_of};
 
 use crate::image::{EXCEPTION_TABLE, directory, is_absent};
 use crate::ranges::{NO_BYTES, Range, last_range, range_of, slice_of};
 use crate::results::{DONE, NOTHING, hand_out, hand_out_some, number_of, options};
-use crate::view::View;
+use crate::view::{View, map_by};
 use crate::walks::next_entry;
 use pe_core::{
-    ByteRange, COFF_MACHINE_X86_64, CountedTable, Result, SectionTable, TableEntry, find_offset,
-    mapped_offset, read_u8, read_u32,
+    COFF_MACHINE_X86_64, CountedTable, Result, SectionTable, TableEntry, read_u8, read_u32,
 };
 use pe_unwind::{
-    ExceptionData, Register, RuntimeFunction, ScopeTableEntry, StackFrameOffset, UnwindCode,
-    UnwindCodeIterator, UnwindHandler, UnwindInfo, UnwindOperation, scope_table_size, search,
+    ExceptionData, Register, RuntimeFunction, RvaMap, ScopeTableEntry, StackFrameOffset,
+    UnwindCode, UnwindCodeIterator, UnwindHandler, UnwindInfo, UnwindOperation,
+    linked_record_offset, scope_table_size, search,
 };
 
 /// The size of an entry of a scope table in bytes.
@@ -282,39 +283,30 @@ fn record_at(bytes: &[u8], offset: usize) -> Result<UnwindRecord>
 #[cold]
 #[inline(never)]
 pub fn linked_offset(view: &View, table: &Range, unwind: u32) -> Result<usize>
-    ensures { FindsOffset (links_at view.now.bytes.now view.now.image.now view.now.sections.now
-        table.now) unwind
+    ensures { FindsOffset (links_at (map_of view.now) view.now.bytes.now table.now) unwind
         (answer_of result) }
 {
-    let table = ByteRange {
-        offset: table.offset as usize,
-        length: table.length as usize,
-    };
-    let exceptions = ExceptionData::of_table(view.bytes, table, view.image.file_alignment)?;
-    exceptions.record_offset(unwind, view.sections, &options(view.image.mode))
+    let entries = slice_of(view.bytes, table)?;
+    linked_record_offset(entries, table.offset as usize, view, unwind)
 }
 
 /// The same, where an even RVA, which is no link, needs none of the table.
 #[inline(always)]
-#[tactic(auto, using(crate::proofs::EvenRecords::even_offsets))]
 fn find_record_offset(view: &View, table: &Range, unwind: u32) -> Result<usize>
-    ensures { FindsOffset (links_at view.now.bytes.now view.now.image.now view.now.sections.now
-        table.now) unwind
+    ensures { FindsOffset (links_at (map_of view.now) view.now.bytes.now table.now) unwind
         (answer_of result) }
 {
     if unwind % 2 == 1 {
         return linked_offset(view, table, unwind);
     }
     let _entries = slice_of(view.bytes, table)?;
-    let (image, sections) = (view.image, view.sections);
-    mapped_offset(unwind, sections, image.file_alignment, &options(image.mode))
+    view.file_offset(unwind)
 }
 
 /// The unwind record of an unwind RVA, as `pe_c_unwind_record` returns it.
 #[inline(always)]
 pub fn read_record(view: &View, table: &Range, unwind: u32) -> Result<UnwindRecord>
-    ensures { FollowsToRecord view.now.bytes.now (links_at view.now.bytes.now view.now.image.now
-        view.now.sections.now table.now) unwind
+    ensures { FollowsToRecord view.now.bytes.now (links_at (map_of view.now) view.now.bytes.now table.now) unwind
         (answer_of result) }
 {
     let offset = find_record_offset(view, table, unwind)?;
@@ -347,16 +339,19 @@ fn offset_by_first(sections: &[SectionTable], alignment: u32, rva: usize) -> Opt
     Some(offset)
 }
 
-/// The file offset of the record of an even unwind RVA, where there is one section, and that covers it.
+/// The file offset of the record of an even unwind RVA, where there is one section and no index, and the section covers it.
 #[inline(always)]
-#[tactic(auto, using(crate::proofs::EvenRecords::near_offset))]
+#[tactic(auto, using(crate::proofs::EvenRecords::near_offset, crate::proofs::EvenRecords::by_sections))]
 fn near_offset(view: &View, table: &Range, unwind: u32) -> Option<usize>
-    ensures { IfSome result (λ p. FindsOffset (links_at view.now.bytes.now view.now.image.now
-        view.now.sections.now table.now) unwind
+    ensures { IfSome result (λ p. FindsOffset (links_at (map_of view.now) view.now.bytes.now table.now) unwind
         (Ok p)) }
 {
     let image = view.image;
-    if unwind % 2 == 1 || view.sections.len() != 1 || image.mode / 2 % 2 == 1 {
+    if unwind % 2 == 1
+        || view.sections.len() != 1
+        || !view.index.is_empty()
+        || image.mode / 2 % 2 == 1
+    {
         return None;
     }
     let _entries = slice_of(view.bytes, table).ok()?;
@@ -450,39 +445,30 @@ fn hand_out_handled(bytes: &[u8], offset: usize, out: &mut UnwindRecord) -> u32
 #[inline(always)]
 #[tactic(auto, using(crate::proofs::EvenRecords::near_offset))]
 fn even_offset(view: &View, table: &Range, unwind: u32) -> Option<usize>
-    ensures { IfSome result (λ p. FindsOffset (links_at view.now.bytes.now view.now.image.now
-        view.now.sections.now table.now) unwind
+    ensures { IfSome result (λ p. FindsOffset (links_at (map_of view.now) view.now.bytes.now table.now) unwind
         (Ok p)) }
 {
     if unwind % 2 == 1 {
         return None;
     }
     let _entries = slice_of(view.bytes, table).ok()?;
-    let image = view.image;
-    find_offset(
-        unwind as usize,
-        view.sections,
-        image.file_alignment,
-        &options(image.mode),
-    )
+    map_by(view, unwind)
 }
 
 /// Any other record of an unwind RVA.
 #[inline(never)]
 fn hand_out_linked(view: &View, table: &Range, unwind: u32, out: &mut UnwindRecord) -> u32
-    ensures { HandsOutRecord view.now.bytes.now (links_at view.now.bytes.now view.now.image.now
-        view.now.sections.now table.now) unwind
+    ensures { HandsOutRecord view.now.bytes.now (links_at (map_of view.now) view.now.bytes.now table.now) unwind
         result out.old out.new }
 {
     hand_out(read_record(view, table, unwind), out)
 }
 
-/// A record of an unwind RVA, by all sections.
+/// A record of an unwind RVA, by all sections or by the index.
 #[inline(never)]
 #[tactic(auto, using(crate::proofs::EvenRecords::near_done, crate::proofs::EvenRecords::near_any))]
 fn hand_out_far(view: &View, table: &Range, unwind: u32, out: &mut UnwindRecord) -> u32
-    ensures { HandsOutRecord view.now.bytes.now (links_at view.now.bytes.now view.now.image.now
-        view.now.sections.now table.now) unwind
+    ensures { HandsOutRecord view.now.bytes.now (links_at (map_of view.now) view.now.bytes.now table.now) unwind
         result out.old out.new }
 {
     match even_offset(view, table, unwind) {
@@ -519,8 +505,7 @@ const NO_RECORD: UnwindRecord = UnwindRecord {
 #[inline(always)]
 #[tactic(auto, using(crate::proofs::EvenRecords::near_follows))]
 pub fn near_record(view: &View, table: &Range, unwind: u32) -> Option<UnwindRecord>
-    ensures { IfSome result (λ r. FollowsToRecord view.now.bytes.now (links_at view.now.bytes.now
-        view.now.image.now view.now.sections.now table.now) unwind
+    ensures { IfSome result (λ r. FollowsToRecord view.now.bytes.now (links_at (map_of view.now) view.now.bytes.now table.now) unwind
         (Ok r)) }
 {
     let offset = match near_offset(view, table, unwind) {
@@ -550,8 +535,7 @@ pub extern "C" fn pe_c_unwind_record(
     unwind: u32,
     out: &mut UnwindRecord,
 ) -> u32
-    ensures { HandsOutRecord view.now.bytes.now (links_at view.now.bytes.now view.now.image.now
-        view.now.sections.now table.now) unwind
+    ensures { HandsOutRecord view.now.bytes.now (links_at (map_of view.now) view.now.bytes.now table.now) unwind
         result out.old out.new }
 {
     match near_offset(view, table, unwind) {

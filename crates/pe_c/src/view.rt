@@ -2,12 +2,14 @@
 //! the caller has made one.
 
 ghost use Rattle.std.specs.Prelude.{◌≡◌};
+ghost use Rattle.pe_c.specs.SectionIndexes as indexes;
 ghost use Rattle.pe_c.specs.Views.{map_of};
 
 use crate::image::{Image, offset_of};
 use crate::results::options;
 use crate::section_index::{IndexEntry, sections_by};
-use pe_core::{SectionTable, find_offset};
+use pe_core::{Result, SectionTable, find_offset, mapped_offset};
+use pe_unwind::RvaMap;
 
 /// What `pe_c_image` and `pe_c_sections` returned of the bytes, or what a caller made in their place.
 #[repr(C)]
@@ -21,12 +23,32 @@ pub struct View<'a> {
     pub index: &'a [IndexEntry],
 }
 
+/// The sections that may map an RVA: one at most, where the view has an index.
+pub fn sections_of<'a>(view: &View<'a>, rva: u32) -> &'a [SectionTable]
+    ensures { result.now ≡ indexes.sections_by view.now.sections.now view.now.index.now rva }
+{
+    sections_by(view.sections, view.index, u64::from(rva))
+}
+
 /// The offset of an RVA.
 pub fn map_by(view: &View, rva: u32) -> Option<usize>
     ensures { result ≡ map_of view.now rva }
 {
-    let sections = sections_by(view.sections, view.index, u64::from(rva));
-    offset_of(rva, view.image, sections)
+    offset_of(rva, view.image, sections_of(view, rva))
+}
+
+impl<'a> RvaMap for View<'a> {
+    ghost offset = { map_of };
+
+    fn file_offset(&self, rva: u32) -> Result<usize> {
+        let image = self.image;
+        mapped_offset(
+            rva,
+            sections_of(self, rva),
+            image.file_alignment,
+            &options(image.mode),
+        )
+    }
 }
 
 /// The same of an RVA that may have more than 32 bits: a virtual address less the image base.

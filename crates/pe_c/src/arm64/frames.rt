@@ -9,15 +9,15 @@ ghost use Rattle.pe_unwind.specs.Arm64Record.{info_view};
 ghost use Rattle.pe_frame.specs.Arm64Walks.{stepped_out_packed};
 ghost use Rattle.pe_c.specs.Arm64Frames.{arm64_registers_of, flat_arm64_registers, arm64_info_of, HandsOutArm64By, HandsOutArm64Left, HandsOutArm64Over, HandsOutArm64Step, left_arm64};
 
-use crate::results::{DONE, number_of, options};
+use crate::results::{DONE, number_of};
 use crate::stack_frames::reported;
 use crate::view::View;
-use pe_core::{ByteRange, Error};
+use pe_core::Error;
 use pe_frame::{
     Arm64Registers, FrameError, Memory, MemoryList, MemoryPiece, leaf_arm64, step_arm64_packed,
     step_out_arm64,
 };
-use pe_unwind::{Arm64RuntimeFunction, Arm64UnwindInfo, ExceptionData};
+use pe_unwind::{Arm64RuntimeFunction, Arm64UnwindInfo, RvaMap};
 
 /// The registers of a thread that unwinding restores.
 #[repr(C)]
@@ -84,23 +84,12 @@ fn info_of<'a>(
 ) -> Result<Option<Arm64UnwindInfo<'a>>, Error>
     ensures { answer_by (option_map info_view) result ≡ arm64_info_of image.now function }
 {
-    let View {
-        bytes,
-        image,
-        sections,
-        ..
-    } = *image;
     // A record is found by its RVA, without the function table.
-    let no_table = ByteRange {
-        offset: 0,
-        length: 0,
-    };
-    let exceptions = ExceptionData::of_table(bytes, no_table, image.file_alignment)?;
-    match exceptions.get_unwind_info_arm64_with_opts(function, sections, &options(image.mode)) {
-        None => Ok(None),
-        Some(Ok(info)) => Ok(Some(info)),
-        Some(Err(error)) => Err(error),
+    if function.is_packed() {
+        return Ok(None);
     }
+    let offset = image.file_offset(function.unwind_data_rva())?;
+    Ok(Some(Arm64UnwindInfo::parse(image.bytes, offset)?))
 }
 
 /// The registers of the caller by packed unwind data. No interrupt left them.

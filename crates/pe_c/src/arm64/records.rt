@@ -2,22 +2,23 @@
 //! https://learn.microsoft.com/cpp/build/arm64-exception-handling#xdata-records
 
 ghost use Rattle.std.specs.Prelude.{◌≡◌};
-ghost use Rattle.pe_core.specs.Refusals.{answer_of};
+ghost use Rattle.pe_core.specs.Refusals.{Returns, answer_of};
 ghost use Rattle.pe_unwind.specs.Arm64Record.{info_view, extension_view};
 ghost use Rattle.pe_unwind.specs.Offsets.{Arm64PartsStand};
 ghost use Rattle.pe_c.specs.HandsOut.{HandsOutIf};
-ghost use Rattle.pe_c.specs.Arm64.{arm64_handler_range, arm64_handler_address, has_arm64_handler, first_count, flat_info, flat_info_at, arm64_record_of, flat_scope, flat_scope_at};
+ghost use Rattle.pe_c.specs.Arm64.{arm64_exceptions, arm64_handler_range, arm64_handler_address, has_arm64_handler, first_count, flat_info, flat_info_at, arm64_record_of, flat_scope, flat_scope_at};
+ghost use Rattle.pe_c.specs.Views.{map_of};
 ghost use Rattle.pe_c.specs.Walks.{next_of, walk_of};
 
 use crate::image::{EXCEPTION_TABLE, directory};
 use crate::ranges::{NO_BYTES, Range, last_range};
 use crate::results::{hand_out_some, options};
-use crate::view::View;
+use crate::view::{View, sections_of};
 use crate::walks::next_entry;
 use pe_core::{Result, TableEntry};
 use pe_unwind::{
     Arm64EpilogScope, Arm64RuntimeFunction, Arm64UnwindExtension, Arm64UnwindHeader,
-    Arm64UnwindInfo, ExceptionData,
+    Arm64UnwindInfo, ExceptionData, RvaMap,
 };
 
 /// The size of an epilog scope in bytes.
@@ -129,26 +130,33 @@ fn info_at(bytes: &[u8], offset: usize) -> Result<Arm64Record>
     Ok(flat_info(&info, bytes, offset))
 }
 
+/// The exception data of an image.
+#[tactic(auto, unfolding(pe_unwind::specs::ExceptionTable::exception_at))]
+fn exceptions_of<'a>(view: &View<'a>) -> Result<ExceptionData<'a>>
+    ensures { Returns result
+        (arm64_exceptions (map_of view.now) view.now.bytes.now view.now.image.now) }
+{
+    let table = directory(view.image, EXCEPTION_TABLE);
+    ExceptionData::parse_arm64_with_opts(
+        view.bytes,
+        table,
+        sections_of(view, table.virtual_address),
+        view.image.file_alignment,
+        &options(view.image.mode),
+    )
+}
+
 /// The unwind record of a function, as `pe_c_arm64_unwind_record` returns it.
 pub fn read_record(view: &View, function: Arm64RuntimeFunction) -> Result<Option<Arm64Record>>
     ensures { answer_of result
-        ≡ arm64_record_of view.now.bytes.now view.now.image.now view.now.sections.now
-        view.now.image.now.mode function }
+        ≡ arm64_record_of (map_of view.now) view.now.bytes.now view.now.image.now function }
 {
-    let opts = options(view.image.mode);
-    let alignment = view.image.file_alignment;
-    let table = directory(view.image, EXCEPTION_TABLE);
-    let exceptions = ExceptionData::parse_arm64_with_opts(
-        view.bytes,
-        table,
-        view.sections,
-        alignment,
-        &opts,
-    )?;
-    match exceptions.record_offset_arm64(function, view.sections, &opts) {
-        None => Ok(None),
-        Some(offset) => Ok(Some(info_at(view.bytes, offset?)?)),
+    let _exceptions = exceptions_of(view)?;
+    if function.is_packed() {
+        return Ok(None);
     }
+    let offset = view.file_offset(function.unwind_data_rva())?;
+    Ok(Some(info_at(view.bytes, offset)?))
 }
 
 /// Reads the unwind record of a function: `NOTHING` where its unwind data is packed.
@@ -162,8 +170,7 @@ pub extern "C" fn pe_c_arm64_unwind_record(
     out: &mut Arm64Record,
 ) -> u32
     ensures { HandsOutIf result out.old out.new
-        (arm64_record_of view.now.bytes.now view.now.image.now view.now.sections.now
-        view.now.image.now.mode function.now) }
+        (arm64_record_of (map_of view.now) view.now.bytes.now view.now.image.now function.now) }
 {
     hand_out_some(read_record(view, *function), out)
 }

@@ -143,8 +143,8 @@ pub fn step_failures_are_those_of_the_calls()
     ensures relocations { (page : ℕ) (b : List ℕ) (walk : Range)
         → DirectoriesAgree (step_of relocation_reported (first_in (first_relocation page) b walk))
         (directory_refused (step_of relocation_reported (first_in (first_relocation page) b walk))) }
-    ensures arm64_records { (b : List ℕ) (image : Image) (sections : List SectionTable) (f : Arm64RuntimeFunction)
-        → AllAgree (arm64_record_of b image sections image.mode f) (refused (arm64_record_of b image sections image.mode f)) }
+    ensures arm64_records { (offset : ℕ → Option ℕ) (b : List ℕ) (image : Image) (f : Arm64RuntimeFunction)
+        → AllAgree (arm64_record_of offset b image f) (refused (arm64_record_of offset b image f)) }
     ensures arm64_codes { (b : List ℕ) (walk after : Arm64CodeWalk) (answer : Result (Option Arm64Code) Refusal)
         → StepsArm64Codes b walk answer after
         → (v : Arm64CodeWalk) (number : ℕ) (old new : Arm64Code) → AnswersArm64Code b walk v number old new

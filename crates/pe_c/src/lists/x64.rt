@@ -9,6 +9,7 @@ ghost use Rattle.pe_c.specs.Lists.{HandsOutList, Numbered, StepsByIndex, by_numb
 ghost use Rattle.pe_c.specs.Ranges.{bytes_at};
 ghost use Rattle.pe_c.specs.RecordCodes.{HandsOutAll, HandsOutRecordCodes, PutsRecordCodes, code_stream};
 ghost use Rattle.pe_c.specs.Unwinding.{StepsCodes, flat_answer, function_in, links_at};
+ghost use Rattle.pe_c.specs.Views.{map_of};
 
 use crate::lists::{Steps, hand_out_list, if_there, next_index};
 use crate::ranges::{Range, slice_of};
@@ -364,7 +365,7 @@ fn hand_out_codes(
 }
 
 /// Reads the unwind record of an unwind RVA, as `pe_c_unwind_record` does, and lists its codes, as `pe_c_list_codes` does: `out` is
-/// the record, whose walk is moved past the codes that are written. A record has at most 255 codes. It makes no use of an index.
+/// the record, whose walk is moved past the codes that are written. A record has at most 255 codes.
 ///
 /// Errors, after which `out` is unchanged too: those of `pe_c_unwind_record`; `ROOM` where `codes` is empty; of the first code those
 /// of `pe_c_next_code`.
@@ -378,7 +379,7 @@ pub extern "C" fn pe_c_record_codes(
     written: &mut u64,
 ) -> u32
     ensures { HandsOutRecordCodes view.now.bytes.now
-        (links_at view.now.bytes.now view.now.image.now view.now.sections.now table.now) unwind
+        (links_at (map_of view.now) view.now.bytes.now table.now) unwind
         result out.old out.new codes.old codes.new written.old written.new }
 {
     if let Some(record) = near_record(view, table, unwind) {

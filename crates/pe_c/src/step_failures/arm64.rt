@@ -7,6 +7,7 @@ ghost use Rattle.pe_c.specs.Arm64Failures.{IsWhyOfArm64Code, SaysWhyArm64Code, a
 ghost use Rattle.pe_c.specs.FailureNumbers.{failure_by, refused};
 ghost use Rattle.pe_c.specs.HandsOut.{HandsOutIf};
 ghost use Rattle.pe_c.specs.UnwindFailures.{first_truncated};
+ghost use Rattle.pe_c.specs.Views.{map_of};
 
 use crate::arm64::codes::{Arm64CodeWalk, next_code as next_arm64_code};
 use crate::arm64::records::read_record as read_arm64_record;
@@ -16,9 +17,9 @@ use crate::failure_numbers::{
     ErrorNumbers, SHORT, UNMAPPED, failure_with, needed_at, no_numbers, numbers, refused,
     refused_value, u32_there,
 };
-use crate::image::{EXCEPTION_TABLE, directory, offset_of};
+use crate::image::{EXCEPTION_TABLE, directory};
 use crate::step_failures::unwinding::truncated;
-use crate::view::View;
+use crate::view::{View, map_by};
 use pe_core::read_u32;
 use pe_unwind::{Arm64RuntimeFunction, Arm64UnwindExtension, Arm64UnwindHeader};
 
@@ -80,15 +81,15 @@ fn record_needs(bytes: &[u8], offset: usize) -> ErrorNumbers
 /// The numbers of the failure of a function's record.
 #[tactic(auto, unfolding(crate::specs::Arm64Failures::arm64_record_numbers))]
 fn record_numbers(view: &View, function: &Arm64RuntimeFunction, number: u32) -> ErrorNumbers
-    ensures { result ≡ arm64_record_numbers view.now.bytes.now view.now.image.now
-        view.now.sections.now function.now number }
+    ensures { result ≡ arm64_record_numbers (map_of view.now) view.now.bytes.now view.now.image.now
+        function.now number }
 {
     let table = directory(view.image, EXCEPTION_TABLE);
     let size = u64::from(table.size);
-    let mapped = offset_of(table.virtual_address, view.image, view.sections);
+    let mapped = map_by(view, table.virtual_address);
     let start = mapped.unwrap_or(0) as u64;
     let rva = function.unwind_data_rva();
-    let offset = offset_of(rva, view.image, view.sections).unwrap_or(0);
+    let offset = map_by(view, rva).unwrap_or(0);
     match number {
         SHORT => record_needs(view.bytes, offset),
         UNMAPPED => {
@@ -111,10 +112,9 @@ fn record_numbers(view: &View, function: &Arm64RuntimeFunction, number: u32) -> 
 }
 
 fn record_failure(view: &View, function: &Arm64RuntimeFunction) -> Option<Failure>
-    ensures { result ≡ failure_by (arm64_record_numbers view.now.bytes.now view.now.image.now
-        view.now.sections.now function.now) (refused
-        (arm64_record_of view.now.bytes.now view.now.image.now view.now.sections.now
-        view.now.image.now.mode function.now)) }
+    ensures { result ≡ failure_by (arm64_record_numbers (map_of view.now) view.now.bytes.now
+        view.now.image.now function.now) (refused
+        (arm64_record_of (map_of view.now) view.now.bytes.now view.now.image.now function.now)) }
 {
     match refused(read_arm64_record(view, *function)) {
         Some(number) => Some(failure_with(number, record_numbers(view, function, number))),
@@ -132,10 +132,10 @@ pub extern "C" fn pe_c_arm64_record_failure(
     out: &mut Failure,
 ) -> u32
     ensures { HandsOutIf result out.old out.new (Ok (failure_by
-        (arm64_record_numbers view.now.bytes.now view.now.image.now view.now.sections.now
+        (arm64_record_numbers (map_of view.now) view.now.bytes.now view.now.image.now
         function.now) (refused
-        (arm64_record_of view.now.bytes.now view.now.image.now view.now.sections.now
-        view.now.image.now.mode function.now)))) }
+        (arm64_record_of (map_of view.now) view.now.bytes.now view.now.image.now
+        function.now)))) }
 {
     hand_out_failure(record_failure(view, function), out)
 }

@@ -6,16 +6,16 @@ ghost use Rattle.pe_unwind.specs.Links.{next};
 ghost use Rattle.pe_c.specs.FailureNumbers.{failure_by, needed_at, refused};
 ghost use Rattle.pe_c.specs.UnwindFailures.{IsWhyOfCode, IsWhyOfRecord, LinksEnd, SaysWhyCode, SaysWhyRecord, code_needs, code_numbers, ending_size, first_truncated, found_needs, record_numbers, record_parts, slots_of_code, table_there};
 ghost use Rattle.pe_c.specs.Unwinding.{flat_answer};
+ghost use Rattle.pe_c.specs.Views.{map_of};
 
 use crate::failure::{Failure, hand_out_failure};
 use crate::failure_numbers::{
     ErrorNumbers, FUNCTION_CYCLE, FUNCTION_LINK, SHORT, UNMAPPED, UNWIND_CODE, UNWIND_VERSION,
     bytes_there, failure_with, needed_at, needed_in, no_numbers, refused, refused_value, u8_there,
 };
-use crate::image::offset_of;
 use crate::ranges::Range;
 use crate::unwinding::{CodeWalk, linked_offset, next_code, read_record};
-use crate::view::View;
+use crate::view::{View, map_by};
 use pe_core::{Error, Reason, Result, read_u8, read_u32, require_bytes};
 use pe_unwind::UnwindCode;
 
@@ -57,14 +57,13 @@ pub fn truncated(bytes: &[u8], offset: usize, needed: usize) -> Option<ErrorNumb
 /// The unwind RVA of the entry of the function table to which an unwind RVA is a link.
 #[tactic(auto, unfolding(pe_unwind::specs::Links::next, pe_unwind::specs::Links::link, pe_unwind::specs::Links::link_entry_at))]
 fn next_link(view: &View, table: &Range, unwind: u32) -> Option<u32>
-    ensures { result ≡ next (table_there view.now.bytes.now view.now.image.now
-        view.now.sections.now table.now) unwind }
+    ensures { result ≡ next (table_there (map_of view.now) view.now.bytes.now table.now) unwind }
 {
     if unwind % 2 == 0 {
         return None;
     }
     let entries = bytes_there(view.bytes, table);
-    let offset = offset_of(unwind - 1, view.image, view.sections)?;
+    let offset = map_by(view, unwind - 1)?;
     let start = table.offset as usize;
     if offset < start || (offset - start) % SIZE_OF_FUNCTION != 0 {
         return None;
@@ -79,8 +78,7 @@ fn next_link(view: &View, table: &Range, unwind: u32) -> Option<u32>
 /// The unwind RVA at which the links from another one end. `None` where they never do: there are more than entries.
 #[tactic(auto, using(crate::proofs::UnwindFailures::one_more_link, crate::proofs::UnwindFailures::ends_here, crate::proofs::UnwindFailures::endless))]
 fn last_link(view: &View, table: &Range, unwind: u32) -> Option<u32>
-    ensures { LinksEnd (table_there view.now.bytes.now view.now.image.now
-        view.now.sections.now table.now) unwind result }
+    ensures { LinksEnd (table_there (map_of view.now) view.now.bytes.now table.now) unwind result }
 {
     let entries = bytes_there(view.bytes, table).len() / SIZE_OF_FUNCTION;
     let mut last = unwind;
@@ -97,8 +95,7 @@ fn last_link(view: &View, table: &Range, unwind: u32) -> Option<u32>
 /// entries would be followed above.
 #[tactic(auto, using(crate::proofs::UnwindFailures::linked_endless))]
 fn links_end(view: &View, table: &Range, unwind: u32) -> Option<u32>
-    ensures { LinksEnd (table_there view.now.bytes.now view.now.image.now
-        view.now.sections.now table.now) unwind result }
+    ensures { LinksEnd (table_there (map_of view.now) view.now.bytes.now table.now) unwind result }
 {
     match linked_offset(view, table, unwind) {
         Err(Error::Malformed(Reason::FunctionCycle(_))) => None,
@@ -159,11 +156,10 @@ fn record_numbers(
     last: Option<u32>,
     number: u32,
 ) -> ErrorNumbers
-    ensures { result ≡ record_numbers view.now.bytes.now view.now.image.now view.now.sections.now
-        table.now unwind last number }
+    ensures { result ≡ record_numbers (map_of view.now) view.now.bytes.now table.now unwind last number }
 {
     let end = last.unwrap_or(0);
-    let offset = offset_of(end, view.image, view.sections).unwrap_or(0);
+    let offset = map_by(view, end).unwrap_or(0);
     match number {
         SHORT => found_needs(view.bytes, table, offset),
         UNMAPPED => refused_value(u64::from(end - end % 2)),
@@ -182,8 +178,7 @@ fn failure_of_record(
     last: Option<u32>,
     number: Option<u32>,
 ) -> Option<Failure>
-    ensures { result ≡ failure_by (record_numbers view.now.bytes.now view.now.image.now
-        view.now.sections.now table.now unwind last) number }
+    ensures { result ≡ failure_by (record_numbers (map_of view.now) view.now.bytes.now table.now unwind last) number }
 {
     match number {
         Some(number) => {
@@ -196,8 +191,7 @@ fn failure_of_record(
 
 #[tactic(auto, using(crate::proofs::UnwindFailures::why_of_record))]
 fn record_failure(view: &View, table: &Range, unwind: u32) -> Option<Failure>
-    ensures { IsWhyOfRecord view.now.bytes.now view.now.image.now view.now.sections.now table.now
-        unwind result }
+    ensures { IsWhyOfRecord (map_of view.now) view.now.bytes.now table.now unwind result }
 {
     let number = refused(read_record(view, table, unwind));
     let last = links_end(view, table, unwind);
@@ -215,8 +209,7 @@ pub extern "C" fn pe_c_unwind_record_failure(
     unwind: u32,
     out: &mut Failure,
 ) -> u32
-    ensures { SaysWhyRecord view.now.bytes.now view.now.image.now view.now.sections.now table.now
-        unwind result out.old out.new }
+    ensures { SaysWhyRecord (map_of view.now) view.now.bytes.now table.now unwind result out.old out.new }
 {
     hand_out_failure(record_failure(view, table, unwind), out)
 }
