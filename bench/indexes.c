@@ -1,8 +1,8 @@
-/* Reads an image with an index of its sections or without: indexes FILE index|none list|step|offset|delayed|together MOST
+/* Reads an image with an index of its sections or without: indexes FILE index|none list|step|offset|delayed|together|record MOST
  *
  * Of the exports that have a name MOST are read, by pe_c_list_exports or pe_c_next_export; or of what is imported of the first
- * delay-loaded DLL, by pe_c_next_delayed_function or pe_c_list_delayed_functions_together; or MOST RVAs are mapped by pe_c_offset. How
- * many there are is printed. The text `index` makes the index alone where MOST is 0. */
+ * delay-loaded DLL, by pe_c_next_delayed_function or pe_c_list_delayed_functions_together; or of the records of the first x64
+ * function, by pe_c_next_record; or MOST RVAs are mapped by pe_c_offset. How many there are is printed. The text `index` makes the index alone where MOST is 0. */
 #include "reading.h"
 
 #include <stdio.h>
@@ -73,6 +73,23 @@ static uint64_t list_delayed(const pe_c_view *view, uint64_t most)
     return written;
 }
 
+/* The records of the first function, MOST at most, a step a call. */
+static uint64_t step_records(const pe_c_view *view, uint64_t most)
+{
+    pe_c_range table = PE_C_EMPTY;
+    pe_c_function function = PE_C_EMPTY;
+    pe_c_plan plan = PE_C_EMPTY;
+    pe_c_record record = PE_C_EMPTY;
+    if (pe_c_function_table(view, &table) != PE_C_DONE
+        || pe_c_function_at(view->bytes, view->length, &table, 0, &function) != PE_C_DONE)
+        return 0;
+    pe_c_plan_from(function.unwind, &plan);
+    uint64_t count = 0;
+    while (count < most && pe_c_next_record(view, &table, &plan, &record) == PE_C_DONE)
+        count++;
+    return count;
+}
+
 /* Offsets of RVAs in the last section. */
 static uint64_t map_offsets(const pe_c_view *view, uint64_t most)
 {
@@ -106,6 +123,7 @@ int main(int argc, char **argv)
                                           : strcmp(argv[3], "step") == 0     ? step_exports(&view, most)
                                           : strcmp(argv[3], "delayed") == 0  ? step_delayed(&view, most)
                                           : strcmp(argv[3], "together") == 0 ? list_delayed(&view, most)
+                                          : strcmp(argv[3], "record") == 0   ? step_records(&view, most)
                                                                              : map_offsets(&view, most)));
     free(bytes);
     free((void *)view.sections);

@@ -432,10 +432,12 @@ uint32_t pe_c_headers(const uint8_t *bytes, size_t length, uint32_t mode, pe_c_h
 
 /* Makes an index of the sections at the start of the array, and writes how many entries it has: two for each section. The
  * array has to have four for each, of which the second half is left open; what follows is unchanged. Calls that take a view
- * with these entries return what they return without them. pe_c_offset, pe_c_section_at, pe_c_range_at, pe_c_map and the
- * steps and lists of exports, imports, delay imports and resource leaves map an RVA by it in steps that grow with the
- * logarithm of the number of sections, not with that number itself: 65,535 in a hostile file. Other calls make no use of
- * it. Few calls, and images with few sections, as most, gain nothing by it. No entries, and PE_C_DONE, where no section is
+ * with these entries return what they return without them. pe_c_offset, pe_c_section_at, pe_c_range_at, pe_c_map, the
+ * steps and lists of exports, imports, delay imports and resource leaves, unwind records of x64 and ARM64, plans and lists of
+ * codes, lookups of ARM64 functions, pe_c_step_arm64, and the calls that say why these are refused map an RVA by it in steps
+ * that grow with the logarithm of the number of sections, not with that number itself: 65,535 in a hostile file. Calls that
+ * return where a directory is search all sections, once; so do pe_c_step, for each record, and walks of stacks. Few calls,
+ * and images with few sections, as most, gain nothing by it. No entries, and PE_C_DONE, where no section is
  * searched: in an image as loaded, and where the file alignment is not a power of two. An index in the view that is passed
  * makes no difference. An index of other sections gives wrong offsets, and no other harm.
  * Errors: PE_C_ROOM where the array has too few entries; then `written` is how many it has to have. */
@@ -1881,8 +1883,7 @@ uint32_t pe_c_next_arm64_code(const uint8_t *bytes, size_t length, pe_c_arm64_wa
 /* Finds the registers of a function's caller, from those inside the function, and writes them over those of the frame. It
  * undoes the codes of frame->function, which are those of its unwind record or what its packed unwind data stand for: after
  * the prolog all of them, inside of it and in an epilog those that are left. It takes a signature off the link register. The
- * caller of a leaf function goes on at the link register; of it neither the view nor the memory is read. It makes no use of
- * an index.
+ * caller of a leaf function goes on at the link register; of it neither the view nor the memory is read.
  *
  * `memory` and `pieces` are as in pe_c_step. After PE_C_MISSING a caller reads a piece that has the eight bytes at
  * frame->address, and makes the same call again.

@@ -39,6 +39,7 @@ mod names_together;
 mod near_map;
 mod overlay;
 mod plan;
+mod records_by_index;
 mod resource_edit;
 mod resource_leaves;
 mod results;

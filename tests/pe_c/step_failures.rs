@@ -17,7 +17,7 @@ use super::made::{
     UNWIND_CODE, UNWIND_VERSION, X64, image, range, section, sections, view,
 };
 use super::resource_leaves::{NO_LEAF, of_size, start, walk as leaves_of, with_tree};
-use super::unwinding::with_records;
+use super::unwinding::{no_record, with_records};
 use crate::arm64::codes::Arm64CodeWalk;
 use crate::failure::Failure;
 use crate::image::Image;
@@ -25,6 +25,7 @@ use crate::imports::{Imports, Libraries};
 use crate::ranges::{NO_BYTES, Range};
 use crate::resource_leaves::pe_c_next_resource_leaf;
 use crate::results::{DONE, NOTHING};
+use crate::section_index::IndexEntry;
 use crate::step_failures::arm64::{pe_c_arm64_code_failure, pe_c_arm64_record_failure};
 use crate::step_failures::bound_imports::pe_c_bound_import_failure;
 use crate::step_failures::delay_imports::{
@@ -37,7 +38,7 @@ use crate::step_failures::{
     pe_c_certificate_failure, pe_c_import_failure, pe_c_library_failure,
     pe_c_relocation_block_failure, pe_c_relocation_failure,
 };
-use crate::unwinding::CodeWalk;
+use crate::unwinding::{CodeWalk, pe_c_unwind_record};
 use crate::view::View;
 use pe_images::put;
 use pe_unwind::Arm64RuntimeFunction;
@@ -240,10 +241,28 @@ fn links_that_never_end_are_told_early(rt: HostRuntime) -> Result<(), Fail> {
     let mut many = Vec::new(rt.alloc());
     many.resize(20_000, section(0x8000_0000, 1, 0, 0))?;
     many.push(section(0x1000, 0x4_0000, 0, 0x4_0000))?;
-    let (mut out, image) = (NO_FAILURE, image(X64));
-    for unwind in [0x1001, 0x1001 + 12] {
-        let view = view(&bytes, &image, &many);
-        let answer = pe_c_unwind_record_failure(&view, &range(0, 240_000), unwind, &mut out);
+    let (mut out, image, table) = (NO_FAILURE, image(X64), range(0, 240_000));
+    // By an index the last section has all RVAs.
+    let last = [IndexEntry {
+        start: 0,
+        section: 20_001,
+    }];
+    for (unwind, index) in [
+        (0x1001, &[][..]),
+        (0x100D, &[]),
+        (0x1001, &last),
+        (0x100D, &last),
+    ] {
+        let view = View {
+            index,
+            ..view(&bytes, &image, &many)
+        };
+        let mut record = no_record();
+        assert_eq!(rt;
+            pe_c_unwind_record(&view, &table, unwind, &mut record),
+            FUNCTION_CYCLE
+        );
+        let answer = pe_c_unwind_record_failure(&view, &table, unwind, &mut out);
         let wanted = error(FUNCTION_CYCLE, [0, 0, u64::from(unwind)]);
         assert_eq!(rt; said_with(answer, &out), wanted);
     }

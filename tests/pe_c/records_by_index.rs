@@ -1,0 +1,396 @@
+//! Unwind records of x64 and ARM64, plans and lists of codes, lookups of ARM64 functions and a step on ARM64 by an index of the
+//! sections.
+
+use super::arm64::with_table;
+use super::made::{
+    ARM64, FUNCTION_CYCLE, FUNCTION_LINK, NO_FAILURE, UNMAPPED, X64, directory, having, image,
+    of_range, range, section, view,
+};
+use super::unwinding::no_record;
+use crate::arm64::frames::{Arm64FrameRegisters, Arm64StackFrame, pe_c_step_arm64};
+use crate::arm64::functions::pe_c_find_arm64_function;
+use crate::arm64::records::{Arm64Record, pe_c_arm64_unwind_record};
+use crate::image::Image;
+use crate::lists::x64::pe_c_record_codes;
+use crate::plan::{Plan, pe_c_next_record, pe_c_plan_from};
+use crate::ranges::Range;
+use crate::results::{DONE, NOTHING};
+use crate::section_index::{IndexEntry, pe_c_index};
+use crate::step_failures::arm64::pe_c_arm64_record_failure;
+use crate::step_failures::unwinding::pe_c_unwind_record_failure;
+use crate::unwinding::{Code, pe_c_unwind_record};
+use crate::view::View;
+use pe_core::SectionTable;
+use pe_images::image as bytes_of;
+use pe_unwind::Arm64RuntimeFunction;
+use std::test::Fail;
+
+/// An entry of an index before it is written.
+const LEFT: IndexEntry = IndexEntry {
+    start: 77,
+    section: 78,
+};
+
+/// The entry of an index from which all RVAs belong to the section with this index plus 1.
+fn from_start(section: u64) -> [IndexEntry; 1] {
+    [IndexEntry { start: 0, section }]
+}
+
+/// The result of a call, the length of a record's prolog and the range of its codes.
+type Found = (u32, u8, [u64; 2]);
+
+/// A record that no call has written.
+const NONE: (u8, [u64; 2]) = (12, [1, 2]);
+
+/// The first record of a plan, which is that of `pe_c_unwind_record`, and the list of its codes has the record too.
+fn record_by(view: &View, table: &Range, unwind: u32) -> [Found; 3] {
+    let mut record = no_record();
+    let answer = pe_c_unwind_record(view, table, unwind, &mut record);
+    let mut with_codes = no_record();
+    let (mut codes, mut written) = ([NO_CODE; 4], 0);
+    let other = pe_c_record_codes(
+        view,
+        table,
+        unwind,
+        &mut with_codes,
+        &mut codes,
+        &mut written,
+    );
+    // The walk of the record is after the codes that were written.
+    let bytes = u64::from(with_codes.size_of_prolog != NONE.0) * record.codes.left.length;
+    let left = with_codes.codes.left;
+    let mut plan = NO_PLAN;
+    let _done = pe_c_plan_from(unwind, &mut plan);
+    let mut first = no_record();
+    let last = pe_c_next_record(view, table, &mut plan, &mut first);
+    [
+        (answer, record.size_of_prolog, of_range(record.codes.left)),
+        (
+            other,
+            with_codes.size_of_prolog,
+            [left.offset.saturating_sub(bytes), left.length + bytes],
+        ),
+        (last, first.size_of_prolog, of_range(first.codes.left)),
+    ]
+}
+
+const NO_CODE: Code = Code {
+    code_offset: 7,
+    operation: 7,
+    operand: 7,
+    from_frame: 7,
+    value: 7,
+};
+
+const NO_PLAN: Plan = Plan {
+    unwind: 7,
+    is_over: 7,
+    saved: 7,
+    spare: 7,
+    steps: 7,
+    limit: 7,
+};
+
+/// Why a record is refused: the answer, the error and its value.
+fn failure_by(view: &View, table: &Range, unwind: u32) -> (u32, u32, u64) {
+    let mut out = NO_FAILURE;
+    let answer = pe_c_unwind_record_failure(view, table, unwind, &mut out);
+    (answer, out.result, out.value)
+}
+
+/// At 10h a table of four functions: the records of two are in the second and third of three sections; the third is a link to the
+/// second, the fourth one to itself. The record in the third section is chained to that in the second.
+const IN_SECTIONS: [(usize, &[u8]); 7] = [
+    (0x10, &[0, 0x50, 0, 0, 0x10, 0x50, 0, 0, 0, 0x20, 0, 0]),
+    (0x1C, &[0x10, 0x50, 0, 0, 0x20, 0x50, 0, 0, 0, 0x30, 0, 0]),
+    (
+        0x28,
+        &[0x20, 0x50, 0, 0, 0x30, 0x50, 0, 0, 0x1D, 0x10, 0, 0],
+    ),
+    (
+        0x34,
+        &[0x30, 0x50, 0, 0, 0x40, 0x50, 0, 0, 0x35, 0x10, 0, 0],
+    ),
+    (0x200, &[1, 4, 2, 0, 4, 0x42, 1, 0x50]),
+    (0x400, &[0x21, 5, 1, 0, 5, 0x30, 0, 0]),
+    (0x408, &[0, 0x50, 0, 0, 0x10, 0x50, 0, 0, 0, 0x20, 0, 0]),
+];
+
+fn three_sections() -> [SectionTable; 3] {
+    [
+        section(0x1000, 0x1000, 0, 0x200),
+        section(0x2000, 0x1000, 0x200, 0x200),
+        section(0x3000, 0x1000, 0x400, 0x200),
+    ]
+}
+
+/// An index that `pe_c_index` made changes nothing.
+#[test]
+fn records_with_an_index(rt: HostRuntime) -> Result<(), Fail> {
+    let bytes = bytes_of(rt.alloc(), 0x600, &IN_SECTIONS)?;
+    let (image, sections, table) = (image(X64), three_sections(), range(0x10, 48));
+    let without = view(&bytes, &image, &sections);
+    let (mut room, mut written) = ([LEFT; 12], 0);
+    assert_eq!(rt; pe_c_index(&without, &mut room, &mut written), DONE);
+    let with = View {
+        index: &room[..6],
+        ..without
+    };
+    let (second, third) = ((DONE, 4, [0x204, 4]), (DONE, 5, [0x404, 2]));
+    for view in [&without, &with] {
+        // By even RVAs, by a link, and by a link to a link.
+        for (unwind, found) in [
+            (0x2000, second),
+            (0x3000, third),
+            (0x1011, second),
+            (0x101D, third),
+            (0x1029, third),
+        ] {
+            assert_eq!(rt; record_by(view, &table, unwind), [found; 3]);
+            assert_eq!(rt; failure_by(view, &table, unwind).0, NOTHING);
+        }
+        for (unwind, number, value) in [
+            (0x1035, FUNCTION_CYCLE, 0x1035),
+            (0x101F, FUNCTION_LINK, 0x101F),
+            (0x4001, UNMAPPED, 0x4000),
+            (0x4000, UNMAPPED, 0x4000),
+        ] {
+            let found = (number, NONE.0, NONE.1);
+            assert_eq!(rt; record_by(view, &table, unwind), [found; 3]);
+            assert_eq!(rt; failure_by(view, &table, unwind), (DONE, number, value));
+        }
+        let mut plan = NO_PLAN;
+        let _done = pe_c_plan_from(0x1029, &mut plan);
+        for prolog in [5, 4] {
+            let mut record = no_record();
+            assert_eq!(rt;
+                pe_c_next_record(view, &table, &mut plan, &mut record),
+                DONE
+            );
+            assert_eq!(rt; record.size_of_prolog, prolog);
+        }
+        let mut record = no_record();
+        assert_eq!(rt;
+            pe_c_next_record(view, &table, &mut plan, &mut record),
+            NOTHING
+        );
+    }
+    Ok(())
+}
+
+/// At 10h a function and a link to it; at 80h its record, and another one 200h bytes later.
+const TWICE: [(usize, &[u8]); 4] = [
+    (0x10, &[0, 0x50, 0, 0, 0x10, 0x50, 0, 0, 0x80, 0x10, 0, 0]),
+    (
+        0x1C,
+        &[0x10, 0x50, 0, 0, 0x20, 0x50, 0, 0, 0x11, 0x10, 0, 0],
+    ),
+    (0x80, &[1, 7, 0, 0]),
+    (0x280, &[1, 9, 0, 0]),
+];
+
+/// With an index that no call made its section is taken, also where an earlier one covers the RVA; and where it names none no RVA is
+/// mapped.
+#[test]
+fn indices_that_lead_elsewhere(rt: HostRuntime) -> Result<(), Fail> {
+    let bytes = bytes_of(rt.alloc(), 0x400, &TWICE)?;
+    let (image, table) = (image(X64), range(0x10, 24));
+    let sections = [
+        section(0x1000, 0x1000, 0, 0x200),
+        section(0x1000, 0x1000, 0x200, 0x200),
+    ];
+    let without = view(&bytes, &image, &sections);
+    let first = (DONE, 7, [0x84, 0]);
+    for unwind in [0x1080, 0x1011, 0x101D] {
+        assert_eq!(rt; record_by(&without, &table, unwind), [first; 3]);
+    }
+    let by_first = from_start(1);
+    let with = View {
+        index: &by_first,
+        ..without
+    };
+    for unwind in [0x1080, 0x1011, 0x101D] {
+        assert_eq!(rt; record_by(&with, &table, unwind), [first; 3]);
+    }
+    let by_second = from_start(2);
+    let with = View {
+        index: &by_second,
+        ..without
+    };
+    let other = (DONE, 9, [0x284, 0]);
+    assert_eq!(rt; record_by(&with, &table, 0x1080), [other; 3]);
+    // The entry is at offset 10h, and not at 210h.
+    let refused = (FUNCTION_LINK, NONE.0, NONE.1);
+    assert_eq!(rt; record_by(&with, &table, 0x1011), [refused; 3]);
+    assert_eq!(rt;
+        failure_by(&with, &table, 0x1011),
+        (DONE, FUNCTION_LINK, 0x1011)
+    );
+    // One section alone is no shorter way past an index.
+    for sections in [&sections[..], &sections[..1]] {
+        for number in [0, 3, u64::MAX] {
+            let index = from_start(number);
+            let with = View {
+                sections,
+                index: &index,
+                ..without
+            };
+            let refused = (UNMAPPED, NONE.0, NONE.1);
+            for (unwind, value) in [(0x1080, 0x1080), (0x1011, 0x1010)] {
+                assert_eq!(rt; record_by(&with, &table, unwind), [refused; 3]);
+                assert_eq!(rt; failure_by(&with, &table, unwind), (DONE, UNMAPPED, value));
+            }
+        }
+    }
+    Ok(())
+}
+
+// ---- ARM64
+
+const NO_FUNCTION: Arm64RuntimeFunction = Arm64RuntimeFunction {
+    begin_address: 7,
+    unwind_data: 8,
+};
+
+/// What is found of an RVA: the result of a lookup, and the start of the function.
+fn lookup_by(view: &View, rva: u32) -> (u32, u32) {
+    let mut out = NO_FUNCTION;
+    let answer = pe_c_find_arm64_function(view, &range(0x10, 16), rva, &mut out);
+    (answer, out.begin_address)
+}
+
+fn function_with(unwind_data: u32) -> Arm64RuntimeFunction {
+    Arm64RuntimeFunction {
+        begin_address: 0x5000,
+        unwind_data,
+    }
+}
+
+/// The record of a function: the result, its length and the range of its codes; and why it is refused.
+fn arm64_by(view: &View, unwind_data: u32) -> ((u32, u32, [u64; 2]), (u32, u32, u64)) {
+    let function = function_with(unwind_data);
+    let mut record = Arm64Record {
+        scopes: range(1, 2),
+        codes: range(3, 4),
+        handler_data: range(5, 6),
+        handler: 7,
+        has_handler: 8,
+        function_length: 9,
+        epilog_in_header: 10,
+        epilog_start: 11,
+        version: 12,
+    };
+    let answer = pe_c_arm64_unwind_record(view, &function, &mut record);
+    let mut out = NO_FAILURE;
+    let why = pe_c_arm64_record_failure(view, &function, &mut out);
+    let found = (answer, record.function_length, of_range(record.codes));
+    (found, (why, out.result, out.value))
+}
+
+/// The result of a step in a function after its codes, which are an end alone, and the caller's instruction pointer: the link
+/// register.
+fn stepped_by(view: &View, unwind_data: u32) -> (u32, u64) {
+    let mut registers = Arm64FrameRegisters {
+        general: [0; 31],
+        floats: [0; 8],
+        sp: 0x10_0000,
+        pc: 0x1_4000_5000,
+    };
+    registers.general[30] = 0x7FF6_1234_5678;
+    let mut frame = Arm64StackFrame {
+        registers,
+        address: 0,
+        function: function_with(unwind_data),
+        rva: 0x5008,
+        leaf: 0,
+        interrupted: 0,
+        spare: 0,
+    };
+    let answer = pe_c_step_arm64(view, &[], &[], &mut frame);
+    (answer, frame.registers.pc)
+}
+
+/// At 10h a table of two functions of 64 and of 128 bytes, whose records are in the second and third of three sections; the codes of
+/// each are an end and padding.
+const ARM64_IN_SECTIONS: [(usize, &[u8]); 3] = [
+    (
+        0x10,
+        &[0, 0x50, 0, 0, 0, 0x20, 0, 0, 0, 0x51, 0, 0, 0, 0x30, 0, 0],
+    ),
+    (0x200, &[0x10, 0, 0, 8, 0xE4, 0xE4, 0xE4, 0xE4]),
+    (0x400, &[0x20, 0, 0, 8, 0xE4, 0xE4, 0xE4, 0xE4]),
+];
+
+#[test]
+fn arm64_records_with_an_index(rt: HostRuntime) -> Result<(), Fail> {
+    let bytes = bytes_of(rt.alloc(), 0x600, &ARM64_IN_SECTIONS)?;
+    let (image, sections) = (with_table(0x1010, 16), three_sections());
+    let without = view(&bytes, &image, &sections);
+    let (mut room, mut written) = ([LEFT; 12], 0);
+    assert_eq!(rt; pe_c_index(&without, &mut room, &mut written), DONE);
+    let with = View {
+        index: &room[..6],
+        ..without
+    };
+    for view in [&without, &with] {
+        assert_eq!(rt; lookup_by(view, 0x503F), (DONE, 0x5000));
+        assert_eq!(rt; lookup_by(view, 0x5040), (NOTHING, 7));
+        assert_eq!(rt; lookup_by(view, 0x517F), (DONE, 0x5100));
+        assert_eq!(rt; lookup_by(view, 0x5180), (NOTHING, 7));
+        assert_eq!(rt; arm64_by(view, 0x2000).0, (DONE, 64, [0x204, 4]));
+        assert_eq!(rt; arm64_by(view, 0x3000).0, (DONE, 128, [0x404, 4]));
+        assert_eq!(rt; arm64_by(view, 0x3000).1.0, NOTHING);
+        let unmapped = ((UNMAPPED, 9, [3, 4]), (DONE, UNMAPPED, 0x4000));
+        assert_eq!(rt; arm64_by(view, 0x4000), unmapped);
+        assert_eq!(rt; stepped_by(view, 0x3000), (DONE, 0x7FF6_1234_5678));
+        assert_eq!(rt; stepped_by(view, 0x4000), (UNMAPPED, 0x1_4000_5000));
+    }
+    Ok(())
+}
+
+/// At 10h a function whose record is at 80h; 200h bytes later another one, of another length.
+const ARM64_TWICE: [(usize, &[u8]); 3] = [
+    (0x10, &[0, 0x50, 0, 0, 0x80, 0x10, 0, 0]),
+    (0x80, &[0x10, 0, 0, 8, 0xE4, 0xE4, 0xE4, 0xE4]),
+    (0x280, &[0x20, 0, 0, 8, 0xE4, 0xE4, 0xE4, 0xE4]),
+];
+
+#[test]
+fn arm64_indices_that_lead_elsewhere(rt: HostRuntime) -> Result<(), Fail> {
+    let bytes = bytes_of(rt.alloc(), 0x400, &ARM64_TWICE)?;
+    let image: Image = having(image(ARM64), 3, directory(0x1010, 8));
+    let sections = [
+        section(0x1000, 0x1000, 0, 0x200),
+        section(0x1000, 0x1000, 0x200, 0x200),
+    ];
+    let without = view(&bytes, &image, &sections);
+    assert_eq!(rt; arm64_by(&without, 0x1080).0, (DONE, 64, [0x84, 4]));
+    for (number, length, codes) in [(1, 64, [0x84, 4]), (2, 128, [0x284, 4])] {
+        let index = from_start(number);
+        let with = View {
+            index: &index,
+            ..without
+        };
+        assert_eq!(rt; arm64_by(&with, 0x1080).0, (DONE, length, codes));
+        let (mut out, table) = (NO_FUNCTION, range(0x10, 8));
+        for (rva, answer) in [(0x4FFF + length, DONE), (0x5000 + length, NOTHING)] {
+            let found = pe_c_find_arm64_function(&with, &table, rva, &mut out);
+            assert_eq!(rt; found, answer);
+        }
+    }
+    for number in [0, 3, u64::MAX] {
+        let index = from_start(number);
+        let with = View {
+            index: &index,
+            ..without
+        };
+        // The exception directory is read first.
+        let unmapped = ((UNMAPPED, 9, [3, 4]), (DONE, UNMAPPED, 0x1010));
+        assert_eq!(rt; arm64_by(&with, 0x1080), unmapped);
+        assert_eq!(rt; stepped_by(&with, 0x1080), (UNMAPPED, 0x1_4000_5000));
+        let mut out = NO_FUNCTION;
+        let found = pe_c_find_arm64_function(&with, &range(0x10, 8), 0x5000, &mut out);
+        assert_eq!(rt; found, UNMAPPED);
+    }
+    Ok(())
+}
