@@ -16,7 +16,8 @@ use crate::lists::delay_imports::{
 use crate::lists::library_functions::pe_c_list_all_delayed_functions_together;
 use crate::ranges::Range;
 use crate::results::DONE;
-use crate::section_index::{IndexEntry, pe_c_index};
+use crate::section_index::pe_c_index;
+use pe_frame::IndexEntry;
 use crate::text_runs::Run;
 use crate::view::View;
 use pe_core::SectionTable;

@@ -8,7 +8,8 @@ use super::made::{
 use crate::image::Image;
 use crate::loaded::{pe_c_map, pe_c_relocate};
 use crate::results::{DONE, NOTHING, ROOM};
-use crate::section_index::{IndexEntry, pe_c_index};
+use crate::section_index::pe_c_index;
+use pe_frame::IndexEntry;
 use crate::view::View;
 use pe_core::SectionTable;
 use std::test::Fail;

@@ -25,7 +25,7 @@ use crate::imports::{Imports, Libraries};
 use crate::ranges::{NO_BYTES, Range};
 use crate::resource_leaves::pe_c_next_resource_leaf;
 use crate::results::{DONE, NOTHING};
-use crate::section_index::IndexEntry;
+use pe_frame::IndexEntry;
 use crate::step_failures::arm64::{pe_c_arm64_code_failure, pe_c_arm64_record_failure};
 use crate::step_failures::bound_imports::pe_c_bound_import_failure;
 use crate::step_failures::delay_imports::{

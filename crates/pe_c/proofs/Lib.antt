@@ -67,7 +67,6 @@ pub mod DumpStacks
 pub mod SignatureRuns
 pub mod SoughtAttributes
 pub mod IndexCuts
-pub mod IndexSearches
 pub mod ViewRuns
 pub mod IndexHalves
 pub mod IndexFound

@@ -8,10 +8,10 @@ use Rattle.pe_directories.specs.LoadedImages.{IsRun}
 use Rattle.pe_directories.specs.declared.section_runs.Run.{Run}
 use Rattle.pe_c.specs.Images.{map_of_image}
 use Rattle.pe_c.specs.Loaded.{StartedUntil, number_of_last, start_of_last}
-use Rattle.pe_c.specs.SectionIndexes.{no_entry, number_found, numbered, sections_by, start_by, started}
+use Rattle.pe_frame.specs.SectionIndexes.{no_entry, number_found, numbered, sections_by, start_by, started}
 use Rattle.pe_c.specs.declared.image.Image.{Image}
-use Rattle.pe_c.specs.declared.section_index.IndexEntry.{IndexEntry}
-use Rattle.pe_c.proofs.IndexSearches.{skipped, turned_up, turned_down, started_at_0}
+use Rattle.pe_frame.specs.declared.section_index.IndexEntry.{IndexEntry}
+use Rattle.pe_frame.proofs.IndexSearches.{skipped, turned_up, turned_down, started_at_0}
 
 -- ---- one turn of the search, for all RVAs of the run
 

@@ -10,11 +10,11 @@ use Rattle.pe_directories.specs.declared.base_relocation.TheConstants.{IMAGE_REL
 use Rattle.pe_directories.specs.declared.error.DirectoryError.{DirectoryError}
 use Rattle.pe_c.specs.Directories.{directory_number, if_present, image_parts}
 use Rattle.pe_c.specs.Images.{directory}
-use Rattle.pe_c.specs.SectionIndexes.{no_entry, started}
+use Rattle.pe_frame.specs.SectionIndexes.{no_entry, started}
 use Rattle.pe_c.specs.Views.{map_of}
 use Rattle.pe_c.specs.declared.image.Image.{Image}
 use Rattle.pe_c.specs.declared.results.TheConstants.{DONE, NOTHING, ROOM}
-use Rattle.pe_c.specs.declared.section_index.IndexEntry.{IndexEntry}
+use Rattle.pe_frame.specs.declared.section_index.IndexEntry.{IndexEntry}
 use Rattle.pe_c.specs.declared.view.View.{View}
 
 -- the image of a view as a loader lays it out

@@ -18,7 +18,7 @@ use crate::named_view::NamedView;
 use crate::near_map::{NO_WINDOW, map_near};
 use crate::ranges::{NO_BYTES, Range, range_from, slice_of};
 use crate::results::{hand_out_some, options};
-use crate::section_index::sections_by;
+use pe_frame::sections_by;
 use crate::text_runs::Run;
 use crate::view::{View, map_by};
 use crate::walks::next_entry;

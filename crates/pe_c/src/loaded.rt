@@ -11,7 +11,7 @@ ghost use Rattle.pe_c.specs.Views.{map_of};
 use crate::directories::{Result, image_bytes};
 use crate::image::{BASE_RELOCATION_TABLE, Image, directory, is_absent};
 use crate::results::{DONE, NOTHING, ROOM, number_of_directory, options};
-use crate::section_index::{IndexEntry, bits_of, numbered, power_of_two, start_by};
+use pe_frame::{IndexEntry, bits_of, numbered, power_of_two, start_by};
 use crate::view::View;
 use pe_directories::{
     BaseRelocation, IMAGE_REL_BASED_DIR64, IMAGE_REL_BASED_HIGHLOW, RelocationBlocks, Run, Runs,
@@ -44,7 +44,7 @@ fn started_until(entries: &[IndexEntry], rva: u32) -> Started
 {
     let mut count = 0;
     let mut end = u64::MAX;
-    let mut bits = bits_of(entries);
+    let mut bits = bits_of(entries.len());
     while bits > 0 {
         bits -= 1;
         let more = count + power_of_two(bits);

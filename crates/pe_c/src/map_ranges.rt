@@ -7,13 +7,13 @@ ghost use Rattle.std.specs.Prelude.{◌≡◌, Ok, position, slice_get};
 ghost use Rattle.pe_c.specs.HandsOut.{HandsOutIf};
 ghost use Rattle.pe_c.specs.MapRanges.{holds_offset, range_at, range_in, rva_at, rva_in};
 ghost use Rattle.pe_c.specs.Maps.{covers};
-ghost use Rattle.pe_c.specs.SectionIndexes.{sections_by};
+ghost use Rattle.pe_frame.specs.SectionIndexes.{sections_by};
 
 use crate::image::Image;
 use crate::maps::{bytes_between, covers, first_covering};
 use crate::ranges::Range;
 use crate::results::{hand_out_some, options};
-use crate::section_index::sections_by;
+use pe_frame::sections_by;
 use crate::view::View;
 use pe_core::SectionTable;
 use pe_directories::{raw_start, reach};

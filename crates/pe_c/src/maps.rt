@@ -10,7 +10,7 @@ ghost use Rattle.pe_c.specs.SectionIndexes.{section_by};
 use crate::image::Image;
 use crate::ranges::Range;
 use crate::results::{DONE, NOTHING, hand_out_some, options};
-use crate::section_index::{number_found, numbered};
+use pe_frame::{number_found, numbered};
 use crate::view::View;
 use pe_core::SectionTable;
 use pe_directories::{raw_start, reach};

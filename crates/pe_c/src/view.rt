@@ -2,12 +2,12 @@
 //! the caller has made one.
 
 ghost use Rattle.std.specs.Prelude.{◌≡◌};
-ghost use Rattle.pe_c.specs.SectionIndexes as indexes;
+ghost use Rattle.pe_frame.specs.SectionIndexes as indexes;
 ghost use Rattle.pe_c.specs.Views.{map_of};
 
 use crate::image::{Image, offset_of};
 use crate::results::options;
-use crate::section_index::{IndexEntry, sections_by};
+use pe_frame::{IndexEntry, sections_by};
 use pe_core::{Result, SectionTable, find_offset, mapped_offset};
 use pe_unwind::RvaMap;
 

@@ -13,6 +13,7 @@ pub mod PiecesShow
 pub mod ListsShow
 pub mod OnePiece
 pub mod Halving
+pub mod IndexSearches
 pub mod Searches
 pub mod NoCode
 pub mod FrameSteps

@@ -3,6 +3,7 @@ pub mod Memory
 pub mod MemoryPieces
 pub mod MemoryLists
 pub mod SearchedMemory
+pub mod SectionIndexes
 pub mod Undoing
 pub mod Steps
 pub mod InPlace

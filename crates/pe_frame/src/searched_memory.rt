@@ -6,13 +6,14 @@
 //! Nothing has to be believed of the list. In ascending pieces that lie in the bytes the memory is that of `MemoryList`. In any
 //! others a byte is one of some piece that has its address and lies in the bytes, or it is unknown.
 
-ghost use Rattle.std.specs.Prelude.{◌≡◌, ◌+◌, ◌-◌, ◌<◌, ◌≤◌, ◌^◌, length};
+ghost use Rattle.std.specs.Prelude.{◌≡◌, ◌+◌, ◌-◌, ◌<◌, ◌≤◌, length};
 ghost use Rattle.std.specs.Option.{option_map};
 ghost use Rattle.pe_core.specs.Bytes.{holds};
 ghost use Rattle.pe_frame.specs.AddressRanges.{start_by, started};
 ghost use Rattle.pe_frame.specs.SearchedMemory.{no_piece, piece_shown, pieces_started, searched_byte, shows_byte};
 
 use crate::address_ranges::has_address;
+use crate::halving::{bits_of, power_of_two};
 use crate::memory::{KnownBytes, Memory, known_word};
 use crate::memory_list::{MemoryPiece, byte_of, has_word, word_of};
 
@@ -22,23 +23,6 @@ use crate::memory_list::{MemoryPiece, byte_of, has_word, word_of};
 pub struct SearchedMemory<'a> {
     bytes: &'a [u8],
     pieces: &'a [MemoryPiece],
-}
-
-/// How many bits a number has.
-fn bits_of(number: usize) -> u32
-    ensures enough { number < 2 ^ result }
-    ensures most { result ≤ 64 }
-{
-    usize::BITS - number.leading_zeros()
-}
-
-/// A power of two.
-#[tactic(auto, using(crate::proofs::Halving::shifted))]
-fn power_of_two(bits: u32) -> usize
-    requires { bits < 64 }
-    ensures { result ≡ 2 ^ bits }
-{
-    1 << bits
 }
 
 /// Whether there are so many pieces, and the last of them starts at or before an address.

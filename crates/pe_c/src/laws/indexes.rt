@@ -4,7 +4,8 @@ ghost use Rattle.std.specs.Prelude.{◌≡◌, ℕ, List};
 ghost use Rattle.pe_c.specs.Images.{map_of_image};
 ghost use Rattle.pe_c.specs.MapRanges.{range_at};
 ghost use Rattle.pe_c.specs.Maps.{section_at};
-ghost use Rattle.pe_c.specs.SectionIndexes.{IsIndexOf, section_by, sections_by};
+ghost use Rattle.pe_frame.specs.SectionIndexes.{sections_by};
+ghost use Rattle.pe_c.specs.SectionIndexes.{IsIndexOf, section_by};
 ghost use Rattle.pe_c.specs.Views.{map_of};
 ghost use Rattle.pe_c.specs.declared.view.View.{View};
 

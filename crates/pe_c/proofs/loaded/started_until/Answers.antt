@@ -1,7 +1,7 @@
 use Rattle.std.proofs.Common.{◌≡◌, ◌+◌, ◌-◌, ◌∙◌, true, false, sym, subst, ap, rules, arith}
-use Rattle.pe_c.specs.SectionIndexes.{start_by}
+use Rattle.pe_frame.specs.SectionIndexes.{start_by}
 use Rattle.pe_frame.proofs.Halving.{grows, halved}
-use Rattle.pe_c.proofs.IndexSearches.{start_inside}
+use Rattle.pe_frame.proofs.IndexSearches.{start_inside}
 use Rattle.pe_c.proofs.ViewRuns.{alike_down, alike_first, alike_last, alike_up}
 use Rattle.pe_c.proofs.loaded.started_until.Goals as goal
 
