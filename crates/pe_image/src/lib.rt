@@ -278,7 +278,6 @@ pub use pe_unwind::UnwindCodeIterator;
 pub use pe_unwind::UnwindHandler;
 pub use pe_unwind::UnwindInfo;
 pub use pe_unwind::UnwindOperation;
-pub use pe_unwind::last_start_arm64;
 pub use pe_unwind::linked_record_offset;
 pub use pe_unwind::scope_table_size;
 pub use pe_unwind::search;

@@ -15,11 +15,16 @@ use Rattle.pe_unwind.specs.Lookup.{FindsStart, IsSortedBy, last_start}
 abbrev pub length_in_record : List ℕ → ℕ → Result ℕ Refusal
 length_in_record b p = record_at b p 4 (4 * bits (le b p 4) 0 18)
 
--- the length in bytes of an entry's function: packed into the entry, or in its unwind record in the bytes of the file
-abbrev pub length_of_arm64 : List ℕ → SectionMapView → Arm64RuntimeFunction → Result ℕ Refusal
-length_of_arm64 b m f =
+-- the length in bytes of an entry's function: packed into the entry, or in its unwind record in the bytes of the file, which a map
+-- of RVAs finds
+abbrev pub length_by : (ℕ → Option ℕ) → List ℕ → Arm64RuntimeFunction → Result ℕ Refusal
+length_by offset b f =
     if is_packed f then Ok (4 * bits f.unwind_data 2 11)
-    else (mapped (offset_in m (4 * bits f.unwind_data 2 30)) >>= length_in_record b)
+    else (mapped (offset (4 * bits f.unwind_data 2 30)) >>= length_in_record b)
+
+-- the same by a section map
+abbrev pub length_of_arm64 : List ℕ → SectionMapView → Arm64RuntimeFunction → Result ℕ Refusal
+length_of_arm64 b m = length_by (offset_in m) b
 
 -- the entry, if its function is long enough to cover the RVA, or what refuses its length
 abbrev pub if_long_enough : (Arm64RuntimeFunction → Result ℕ Refusal) → ℕ → Option Arm64RuntimeFunction → Result (Option Arm64RuntimeFunction) Refusal

@@ -15,12 +15,17 @@ abbrev pub info_at_offset : List ℕ → Option ℕ → Result Arm64InfoView Ref
 info_at_offset b None = Err Unmapped
 info_at_offset b (Some p) = info_at b p
 
--- the file offset of the unwind record of an entry; none if its unwind data are packed
-abbrev pub offset_of_function : ExceptionView → List SectionTable → ParseOptions → Arm64RuntimeFunction → Option (Result ℕ Refusal)
-offset_of_function v sections opts f =
-    if is_packed f then None else Some (mapped (section_map opts sections v.alignment (4 * bits f.unwind_data 2 30)))
+-- the file offset of the unwind record of an entry, by a map of RVAs; none if its unwind data are packed
+abbrev pub record_offset_by : (ℕ → Option ℕ) → Arm64RuntimeFunction → Option (Result ℕ Refusal)
+record_offset_by offset f = if is_packed f then None else Some (mapped (offset (4 * bits f.unwind_data 2 30)))
 
--- the unwind record of an entry; none if its unwind data are packed
+-- the unwind record of an entry, by a map of RVAs; none if its unwind data are packed
+abbrev pub info_by : (ℕ → Option ℕ) → List ℕ → Arm64RuntimeFunction → Option (Result Arm64InfoView Refusal)
+info_by offset b f = if is_packed f then None else Some (info_at_offset b (offset (4 * bits f.unwind_data 2 30)))
+
+-- both by the map of these sections, with these options and the directory's own file alignment
+abbrev pub offset_of_function : ExceptionView → List SectionTable → ParseOptions → Arm64RuntimeFunction → Option (Result ℕ Refusal)
+offset_of_function v sections opts = record_offset_by (section_map opts sections v.alignment)
+
 abbrev pub info_of_function : ExceptionView → List SectionTable → ParseOptions → Arm64RuntimeFunction → Option (Result Arm64InfoView Refusal)
-info_of_function v sections opts f =
-    if is_packed f then None else Some (info_at_offset v.content (section_map opts sections v.alignment (4 * bits f.unwind_data 2 30)))
+info_of_function v sections opts = info_by (section_map opts sections v.alignment) v.content

@@ -8,7 +8,8 @@ use crate::arm64::function::{
 use crate::arm64::info::Arm64UnwindInfo;
 use crate::arm64::lookup::search_arm64;
 use crate::function_table::{RuntimeFunction, RuntimeFunctionIterator, SIZE_OF_FUNCTION, search};
-use crate::links::{RvaMap, linked_record_offset};
+use crate::links::linked_record_offset;
+use crate::rva_map::RvaMap;
 use crate::unwind_info::UnwindInfo;
 use pe_core::{
     ByteRange, CountedTable, DataDirectory, Error, ParseOptions, Reason, Result, SectionMap,
@@ -61,10 +62,10 @@ impl<'a> ExceptionData<'a> {
     ghost use Rattle.pe_core.specs.Offsets.{IsWithin};
     ghost use Rattle.pe_core.specs.Refusals.{Returns, FunctionCycle, answer_of, answer_by};
     ghost use Rattle.pe_unwind.specs.ExceptionTable.{exception_at, exception_of_table, table_range, table_of, function_of};
-    ghost use Rattle.pe_unwind.specs.Arm64Lookup.{FindsArm64, length_of_arm64};
+    ghost use Rattle.pe_unwind.specs.Arm64Lookup.{FindsArm64, length_by, length_of_arm64};
     ghost use Rattle.pe_unwind.specs.Arm64Functions.{arm64_functions, arm64_function_items, items_of_arm64_functions, arm64_function_of};
     ghost use Rattle.pe_unwind.specs.Arm64Record.{info_view};
-    ghost use Rattle.pe_unwind.specs.Arm64Unwinding.{offset_of_function, info_of_function};
+    ghost use Rattle.pe_unwind.specs.Arm64Unwinding.{info_by, offset_of_function, info_of_function};
     ghost use Rattle.pe_unwind.specs.FunctionTable.{functions, function_items, items_of_functions, Finds};
     ghost use Rattle.pe_core.specs.SectionMap.{map_view};
     ghost use Rattle.pe_unwind.specs.Links.{IsEndless, links_of, links_with};
@@ -283,9 +284,20 @@ impl<'a> ExceptionData<'a> {
             (map_view opts.now sections.now self.now.alignment))
             (arm64_functions (table_of self.now)) rva (answer_of result) }
     {
-        let sections = self.section_map(sections, opts);
+        self.find_function_arm64_with_map(rva, &self.section_map(sections, opts))
+    }
+
+    /// The same by a map that many calls share: the section map, or another.
+    pub fn find_function_arm64_with_map<R: RvaMap>(
+        &self,
+        rva: u32,
+        map: &R,
+    ) -> Result<Option<Arm64RuntimeFunction>>
+        ensures { FindsArm64 (length_by (R.offset map.now) self.now.content)
+            (arm64_functions (table_of self.now)) rva (answer_of result) }
+    {
         let mut table = self.table();
-        search_arm64(&mut table, rva, self.bytes, &sections)
+        search_arm64(&mut table, rva, self.bytes, map)
     }
 
     /// The section map of `sections` with these options and the file alignment of the image. Pass it to
@@ -403,7 +415,22 @@ impl<'a> ExceptionData<'a> {
         ensures { option_map (answer_by info_view) result
             ≡ info_of_function self.now sections.now opts.now function }
     {
-        match self.record_offset_arm64(function, sections, opts)? {
+        self.get_unwind_info_arm64_with_map(function, &self.section_map(sections, opts))
+    }
+
+    /// The same by a map that many calls share: the section map, or another.
+    pub fn get_unwind_info_arm64_with_map<R: RvaMap>(
+        &self,
+        function: Arm64RuntimeFunction,
+        map: &R,
+    ) -> Option<Result<Arm64UnwindInfo<'a>>>
+        ensures { option_map (answer_by info_view) result
+            ≡ info_by (R.offset map.now) self.now.content function }
+    {
+        if function.is_packed() {
+            return None;
+        }
+        match map.file_offset(function.unwind_data_rva()) {
             Ok(offset) => Some(Arm64UnwindInfo::parse(self.bytes, offset)),
             Err(error) => Some(Err(error)),
         }

@@ -17,6 +17,7 @@ pub mod laws;
 mod links;
 mod lookup;
 mod register;
+mod rva_map;
 mod scope_table;
 mod unwind_code;
 mod unwind_info;
@@ -31,14 +32,15 @@ pub use arm64::function::{
     Arm64RuntimeFunctionIterator,
 };
 pub use arm64::info::{Arm64ExceptionHandler, Arm64UnwindInfo};
-pub use arm64::lookup::{last_start_arm64, search_arm64};
+pub use arm64::lookup::search_arm64;
 pub use arm64::words::{
     Arm64EpilogScope, Arm64EpilogScopeIterator, Arm64UnwindExtension, Arm64UnwindHeader,
 };
 pub use exception::ExceptionData;
 pub use function_table::{RuntimeFunction, RuntimeFunctionIterator, search};
-pub use links::{RvaMap, linked_record_offset};
+pub use links::linked_record_offset;
 pub use register::Register;
+pub use rva_map::RvaMap;
 pub use scope_table::{ScopeTableEntry, ScopeTableIterator};
 pub use unwind_code::{StackFrameOffset, UnwindCode, UnwindCodeIterator, UnwindOperation};
 pub use unwind_info::{UnwindHandler, UnwindInfo, scope_table_size};

@@ -2,34 +2,15 @@
 //! has the unwind RVA to follow instead. A caller follows the links to the even RVA at their end, which is that of the
 //! unwind record.
 
-ghost use Rattle.std.specs.Prelude.{◌≡◌, ◌%◌, ℕ, Option};
+ghost use Rattle.std.specs.Prelude.{◌≡◌, ◌%◌};
 ghost use Rattle.pe_core.specs.Refusals.{answer_of};
-ghost use Rattle.pe_core.specs.SectionMap.{mapped, offset_in};
 ghost use Rattle.pe_unwind.specs.LinkSteps.{LinkLeads};
 ghost use Rattle.pe_unwind.specs.Links.{Follows, linked_table};
 ghost use Rattle.pe_unwind.specs.Unwinding.{FindsRecord};
 
 use crate::function_table::{RuntimeFunction, SIZE_OF_FUNCTION};
-use pe_core::{Error, Reason, Result, SectionMap, TableEntry};
-
-/// A map from RVAs to file offsets. The section map of an image is one; a caller may bring another, as one that finds sections by
-/// an index of his own.
-pub trait RvaMap {
-    // The file offset of an RVA, if it has one.
-    ghost offset: { Self → ℕ → Option ℕ };
-
-    /// The file offset of an RVA. Errors: `Unmapped`.
-    fn file_offset(&self, rva: u32) -> Result<usize>
-        ensures { answer_of result ≡ mapped (offset self.now rva) };
-}
-
-impl<'a> RvaMap for SectionMap<'a> {
-    ghost offset = { λ m. offset_in m };
-
-    fn file_offset(&self, rva: u32) -> Result<usize> {
-        self.offset_of(rva)
-    }
-}
+use crate::rva_map::RvaMap;
+use pe_core::{Error, Reason, Result, TableEntry};
 
 /// The unwind RVA of the entry to which an odd RVA is a link. Errors: `Unmapped`; `FunctionLink` if no whole entry starts there.
 fn follow<M: RvaMap>(table: &[u8], start: usize, map: &M, address: u32) -> Result<u32>

@@ -1,17 +1,18 @@
 //! Lookup in the ARM64 function table. An entry has the start of its function, and its length is packed into the entry or
 //! stands in the header of its unwind record, so lookup reads one record. A caller passes the table, the file and its
-//! section map. See [ARM64 exception handling](https://learn.microsoft.com/cpp/build/arm64-exception-handling).
+//! section map, or another map. See [ARM64 exception handling](https://learn.microsoft.com/cpp/build/arm64-exception-handling).
 
 ghost use Rattle.std.specs.Prelude.{◌≡◌, ℕ, ◌+◌, ◌≤◌, length};
 ghost use Rattle.pe_core.specs.Refusals.{Returns, answer_of};
 ghost use Rattle.pe_unwind.specs.Arm64Functions.{arm64_functions};
-ghost use Rattle.pe_unwind.specs.Arm64Lookup.{FindsArm64, length_of_arm64};
-ghost use Rattle.pe_unwind.specs.Lookup.{FindsStart, digits};
+ghost use Rattle.pe_unwind.specs.Arm64Lookup.{FindsArm64, length_by};
+ghost use Rattle.pe_unwind.specs.Lookup.{digits};
 
 use super::function::Arm64RuntimeFunction;
 use super::words::Arm64UnwindHeader;
 use crate::lookup::{FunctionEntry, last_start};
-use pe_core::{CountedTable, Result, SectionMap, u32_at};
+use crate::rva_map::RvaMap;
+use pe_core::{CountedTable, Result, u32_at};
 
 impl FunctionEntry for Arm64RuntimeFunction {
     ghost start_of = { λ f. f.begin_address };
@@ -22,35 +23,19 @@ impl FunctionEntry for Arm64RuntimeFunction {
 }
 
 impl Arm64RuntimeFunction {
-    /// The length of the function in bytes: from its packed data, or from the header of its unwind record. `bytes` is the
-    /// whole file. The version of the record is not tested, since it is that of what follows the length.
+    /// The length of the function in bytes: from its packed data, or from the header of its unwind record, which the map, as
+    /// a section map, finds. `bytes` is the whole file. The version of the record is not tested, since it is that of what follows the length.
     ///
     /// Errors: `Unmapped` if the RVA of the record is not mapped; `Short` if its header is truncated.
-    pub fn length(&self, bytes: &[u8], sections: &SectionMap<'_>) -> Result<u32>
-        ensures { Returns result (length_of_arm64 bytes.now sections.now self.now) }
+    pub fn length<R: RvaMap>(&self, bytes: &[u8], map: &R) -> Result<u32>
+        ensures { Returns result (length_by (R.offset map.now) bytes.now self.now) }
     {
         if self.is_packed() {
             return Ok(self.function_length());
         }
-        let offset = sections.offset_of(self.unwind_data_rva())?;
+        let offset = map.file_offset(self.unwind_data_rva())?;
         Ok(Arm64UnwindHeader(u32_at(bytes, offset)?).function_length())
     }
-}
-
-/// Returns the ARM64 entry at which a lookup of an RVA stops, by binary search of the starts alone: it starts at or before the RVA,
-/// and the next one after it. `None` if the search stops before the first entry. Whether the function covers the RVA is the caller's
-/// test, by its `length`: for it the caller may map the RVA of the record himself, as by an index of the sections. It reads at most
-/// as many entries as their number has binary digits, which `table` counts.
-#[tactic(auto, unfolding(crate::specs::Arm64Functions::arm64_functions))]
-pub fn last_start_arm64(table: &mut CountedTable, rva: u32) -> Option<Arm64RuntimeFunction>
-    ensures found { FindsStart (λ f. f.begin_address)
-        (arm64_functions table.old.content) rva result }
-    ensures kept { table.new.content ≡ table.old.content }
-    ensures counted { table.old.count ≤ table.new.count }
-    ensures cost { table.new.count ≤ table.old.count + digits
-        (length (arm64_functions table.old.content)) }
-{
-    last_start::<Arm64RuntimeFunction>(table, rva)
 }
 
 /// Returns the ARM64 entry that covers an RVA, by binary search of the entries. It reads at most as many of them as their
@@ -61,24 +46,24 @@ pub fn last_start_arm64(table: &mut CountedTable, rva: u32) -> Option<Arm64Runti
 /// position, so there it returns what a linear scan finds. In any other table which position it is depends on the search.
 ///
 /// Errors, of the first entry's record alone: `Unmapped` if its RVA is not mapped; `Short` if its header is truncated.
-#[tactic(auto, using(crate::proofs::Arm64Searches::finds_no_entry, crate::proofs::Arm64Searches::finds_refused, crate::proofs::Arm64Searches::finds_long_enough, crate::proofs::Arm64Searches::finds_too_short))]
-pub fn search_arm64(
+#[tactic(auto, unfolding(crate::specs::Arm64Functions::arm64_functions), using(crate::proofs::Arm64Searches::finds_no_entry, crate::proofs::Arm64Searches::finds_refused, crate::proofs::Arm64Searches::finds_long_enough, crate::proofs::Arm64Searches::finds_too_short))]
+pub fn search_arm64<R: RvaMap>(
     table: &mut CountedTable,
     rva: u32,
     bytes: &[u8],
-    sections: &SectionMap<'_>,
+    map: &R,
 ) -> Result<Option<Arm64RuntimeFunction>>
-    ensures found { FindsArm64 (length_of_arm64 bytes.now sections.now)
+    ensures found { FindsArm64 (length_by (R.offset map.now) bytes.now)
         (arm64_functions table.old.content) rva (answer_of result) }
     ensures kept { table.new.content ≡ table.old.content }
     ensures counted { table.old.count ≤ table.new.count }
     ensures cost { table.new.count ≤ table.old.count + digits
         (length (arm64_functions table.old.content)) }
 {
-    let Some(function) = last_start_arm64(table, rva) else {
+    let Some(function) = last_start::<Arm64RuntimeFunction>(table, rva) else {
         return Ok(None);
     };
-    let length = function.length(bytes, sections)?;
+    let length = function.length(bytes, map)?;
     // The function starts at or before the RVA, so the difference is not negative.
     if rva - function.begin_address < length {
         Ok(Some(function))
