@@ -115,6 +115,7 @@ fn module<'a>(
         size: SIZE,
         bytes,
         sections,
+        index: &[],
         exceptions: Some(exceptions),
         opts: flat(),
     }

@@ -127,6 +127,7 @@ pub(crate) fn module<'a>(
         size: SIZE,
         bytes,
         sections: &[],
+        index: &[],
         exceptions: Some(exceptions),
         opts: flat(),
     }
@@ -360,6 +361,7 @@ fn an_image_without_exception_data_has_leaf_functions_alone(rt: HostRuntime) -> 
         size: SIZE,
         bytes: &[],
         sections: &[],
+        index: &[],
         exceptions: None,
         opts: flat(),
     };
@@ -426,6 +428,7 @@ fn expect_frames_over<M: Memory>(
     let modules = [Module {
         size: 0x100,
         sections: &sections,
+        index: &[],
         ..module(APP, &program, &data)
     }];
     let modules = Modules::new(&modules).map_err(|_| "one module ascends")?;

@@ -68,6 +68,7 @@ fn show_image(rt: &HostRuntime, image: &PE, bytes: &[u8], opts: ParseOptions, st
         size,
         bytes,
         sections: &image.sections,
+        index: &[],
         exceptions: image.arm64_exceptions(),
         opts,
     }];

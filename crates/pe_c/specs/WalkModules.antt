@@ -39,6 +39,7 @@ module_with v exceptions = record {
   size = view_size v;
   bytes = (v.image).bytes;
   sections = (v.image).sections;
+  index = (v.image).index;
   exceptions = exceptions;
   opts = options_of ((v.image).image.now).mode;
 }

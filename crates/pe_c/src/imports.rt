@@ -18,7 +18,6 @@ use crate::named_view::NamedView;
 use crate::near_map::{NO_WINDOW, map_near};
 use crate::ranges::{NO_BYTES, Range, range_from, slice_of};
 use crate::results::{hand_out_some, options};
-use pe_frame::sections_by;
 use crate::text_runs::Run;
 use crate::view::{View, map_by};
 use crate::walks::next_entry;
@@ -26,6 +25,7 @@ use pe_core::{
     Error, ImportDirectoryEntry, Reason, Result, SectionTable, lookup_number, lookup_size,
     mapped_offset, u16_at,
 };
+use pe_frame::sections_by;
 
 /// The size of a record of the import directory in bytes.
 const SIZE_OF_RECORD: u64 = 20;

@@ -11,12 +11,12 @@ ghost use Rattle.pe_c.specs.Views.{map_of};
 use crate::directories::{Result, image_bytes};
 use crate::image::{BASE_RELOCATION_TABLE, Image, directory, is_absent};
 use crate::results::{DONE, NOTHING, ROOM, number_of_directory, options};
-use pe_frame::{IndexEntry, bits_of, numbered, power_of_two, start_by};
 use crate::view::View;
 use pe_directories::{
     BaseRelocation, IMAGE_REL_BASED_DIR64, IMAGE_REL_BASED_HIGHLOW, RelocationBlocks, Run, Runs,
     lay_out, relocate, run_in,
 };
+use pe_frame::{IndexEntry, bits_of, numbered, power_of_two, start_by};
 
 /// How many entries of an index start at or before an RVA, and before which RVA no other does.
 #[derive(Clone, Copy)]

@@ -13,10 +13,10 @@ use crate::image::Image;
 use crate::maps::{bytes_between, covers, first_covering};
 use crate::ranges::Range;
 use crate::results::{hand_out_some, options};
-use pe_frame::sections_by;
 use crate::view::View;
 use pe_core::SectionTable;
 use pe_directories::{raw_start, reach};
+use pe_frame::sections_by;
 
 /// The bytes from an RVA to the end of what its section has.
 #[tactic(auto, using(pe_core::proofs::Map::positive))]

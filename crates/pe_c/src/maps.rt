@@ -10,10 +10,10 @@ ghost use Rattle.pe_c.specs.SectionIndexes.{section_by};
 use crate::image::Image;
 use crate::ranges::Range;
 use crate::results::{DONE, NOTHING, hand_out_some, options};
-use pe_frame::{number_found, numbered};
 use crate::view::View;
 use pe_core::SectionTable;
 use pe_directories::{raw_start, reach};
+use pe_frame::{number_found, numbered};
 
 /// Whether the section covers an RVA; none does where the file alignment is not a power of two.
 #[tactic(auto, using(pe_core::proofs::Map::positive))]

@@ -18,9 +18,9 @@ ghost use Rattle.pe_c.specs.ResourceLeaves.{StartsLeaves, TreeHandsOut, after_it
 use crate::image::{RESOURCE_TABLE, directory, is_absent};
 use crate::ranges::{NO_BYTES, Range, range_of, slice_of};
 use crate::results::{DONE, NOTHING, hand_out_leaf, number_of, options};
-use pe_frame::sections_by;
 use crate::view::View;
 use pe_core::{ByteRange, DataDirectory, Result};
+use pe_frame::sections_by;
 use pe_resource::{LeafPosition, ResourceData, ResourceEntry, ResourceTreeError};
 
 /// What names a type, a resource or a language: an id, or a name.

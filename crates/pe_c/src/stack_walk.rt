@@ -102,13 +102,14 @@ fn module_with<'a>(view: &ModuleView<'a>, exceptions: Option<&'a ExceptionData<'
         bytes,
         image,
         sections,
-        ..
+        index,
     } = view.image;
     Module {
         base: view.base,
         size: image.size_of_image,
         bytes,
         sections,
+        index,
         exceptions,
         opts: options(image.mode),
     }

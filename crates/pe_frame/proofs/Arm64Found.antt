@@ -6,7 +6,7 @@ use Rattle.std.proofs.lemmas.Bool.{eqb-true}
 use Rattle.std.proofs.lemmas.Bool.Decides.{nat_tests}
 use Rattle.std.specs.Option.{option_map, option_map_or, option_or}
 use Rattle.pe_unwind.specs.Arm64Record.{Arm64InfoView}
-use Rattle.pe_unwind.specs.Arm64Unwinding.{info_of_function}
+use Rattle.pe_unwind.specs.Arm64Unwinding.{info_by}
 use Rattle.pe_unwind.specs.ExceptionTable.{ExceptionView}
 use Rattle.pe_unwind.specs.declared.arm64.codes.Arm64UnwindCode.{Arm64UnwindCode}
 use Rattle.pe_unwind.specs.declared.arm64.function.Arm64RuntimeFunction.{Arm64RuntimeFunction}
@@ -15,7 +15,7 @@ use Rattle.pe_frame.specs.Arm64Steps.{StepsOutArm64}
 use Rattle.pe_frame.specs.Arm64Undoing.{caller_by_codes, entry_of, left_arm64, link_register, put_pc, returned_arm64, undone_codes}
 use Rattle.pe_frame.specs.Arm64Walks.{Calls, CallsBy, CallsByInfo, CallsFound, CallsIn, after_leaf, called_frame, code_return, frame_after, frame_of, has_called, caller_of_leaf, lookup_address, caller_outside, place_of, returned_to, scanned, stepped_out_packed, without_records}
 use Rattle.pe_frame.specs.FrameWalks.{Process}
-use Rattle.pe_frame.specs.Modules.{is_after_call_arm64, module_at}
+use Rattle.pe_frame.specs.Modules.{is_after_call_arm64, map_of_module, module_at}
 use Rattle.pe_frame.specs.Scans.{first_return, most_words}
 use Rattle.pe_frame.specs.declared.arm64.entry.Arm64Entry.{Arm64Entry}
 use Rattle.pe_frame.specs.declared.arm64.registers.Arm64Registers.{Arm64Registers}
@@ -224,7 +224,7 @@ next_by_info p m f s t (Some (Ok i)) h = next_after p.modules s t h.0 (step_abov
 next_found : (p : Process) (m : Module) (e : ExceptionView) (s t : Arm64StackFrame) (found : Result (Option Arm64RuntimeFunction) Refusal) → CallsFound p m e s found (Ok t) → IsNext p.modules s t
 next_found p m e s t (Err r) h = absurd h
 next_found p m e s t (Ok None) h = next_leaf p.memory p.modules s t h
-next_found p m e s t (Ok (Some f)) h = next_by_info p m f s t (info_of_function e m.sections.now m.opts f) h
+next_found p m e s t (Ok (Some f)) h = next_by_info p m f s t (info_by (map_of_module m e) e.content f) h
 
 next_by : (p : Process) (m : Module) (s t : Arm64StackFrame) (o : Option ExceptionView) → CallsBy p m s o (Ok t) → IsNext p.modules s t
 next_by p m s t None h = next_leaf p.memory p.modules s t h

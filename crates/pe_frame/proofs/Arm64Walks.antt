@@ -4,13 +4,13 @@ use Rattle.std.specs.List.{find}
 use Rattle.std.specs.Option.{option_map}
 use Rattle.pe_core.specs.Refusals.{Refusal}
 use Rattle.pe_unwind.specs.Arm64Record.{Arm64InfoView}
-use Rattle.pe_unwind.specs.Arm64Unwinding.{info_of_function}
+use Rattle.pe_unwind.specs.Arm64Unwinding.{info_by}
 use Rattle.pe_unwind.specs.ExceptionTable.{ExceptionView}
 use Rattle.pe_unwind.specs.declared.arm64.function.Arm64RuntimeFunction.{Arm64RuntimeFunction}
 use Rattle.pe_frame.specs.AddressRanges.{has_address}
 use Rattle.pe_frame.specs.Arm64Walks.{AreSortedModules, Calls, CallsBy, CallsByInfo, CallsFound, CallsIn, HasSortedTable, IsSortedModule, frame_after, lookup_address, place_of}
 use Rattle.pe_frame.specs.FrameWalks.{Process}
-use Rattle.pe_frame.specs.Modules.{module_at, module_base, module_size}
+use Rattle.pe_frame.specs.Modules.{map_of_module, module_at, module_base, module_size}
 use Rattle.pe_frame.specs.Steps.{ErrorKind, by_kind, error_kind}
 use Rattle.pe_frame.specs.Walks.{IsUnreadable, OfError, OfRecords, by_end_kind}
 use Rattle.pe_frame.specs.declared.arm64.registers.Arm64Registers.{Arm64Registers}
@@ -46,7 +46,7 @@ one_by_info p m f s (Some (Ok i)) x y h k =
 one_found : (p : Process) (m : Module) (e : ExceptionView) (s : Arm64StackFrame) (found : Result (Option Arm64RuntimeFunction) Refusal) (x y : Result Arm64StackFrame WalkEnd) → CallsFound p m e s found x → CallsFound p m e s found y → by_end_kind x ≡ by_end_kind y
 one_found p m e s (Err r) x y h k = unreadable r x h ∙ sym (unreadable r y k)
 one_found p m e s (Ok None) x y h k = ap by_end_kind (h ∙ sym k)
-one_found p m e s (Ok (Some f)) x y h k = one_by_info p m f s (info_of_function e m.sections.now m.opts f) x y h k
+one_found p m e s (Ok (Some f)) x y h k = one_by_info p m f s (info_by (map_of_module m e) e.content f) x y h k
 
 one_by : (p : Process) (m : Module) (s : Arm64StackFrame) (o : Option ExceptionView) (x y : Result Arm64StackFrame WalkEnd) → HasSortedTable o → CallsBy p m s o x → CallsBy p m s o y → by_end_kind x ≡ by_end_kind y
 one_by p m s None x y sorted h k = ap by_end_kind (h ∙ sym k)

@@ -7,18 +7,18 @@ use Rattle.std.specs.Prelude.{nat_lt, if◌then◌else◌}
 use Rattle.pe_core.proofs.NoMemory.{Lacks, if_lacks, is_memory, one_test_lacks, outcome_lacks, then_lacks}
 use Rattle.pe_core.specs.Bytes.{holds, le}
 use Rattle.pe_core.specs.Refusals.{Refusal, Memory, Short, outcome}
-use Rattle.pe_core.specs.SectionMap.{SectionMapView, mapped, offset_in, section_map}
+use Rattle.pe_core.specs.SectionMap.{mapped}
 use Rattle.pe_unwind.specs.Arm64Functions.{arm64_functions, is_packed}
-use Rattle.pe_unwind.specs.Arm64Lookup.{FindsArm64, if_long_enough, length_in_record, length_of_arm64}
+use Rattle.pe_unwind.specs.Arm64Lookup.{FindsArm64, if_long_enough, length_by, length_in_record}
 use Rattle.pe_unwind.specs.Arm64Record.{Arm64InfoView, extension_at, info_at, info_tests, info_with, scope_count, code_words, scopes_offset}
-use Rattle.pe_unwind.specs.Arm64Unwinding.{info_at_offset, info_of_function}
+use Rattle.pe_unwind.specs.Arm64Unwinding.{info_at_offset, info_by}
 use Rattle.pe_unwind.specs.Arm64Words.{bits}
 use Rattle.pe_unwind.specs.ExceptionTable.{ExceptionView, table_of}
 use Rattle.pe_unwind.specs.declared.arm64.function.Arm64RuntimeFunction.{Arm64RuntimeFunction}
 use Rattle.pe_frame.specs.AddressRanges.{has_address}
 use Rattle.pe_frame.specs.Arm64Walks.{AreModulesOfBytes, Calls, CallsBy, CallsByInfo, CallsFound, CallsIn, HasBytes, IsModuleOfBytes, caller_of_leaf, caller_outside, frame_after, length_in, lookup_address, place_of, stepped_out_packed}
 use Rattle.pe_frame.specs.FrameWalks.{Process}
-use Rattle.pe_frame.specs.Modules.{module_at, module_base, module_size}
+use Rattle.pe_frame.specs.Modules.{map_of_module, module_at, module_base, module_size}
 use Rattle.pe_frame.specs.Walks.{IsUnreadable}
 use Rattle.pe_frame.specs.declared.arm64.walk.Arm64StackFrame.{Arm64StackFrame}
 use Rattle.pe_frame.specs.declared.modules.Module.{Module}
@@ -42,10 +42,10 @@ mapped_lacks : (o : Option ℕ) → Lacks (mapped o)
 mapped_lacks None = refl
 mapped_lacks (Some p) = tt
 
-length_lacks : (b : List ℕ) (m : SectionMapView) (f : Arm64RuntimeFunction) → Lacks (length_of_arm64 b m f)
-length_lacks b m f =
+length_lacks : (b : List ℕ) (offset : ℕ → Option ℕ) (f : Arm64RuntimeFunction) → Lacks (length_by offset b f)
+length_lacks b offset f =
     if_lacks (is_packed f) (Ok (4 * bits f.unwind_data 2 11)) _ tt
-    (then_lacks (mapped (offset_in m (4 * bits f.unwind_data 2 30))) (length_in_record b) (mapped_lacks (offset_in m (4 * bits f.unwind_data 2 30)))
+    (then_lacks (mapped (offset (4 * bits f.unwind_data 2 30))) (length_in_record b) (mapped_lacks (offset (4 * bits f.unwind_data 2 30)))
     (λ p. one_test_lacks (holds b p 4) Short (4 * bits (le b p 4) 0 18) refl))
 
 enough_lacks : (length_of : Arm64RuntimeFunction → Result ℕ Refusal) (a : ℕ) (last : Option Arm64RuntimeFunction) → ((f : Arm64RuntimeFunction) → Lacks (length_of f)) → Lacks (if_long_enough length_of a last)
@@ -101,9 +101,9 @@ unless_packed : (t : Bool) (x : Result Arm64InfoView Refusal) → IsReadable (So
 unless_packed true x h = tt
 unless_packed false x h = h
 
-readable : (m : Module) (e : ExceptionView) (f : Arm64RuntimeFunction) → All (λ x. x < 256) e.content → IsReadable (info_of_function e m.sections.now m.opts f)
+readable : (m : Module) (e : ExceptionView) (f : Arm64RuntimeFunction) → All (λ x. x < 256) e.content → IsReadable (info_by (map_of_module m e) e.content f)
 readable m e f all =
-    let o = section_map m.opts m.sections.now e.alignment (4 * bits f.unwind_data 2 30) in
+    let o = map_of_module m e (4 * bits f.unwind_data 2 30) in
     unless_packed (is_packed f) (info_at_offset e.content o) (at_offset e.content o (info_at_offset e.content o) all refl)
 
 -- ---- the caller
@@ -118,7 +118,7 @@ some_by_info p m f s (Some (Ok i)) is =
 some_found : (p : Process) (m : Module) (e : ExceptionView) (s : Arm64StackFrame) (found : Result (Option Arm64RuntimeFunction) Refusal) → Lacks found → All (λ x. x < 256) e.content → Caller (CallsFound p m e s found)
 some_found p m e s (Err r) lack all = unreadable r lack
 some_found p m e s (Ok None) lack all = (caller_of_leaf p.memory p.modules s, refl)
-some_found p m e s (Ok (Some f)) lack all = some_by_info p m f s (info_of_function e m.sections.now m.opts f) (readable m e f all)
+some_found p m e s (Ok (Some f)) lack all = some_by_info p m f s (info_by (map_of_module m e) e.content f) (readable m e f all)
 
 some_by : (p : Process) (m : Module) (s : Arm64StackFrame) (o : Option ExceptionView) → HasBytes o → Caller (CallsBy p m s o)
 some_by p m s None all = (caller_of_leaf p.memory p.modules s, refl)

@@ -2,11 +2,11 @@
 use Rattle.std.specs.Prelude.{◌≡◌, ℕ, ◌+◌, ◌-◌, ◌/◌, ◌<◌, ◌==◌, ◌&&◌, All, Bool, true, false, if◌then◌else◌, List, Option, Some, None, Result, Ok, Err}
 use Rattle.std.specs.Option.{option_map, option_map_or, option_or}
 use Rattle.pe_core.specs.Refusals.{Refusal, ◌>>=◌}
-use Rattle.pe_core.specs.SectionMap.{map_view, rounded_up}
+use Rattle.pe_core.specs.SectionMap.{rounded_up}
 use Rattle.pe_unwind.specs.Arm64Functions.{arm64_functions}
-use Rattle.pe_unwind.specs.Arm64Lookup.{FindsArm64, length_of_arm64}
+use Rattle.pe_unwind.specs.Arm64Lookup.{FindsArm64, length_by}
 use Rattle.pe_unwind.specs.Arm64Record.{Arm64InfoView}
-use Rattle.pe_unwind.specs.Arm64Unwinding.{info_of_function}
+use Rattle.pe_unwind.specs.Arm64Unwinding.{info_by}
 use Rattle.pe_unwind.specs.ExceptionTable.{ExceptionView, table_of}
 use Rattle.pe_unwind.specs.Lookup.{IsSortedBy}
 use Rattle.pe_unwind.specs.declared.arm64.function.Arm64RuntimeFunction.{Arm64RuntimeFunction}
@@ -15,7 +15,7 @@ use Rattle.pe_frame.specs.Arm64Packed.{stepped_arm64_packed}
 use Rattle.pe_frame.specs.Arm64Steps.{StepsOutArm64}
 use Rattle.pe_frame.specs.Arm64Undoing.{link_register, put_pc, put_sp, stripped}
 use Rattle.pe_frame.specs.FrameWalks.{FrameWalk, Process, state_of}
-use Rattle.pe_frame.specs.Modules.{is_after_call_arm64, is_code_return_arm64, module_at}
+use Rattle.pe_frame.specs.Modules.{is_after_call_arm64, is_code_return_arm64, map_of_module, module_at}
 use Rattle.pe_frame.specs.Scans.{first_return, most_words}
 use Rattle.pe_frame.specs.Walks.{IsUnreadable}
 use Rattle.pe_frame.specs.declared.arm64.registers.Arm64Registers.{Arm64Registers}
@@ -128,11 +128,11 @@ CallsByInfo p m f s (Some (Ok i)) answer =
 abbrev pub CallsFound : Process → Module → ExceptionView → Arm64StackFrame → Result (Option Arm64RuntimeFunction) Refusal → Result Arm64StackFrame WalkEnd → Type 0
 CallsFound p m e s (Err r) answer = IsUnreadable r answer
 CallsFound p m e s (Ok None) answer = answer ≡ caller_of_leaf p.memory p.modules s
-CallsFound p m e s (Ok (Some f)) answer = CallsByInfo p m f s (info_of_function e m.sections.now m.opts f) answer
+CallsFound p m e s (Ok (Some f)) answer = CallsByInfo p m f s (info_by (map_of_module m e) e.content f) answer
 
 -- the length of each function of a module
 abbrev pub length_in : Module → ExceptionView → Arm64RuntimeFunction → Result ℕ Refusal
-length_in m e = length_of_arm64 e.content (map_view m.opts m.sections.now e.alignment)
+length_in m e = length_by (map_of_module m e) e.content
 
 -- by the exception data of a module; without any all of its functions are leaf functions
 abbrev pub CallsBy : Process → Module → Arm64StackFrame → Option ExceptionView → Result Arm64StackFrame WalkEnd → Type 0

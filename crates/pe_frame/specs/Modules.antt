@@ -3,12 +3,13 @@ use Rattle.std.specs.Prelude.{ℕ, ◌+◌, ◌-◌, ◌/◌, ◌%◌, ◌^◌, 
 use Rattle.std.specs.List.{find, list_any}
 use Rattle.std.specs.Option.{option_map}
 use Rattle.pe_core.specs.Bytes.{holds, range}
-use Rattle.pe_core.specs.SectionMap.{map_view, offset_in}
+use Rattle.pe_core.specs.SectionMap.{section_map}
 use Rattle.pe_core.specs.declared.section_table.SectionTable.{SectionTable}
 use Rattle.pe_unwind.specs.ExceptionTable.{ExceptionView}
 use Rattle.pe_frame.specs.AddressRanges.{has_address}
 use Rattle.pe_frame.specs.Arm64CallForms.{is_call_arm64}
 use Rattle.pe_frame.specs.CallForms.{is_call, call_sizes}
+use Rattle.pe_frame.specs.SectionIndexes.{sections_by}
 use Rattle.pe_frame.specs.declared.modules.Module.{Module}
 
 -- the first address, and how many bytes follow from it on
@@ -27,9 +28,9 @@ abbrev pub bytes_or_none : List ℕ → Option ℕ → ℕ → List ℕ
 bytes_or_none b None n = []
 bytes_or_none b (Some p) n = if holds b p n then range b p n else []
 
--- the map from RVAs of a module to file offsets: the section map of its exception data
+-- the map from RVAs of a module to file offsets: the section map of its exception data, by its index of the sections where it has one
 abbrev pub map_of_module : Module → ExceptionView → ℕ → Option ℕ
-map_of_module m e = offset_in (map_view m.opts m.sections.now e.alignment)
+map_of_module m e x = section_map m.opts (sections_by m.sections.now m.index.now x) e.alignment x
 
 -- the code of a module from an RVA up to another
 abbrev pub code_in : Module → ExceptionView → ℕ → ℕ → List ℕ

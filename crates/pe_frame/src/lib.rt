@@ -16,12 +16,12 @@
 
 mod address_ranges;
 mod arm64;
+mod bits;
 mod call;
 mod epilog;
 mod error;
 mod frame;
 mod function_step;
-mod halving;
 mod jump;
 pub mod laws;
 mod memory;
@@ -43,10 +43,10 @@ pub use arm64::{
     Arm64Registers, Arm64StackFrame, Arm64StackFrames, caller_in_module_arm64,
     caller_outside_arm64, leaf_arm64, step_arm64, step_arm64_packed, step_out_arm64,
 };
+pub use bits::{bits_of, power_of_two};
 pub use error::FrameError;
 pub use frame::{leaf, step, step_out, step_with_code};
 pub use function_step::{step_in_function, step_in_function_in_place};
-pub use halving::{bits_of, power_of_two};
 pub use jump::{ImageFunctions, step_in_image};
 pub use memory::{Memory, Stack};
 pub use memory_list::{MemoryList, MemoryPiece};

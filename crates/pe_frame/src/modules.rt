@@ -4,13 +4,15 @@ ghost use Rattle.std.specs.Prelude.{◌≡◌, ◌+◌, ◌-◌, ◌≤◌, Matc
 ghost use Rattle.std.specs.List.{list_any};
 ghost use Rattle.std.specs.Option.{option_map};
 ghost use Rattle.pe_frame.specs.AddressRanges.{AreAscending, IsOverlap};
-ghost use Rattle.pe_frame.specs.Modules.{module_base, module_size, module_at, code_in, follows_call, is_after_call_in, is_after_call, is_after_call_arm64_in, is_after_call_arm64, executes, is_code_return, is_code_return_of, is_code_return_arm64, is_code_return_arm64_of};
+ghost use Rattle.pe_frame.specs.SectionIndexes.{sections_by};
+ghost use Rattle.pe_frame.specs.Modules.{module_base, module_size, module_at, map_of_module, code_in, follows_call, is_after_call_in, is_after_call, is_after_call_arm64_in, is_after_call_arm64, executes, is_code_return, is_code_return_of, is_code_return_arm64, is_code_return_arm64_of};
 
 use crate::address_ranges::{AddressRange, first_overlap, range_with};
 use crate::arm64::is_call_arm64;
 use crate::call::is_call;
+use crate::section_index::{IndexEntry, sections_by};
 use pe_core::{ParseOptions, SectionTable, slice_at};
-use pe_unwind::ExceptionData;
+use pe_unwind::{ExceptionData, RvaMap};
 
 /// `IMAGE_SCN_MEM_EXECUTE`: the section is executable.
 const MEM_EXECUTE: u32 = 0x2000_0000;
@@ -32,10 +34,31 @@ pub struct Module<'a> {
     pub bytes: &'a [u8],
     /// Its section headers.
     pub sections: &'a [SectionTable],
+    /// An index of the sections, by which its RVAs are mapped; no entries without one. No scan goes by it.
+    pub index: &'a [IndexEntry],
     /// Its exception data, parsed from `bytes`; without any it has leaf functions alone.
     pub exceptions: Option<&'a ExceptionData<'a>>,
     /// The options with which it was parsed.
     pub opts: ParseOptions,
+}
+
+/// The map from RVAs of a module to file offsets: the section map of its exception data, by its index where it has one.
+#[derive(Clone, Copy)]
+pub(crate) struct ModuleMap<'a> {
+    pub module: &'a Module<'a>,
+    pub exceptions: &'a ExceptionData<'a>,
+}
+
+impl<'a> RvaMap for ModuleMap<'a> {
+    ghost offset = { λ m. map_of_module m.module.now m.exceptions.now };
+
+    fn file_offset(&self, rva: u32) -> pe_core::Result<usize> {
+        let module = self.module;
+        let map = self
+            .exceptions
+            .section_map(module.sections_of(rva), &module.opts);
+        map.offset_of(rva)
+    }
 }
 
 /// Modules that are not in ascending order, or overlap.
@@ -61,12 +84,19 @@ impl<'a> AddressRange for Module<'a> {
 }
 
 impl<'a> Module<'a> {
+    /// The sections that may map an RVA: one at most, where the module has an index.
+    fn sections_of(&self, rva: u32) -> &'a [SectionTable]
+        ensures { result.now ≡ sections_by self.now.sections.now self.now.index.now rva }
+    {
+        sections_by(self.sections, self.index, u64::from(rva))
+    }
+
     /// The code from an RVA up to another, by the section map of the module's exception data. Empty where it is not all in
     /// the image.
     pub(crate) fn code(&self, exceptions: &ExceptionData<'a>, rva: u32, end: u32) -> &'a [u8]
         ensures { result.now ≡ code_in self.now exceptions.now rva end }
     {
-        let map = exceptions.section_map(self.sections, &self.opts);
+        let map = exceptions.section_map(self.sections_of(rva), &self.opts);
         match map.find(rva as usize) {
             Some(offset) => match slice_at(self.bytes, offset, end.saturating_sub(rva) as usize) {
                 Ok(code) => code,

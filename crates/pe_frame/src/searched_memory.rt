@@ -13,7 +13,7 @@ ghost use Rattle.pe_frame.specs.AddressRanges.{start_by, started};
 ghost use Rattle.pe_frame.specs.SearchedMemory.{no_piece, piece_shown, pieces_started, searched_byte, shows_byte};
 
 use crate::address_ranges::has_address;
-use crate::halving::{bits_of, power_of_two};
+use crate::bits::{bits_of, power_of_two};
 use crate::memory::{KnownBytes, Memory, known_word};
 use crate::memory_list::{MemoryPiece, byte_of, has_word, word_of};
 

@@ -7,7 +7,7 @@
 ghost use Rattle.std.specs.Prelude.{◌≡◌, ◌+◌, ◌<◌, ◌≤◌, ◌^◌, length};
 ghost use Rattle.pe_frame.specs.SectionIndexes.{start_by, started, number_found, numbered, sections_by};
 
-use crate::halving::{bits_of, power_of_two};
+use crate::bits::{bits_of, power_of_two};
 use pe_core::SectionTable;
 
 /// The RVAs from `start` up to the start of the next entry.

@@ -24,7 +24,7 @@ use crate::frame::leaf;
 use crate::function_step::step_in_function_in_place;
 use crate::jump::ImageFunctions;
 use crate::memory::{Memory, SIZE_OF_WORD};
-use crate::modules::{Module, Modules};
+use crate::modules::{Module, ModuleMap, Modules};
 use crate::position::{WalkFrame, WalkPosition};
 use crate::process::{CallSites, LoadedModules};
 use crate::registers::{RSP, Registers};
@@ -360,7 +360,7 @@ fn caller_by_records<L: CallSites, M: Memory>(
         function,
     } = *found;
     let code = code_of_frame(found, frame, rva);
-    let map = exceptions.section_map(module.sections, &module.opts);
+    let map = ModuleMap { module, exceptions };
     let functions = ImageFunctions {
         exceptions,
         map: &map,

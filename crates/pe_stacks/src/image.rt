@@ -1,7 +1,7 @@
 //! The images of the modules of a minidump. A dump says of a module the time stamp and the size of its image, by which a symbol server
 //! files images too. The name says nothing: any file may have it.
 
-ghost use Rattle.std.specs.Prelude.{◌≡◌};
+ghost use Rattle.std.specs.Prelude.{◌≡◌, []};
 ghost use Rattle.std.specs.Option.{option_map};
 ghost use Rattle.pe_core.specs.Header.{header_view};
 ghost use Rattle.pe_core.specs.Refusals.{ReturnsUnlessMemory};
@@ -122,6 +122,7 @@ impl<'a, A: Allocator + Drop> ModuleImage<'a, A> {
     pub fn loaded(&self, module: &pe_minidump::Module) -> Module<'_>
         ensures { (result.base ≡ module.now.base_of_image) × (result.size ≡ module.now.size_of_image)
             × (result.bytes.now ≡ self.now.bytes.now) × (result.sections.now ≡ self.now.sections.items)
+            × (result.index.now ≡ [])
             × (option_map (λ e. e.now) result.exceptions ≡ self.now.exceptions)
             × (result.opts ≡ self.now.opts) }
     {
@@ -130,6 +131,7 @@ impl<'a, A: Allocator + Drop> ModuleImage<'a, A> {
             size: module.size_of_image,
             bytes: self.bytes,
             sections: &self.sections,
+            index: &[],
             exceptions: self.exceptions.as_ref(),
             opts: self.opts,
         }

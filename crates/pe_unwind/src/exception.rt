@@ -427,10 +427,7 @@ impl<'a> ExceptionData<'a> {
         ensures { option_map (answer_by info_view) result
             ≡ info_by (R.offset map.now) self.now.content function }
     {
-        if function.is_packed() {
-            return None;
-        }
-        match map.file_offset(function.unwind_data_rva()) {
+        match function.record_offset(map)? {
             Ok(offset) => Some(Arm64UnwindInfo::parse(self.bytes, offset)),
             Err(error) => Some(Err(error)),
         }
@@ -448,11 +445,7 @@ impl<'a> ExceptionData<'a> {
         ensures { option_map answer_of result
             ≡ offset_of_function self.now sections.now opts.now function }
     {
-        if function.is_packed() {
-            return None;
-        }
-        let rva = function.unwind_data_rva();
-        Some(mapped_offset(rva, sections, self.file_alignment, opts))
+        function.record_offset(&self.section_map(sections, opts))
     }
 
     /// The unwind record of the x64 function that covers the RVA: lookup, links and record in one call. `Ok(None)` if

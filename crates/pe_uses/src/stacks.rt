@@ -20,6 +20,7 @@ pub fn module_of<'a>(
         size,
         bytes,
         sections: &image.sections,
+        index: &[],
         exceptions: image.x64_exceptions(),
         opts: *opts,
     }

@@ -14,17 +14,17 @@ ghost use Rattle.std.specs.Option.{option_map};
 ghost use Rattle.std.specs.Iterator.{at_most};
 ghost use Rattle.pe_core.specs.Refusals.{answer_by};
 ghost use Rattle.pe_unwind.specs.Arm64Record.{info_view};
-ghost use Rattle.pe_unwind.specs.Arm64Unwinding.{info_of_function};
+ghost use Rattle.pe_unwind.specs.Arm64Unwinding.{info_by};
 ghost use Rattle.pe_frame.specs.AddressRanges.{has_address};
 ghost use Rattle.pe_frame.specs.Arm64Walks.{frame_of, code_return, scanned, leaf_frame, without_records, lookup_address, place_of, caller_of_leaf, caller_outside, called_frame, frame_after, stepped_out_packed, CallsByInfo, CallsFound, CallsIn};
-ghost use Rattle.pe_frame.specs.Modules.{module_base, module_size};
+ghost use Rattle.pe_frame.specs.Modules.{map_of_module, module_base, module_size};
 
 use super::registers::{Arm64Registers, LINK_REGISTER};
 use super::step::{caller, leaf_arm64, packed_caller};
 use super::undo::stripped;
 use crate::error::FrameError;
 use crate::memory::{Memory, SIZE_OF_WORD};
-use crate::modules::{Module, Modules};
+use crate::modules::{Module, ModuleMap, Modules};
 use crate::position::{WalkFrame, WalkPosition};
 use crate::process::{CallSites, LoadedModules};
 use crate::scan::{ReturnWords, first_return_above};
@@ -248,12 +248,13 @@ fn caller_by_records<L: CallSites, M: Memory>(
     ensures { CallsByInfo
         (record { memory = M.word memory.now; modules = L.list modules.now })
         module.now function.now frame.now
-        (info_of_function exceptions.now module.now.sections.now module.now.opts function.now)
+        (info_by (map_of_module module.now exceptions.now) exceptions.now.content function.now)
         result }
 {
     let place = place_of(module, function, frame);
     let registers = frame.registers;
-    match exceptions.get_unwind_info_arm64_with_opts(*function, module.sections, &module.opts) {
+    let map = ModuleMap { module, exceptions };
+    match exceptions.get_unwind_info_arm64_with_map(*function, &map) {
         None => {
             let left = step_out_packed(function, place, registers, memory);
             frame_after(modules, frame, left)
@@ -278,7 +279,7 @@ pub fn caller_in_module_arm64<L: CallSites, M: Memory>(
         return caller_of_leaf(modules, frame, memory);
     };
     let rva = module.rva_of(frame.lookup_address());
-    match exceptions.find_function_arm64(rva, module.sections, &module.opts) {
+    match exceptions.find_function_arm64_with_map(rva, &ModuleMap { module, exceptions }) {
         Ok(Some(function)) => {
             caller_by_records(modules, module, exceptions, &function, frame, memory)
         }

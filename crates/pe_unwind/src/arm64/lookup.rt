@@ -2,10 +2,12 @@
 //! stands in the header of its unwind record, so lookup reads one record. A caller passes the table, the file and its
 //! section map, or another map. See [ARM64 exception handling](https://learn.microsoft.com/cpp/build/arm64-exception-handling).
 
+ghost use Rattle.std.specs.Option.{option_map};
 ghost use Rattle.std.specs.Prelude.{◌≡◌, ℕ, ◌+◌, ◌≤◌, length};
 ghost use Rattle.pe_core.specs.Refusals.{Returns, answer_of};
 ghost use Rattle.pe_unwind.specs.Arm64Functions.{arm64_functions};
 ghost use Rattle.pe_unwind.specs.Arm64Lookup.{FindsArm64, length_by};
+ghost use Rattle.pe_unwind.specs.Arm64Unwinding.{record_offset_by};
 ghost use Rattle.pe_unwind.specs.Lookup.{digits};
 
 use super::function::Arm64RuntimeFunction;
@@ -35,6 +37,17 @@ impl Arm64RuntimeFunction {
         }
         let offset = map.file_offset(self.unwind_data_rva())?;
         Ok(Arm64UnwindHeader(u32_at(bytes, offset)?).function_length())
+    }
+
+    /// The file offset of the unwind record of the function, by a map of RVAs. `None` if its unwind data are packed into the
+    /// entry. Errors: `Unmapped`.
+    pub fn record_offset<R: RvaMap>(&self, map: &R) -> Option<Result<usize>>
+        ensures { option_map answer_of result ≡ record_offset_by (R.offset map.now) self.now }
+    {
+        if self.is_packed() {
+            return None;
+        }
+        Some(map.file_offset(self.unwind_data_rva()))
     }
 }
 

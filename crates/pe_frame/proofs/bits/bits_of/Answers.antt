@@ -1,6 +1,6 @@
 use Rattle.std.proofs.Common.{ℕ, ◌<◌, ◌^◌, arith, subst}
 use Rattle.std.proofs.lemmas.Nat.{leading_length}
-use Rattle.pe_frame.proofs.halving.bits_of.Goals as goal
+use Rattle.pe_frame.proofs.bits.bits_of.Goals as goal
 
 pub returns-clause-enough : goal.returns-clause-enough
 returns-clause-enough c =
