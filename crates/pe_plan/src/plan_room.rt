@@ -3,27 +3,27 @@
 ghost use Rattle.std.specs.Prelude.{◌≡◌, ◌≤◌, IfOk, IfSome, length, map, take};
 ghost use Rattle.std.specs.Option.{option_map};
 ghost use Rattle.pe_core.specs.Refusals.{answer_by};
-ghost use Rattle.pe_unwind.specs.Links.{links_of};
+ghost use Rattle.pe_unwind.specs.Links.{links_with};
 ghost use Rattle.pe_unwind.specs.UnwindRecord.{unwind_view};
 ghost use Rattle.pe_plan.specs.ShortPlans.{PlansUpTo};
 
-use pe_core::{ParseOptions, Result, SectionTable};
-use pe_unwind::{ExceptionData, RuntimeFunction, UnwindInfo};
+use pe_core::Result;
+use pe_unwind::{ExceptionData, RuntimeFunction, RvaMap, UnwindInfo};
 
 /// Reads the plan of a function, as `UnwindPlan::of_function` returns it, into the first entries of an array, if the array has
 /// room for it, and returns how many records it has. `None` where as many records as the array has entries are each chained to
-/// another. What other entries hold, and what all hold where no number is returned, means nothing.
+/// another. What other entries hold, and what all hold where no number is returned, means nothing. The RVAs are mapped by `rva_map`,
+/// as `ExceptionData::section_map` returns it.
 ///
-/// Errors: the first error of one of these records, as `ExceptionData::get_unwind_info_with_opts` returns it.
+/// Errors: the first error of one of these records, as `ExceptionData::get_unwind_info_with_map` returns it.
 #[tactic(auto, using(crate::proofs::PlanRooms::refused_next, crate::proofs::PlanRooms::full))]
-pub fn read_plan<'a>(
+pub fn read_plan<'a, R: RvaMap>(
     exceptions: &ExceptionData<'a>,
     function: RuntimeFunction,
-    sections: &[SectionTable],
-    opts: &ParseOptions,
+    rva_map: &R,
     room: &mut [UnwindInfo<'a>],
 ) -> Result<Option<usize>>
-    ensures plan { PlansUpTo (length room.old) (links_of exceptions.now sections.now opts.now)
+    ensures plan { PlansUpTo (length room.old) (links_with exceptions.now (R.offset rva_map.now))
         exceptions.now.content function
         (answer_by (option_map (λ count. map unwind_view (take count room.new))) result) }
     ensures size { length room.new ≡ length room.old }
@@ -34,7 +34,7 @@ pub fn read_plan<'a>(
         let Some(current) = next else {
             return Ok(Some(count));
         };
-        match exceptions.get_unwind_info_with_opts(current, sections, opts) {
+        match exceptions.get_unwind_info_with_map(current, rva_map) {
             Ok(record) => {
                 next = record.chained_info;
                 room[count] = record;

@@ -3,13 +3,13 @@
 ghost use Rattle.std.specs.Prelude.{◌≡◌, map};
 ghost use Rattle.std.specs.Option.{option_map};
 ghost use Rattle.pe_core.specs.Refusals.{answer_by};
-ghost use Rattle.pe_unwind.specs.Links.{links_of};
+ghost use Rattle.pe_unwind.specs.Links.{links_with};
 ghost use Rattle.pe_unwind.specs.UnwindRecord.{unwind_view};
 ghost use Rattle.pe_plan.specs.ShortPlans.{PlansShort, records_of};
 
-use pe_core::{ParseOptions, Result, SectionTable};
+use pe_core::Result;
 use pe_unwind::laws::derives::clones_are_their_originals;
-use pe_unwind::{ExceptionData, RuntimeFunction, UnwindInfo};
+use pe_unwind::{ExceptionData, RuntimeFunction, RvaMap, UnwindInfo};
 use std::array::repeat;
 
 /// How many records a short plan has at most. Those of a part of a function and of the function are two.
@@ -26,20 +26,20 @@ pub struct ShortPlan<'a> {
 
 impl<'a> ShortPlan<'a> {
     /// The plan of a function, as `UnwindPlan::of_function` returns it, if it has at most 32 records. `None` where 32 records
-    /// are each chained to another, as in each chain of records that never ends. Nothing is allocated.
+    /// are each chained to another, as in each chain of records that never ends. Nothing is allocated. The RVAs are mapped by
+    /// `rva_map`, as `ExceptionData::section_map` returns it.
     ///
-    /// Errors: the first error of one of these records, as `ExceptionData::get_unwind_info_with_opts` returns it.
-    pub fn of_function(
+    /// Errors: the first error of one of these records, as `ExceptionData::get_unwind_info_with_map` returns it.
+    pub fn of_function<R: RvaMap>(
         exceptions: &ExceptionData<'a>,
         function: RuntimeFunction,
-        sections: &[SectionTable],
-        opts: &ParseOptions,
+        rva_map: &R,
     ) -> Result<Option<ShortPlan<'a>>>
-        ensures { PlansShort (links_of exceptions.now sections.now opts.now)
+        ensures { PlansShort (links_with exceptions.now (R.offset rva_map.now))
             exceptions.now.content function (answer_by (option_map records_of) result) }
     {
         clones_are_their_originals();
-        let first = match exceptions.get_unwind_info_with_opts(function, sections, opts) {
+        let first = match exceptions.get_unwind_info_with_map(function, rva_map) {
             Ok(record) => record,
             Err(error) => return Err(error),
         };
@@ -50,7 +50,7 @@ impl<'a> ShortPlan<'a> {
             let Some(parent) = next else {
                 return Ok(Some(ShortPlan { records, count }));
             };
-            match exceptions.get_unwind_info_with_opts(parent, sections, opts) {
+            match exceptions.get_unwind_info_with_map(parent, rva_map) {
                 Ok(record) => {
                     next = record.chained_info;
                     records[count] = record;

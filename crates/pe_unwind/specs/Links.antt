@@ -18,9 +18,13 @@ pub record Table : Type 0 where
 abbrev pub linked_table : List ℕ → ℕ → (ℕ → Option ℕ) → Table
 linked_table entries start offset = record { entries = entries; start = start; offset = offset }
 
--- the table of an exception directory, by a section map
+-- the table of an exception directory, by a map
+abbrev pub links_with : ExceptionView → (ℕ → Option ℕ) → Table
+links_with v offset = linked_table (table_of v) v.start offset
+
+-- the same by a section map
 abbrev pub links_by : ExceptionView → SectionMapView → Table
-links_by v m = linked_table (table_of v) v.start (offset_in m)
+links_by v m = links_with v (offset_in m)
 
 -- the same by the map of these sections, with these options and the directory's own file alignment
 abbrev pub links_of : ExceptionView → List SectionTable → ParseOptions → Table

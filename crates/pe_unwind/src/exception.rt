@@ -8,7 +8,7 @@ use crate::arm64::function::{
 use crate::arm64::info::Arm64UnwindInfo;
 use crate::arm64::lookup::search_arm64;
 use crate::function_table::{RuntimeFunction, RuntimeFunctionIterator, SIZE_OF_FUNCTION, search};
-use crate::links::linked_record_offset;
+use crate::links::{RvaMap, linked_record_offset};
 use crate::unwind_info::UnwindInfo;
 use pe_core::{
     ByteRange, CountedTable, DataDirectory, Error, ParseOptions, Reason, Result, SectionMap,
@@ -67,7 +67,7 @@ impl<'a> ExceptionData<'a> {
     ghost use Rattle.pe_unwind.specs.Arm64Unwinding.{offset_of_function, info_of_function};
     ghost use Rattle.pe_unwind.specs.FunctionTable.{functions, function_items, items_of_functions, Finds};
     ghost use Rattle.pe_core.specs.SectionMap.{map_view};
-    ghost use Rattle.pe_unwind.specs.Links.{IsEndless, links_by, links_of};
+    ghost use Rattle.pe_unwind.specs.Links.{IsEndless, links_of, links_with};
     ghost use Rattle.pe_unwind.specs.Unwinding.{FindsRecord, Unwinds, UnwindsFound, UnwindsAt};
     ghost use Rattle.pe_unwind.specs.UnwindRecord.{unwind_view};
 
@@ -354,27 +354,27 @@ impl<'a> ExceptionData<'a> {
         self.get_unwind_info_with_map(function, &sections)
     }
 
-    /// The unwind record of an x64 function, as `get_unwind_info_with_opts` reads it, by a section map that many calls
-    /// share.
-    pub fn get_unwind_info_with_map(
+    /// The unwind record of an x64 function, as `get_unwind_info_with_opts` reads it, by a map that many calls share:
+    /// the section map, or another.
+    pub fn get_unwind_info_with_map<R: RvaMap>(
         &self,
         function: RuntimeFunction,
-        sections: &SectionMap<'_>,
+        map: &R,
     ) -> Result<UnwindInfo<'a>>
-        ensures record { Unwinds (links_by self.now sections.now)
+        ensures record { Unwinds (links_with self.now (R.offset map.now))
             self.now.content function.unwind_info_address (answer_by unwind_view result) }
         ensures cycle { (answer_by unwind_view result ≡ Err FunctionCycle)
-            ↔ IsEndless (links_by self.now sections.now) function.unwind_info_address }
+            ↔ IsEndless (links_with self.now (R.offset map.now)) function.unwind_info_address }
     {
-        self.linked_record(sections, function.unwind_info_address)
+        self.linked_record(map, function.unwind_info_address)
     }
 
     /// The unwind record at the end of the links from an unwind RVA.
-    fn linked_record(&self, sections: &SectionMap<'_>, address: u32) -> Result<UnwindInfo<'a>>
-        ensures { Unwinds (links_by self.now sections.now)
+    fn linked_record<R: RvaMap>(&self, map: &R, address: u32) -> Result<UnwindInfo<'a>>
+        ensures { Unwinds (links_with self.now (R.offset map.now))
             self.now.content address (answer_by unwind_view result) }
     {
-        let offset = linked_record_offset(self.table_bytes(), self.offset, sections, address)?;
+        let offset = linked_record_offset(self.table_bytes(), self.offset, map, address)?;
         UnwindInfo::parse(self.bytes, offset)
     }
 

@@ -1,5 +1,5 @@
 use Rattle.std.proofs.Common.{◌≡◌, length, map, take, Some}
-use Rattle.pe_unwind.specs.Links.{links_of}
+use Rattle.pe_unwind.specs.Links.{links_with}
 use Rattle.pe_unwind.specs.UnwindRecord.{unwind_view}
 use Rattle.pe_plan.specs.Plans.{IsChain}
 use Rattle.pe_plan.specs.ShortPlans.{most_records}
@@ -7,7 +7,7 @@ use Rattle.pe_plan.proofs.short_plan.ShortPlan.of_function.Given as goal
 
 -- the records so far are the first of the chain, which goes on with the next function
 abbrev pub invariant-loop-count : goal.invariant-loop-count
-invariant-loop-count l = record {
-  chain : IsChain (links_of l.exceptions l.sections l.opts) l.exceptions.content (Some l.fn.function) (map unwind_view (take l.count l.records)) l.next;
+invariant-loop-count g l = record {
+  chain : IsChain (links_with l.exceptions (g.R.RvaMap.offset l.rva_map)) l.exceptions.content (Some l.fn.function) (map unwind_view (take l.count l.records)) l.next;
   same : length l.records ≡ most_records;
 }
