@@ -8,7 +8,7 @@ use Rattle.pe_unwind.specs.ExceptionTable.{ExceptionView}
 use Rattle.pe_unwind.specs.UnwindRecord.{UnwindInfoView}
 use Rattle.pe_unwind.specs.declared.function_table.RuntimeFunction.{RuntimeFunction}
 use Rattle.pe_frame.specs.Jumps.{StepsInImage}
-use Rattle.pe_frame.specs.Modules.{is_after_call, module_at}
+use Rattle.pe_frame.specs.Modules.{is_after_call, module_at, map_of_module}
 use Rattle.pe_frame.specs.Undoing.{popped}
 use Rattle.pe_frame.specs.FrameWalks.{Process}
 use Rattle.pe_frame.specs.Walks.{Calls, CallsBy, CallsByPlan, CallsFound, CallsIn, after_leaf, code_of_frame, frame_after, frame_of, has_called, is_bottom, caller_of_leaf, leaf_frame, lookup_address, caller_outside, returned_to, scanned, without_records}
@@ -152,9 +152,9 @@ left_for_0 memory modules Steps (Ok (u, false)) steps is =
     (u, steps, zero.0, zero.1)
 left_for_0 memory modules Steps (Err e) steps is = absurd (cc is)
 
-pub records_at_bottom : (memory : ℕ → Option ℕ) (modules : List Module) (m : Module) (e : ExceptionView) (f : RuntimeFunction) (s : StackFrame) (plan : List UnwindInfoView) → CallsByPlan memory modules m e f s (Ok (Some plan)) (Err ends.Bottom) → LeavesFor0 memory modules (StepsInImage e m.sections.now m.opts memory plan f.begin_address ((s.registers).rip - m.base) (code_of_frame m e f.end_address s) s.registers)
+pub records_at_bottom : (memory : ℕ → Option ℕ) (modules : List Module) (m : Module) (e : ExceptionView) (f : RuntimeFunction) (s : StackFrame) (plan : List UnwindInfoView) → CallsByPlan memory modules m e f s (Ok (Some plan)) (Err ends.Bottom) → LeavesFor0 memory modules (StepsInImage e (map_of_module m e) memory plan f.begin_address ((s.registers).rip - m.base) (code_of_frame m e f.end_address s) s.registers)
 records_at_bottom memory modules m e f s plan h =
-    left_for_0 memory modules (StepsInImage e m.sections.now m.opts memory plan f.begin_address ((s.registers).rip - m.base) (code_of_frame m e f.end_address s) s.registers) h.0 h.1 h.2
+    left_for_0 memory modules (StepsInImage e (map_of_module m e) memory plan f.begin_address ((s.registers).rip - m.base) (code_of_frame m e f.end_address s) s.registers) h.0 h.1 h.2
 
 returns_to_0 : (modules : List Module) (u : Registers) (b : Bool) → (u.rip == 0) ≡ b → Err ends.Bottom ≡ cond b (Err ends.Bottom) (Ok (frame_of modules Leaf u)) → u.rip ≡ 0
 returns_to_0 modules u true at is = eqb-true u.rip 0 at

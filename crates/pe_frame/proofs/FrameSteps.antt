@@ -14,6 +14,7 @@ use Rattle.pe_frame.specs.declared.registers.Registers.{Registers}
 use Rattle.pe_frame.specs.declared.walk.StackFrame.{StackFrame}
 use Rattle.pe_frame.specs.declared.walk.Way.TheVariants.{Records, Interrupt}
 use Rattle.pe_frame.specs.declared.walk.WalkEnd.TheVariants as ends
+use Rattle.pe_frame.specs.Modules.{map_of_module}
 use Rattle.pe_frame.proofs.NoCode.{no_epilog}
 use Rattle.pe_frame.proofs.Jumps.{ok_alone}
 use Rattle.pe_frame.proofs.StepsOut.{registers_of_step}
@@ -33,12 +34,12 @@ registers_left memory modules (Ok (u, false)) t is = ap (λ (g : Registers). Ok 
 registers_left memory modules (Err e) t is = absurd (cc is)
 
 pub frame_is_step : (memory : ℕ → Option ℕ) (modules : List Module) (m : Module) (e : ExceptionView) (f : RuntimeFunction) (s t : StackFrame) (plan : List UnwindInfoView) → CallsByPlan memory modules m e f s (Ok (Some plan)) (Ok t) →
-    (interrupted : Bool) × StepsInImage e m.sections.now m.opts memory plan f.begin_address ((s.registers).rip - m.base) (code_of_frame m e f.end_address s) s.registers (Ok (t.registers, interrupted))
+    (interrupted : Bool) × StepsInImage e (map_of_module m e) memory plan f.begin_address ((s.registers).rip - m.base) (code_of_frame m e f.end_address s) s.registers (Ok (t.registers, interrupted))
 frame_is_step memory modules m e f s t plan h =
     let rva = (s.registers).rip - m.base in
     let code = code_of_frame m e f.end_address s in
     let out = ok_alone h.0 t.registers (registers_left memory modules h.0 t h.2) in
-    (out.0, subst (λ (x : Result (Registers × Bool) FrameError). StepsInImage e m.sections.now m.opts memory plan f.begin_address rva code s.registers x) out.1 h.1)
+    (out.0, subst (λ (x : Result (Registers × Bool) FrameError). StepsInImage e (map_of_module m e) memory plan f.begin_address rva code s.registers x) out.1 h.1)
 
 pub call_is_step : (memory : ℕ → Option ℕ) (modules : List Module) (m : Module) (e : ExceptionView) (f : RuntimeFunction) (s t : StackFrame) (plan : List UnwindInfoView) → s.has_called ≡ true → CallsByPlan memory modules m e f s (Ok (Some plan)) (Ok t) → Steps memory plan ((s.registers).rip - m.base - f.begin_address) s.registers (Ok t.registers)
 call_is_step memory modules m e f s t plan called h =
@@ -46,6 +47,6 @@ call_is_step memory modules m e f s t plan called h =
     let offset = rva - f.begin_address in
     let no_code : code_of_frame m e f.end_address s ≡ [] = rw called refl in
     let none : epilog_at plan f.begin_address rva (code_of_frame m e f.end_address s) ≡ None = rw no_code (no_epilog plan f.begin_address rva) in
-    let out = subst (λ (o : Option (List Instruction)). StepsInImageFrom e m.sections.now m.opts o memory plan offset s.registers h.0) none h.1 in
+    let out = subst (λ (o : Option (List Instruction)). StepsInImageFrom e (map_of_module m e) o memory plan offset s.registers h.0) none h.1 in
     let steps = registers_of_step memory plan offset s.registers h.0 out in
     subst (λ (x : Result Registers FrameError). Steps memory plan offset s.registers x) (registers_left memory modules h.0 t h.2) steps

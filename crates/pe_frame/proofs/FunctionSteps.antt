@@ -1,10 +1,8 @@
 -- Steps by the records of a function: by one, and by those that an array has room for.
 use Rattle.std.proofs.Common.{◌≡◌, ℕ, ◌≤◌, Bool, List, [], ◌∷◌, Option, Some, None, Result, Ok, Err, subst, sym, arith}
 use Rattle.pe_core.specs.Refusals.{Refusal}
-use Rattle.pe_core.specs.declared.options.ParseOptions.{ParseOptions}
-use Rattle.pe_core.specs.declared.section_table.SectionTable.{SectionTable}
 use Rattle.pe_unwind.specs.ExceptionTable.{ExceptionView}
-use Rattle.pe_unwind.specs.Links.{Table, links_of}
+use Rattle.pe_unwind.specs.Links.{Table, links_with}
 use Rattle.pe_unwind.specs.UnwindRecord.{UnwindInfoView}
 use Rattle.pe_unwind.specs.Unwinding.{Unwinds}
 use Rattle.pe_unwind.specs.declared.function_table.RuntimeFunction.{RuntimeFunction}
@@ -19,33 +17,33 @@ pub of_one_record : (t : Table) (b : List ℕ) (f : RuntimeFunction) (i : Unwind
 of_one_record t b f i u none = ((u, none), omega arith)
 
 -- a step by a plan that is there
-pub of_plan : (most : ℕ) (e : ExceptionView) (sections : List SectionTable) (opts : ParseOptions) (m : ℕ → Option ℕ) (f : RuntimeFunction) (rva : ℕ) (code : List ℕ) (g : Registers) (o : Option (Result (Registers × Bool) FrameError)) (left : Result (Registers × Bool) FrameError) → most ≤ most_records → o ≡ Some left →
-    StepsUpTo most e sections opts m f rva code g (Ok o) → StepsInFunction e sections opts m f rva code g (Ok (Some left))
-of_plan most e sections opts m f rva code g o left le is steps =
-    let h = subst (λ (p : Option (Result (Registers × Bool) FrameError)). StepsUpTo most e sections opts m f rva code g (Ok p)) is steps in
+pub of_plan : (most : ℕ) (e : ExceptionView) (rva_map : ℕ → Option ℕ) (m : ℕ → Option ℕ) (f : RuntimeFunction) (rva : ℕ) (code : List ℕ) (g : Registers) (o : Option (Result (Registers × Bool) FrameError)) (left : Result (Registers × Bool) FrameError) → most ≤ most_records → o ≡ Some left →
+    StepsUpTo most e rva_map m f rva code g (Ok o) → StepsInFunction e rva_map m f rva code g (Ok (Some left))
+of_plan most e rva_map m f rva code g o left le is steps =
+    let h = subst (λ (p : Option (Result (Registers × Bool) FrameError)). StepsUpTo most e rva_map m f rva code g (Ok p)) is steps in
     (h.0, (h.1.0, omega (arith, le, h.1.1)), h.2)
 
 -- a record that cannot be read
-pub of_refusal : (most : ℕ) (e : ExceptionView) (sections : List SectionTable) (opts : ParseOptions) (m : ℕ → Option ℕ) (f : RuntimeFunction) (rva : ℕ) (code : List ℕ) (g : Registers) (refusal : Refusal) → most ≤ most_records →
-    StepsUpTo most e sections opts m f rva code g (Err refusal) → StepsInFunction e sections opts m f rva code g (Err refusal)
-of_refusal most e sections opts m f rva code g refusal le h =
-    short_refusal most (links_of e sections opts) e.content f refusal le h
+pub of_refusal : (most : ℕ) (e : ExceptionView) (rva_map : ℕ → Option ℕ) (m : ℕ → Option ℕ) (f : RuntimeFunction) (rva : ℕ) (code : List ℕ) (g : Registers) (refusal : Refusal) → most ≤ most_records →
+    StepsUpTo most e rva_map m f rva code g (Err refusal) → StepsInFunction e rva_map m f rva code g (Err refusal)
+of_refusal most e rva_map m f rva code g refusal le h =
+    short_refusal most (links_with e rva_map) e.content f refusal le h
 
 -- in all of the room
-pub of_all_room : (e : ExceptionView) (sections : List SectionTable) (opts : ParseOptions) (m : ℕ → Option ℕ) (f : RuntimeFunction) (rva : ℕ) (code : List ℕ) (g : Registers) (x : Result (Option (Result (Registers × Bool) FrameError)) Refusal) →
-    StepsUpTo most_records e sections opts m f rva code g x → StepsInFunction e sections opts m f rva code g x
-of_all_room e sections opts m f rva code g (Ok (Some left)) h = (h.0, h.1, h.2)
-of_all_room e sections opts m f rva code g (Ok None) h = h
-of_all_room e sections opts m f rva code g (Err refusal) h = h
+pub of_all_room : (e : ExceptionView) (rva_map : ℕ → Option ℕ) (m : ℕ → Option ℕ) (f : RuntimeFunction) (rva : ℕ) (code : List ℕ) (g : Registers) (x : Result (Option (Result (Registers × Bool) FrameError)) Refusal) →
+    StepsUpTo most_records e rva_map m f rva code g x → StepsInFunction e rva_map m f rva code g x
+of_all_room e rva_map m f rva code g (Ok (Some left)) h = (h.0, h.1, h.2)
+of_all_room e rva_map m f rva code g (Ok None) h = h
+of_all_room e rva_map m f rva code g (Err refusal) h = h
 
 -- a step that is passed on
-pub of_left : (e : ExceptionView) (sections : List SectionTable) (opts : ParseOptions) (m : ℕ → Option ℕ) (f : RuntimeFunction) (rva : ℕ) (code : List ℕ) (g : Registers) (o : Option (Result (Registers × Bool) FrameError)) (left x : Result (Registers × Bool) FrameError) → o ≡ Some left → x ≡ left →
-    StepsInFunction e sections opts m f rva code g (Ok o) → StepsInFunction e sections opts m f rva code g (Ok (Some x))
-of_left e sections opts m f rva code g o left x is same steps =
-    let here = subst (λ (p : Option (Result (Registers × Bool) FrameError)). StepsInFunction e sections opts m f rva code g (Ok p)) is steps in
-    subst (λ (y : Result (Registers × Bool) FrameError). StepsInFunction e sections opts m f rva code g (Ok (Some y))) (sym same) here
+pub of_left : (e : ExceptionView) (rva_map : ℕ → Option ℕ) (m : ℕ → Option ℕ) (f : RuntimeFunction) (rva : ℕ) (code : List ℕ) (g : Registers) (o : Option (Result (Registers × Bool) FrameError)) (left x : Result (Registers × Bool) FrameError) → o ≡ Some left → x ≡ left →
+    StepsInFunction e rva_map m f rva code g (Ok o) → StepsInFunction e rva_map m f rva code g (Ok (Some x))
+of_left e rva_map m f rva code g o left x is same steps =
+    let here = subst (λ (p : Option (Result (Registers × Bool) FrameError)). StepsInFunction e rva_map m f rva code g (Ok p)) is steps in
+    subst (λ (y : Result (Registers × Bool) FrameError). StepsInFunction e rva_map m f rva code g (Ok (Some y))) (sym same) here
 
-pub of_none : (e : ExceptionView) (sections : List SectionTable) (opts : ParseOptions) (m : ℕ → Option ℕ) (f : RuntimeFunction) (rva : ℕ) (code : List ℕ) (g : Registers) (o : Option (Result (Registers × Bool) FrameError)) → o ≡ None →
-    StepsInFunction e sections opts m f rva code g (Ok o) → StepsInFunction e sections opts m f rva code g (Ok None)
-of_none e sections opts m f rva code g o is steps =
-    subst (λ (p : Option (Result (Registers × Bool) FrameError)). StepsInFunction e sections opts m f rva code g (Ok p)) is steps
+pub of_none : (e : ExceptionView) (rva_map : ℕ → Option ℕ) (m : ℕ → Option ℕ) (f : RuntimeFunction) (rva : ℕ) (code : List ℕ) (g : Registers) (o : Option (Result (Registers × Bool) FrameError)) → o ≡ None →
+    StepsInFunction e rva_map m f rva code g (Ok o) → StepsInFunction e rva_map m f rva code g (Ok None)
+of_none e rva_map m f rva code g o is steps =
+    subst (λ (p : Option (Result (Registers × Bool) FrameError)). StepsInFunction e rva_map m f rva code g (Ok p)) is steps

@@ -3,11 +3,9 @@ use Rattle.pe_core.specs.Refusals.{Refusal, ◌>>=◌}
 use Rattle.std.proofs.Common.{◌≡◌, ℕ, ◌-◌, ◌<◌, ◌≤◌, ◌⊎◌, inl, inr, Bool, true, false, ltb, List, [], ◌∷◌, ◌++◌, length, Option, Some, None, Result, Ok, Err, refl, ap, sym, ◌∙◌, subst, arith}
 use Rattle.std.proofs.lemmas.Bool.{lt-ltb}
 use Rattle.pe_core.proofs.Steps.{then_then}
-use Rattle.pe_core.specs.declared.options.ParseOptions.{ParseOptions}
-use Rattle.pe_core.specs.declared.section_table.SectionTable.{SectionTable}
 use Rattle.pe_unwind.specs.ExceptionTable.{ExceptionView, table_of}
 use Rattle.pe_unwind.specs.FunctionTable.{functions, NeverFalls}
-use Rattle.pe_unwind.specs.Links.{links_of}
+use Rattle.pe_unwind.specs.Links.{links_with}
 use Rattle.pe_unwind.specs.UnwindRecord.{UnwindInfoView}
 use Rattle.pe_unwind.specs.declared.function_table.RuntimeFunction.{RuntimeFunction}
 use Rattle.pe_unwind.specs.declared.unwind_code.UnwindCode.{UnwindCode}
@@ -33,30 +31,30 @@ use Rattle.pe_frame.proofs.Tails.{then_ok, then_same}
 
 -- ---- places
 
-one_place_in : (law : RecordLaw) (e : ExceptionView) (sections : List SectionTable) (opts : ParseOptions) (a : ℕ) (found : Option RuntimeFunction) (x y : Option Place) → IsPlaceIn e sections opts a found x → IsPlaceIn e sections opts a found y → x ≡ y
-one_place_in law e sections opts a None x y h k = h ∙ sym k
-one_place_in law e sections opts a (Some f) x y h k =
-    let same = one_short_plan law (links_of e sections opts) e.content f h.0 k.0 h.1 k.1 in
+one_place_in : (law : RecordLaw) (e : ExceptionView) (rva_map : ℕ → Option ℕ) (a : ℕ) (found : Option RuntimeFunction) (x y : Option Place) → IsPlaceIn e rva_map a found x → IsPlaceIn e rva_map a found y → x ≡ y
+one_place_in law e rva_map a None x y h k = h ∙ sym k
+one_place_in law e rva_map a (Some f) x y h k =
+    let same = one_short_plan law (links_with e rva_map) e.content f h.0 k.0 h.1 k.1 in
     h.2 ∙ (ap (λ (p : Result (Option (List UnwindInfoView)) Refusal). place_in a f p) same ∙ sym k.2)
 
-pub one_place : (law : RecordLaw) (e : ExceptionView) (sections : List SectionTable) (opts : ParseOptions) (target : Option ℕ) (x y : Option Place) → NeverFalls (functions (table_of e)) → IsPlace e sections opts target x → IsPlace e sections opts target y → x ≡ y
-one_place law e sections opts None x y sorted h k = h ∙ sym k
-one_place law e sections opts (Some a) x y sorted h k =
+pub one_place : (law : RecordLaw) (e : ExceptionView) (rva_map : ℕ → Option ℕ) (target : Option ℕ) (x y : Option Place) → NeverFalls (functions (table_of e)) → IsPlace e rva_map target x → IsPlace e rva_map target y → x ≡ y
+one_place law e rva_map None x y sorted h k = h ∙ sym k
+one_place law e rva_map (Some a) x y sorted h k =
     let same = (h.1).scanned sorted ∙ sym ((k.1).scanned sorted) in
-    let here = subst (λ (f : Option RuntimeFunction). IsPlaceIn e sections opts a f x) same h.2 in
-    one_place_in law e sections opts a k.0 x y here k.2
+    let here = subst (λ (f : Option RuntimeFunction). IsPlaceIn e rva_map a f x) same h.2 in
+    one_place_in law e rva_map a k.0 x y here k.2
 
-some_place_in : (law : RecordLaw) (e : ExceptionView) (sections : List SectionTable) (opts : ParseOptions) (a : ℕ) (found : Option RuntimeFunction) → (x : Option Place) × IsPlaceIn e sections opts a found x
-some_place_in law e sections opts a None = (None, refl)
-some_place_in law e sections opts a (Some f) =
-    let plan = some_short_plan law (links_of e sections opts) e.content f in
+some_place_in : (law : RecordLaw) (e : ExceptionView) (rva_map : ℕ → Option ℕ) (a : ℕ) (found : Option RuntimeFunction) → (x : Option Place) × IsPlaceIn e rva_map a found x
+some_place_in law e rva_map a None = (None, refl)
+some_place_in law e rva_map a (Some f) =
+    let plan = some_short_plan law (links_with e rva_map) e.content f in
     (place_in a f plan.0, (plan.0, plan.1, refl))
 
-some_place : (law : RecordLaw) (e : ExceptionView) (sections : List SectionTable) (opts : ParseOptions) (target : Option ℕ) → (x : Option Place) × IsPlace e sections opts target x
-some_place law e sections opts None = (None, refl)
-some_place law e sections opts (Some a) =
+some_place : (law : RecordLaw) (e : ExceptionView) (rva_map : ℕ → Option ℕ) (target : Option ℕ) → (x : Option Place) × IsPlace e rva_map target x
+some_place law e rva_map None = (None, refl)
+some_place law e rva_map (Some a) =
     let found = some_function (table_of e) a in
-    let place = some_place_in law e sections opts a found.0 in
+    let place = some_place_in law e rva_map a found.0 in
     (place.0, (found.0, found.1, place.1))
 
 -- ---- one step
@@ -89,18 +87,18 @@ some_left (Some place) m rest g =
     let left = some_from m place.plan place.offset (executed_all m (before_last rest) g) in
     (left.0 >>= rising_out (stack_pointer g), (left.0, left.1, refl))
 
-pub one_in_image : (law : RecordLaw) (e : ExceptionView) (sections : List SectionTable) (opts : ParseOptions) (o : Option (List Instruction)) (m : ℕ → Option ℕ) (plan : List UnwindInfoView) (offset : ℕ) (g : Registers) (x y : Result (Registers × Bool) FrameError) →
-    NeverFalls (functions (table_of e)) → StepsInImageFrom e sections opts o m plan offset g x → StepsInImageFrom e sections opts o m plan offset g y → by_kind x ≡ by_kind y
-one_in_image law e sections opts None m plan offset g x y sorted h k = one_out m plan offset g x y h k
-one_in_image law e sections opts (Some rest) m plan offset g x y sorted h k =
-    let same = one_place law e sections opts (target_of rest) h.0 k.0 sorted h.1 k.1 in
+pub one_in_image : (law : RecordLaw) (e : ExceptionView) (rva_map : ℕ → Option ℕ) (o : Option (List Instruction)) (m : ℕ → Option ℕ) (plan : List UnwindInfoView) (offset : ℕ) (g : Registers) (x y : Result (Registers × Bool) FrameError) →
+    NeverFalls (functions (table_of e)) → StepsInImageFrom e rva_map o m plan offset g x → StepsInImageFrom e rva_map o m plan offset g y → by_kind x ≡ by_kind y
+one_in_image law e rva_map None m plan offset g x y sorted h k = one_out m plan offset g x y h k
+one_in_image law e rva_map (Some rest) m plan offset g x y sorted h k =
+    let same = one_place law e rva_map (target_of rest) h.0 k.0 sorted h.1 k.1 in
     let here = subst (λ (p : Option Place). LeavesFor p m rest g x) same h.2 in
     one_left k.0 m rest g x y here k.2
 
-pub some_in_image : (law : RecordLaw) (e : ExceptionView) (sections : List SectionTable) (opts : ParseOptions) (o : Option (List Instruction)) (m : ℕ → Option ℕ) (plan : List UnwindInfoView) (offset : ℕ) (g : Registers) → (x : Result (Registers × Bool) FrameError) × StepsInImageFrom e sections opts o m plan offset g x
-some_in_image law e sections opts None m plan offset g = some_out m plan offset g
-some_in_image law e sections opts (Some rest) m plan offset g =
-    let place = some_place law e sections opts (target_of rest) in
+pub some_in_image : (law : RecordLaw) (e : ExceptionView) (rva_map : ℕ → Option ℕ) (o : Option (List Instruction)) (m : ℕ → Option ℕ) (plan : List UnwindInfoView) (offset : ℕ) (g : Registers) → (x : Result (Registers × Bool) FrameError) × StepsInImageFrom e rva_map o m plan offset g x
+some_in_image law e rva_map None m plan offset g = some_out m plan offset g
+some_in_image law e rva_map (Some rest) m plan offset g =
+    let place = some_place law e rva_map (target_of rest) in
     let left = some_left place.0 m rest g in
     (left.0, (place.0, place.1, left.1))
 
@@ -155,24 +153,24 @@ followed_from m p parts offset rest g h x ran low frames leaves =
     λ plain. (let rise = out_rose m (stack_pointer h) steps.0 called.0 (ap (λ (b : Bool). Ok (called.0, b)) (sym plain) ∙ (sym out.1 ∙ steps.2)) in omega (arith, rise, low)) in
     ((called.0, out.0), leaves.2 ∙ (ap (λ (l : Result (Registers × Bool) FrameError). l >>= rising_out (stack_pointer g)) out.1 ∙ risen (stack_pointer g) called.0 out.0 above), called.2)
 
-pub followed : (law : RecordLaw) (e : ExceptionView) (sections : List SectionTable) (opts : ParseOptions) (m : ℕ → Option ℕ) (plan : List UnwindInfoView) (start rva offset : ℕ) (code : List ℕ) (rest : List Instruction) (p : Part) (parts : List Part) (g h : Registers) (x : Result (Registers × Bool) FrameError) →
-    epilog_at plan start rva code ≡ Some rest → NeverFalls (functions (table_of e)) → IsPlace e sections opts (target_of rest) (Some (record { offset = offset; plan = infos (p ∷ parts) })) →
-    executed_all m (before_last rest) g ≡ Ok h → stack_pointer g ≤ stack_pointer h → AreFrames m (p ∷ parts) (limit_of (infos (p ∷ parts)) offset) h → StepsInImage e sections opts m plan start rva code g x → FollowedTo (p ∷ parts) (limit_of (infos (p ∷ parts)) offset) h x
-followed law e sections opts m plan start rva offset code rest p parts g h x decodes sorted place ran low frames steps =
-    let there = subst (λ (o : Option (List Instruction)). StepsInImageFrom e sections opts o m plan (rva - start) g x) decodes steps in
-    let same = one_place law e sections opts (target_of rest) there.0 (Some (record { offset = offset; plan = infos (p ∷ parts) })) sorted there.1 place in
+pub followed : (law : RecordLaw) (e : ExceptionView) (rva_map : ℕ → Option ℕ) (m : ℕ → Option ℕ) (plan : List UnwindInfoView) (start rva offset : ℕ) (code : List ℕ) (rest : List Instruction) (p : Part) (parts : List Part) (g h : Registers) (x : Result (Registers × Bool) FrameError) →
+    epilog_at plan start rva code ≡ Some rest → NeverFalls (functions (table_of e)) → IsPlace e rva_map (target_of rest) (Some (record { offset = offset; plan = infos (p ∷ parts) })) →
+    executed_all m (before_last rest) g ≡ Ok h → stack_pointer g ≤ stack_pointer h → AreFrames m (p ∷ parts) (limit_of (infos (p ∷ parts)) offset) h → StepsInImage e rva_map m plan start rva code g x → FollowedTo (p ∷ parts) (limit_of (infos (p ∷ parts)) offset) h x
+followed law e rva_map m plan start rva offset code rest p parts g h x decodes sorted place ran low frames steps =
+    let there = subst (λ (o : Option (List Instruction)). StepsInImageFrom e rva_map o m plan (rva - start) g x) decodes steps in
+    let same = one_place law e rva_map (target_of rest) there.0 (Some (record { offset = offset; plan = infos (p ∷ parts) })) sorted there.1 place in
     let leaves = subst (λ (q : Option Place). LeavesFor q m rest g x) same there.2 in
     followed_from m p parts offset rest g h x ran low frames leaves
 
 -- ---- a jump that leads to no function whose records are known
 
-pub returned_in_image : (law : RecordLaw) (e : ExceptionView) (sections : List SectionTable) (opts : ParseOptions) (m : ℕ → Option ℕ) (p : Part) (parts : List Part) (before rest : List Instruction) (i : Instruction) (start rva : ℕ) (code : List ℕ) (g h : Registers) (x : Result (Registers × Bool) FrameError) →
+pub returned_in_image : (law : RecordLaw) (e : ExceptionView) (rva_map : ℕ → Option ℕ) (m : ℕ → Option ℕ) (p : Part) (parts : List Part) (before rest : List Instruction) (i : Instruction) (start rva : ℕ) (code : List ℕ) (g h : Registers) (x : Result (Registers × Bool) FrameError) →
     AreFrames m (p ∷ parts) None g → IsEpilogOfParts (p ∷ parts) (before ++ (i ∷ rest)) → AreReady (p ∷ parts) (before ++ (i ∷ rest)) g → executed_all m before g ≡ Ok h → epilog_at (infos (p ∷ parts)) start rva code ≡ Some (i ∷ rest) →
-    NeverFalls (functions (table_of e)) → IsPlace e sections opts (target_of (i ∷ rest)) None → StepsInImage e sections opts m (infos (p ∷ parts)) start rva code h x → (u : Registers) × (x ≡ Ok (u, false)) × IsCaller (p ∷ parts) None g u
-returned_in_image law e sections opts m p parts before rest i start rva code g h x frames epilog ready ran_so_far decodes sorted place steps =
+    NeverFalls (functions (table_of e)) → IsPlace e rva_map (target_of (i ∷ rest)) None → StepsInImage e rva_map m (infos (p ∷ parts)) start rva code h x → (u : Registers) × (x ≡ Ok (u, false)) × IsCaller (p ∷ parts) None g u
+returned_in_image law e rva_map m p parts before rest i start rva code g h x frames epilog ready ran_so_far decodes sorted place steps =
     let c = comes m p parts before rest i g h frames epilog ready ran_so_far in
-    let there = subst (λ (o : Option (List Instruction)). StepsInImageFrom e sections opts o m (infos (p ∷ parts)) (rva - start) h x) decodes steps in
-    let same = one_place law e sections opts (target_of (i ∷ rest)) there.0 None sorted there.1 place in
+    let there = subst (λ (o : Option (List Instruction)). StepsInImageFrom e rva_map o m (infos (p ∷ parts)) (rva - start) h x) decodes steps in
+    let same = one_place law e rva_map (target_of (i ∷ rest)) there.0 None sorted there.1 place in
     let leaves = subst (λ (q : Option Place). LeavesFor q m (i ∷ rest) h x) same there.2 in
     let test : ltb (stack_pointer h) (stack_pointer c.caller) ≡ true = lt-ltb (stack_pointer h) (stack_pointer c.caller) c.ends.below in
     (c.caller, leaves ∙ rw c.ends.all (rw test refl), c.is)
@@ -216,20 +214,20 @@ entered_from m place rest h t u x entry ran_so_far pops low below leaves =
     let is : leaves.0 ≡ Ok (u, false) = same_out leaves.0 (u, false) (one_out m place.plan place.offset t leaves.0 (Ok (u, false)) steps (entry_steps m place t u entry pops low)) in
     leaves.2 ∙ (ap (λ (l : Result (Registers × Bool) FrameError). l >>= rising_out (stack_pointer h)) is ∙ risen (stack_pointer h) u false (λ e. below))
 
-target_there : (e : ExceptionView) (sections : List SectionTable) (opts : ParseOptions) (target : Option ℕ) (place : Place) → IsPlace e sections opts target (Some place) → (a : ℕ) × (target ≡ Some a)
-target_there e sections opts None place is = absurd (cc is)
-target_there e sections opts (Some a) place is = (a, refl)
+target_there : (e : ExceptionView) (rva_map : ℕ → Option ℕ) (target : Option ℕ) (place : Place) → IsPlace e rva_map target (Some place) → (a : ℕ) × (target ≡ Some a)
+target_there e rva_map None place is = absurd (cc is)
+target_there e rva_map (Some a) place is = (a, refl)
 
-pub returned_by_entry : (law : RecordLaw) (e : ExceptionView) (sections : List SectionTable) (opts : ParseOptions) (place : Place) (m : ℕ → Option ℕ) (p : Part) (parts : List Part) (before rest : List Instruction) (i : Instruction) (start rva : ℕ) (code : List ℕ) (g h t : Registers) (x : Result (Registers × Bool) FrameError) →
+pub returned_by_entry : (law : RecordLaw) (e : ExceptionView) (rva_map : ℕ → Option ℕ) (place : Place) (m : ℕ → Option ℕ) (p : Part) (parts : List Part) (before rest : List Instruction) (i : Instruction) (start rva : ℕ) (code : List ℕ) (g h t : Registers) (x : Result (Registers × Bool) FrameError) →
     AreFrames m (p ∷ parts) None g → IsEpilogOfParts (p ∷ parts) (before ++ (i ∷ rest)) → AreReady (p ∷ parts) (before ++ (i ∷ rest)) g → executed_all m before g ≡ Ok h → epilog_at (infos (p ∷ parts)) start rva code ≡ Some (i ∷ rest) →
-    NeverFalls (functions (table_of e)) → IsPlace e sections opts (target_of (i ∷ rest)) (Some place) → IsEntry place → executed_all m (before_last (i ∷ rest)) h ≡ Ok t → length t.general ≡ 16 → StepsInImage e sections opts m (infos (p ∷ parts)) start rva code h x →
+    NeverFalls (functions (table_of e)) → IsPlace e rva_map (target_of (i ∷ rest)) (Some place) → IsEntry place → executed_all m (before_last (i ∷ rest)) h ≡ Ok t → length t.general ≡ 16 → StepsInImage e rva_map m (infos (p ∷ parts)) start rva code h x →
     (u : Registers) × (x ≡ Ok (u, false)) × IsCaller (p ∷ parts) None g u
-returned_by_entry law e sections opts place m p parts before rest i start rva code g h t x frames epilog ready ran_so_far decodes sorted is entry ran_to_jump count steps =
+returned_by_entry law e rva_map place m p parts before rest i start rva code g h t x frames epilog ready ran_so_far decodes sorted is entry ran_to_jump count steps =
     let c = comes m p parts before rest i g h frames epilog ready ran_so_far in
-    let there = subst (λ (o : Option (List Instruction)). StepsInImageFrom e sections opts o m (infos (p ∷ parts)) (rva - start) h x) decodes steps in
-    let same = one_place law e sections opts (target_of (i ∷ rest)) there.0 (Some place) sorted there.1 is in
+    let there = subst (λ (o : Option (List Instruction)). StepsInImageFrom e rva_map o m (infos (p ∷ parts)) (rva - start) h x) decodes steps in
+    let same = one_place law e rva_map (target_of (i ∷ rest)) there.0 (Some place) sorted there.1 is in
     let leaves = subst (λ (q : Option Place). LeavesFor q m (i ∷ rest) h x) same there.2 in
-    let target = target_there e sections opts (target_of (i ∷ rest)) place is in
+    let target = target_there e rva_map (target_of (i ∷ rest)) place is in
     let to_end : (executed_all m (before_last (i ∷ rest)) h >>= popped m) ≡ Ok c.caller = sym (run_jump m (i ∷ rest) target.0 h target.1) ∙ c.ends.all in
     let pops : popped m t ≡ Ok c.caller = ap (λ (r : Result Registers FrameError). r >>= popped m) (sym ran_to_jump) ∙ to_end in
     let rises = popped_rose m t c.caller count pops in

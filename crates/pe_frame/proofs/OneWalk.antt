@@ -5,14 +5,14 @@ use Rattle.std.specs.Option.{option_map}
 use Rattle.pe_core.specs.Refusals.{Refusal}
 use Rattle.pe_unwind.specs.ExceptionTable.{ExceptionView, table_of}
 use Rattle.pe_unwind.specs.FunctionTable.{functions, NeverFalls}
-use Rattle.pe_unwind.specs.Links.{links_of}
+use Rattle.pe_unwind.specs.Links.{links_with}
 use Rattle.pe_unwind.specs.UnwindRecord.{UnwindInfoView}
 use Rattle.pe_unwind.specs.declared.function_table.RuntimeFunction.{RuntimeFunction}
 use Rattle.pe_plan.proofs.RecordLaw.{RecordLaw}
 use Rattle.pe_frame.specs.AddressRanges.{has_address}
 use Rattle.pe_frame.specs.Epilogs.{epilog_at}
 use Rattle.pe_frame.specs.FrameWalks.{Process}
-use Rattle.pe_frame.specs.Modules.{module_at, module_base, module_size}
+use Rattle.pe_frame.specs.Modules.{module_at, module_base, module_size, map_of_module}
 use Rattle.pe_frame.specs.Steps.{ErrorKind, by_kind, error_kind}
 use Rattle.pe_frame.specs.Walks.{AreSortedModules, Calls, CallsBy, CallsByPlan, CallsFound, CallsIn, HasSortedTable, IsSortedModule, IsUnreadable, OfError, OfRecords, by_end_kind, code_of_frame, frame_after, lookup_address}
 use Rattle.pe_frame.specs.declared.error.FrameError.{FrameError}
@@ -47,13 +47,13 @@ one_by_plan : (law : RecordLaw) (memory : ℕ → Option ℕ) (modules : List Mo
 one_by_plan law memory modules m e f s (Err r) x y sorted h k = unreadable r x h ∙ sym (unreadable r y k)
 one_by_plan law memory modules m e f s (Ok None) x y sorted h k = ap by_end_kind (h ∙ sym k)
 one_by_plan law memory modules m e f s (Ok (Some plan)) x y sorted h k =
-    let one = one_in_image law e m.sections.now m.opts (epilog_at plan f.begin_address ((s.registers).rip - m.base) (code_of_frame m e f.end_address s)) memory plan ((s.registers).rip - m.base - f.begin_address) s.registers h.0 k.0 sorted h.1 k.1 in
+    let one = one_in_image law e (map_of_module m e) (epilog_at plan f.begin_address ((s.registers).rip - m.base) (code_of_frame m e f.end_address s)) memory plan ((s.registers).rip - m.base - f.begin_address) s.registers h.0 k.0 sorted h.1 k.1 in
     ap by_end_kind h.2 ∙ same_frame memory modules h.0 k.0 one ∙ sym (ap by_end_kind k.2)
 
 one_found : (law : RecordLaw) (memory : ℕ → Option ℕ) (modules : List Module) (m : Module) (e : ExceptionView) (s : StackFrame) (found : Option RuntimeFunction) (x y : Result StackFrame WalkEnd) → NeverFalls (functions (table_of e)) → CallsFound memory modules m e s found x → CallsFound memory modules m e s found y → by_end_kind x ≡ by_end_kind y
 one_found law memory modules m e s None x y sorted h k = ap by_end_kind (h ∙ sym k)
 one_found law memory modules m e s (Some f) x y sorted h k =
-    let same = one_short_plan law (links_of e m.sections.now m.opts) e.content f h.0 k.0 h.1 k.1 in
+    let same = one_short_plan law (links_with e (map_of_module m e)) e.content f h.0 k.0 h.1 k.1 in
     let here = subst (λ (p : Result (Option (List UnwindInfoView)) Refusal). CallsByPlan memory modules m e f s p x) same h.2 in
     one_by_plan law memory modules m e f s k.0 x y sorted here k.2
 

@@ -3,12 +3,12 @@ use Rattle.std.proofs.Common.{◌≢◌, ℕ, ◌-◌, List, Option, Some, None,
 use Rattle.std.specs.Option.{option_map}
 use Rattle.pe_core.specs.Refusals.{Refusal, Memory}
 use Rattle.pe_unwind.specs.ExceptionTable.{ExceptionView, table_of}
-use Rattle.pe_unwind.specs.Links.{links_of}
+use Rattle.pe_unwind.specs.Links.{links_with}
 use Rattle.pe_unwind.specs.UnwindRecord.{UnwindInfoView}
 use Rattle.pe_unwind.specs.declared.function_table.RuntimeFunction.{RuntimeFunction}
 use Rattle.pe_plan.proofs.RecordLaw.{RecordLaw}
 use Rattle.pe_frame.specs.Epilogs.{epilog_at}
-use Rattle.pe_frame.specs.Modules.{module_at}
+use Rattle.pe_frame.specs.Modules.{module_at, map_of_module}
 use Rattle.pe_frame.specs.FrameWalks.{Process}
 use Rattle.pe_frame.specs.Walks.{Calls, CallsBy, CallsByPlan, CallsFound, CallsIn, code_of_frame, frame_after, caller_of_leaf, lookup_address, caller_outside}
 use Rattle.pe_frame.specs.declared.modules.Module.{Module}
@@ -29,13 +29,13 @@ some_by_plan law memory modules m e f s (Err r) other =
     (Err (ends.Records error.0), error.1)
 some_by_plan law memory modules m e f s (Ok None) other = (Err ends.LongChain, refl)
 some_by_plan law memory modules m e f s (Ok (Some plan)) other =
-    let left = some_in_image law e m.sections.now m.opts (epilog_at plan f.begin_address ((s.registers).rip - m.base) (code_of_frame m e f.end_address s)) memory plan ((s.registers).rip - m.base - f.begin_address) s.registers in
+    let left = some_in_image law e (map_of_module m e) (epilog_at plan f.begin_address ((s.registers).rip - m.base) (code_of_frame m e f.end_address s)) memory plan ((s.registers).rip - m.base - f.begin_address) s.registers in
     (frame_after memory modules left.0, (left.0, left.1, refl))
 
 some_found : (law : RecordLaw) (memory : ℕ → Option ℕ) (modules : List Module) (m : Module) (e : ExceptionView) (s : StackFrame) (found : Option RuntimeFunction) → Caller (CallsFound memory modules m e s found)
 some_found law memory modules m e s None = (caller_of_leaf memory modules s, refl)
 some_found law memory modules m e s (Some f) =
-    let plan = some_short_plan law (links_of e m.sections.now m.opts) e.content f in
+    let plan = some_short_plan law (links_with e (map_of_module m e)) e.content f in
     let caller = some_by_plan law memory modules m e f s plan.0 plan.2 in
     (caller.0, (plan.0, plan.1, caller.1))
 

@@ -1,7 +1,5 @@
 -- Steps in an image that follow a jump out of a function, as the laws speak of them.
 use Rattle.std.specs.Prelude.{◌≡◌, ℕ, Bool, false, List, length, Option, Some, None, Result, Ok}
-use Rattle.pe_core.specs.declared.options.ParseOptions.{ParseOptions}
-use Rattle.pe_core.specs.declared.section_table.SectionTable.{SectionTable}
 use Rattle.pe_unwind.specs.ExceptionTable.{ExceptionView, table_of}
 use Rattle.pe_unwind.specs.FunctionTable.{functions, NeverFalls}
 use Rattle.pe_unwind.specs.UnwindRecord.{UnwindInfoView}
@@ -14,12 +12,11 @@ use Rattle.pe_frame.specs.Frames.{AreFrames, IsCaller, Part, infos}
 use Rattle.pe_frame.specs.Jumps.{IsEntry, IsPlace, Place, StepsInImage, before_last, target_of}
 use Rattle.pe_frame.specs.Steps.{limit_of}
 
--- what a step in an image reads: its exception data, its section headers and the options, the memory, the start of a function, an
--- RVA in it, and its code from there on
+-- what a step in an image reads: its exception data, the map from RVAs to file offsets, the memory, the start of a function, an RVA
+-- in it, and its code from there on
 pub record ImageStep : Type 0 where
   pub exceptions : ExceptionView
-  pub sections : List SectionTable
-  pub options : ParseOptions
+  pub rva_map : ℕ → Option ℕ
   pub memory : ℕ → Option ℕ
   pub start : ℕ
   pub rva : ℕ
@@ -31,7 +28,7 @@ IsSorted s = NeverFalls (functions (table_of s.exceptions))
 
 -- what a step returns from these registers, by the records of the function
 abbrev pub StepReturns : ImageStep → List UnwindInfoView → Registers → Result (Registers × Bool) FrameError → Type 0
-StepReturns s plan g answer = StepsInImage s.exceptions s.sections s.options s.memory plan s.start s.rva s.code g answer
+StepReturns s plan g answer = StepsInImage s.exceptions s.rva_map s.memory plan s.start s.rva s.code g answer
 
 -- the code has these instructions of an epilog left
 abbrev pub HasLeft : ImageStep → List UnwindInfoView → List Instruction → Type 0
@@ -39,7 +36,7 @@ HasLeft s plan rest = epilog_at plan s.start s.rva s.code ≡ Some rest
 
 -- the last of some instructions jumps to this place in a function of the image, or to none
 abbrev pub LeadsTo : ImageStep → List Instruction → Option Place → Type 0
-LeadsTo s rest place = IsPlace s.exceptions s.sections s.options (target_of rest) place
+LeadsTo s rest place = IsPlace s.exceptions s.rva_map (target_of rest) place
 
 -- A jump from an epilog into a frame, as a running program makes it: it leads to a place in a function that the image has. The
 -- instructions before it ran, from registers g on, and with the registers h that this left the machine is at that place, in a frame

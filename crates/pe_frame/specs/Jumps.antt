@@ -2,11 +2,9 @@
 -- target, in the function that is there.
 use Rattle.std.specs.Prelude.{◌≡◌, ℕ, ◌-◌, ◌^◌, nat_lt, ◌⊎◌, if◌then◌else◌, Bool, true, false, List, [], ◌∷◌, Option, Some, None, Result, Ok}
 use Rattle.pe_core.specs.Refusals.{Refusal, ◌>>=◌}
-use Rattle.pe_core.specs.declared.options.ParseOptions.{ParseOptions}
-use Rattle.pe_core.specs.declared.section_table.SectionTable.{SectionTable}
 use Rattle.pe_unwind.specs.ExceptionTable.{ExceptionView, table_of}
 use Rattle.pe_unwind.specs.FunctionTable.{functions, Finds}
-use Rattle.pe_unwind.specs.Links.{links_of}
+use Rattle.pe_unwind.specs.Links.{links_with}
 use Rattle.pe_unwind.specs.UnwindRecord.{UnwindInfoView}
 use Rattle.pe_unwind.specs.declared.function_table.RuntimeFunction.{RuntimeFunction}
 use Rattle.pe_unwind.specs.declared.unwind_code.UnwindCode.{UnwindCode}
@@ -53,17 +51,17 @@ abbrev pub place_in : ℕ → RuntimeFunction → Result (Option (List UnwindInf
 place_in a f (Ok (Some plan)) = Some (place_with (a - f.begin_address) plan)
 place_in a f other = None
 
-abbrev pub IsPlaceIn : ExceptionView → List SectionTable → ParseOptions → ℕ → Option RuntimeFunction → Option Place → Type 0
-IsPlaceIn e sections opts a None place = place ≡ None
-IsPlaceIn e sections opts a (Some f) place =
+abbrev pub IsPlaceIn : ExceptionView → (ℕ → Option ℕ) → ℕ → Option RuntimeFunction → Option Place → Type 0
+IsPlaceIn e rva_map a None place = place ≡ None
+IsPlaceIn e rva_map a (Some f) place =
     (plan : Result (Option (List UnwindInfoView)) Refusal)
-    × PlansShort (links_of e sections opts) e.content f plan × (place ≡ place_in a f plan)
+    × PlansShort (links_with e rva_map) e.content f plan × (place ≡ place_in a f plan)
 
 -- the place of a target in the function of an image that lookup finds
-abbrev pub IsPlace : ExceptionView → List SectionTable → ParseOptions → Option ℕ → Option Place → Type 0
-IsPlace e sections opts None place = place ≡ None
-IsPlace e sections opts (Some a) place =
-    (found : Option RuntimeFunction) × Finds (functions (table_of e)) a found × IsPlaceIn e sections opts a found place
+abbrev pub IsPlace : ExceptionView → (ℕ → Option ℕ) → Option ℕ → Option Place → Type 0
+IsPlace e rva_map None place = place ≡ None
+IsPlace e rva_map (Some a) place =
+    (found : Option RuntimeFunction) × Finds (functions (table_of e)) a found × IsPlaceIn e rva_map a found place
 
 -- nothing of the function has run at a place: it has one record, and none of its codes has run there
 pub record IsEntry (place : Place) : Type 0 where
@@ -93,24 +91,24 @@ LeavesFor (Some place) m rest g answer =
     × (answer ≡ risen_out (stack_pointer g) left)
 
 -- the same, where lookup found a function for an RVA; and where it looks one up for the target, if there is one
-abbrev pub LeavesForFound : ExceptionView → List SectionTable → ParseOptions → ℕ → Option RuntimeFunction → (ℕ → Option ℕ) → List Instruction → Registers → Result (Registers × Bool) FrameError → Type 0
-LeavesForFound e sections opts a found m rest g answer =
-    (place : Option Place) × IsPlaceIn e sections opts a found place × LeavesFor place m rest g answer
+abbrev pub LeavesForFound : ExceptionView → (ℕ → Option ℕ) → ℕ → Option RuntimeFunction → (ℕ → Option ℕ) → List Instruction → Registers → Result (Registers × Bool) FrameError → Type 0
+LeavesForFound e rva_map a found m rest g answer =
+    (place : Option Place) × IsPlaceIn e rva_map a found place × LeavesFor place m rest g answer
 
-abbrev pub LeavesForTarget : ExceptionView → List SectionTable → ParseOptions → Option ℕ → (ℕ → Option ℕ) → List Instruction → Registers → Result (Registers × Bool) FrameError → Type 0
-LeavesForTarget e sections opts target m rest g answer =
-    (place : Option Place) × IsPlace e sections opts target place × LeavesFor place m rest g answer
+abbrev pub LeavesForTarget : ExceptionView → (ℕ → Option ℕ) → Option ℕ → (ℕ → Option ℕ) → List Instruction → Registers → Result (Registers × Bool) FrameError → Type 0
+LeavesForTarget e rva_map target m rest g answer =
+    (place : Option Place) × IsPlace e rva_map target place × LeavesFor place m rest g answer
 
 -- the same in an image, where the place to which it jumps is looked up
-abbrev pub LeavesInImage : ExceptionView → List SectionTable → ParseOptions → (ℕ → Option ℕ) → List Instruction → Registers → Result (Registers × Bool) FrameError → Type 0
-LeavesInImage e sections opts m rest g answer = LeavesForTarget e sections opts (target_of rest) m rest g answer
+abbrev pub LeavesInImage : ExceptionView → (ℕ → Option ℕ) → (ℕ → Option ℕ) → List Instruction → Registers → Result (Registers × Bool) FrameError → Type 0
+LeavesInImage e rva_map m rest g answer = LeavesForTarget e rva_map (target_of rest) m rest g answer
 
 -- what a step returns: the rest of an epilog is run, without one the records are undone
-abbrev pub StepsInImageFrom : ExceptionView → List SectionTable → ParseOptions → Option (List Instruction) → (ℕ → Option ℕ) → List UnwindInfoView → ℕ → Registers → Result (Registers × Bool) FrameError → Type 0
-StepsInImageFrom e sections opts None m plan offset g answer = UndoesFunction m plan offset g answer
-StepsInImageFrom e sections opts (Some rest) m plan offset g answer = LeavesInImage e sections opts m rest g answer
+abbrev pub StepsInImageFrom : ExceptionView → (ℕ → Option ℕ) → Option (List Instruction) → (ℕ → Option ℕ) → List UnwindInfoView → ℕ → Registers → Result (Registers × Bool) FrameError → Type 0
+StepsInImageFrom e rva_map None m plan offset g answer = UndoesFunction m plan offset g answer
+StepsInImageFrom e rva_map (Some rest) m plan offset g answer = LeavesInImage e rva_map m rest g answer
 
 -- what a step in an image returns, by the records of a function, its start, the RVA in it and its code from there on
-abbrev pub StepsInImage : ExceptionView → List SectionTable → ParseOptions → (ℕ → Option ℕ) → List UnwindInfoView → ℕ → ℕ → List ℕ → Registers → Result (Registers × Bool) FrameError → Type 0
-StepsInImage e sections opts m plan start rva code g answer =
-    StepsInImageFrom e sections opts (epilog_at plan start rva code) m plan (rva - start) g answer
+abbrev pub StepsInImage : ExceptionView → (ℕ → Option ℕ) → (ℕ → Option ℕ) → List UnwindInfoView → ℕ → ℕ → List ℕ → Registers → Result (Registers × Bool) FrameError → Type 0
+StepsInImage e rva_map m plan start rva code g answer =
+    StepsInImageFrom e rva_map (epilog_at plan start rva code) m plan (rva - start) g answer

@@ -27,9 +27,13 @@ abbrev pub bytes_or_none : List ℕ → Option ℕ → ℕ → List ℕ
 bytes_or_none b None n = []
 bytes_or_none b (Some p) n = if holds b p n then range b p n else []
 
--- the code of a module from an RVA up to another, by the section map of its exception data
+-- the map from RVAs of a module to file offsets: the section map of its exception data
+abbrev pub map_of_module : Module → ExceptionView → ℕ → Option ℕ
+map_of_module m e = offset_in (map_view m.opts m.sections.now e.alignment)
+
+-- the code of a module from an RVA up to another
 abbrev pub code_in : Module → ExceptionView → ℕ → ℕ → List ℕ
-code_in m e rva end = bytes_or_none m.bytes.now (offset_in (map_view m.opts m.sections.now e.alignment) rva) (end - rva)
+code_in m e rva end = bytes_or_none m.bytes.now (map_of_module m e rva) (end - rva)
 
 -- ---- return addresses
 

@@ -6,13 +6,13 @@ use Rattle.pe_core.specs.Refusals.{Refusal, kind_of}
 use Rattle.pe_core.specs.SectionMap.{rounded_up}
 use Rattle.pe_unwind.specs.ExceptionTable.{ExceptionView, table_of}
 use Rattle.pe_unwind.specs.FunctionTable.{functions, Finds, NeverFalls}
-use Rattle.pe_unwind.specs.Links.{links_of}
+use Rattle.pe_unwind.specs.Links.{links_with}
 use Rattle.pe_unwind.specs.UnwindRecord.{UnwindInfoView}
 use Rattle.pe_unwind.specs.declared.function_table.RuntimeFunction.{RuntimeFunction}
 use Rattle.pe_plan.specs.ShortPlans.{PlansShort}
 use Rattle.pe_frame.specs.FrameWalks.{FrameWalk, Process, state_of}
 use Rattle.pe_frame.specs.Jumps.{StepsInImage}
-use Rattle.pe_frame.specs.Modules.{module_at, code_in, is_after_call, is_code_return}
+use Rattle.pe_frame.specs.Modules.{module_at, map_of_module, code_in, is_after_call, is_code_return}
 use Rattle.pe_frame.specs.Scans.{first_return, most_words}
 use Rattle.pe_frame.specs.Steps.{ErrorKind, error_kind}
 use Rattle.pe_frame.specs.Undoing.{stack_pointer, popped, put_register, put_rip}
@@ -98,7 +98,7 @@ frame_after memory modules (Err e) = Err (ends.Step e)
 -- what a step from a frame returns, by the records of its function
 abbrev pub StepsFromFrame : (ℕ → Option ℕ) → Module → ExceptionView → RuntimeFunction → List UnwindInfoView → StackFrame → Result (Registers × Bool) FrameError → Type 0
 StepsFromFrame memory m e f plan s left =
-    StepsInImage e m.sections.now m.opts memory plan f.begin_address ((s.registers).rip - m.base) (code_of_frame m e f.end_address s) s.registers left
+    StepsInImage e (map_of_module m e) memory plan f.begin_address ((s.registers).rip - m.base) (code_of_frame m e f.end_address s) s.registers left
 
 -- by the records of its function
 abbrev pub CallsByPlan : (ℕ → Option ℕ) → List Module → Module → ExceptionView → RuntimeFunction → StackFrame → Result (Option (List UnwindInfoView)) Refusal → Result StackFrame WalkEnd → Type 0
@@ -130,7 +130,7 @@ abbrev pub CallsFound : (ℕ → Option ℕ) → List Module → Module → Exce
 CallsFound memory modules m e s None answer = answer ≡ caller_of_leaf memory modules s
 CallsFound memory modules m e s (Some f) answer =
     (plan : Result (Option (List UnwindInfoView)) Refusal)
-    × PlansShort (links_of e m.sections.now m.opts) e.content f plan × CallsByPlan memory modules m e f s plan answer
+    × PlansShort (links_with e (map_of_module m e)) e.content f plan × CallsByPlan memory modules m e f s plan answer
 
 -- by the exception data of a module; without any all of its functions are leaf functions
 abbrev pub CallsBy : (ℕ → Option ℕ) → List Module → Module → StackFrame → Option ExceptionView → Result StackFrame WalkEnd → Type 0

@@ -17,13 +17,13 @@ use crate::registers::Registers;
 use pe_core::Result;
 use pe_plan::read_plan;
 use pe_unwind::laws::derives::clones_are_their_originals;
-use pe_unwind::{RuntimeFunction, UnwindInfo};
+use pe_unwind::{RuntimeFunction, RvaMap, UnwindInfo};
 use std::array::repeat;
 use std::slice;
 
 /// A step by the records of a function, if an array has room for them.
-fn step_in_room<'a, M: Memory>(
-    functions: &ImageFunctions<'a>,
+fn step_in_room<'a, R: RvaMap, M: Memory>(
+    functions: &ImageFunctions<'a, R>,
     function: RuntimeFunction,
     room: &mut [UnwindInfo<'a>],
     rva: u32,
@@ -32,15 +32,11 @@ fn step_in_room<'a, M: Memory>(
     memory: &M,
 ) -> Result<Option<std::result::Result<(Registers, bool), FrameError>>>
     ensures { (n : ℕ) → length room.old ≡ n → StepsUpTo n functions.now.exceptions.now
-        functions.now.sections.now functions.now.opts (M.word memory.now) function rva code.now
+        (R.offset functions.now.map.now) (M.word memory.now) function rva code.now
         registers (answer_of result) }
 {
-    let ImageFunctions {
-        exceptions,
-        sections,
-        opts,
-    } = *functions;
-    match read_plan(exceptions, function, sections, &opts, room) {
+    let ImageFunctions { exceptions, map } = *functions;
+    match read_plan(exceptions, function, map, room) {
         Ok(Some(count)) => {
             let (records, start) = (&room[..count], function.begin_address);
             let left = step_in_image(functions, records, start, rva, code, registers, memory);
@@ -53,8 +49,8 @@ fn step_in_room<'a, M: Memory>(
 
 /// The same in room for two records, which any record fills. Out of line, so that no other step pays for the room.
 #[inline(never)]
-fn step_in_2<'a, M: Memory>(
-    functions: &ImageFunctions<'a>,
+fn step_in_2<'a, R: RvaMap, M: Memory>(
+    functions: &ImageFunctions<'a, R>,
     function: RuntimeFunction,
     info: UnwindInfo<'a>,
     rva: u32,
@@ -62,8 +58,8 @@ fn step_in_2<'a, M: Memory>(
     registers: Registers,
     memory: &M,
 ) -> Result<Option<std::result::Result<(Registers, bool), FrameError>>>
-    ensures { StepsUpTo 2 functions.now.exceptions.now functions.now.sections.now
-        functions.now.opts (M.word memory.now) function rva code.now registers (answer_of result) }
+    ensures { StepsUpTo 2 functions.now.exceptions.now (R.offset functions.now.map.now)
+        (M.word memory.now) function rva code.now registers (answer_of result) }
 {
     clones_are_their_originals();
     let mut room: [UnwindInfo<'_>; 2] = repeat(info);
@@ -72,8 +68,8 @@ fn step_in_2<'a, M: Memory>(
 
 /// The same in room for eight.
 #[inline(never)]
-fn step_in_8<'a, M: Memory>(
-    functions: &ImageFunctions<'a>,
+fn step_in_8<'a, R: RvaMap, M: Memory>(
+    functions: &ImageFunctions<'a, R>,
     function: RuntimeFunction,
     info: UnwindInfo<'a>,
     rva: u32,
@@ -81,8 +77,8 @@ fn step_in_8<'a, M: Memory>(
     registers: Registers,
     memory: &M,
 ) -> Result<Option<std::result::Result<(Registers, bool), FrameError>>>
-    ensures { StepsUpTo 8 functions.now.exceptions.now functions.now.sections.now
-        functions.now.opts (M.word memory.now) function rva code.now registers (answer_of result) }
+    ensures { StepsUpTo 8 functions.now.exceptions.now (R.offset functions.now.map.now)
+        (M.word memory.now) function rva code.now registers (answer_of result) }
 {
     clones_are_their_originals();
     let mut room: [UnwindInfo<'_>; 8] = repeat(info);
@@ -92,8 +88,8 @@ fn step_in_8<'a, M: Memory>(
 /// The same in room for as many as are undone at all.
 #[inline(never)]
 #[tactic(auto, using(crate::proofs::FunctionSteps::of_all_room))]
-fn step_in_32<'a, M: Memory>(
-    functions: &ImageFunctions<'a>,
+fn step_in_32<'a, R: RvaMap, M: Memory>(
+    functions: &ImageFunctions<'a, R>,
     function: RuntimeFunction,
     info: UnwindInfo<'a>,
     rva: u32,
@@ -101,8 +97,8 @@ fn step_in_32<'a, M: Memory>(
     registers: Registers,
     memory: &M,
 ) -> Result<Option<std::result::Result<(Registers, bool), FrameError>>>
-    ensures { StepsInFunction functions.now.exceptions.now functions.now.sections.now
-        functions.now.opts (M.word memory.now) function rva code.now registers (answer_of result) }
+    ensures { StepsInFunction functions.now.exceptions.now (R.offset functions.now.map.now)
+        (M.word memory.now) function rva code.now registers (answer_of result) }
 {
     clones_are_their_originals();
     let mut room: [UnwindInfo<'_>; 32] = repeat(info);
@@ -111,16 +107,16 @@ fn step_in_32<'a, M: Memory>(
 
 /// A step by the records of a function of which more than two are chained.
 #[tactic(auto, using(crate::proofs::FunctionSteps::of_plan, crate::proofs::FunctionSteps::of_refusal, pe_plan::proofs::ShortPlans::refused_at_once))]
-fn step_in_longer<M: Memory>(
-    functions: &ImageFunctions<'_>,
+fn step_in_longer<R: RvaMap, M: Memory>(
+    functions: &ImageFunctions<'_, R>,
     function: RuntimeFunction,
     rva: u32,
     code: &[u8],
     registers: Registers,
     memory: &M,
 ) -> Result<Option<std::result::Result<(Registers, bool), FrameError>>>
-    ensures { StepsInFunction functions.now.exceptions.now functions.now.sections.now
-        functions.now.opts (M.word memory.now) function rva code.now registers (answer_of result) }
+    ensures { StepsInFunction functions.now.exceptions.now (R.offset functions.now.map.now)
+        (M.word memory.now) function rva code.now registers (answer_of result) }
 {
     let info = match record_of(functions, function) {
         Ok(info) => info,
@@ -139,8 +135,8 @@ fn step_in_longer<M: Memory>(
 
 /// A step by the records of a function that are chained. The room grows with their number, as does the time to fill it.
 #[tactic(auto, using(crate::proofs::FunctionSteps::of_plan, crate::proofs::FunctionSteps::of_refusal))]
-fn step_in_chained<'a, M: Memory>(
-    functions: &ImageFunctions<'a>,
+fn step_in_chained<'a, R: RvaMap, M: Memory>(
+    functions: &ImageFunctions<'a, R>,
     function: RuntimeFunction,
     info: UnwindInfo<'a>,
     rva: u32,
@@ -148,8 +144,8 @@ fn step_in_chained<'a, M: Memory>(
     registers: Registers,
     memory: &M,
 ) -> Result<Option<std::result::Result<(Registers, bool), FrameError>>>
-    ensures { StepsInFunction functions.now.exceptions.now functions.now.sections.now
-        functions.now.opts (M.word memory.now) function rva code.now registers (answer_of result) }
+    ensures { StepsInFunction functions.now.exceptions.now (R.offset functions.now.map.now)
+        (M.word memory.now) function rva code.now registers (answer_of result) }
 {
     match step_in_2(functions, function, info, rva, code, registers, memory) {
         Ok(Some(left)) => Ok(Some(left)),
@@ -163,16 +159,16 @@ fn step_in_chained<'a, M: Memory>(
 ///
 /// Errors: the first error of one of the records, before any is undone.
 #[tactic(auto, using(crate::proofs::FunctionSteps::of_one_record, pe_plan::proofs::ShortPlans::refused_at_once))]
-pub fn step_in_function<M: Memory>(
-    functions: &ImageFunctions<'_>,
+pub fn step_in_function<R: RvaMap, M: Memory>(
+    functions: &ImageFunctions<'_, R>,
     function: RuntimeFunction,
     rva: u32,
     code: &[u8],
     registers: Registers,
     memory: &M,
 ) -> Result<Option<std::result::Result<(Registers, bool), FrameError>>>
-    ensures { StepsInFunction functions.now.exceptions.now functions.now.sections.now
-        functions.now.opts (M.word memory.now) function rva code.now registers (answer_of result) }
+    ensures { StepsInFunction functions.now.exceptions.now (R.offset functions.now.map.now)
+        (M.word memory.now) function rva code.now registers (answer_of result) }
 {
     let info = match record_of(functions, function) {
         Ok(info) => info,
@@ -205,8 +201,8 @@ fn put(
 /// A step by chained records in place.
 #[inline(never)]
 #[tactic(auto, using(crate::proofs::FunctionSteps::of_left, crate::proofs::FunctionSteps::of_none))]
-fn chained_in_place<'a, M: Memory>(
-    functions: &ImageFunctions<'a>,
+fn chained_in_place<'a, R: RvaMap, M: Memory>(
+    functions: &ImageFunctions<'a, R>,
     function: RuntimeFunction,
     info: UnwindInfo<'a>,
     rva: u32,
@@ -214,8 +210,8 @@ fn chained_in_place<'a, M: Memory>(
     registers: &mut Registers,
     memory: &M,
 ) -> Result<Option<std::result::Result<bool, FrameError>>>
-    ensures { StepsInFunction functions.now.exceptions.now functions.now.sections.now
-        functions.now.opts (M.word memory.now) function rva code.now registers.old
+    ensures { StepsInFunction functions.now.exceptions.now (R.offset functions.now.map.now)
+        (M.word memory.now) function rva code.now registers.old
         (answer_by (option_map (λ left. changed_with left registers.new)) result) }
 {
     match step_in_chained(functions, function, info, rva, code, *registers, memory) {
@@ -230,16 +226,16 @@ fn chained_in_place<'a, M: Memory>(
 ///
 /// Errors: those of `step_in_function`.
 #[tactic(auto, using(crate::proofs::FunctionSteps::of_one_record, pe_plan::proofs::ShortPlans::refused_at_once))]
-pub fn step_in_function_in_place<M: Memory>(
-    functions: &ImageFunctions<'_>,
+pub fn step_in_function_in_place<R: RvaMap, M: Memory>(
+    functions: &ImageFunctions<'_, R>,
     function: RuntimeFunction,
     rva: u32,
     code: &[u8],
     registers: &mut Registers,
     memory: &M,
 ) -> Result<Option<std::result::Result<bool, FrameError>>>
-    ensures { StepsInFunction functions.now.exceptions.now functions.now.sections.now
-        functions.now.opts (M.word memory.now) function rva code.now registers.old
+    ensures { StepsInFunction functions.now.exceptions.now (R.offset functions.now.map.now)
+        (M.word memory.now) function rva code.now registers.old
         (answer_by (option_map (λ left. changed_with left registers.new)) result) }
 {
     let info = match record_of(functions, function) {

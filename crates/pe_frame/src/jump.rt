@@ -5,9 +5,9 @@
 //! changes no register but `rip`, so the caller is that of a frame at the target, by the records of the function there
 //! ([Microsoft's page](https://learn.microsoft.com/cpp/build/exception-handling-x64)), whichever of the two it is.
 
-ghost use Rattle.std.specs.Prelude.{◌≡◌, map, Some};
+ghost use Rattle.std.specs.Prelude.{◌≡◌, ⊤, map, Some};
 ghost use Rattle.pe_core.specs.Refusals.{answer_by};
-ghost use Rattle.pe_unwind.specs.Links.{links_of};
+ghost use Rattle.pe_unwind.specs.Links.{links_with};
 ghost use Rattle.pe_unwind.specs.UnwindRecord.{unwind_view};
 ghost use Rattle.pe_unwind.specs.Unwinding.{Unwinds};
 ghost use Rattle.pe_frame.specs.Jumps.{LeavesFor, LeavesForFound, LeavesForTarget, LeavesInImage, StepsInImage, before_last, place_with, risen_out};
@@ -21,37 +21,43 @@ use crate::error::FrameError;
 use crate::frame::{epilog_at, require_rising, run_out, undo_function_in_place};
 use crate::memory::Memory;
 use crate::registers::{RSP, Registers};
-use pe_core::{ParseOptions, SectionTable};
 use pe_plan::ShortPlan;
-use pe_unwind::{ExceptionData, RuntimeFunction, UnwindInfo, search};
+use pe_unwind::{ExceptionData, RuntimeFunction, RvaMap, UnwindInfo, search};
+use std::alloc::AllocError;
 use std::slice;
 
 /// The functions of an image, in which the target of a jump is looked up.
-#[derive(Clone, Copy)]
-pub struct ImageFunctions<'a> {
+pub struct ImageFunctions<'a, R> {
     /// The exception data of the image.
     pub exceptions: &'a ExceptionData<'a>,
-    /// Its section headers.
-    pub sections: &'a [SectionTable],
-    /// The options with which it was parsed.
-    pub opts: ParseOptions,
+    /// What maps its RVAs, as `ExceptionData::section_map` returns it.
+    pub map: &'a R,
+}
+
+// By hand, as the derives would ask it of the map too, which is behind a reference.
+impl<'a, R> Copy for ImageFunctions<'a, R> {}
+
+impl<'a, R> Clone for ImageFunctions<'a, R> {
+    ghost is_clone = { λ x y. y ≡ x };
+
+    ghost is_infallible = { λ _. ⊤ };
+
+    fn clone(&self) -> Result<Self, AllocError> {
+        Ok(*self)
+    }
 }
 
 /// The record of a function.
-pub(crate) fn record_of<'a>(
-    functions: &ImageFunctions<'a>,
+pub(crate) fn record_of<'a, R: RvaMap>(
+    functions: &ImageFunctions<'a, R>,
     function: RuntimeFunction,
 ) -> pe_core::Result<UnwindInfo<'a>>
-    ensures { Unwinds (links_of functions.now.exceptions.now functions.now.sections.now
-        functions.now.opts) functions.now.exceptions.now.content function.unwind_info_address
+    ensures { Unwinds (links_with functions.now.exceptions.now (R.offset functions.now.map.now))
+        functions.now.exceptions.now.content function.unwind_info_address
         (answer_by unwind_view result) }
 {
-    let ImageFunctions {
-        exceptions,
-        sections,
-        opts,
-    } = *functions;
-    exceptions.get_unwind_info_with_opts(function, sections, &opts)
+    let ImageFunctions { exceptions, map } = *functions;
+    exceptions.get_unwind_info_with_map(function, map)
 }
 
 /// Tests that the stack pointer of registers that a step from the target of a jump left is above this one, unless an interrupt
@@ -113,24 +119,20 @@ fn leave_to<M: Memory>(
 
 /// The same of a jump into a function of which records are chained. Out of line, as the room for them is large.
 #[inline(never)]
-fn leave_for_chained<M: Memory>(
-    functions: &ImageFunctions<'_>,
+fn leave_for_chained<R: RvaMap, M: Memory>(
+    functions: &ImageFunctions<'_, R>,
     rva: u32,
     function: RuntimeFunction,
     tail: &Tail<'_>,
     registers: &mut Registers,
     memory: &M,
 ) -> Result<bool, FrameError>
-    ensures { LeavesForFound functions.now.exceptions.now functions.now.sections.now
-        functions.now.opts rva (Some function) (M.word memory.now) (instructions_of tail.now)
-        registers.old (changed_with result registers.new) }
+    ensures { LeavesForFound functions.now.exceptions.now (R.offset functions.now.map.now) rva
+        (Some function) (M.word memory.now) (instructions_of tail.now) registers.old
+        (changed_with result registers.new) }
 {
-    let ImageFunctions {
-        exceptions,
-        sections,
-        opts,
-    } = *functions;
-    match ShortPlan::of_function(exceptions, function, sections, &opts) {
+    let ImageFunctions { exceptions, map } = *functions;
+    match ShortPlan::of_function(exceptions, function, map) {
         Ok(Some(plan)) => {
             let offset = rva.saturating_sub(function.begin_address);
             leave_to(plan.records(), offset, tail, registers, memory)
@@ -142,17 +144,17 @@ fn leave_for_chained<M: Memory>(
 
 /// Makes the registers those of the caller after the rest of an epilog, which jumps to an RVA in a function, or leaves otherwise
 /// if the records of the function cannot be read or are too many.
-fn leave_for_function<M: Memory>(
-    functions: &ImageFunctions<'_>,
+fn leave_for_function<R: RvaMap, M: Memory>(
+    functions: &ImageFunctions<'_, R>,
     rva: u32,
     function: RuntimeFunction,
     tail: &Tail<'_>,
     registers: &mut Registers,
     memory: &M,
 ) -> Result<bool, FrameError>
-    ensures { LeavesForFound functions.now.exceptions.now functions.now.sections.now
-        functions.now.opts rva (Some function) (M.word memory.now) (instructions_of tail.now)
-        registers.old (changed_with result registers.new) }
+    ensures { LeavesForFound functions.now.exceptions.now (R.offset functions.now.map.now) rva
+        (Some function) (M.word memory.now) (instructions_of tail.now) registers.old
+        (changed_with result registers.new) }
 {
     let info = match record_of(functions, function) {
         Ok(info) => info,
@@ -166,16 +168,16 @@ fn leave_for_function<M: Memory>(
 }
 
 /// The same of a jump to an RVA, which may be in no function.
-fn leave_for_rva<M: Memory>(
-    functions: &ImageFunctions<'_>,
+fn leave_for_rva<R: RvaMap, M: Memory>(
+    functions: &ImageFunctions<'_, R>,
     rva: u32,
     tail: &Tail<'_>,
     registers: &mut Registers,
     memory: &M,
 ) -> Result<bool, FrameError>
-    ensures { LeavesForTarget functions.now.exceptions.now functions.now.sections.now
-        functions.now.opts (Some rva) (M.word memory.now) (instructions_of tail.now)
-        registers.old (changed_with result registers.new) }
+    ensures { LeavesForTarget functions.now.exceptions.now (R.offset functions.now.map.now)
+        (Some rva) (M.word memory.now) (instructions_of tail.now) registers.old
+        (changed_with result registers.new) }
 {
     let mut table = functions.exceptions.table();
     match search(&mut table, rva) {
@@ -187,14 +189,14 @@ fn leave_for_rva<M: Memory>(
 /// Makes the registers those after the rest of an epilog in an image. Returns whether an interrupt left them. Out of line, as few
 /// frames are in an epilog.
 #[inline(never)]
-fn leave_in_place<M: Memory>(
-    functions: &ImageFunctions<'_>,
+fn leave_in_place<R: RvaMap, M: Memory>(
+    functions: &ImageFunctions<'_, R>,
     tail: &Tail<'_>,
     registers: &mut Registers,
     memory: &M,
 ) -> Result<bool, FrameError>
-    ensures { LeavesInImage functions.now.exceptions.now functions.now.sections.now
-        functions.now.opts (M.word memory.now) (instructions_of tail.now) registers.old
+    ensures { LeavesInImage functions.now.exceptions.now (R.offset functions.now.map.now)
+        (M.word memory.now) (instructions_of tail.now) registers.old
         (changed_with result registers.new) }
 {
     match target_of(tail) {
@@ -206,8 +208,8 @@ fn leave_in_place<M: Memory>(
 /// Makes the registers those of a function's caller, as [`step_in_image`] returns them. Returns whether an interrupt left them.
 /// Inlined, as what it returns would be moved.
 #[inline(always)]
-pub(crate) fn step_in_place<M: Memory>(
-    functions: &ImageFunctions<'_>,
+pub(crate) fn step_in_place<R: RvaMap, M: Memory>(
+    functions: &ImageFunctions<'_, R>,
     plan: &[UnwindInfo<'_>],
     start: u32,
     rva: u32,
@@ -215,9 +217,9 @@ pub(crate) fn step_in_place<M: Memory>(
     registers: &mut Registers,
     memory: &M,
 ) -> Result<bool, FrameError>
-    ensures { StepsInImage functions.now.exceptions.now functions.now.sections.now
-        functions.now.opts (M.word memory.now) (map unwind_view plan.now) start rva code.now
-        registers.old (changed_with result registers.new) }
+    ensures { StepsInImage functions.now.exceptions.now (R.offset functions.now.map.now)
+        (M.word memory.now) (map unwind_view plan.now) start rva code.now registers.old
+        (changed_with result registers.new) }
 {
     match epilog_at(plan, start, rva, code) {
         Some(tail) => leave_in_place(functions, &tail, registers, memory),
@@ -233,8 +235,8 @@ pub(crate) fn step_in_place<M: Memory>(
 ///
 /// Refused as `step_out`, at the target as [`step`](crate::step), and last `NotRising` if no interrupt left the caller and its
 /// stack pointer is not above that of the function.
-pub fn step_in_image<M: Memory>(
-    functions: &ImageFunctions<'_>,
+pub fn step_in_image<R: RvaMap, M: Memory>(
+    functions: &ImageFunctions<'_, R>,
     plan: &[UnwindInfo<'_>],
     start: u32,
     rva: u32,
@@ -242,9 +244,8 @@ pub fn step_in_image<M: Memory>(
     registers: Registers,
     memory: &M,
 ) -> Result<(Registers, bool), FrameError>
-    ensures { StepsInImage functions.now.exceptions.now functions.now.sections.now
-        functions.now.opts (M.word memory.now) (map unwind_view plan.now) start rva code.now
-        registers result }
+    ensures { StepsInImage functions.now.exceptions.now (R.offset functions.now.map.now)
+        (M.word memory.now) (map unwind_view plan.now) start rva code.now registers result }
 {
     let mut current = registers;
     match step_in_place(functions, plan, start, rva, code, &mut current, memory) {

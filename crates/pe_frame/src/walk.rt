@@ -360,10 +360,10 @@ fn caller_by_records<L: CallSites, M: Memory>(
         function,
     } = *found;
     let code = code_of_frame(found, frame, rva);
+    let map = exceptions.section_map(module.sections, &module.opts);
     let functions = ImageFunctions {
         exceptions,
-        sections: module.sections,
-        opts: module.opts,
+        map: &map,
     };
     let caller = &mut frame.registers;
     let left = match step_in_function_in_place(&functions, function, rva, code, caller, memory) {

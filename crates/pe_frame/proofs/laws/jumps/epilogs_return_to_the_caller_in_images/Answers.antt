@@ -12,7 +12,7 @@ returns c =
     } in
     record {
       left = λ s p parts before rest i g h at sorted to x.
-          returned_in_image law s.exceptions s.sections s.options s.memory p parts before rest i s.start s.rva s.code g h x at.frames at.epilog at.ready at.ran at.left sorted to;
+          returned_in_image law s.exceptions s.rva_map s.memory p parts before rest i s.start s.rva s.code g h x at.frames at.epilog at.ready at.ran at.left sorted to;
       entered = λ s p parts before rest i g h at sorted to x.
-          returned_by_entry law s.exceptions s.sections s.options to.target s.memory p parts before rest i s.start s.rva s.code g h to.last x at.frames at.epilog at.ready at.ran at.left sorted to.place to.entry to.ran to.count;
+          returned_by_entry law s.exceptions s.rva_map to.target s.memory p parts before rest i s.start s.rva s.code g h to.last x at.frames at.epilog at.ready at.ran at.left sorted to.place to.entry to.ran to.count;
     }

@@ -11,4 +11,4 @@ returns c =
       no_memory = c.one_record_of_addresses.ensures.no_memory;
     } in
     λ s plan offset rest p parts g h decodes sorted to low x.
-    followed law s.exceptions s.sections s.options s.memory plan s.start s.rva offset s.code rest p parts g h x decodes sorted to.place to.ran low to.frames
+    followed law s.exceptions s.rva_map s.memory plan s.start s.rva offset s.code rest p parts g h x decodes sorted to.place to.ran low to.frames

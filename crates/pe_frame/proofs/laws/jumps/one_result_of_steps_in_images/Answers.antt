@@ -13,7 +13,7 @@ returns c =
       no_memory = c.one_record_of_addresses.ensures.no_memory;
     } in
     record {
-      exists = λ s plan g. some_in_image law s.exceptions s.sections s.options (epilog_at plan s.start s.rva s.code) s.memory plan (s.rva - s.start) g;
+      exists = λ s plan g. some_in_image law s.exceptions s.rva_map (epilog_at plan s.start s.rva s.code) s.memory plan (s.rva - s.start) g;
       one = λ s plan g x y sorted h k.
-          one_in_image law s.exceptions s.sections s.options (epilog_at plan s.start s.rva s.code) s.memory plan (s.rva - s.start) g x y sorted h k;
+          one_in_image law s.exceptions s.rva_map (epilog_at plan s.start s.rva s.code) s.memory plan (s.rva - s.start) g x y sorted h k;
     }
