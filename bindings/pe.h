@@ -1648,8 +1648,7 @@ uint32_t pe_c_next_record(const pe_c_view *view, const pe_c_range *table, pe_c_p
  * over those of the frame. It undoes the records of frame->function, which is of the table, up to the root of their chain,
  * or runs what is left of an epilog. Where that ends with a jump to an RVA, it runs it up to the jump, and undoes the
  * records of the function that the table has there, if they can be read: the jump may go on in a part of the function. A
- * leaf function returns to the word at rsp; of it neither the view nor the table nor the code is read. It makes no use of an
- * index.
+ * leaf function returns to the word at rsp; of it neither the view nor the table nor the code is read.
  *
  * `memory` has the bytes of all pieces of the stack, as a minidump file has, and `pieces` says where each is; a stack in one
  * piece is a list of one. The byte at an address is that of the first piece that has it, so eight bytes may stand in pieces

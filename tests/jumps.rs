@@ -86,10 +86,10 @@ fn step_at(
     };
     let opts = flat();
     let exceptions = ExceptionData::parse_with_opts(&bytes, table, &[], 0x200, &opts)?;
+    let map = exceptions.section_map(&[], &opts);
     let functions = ImageFunctions {
         exceptions: &exceptions,
-        sections: &[],
-        opts,
+        map: &map,
     };
     let words = bytes_of(alloc, &WORDS)?;
     let stack = Stack {

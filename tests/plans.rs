@@ -348,8 +348,9 @@ fn short_plan(bytes: &[u8]) -> Result<Option<ShortPlan<'_>>> {
         size: 12,
     };
     let exceptions = ExceptionData::parse_with_opts(bytes, directory, &[], 0x200, &flat())?;
+    let map = exceptions.section_map(&[], &flat());
     let function = exceptions.get_function(0)?;
-    ShortPlan::of_function(&exceptions, function, &[], &flat())
+    ShortPlan::of_function(&exceptions, function, &map)
 }
 
 /// A short plan has the records of the plan, from the function's own to the root, if there are at most 32.
@@ -410,12 +411,13 @@ fn plan_in_room(
         size: 12,
     };
     let exceptions = ExceptionData::parse_with_opts(bytes, directory, &[], 0x200, &flat())?;
+    let map = exceptions.section_map(&[], &flat());
     let function = exceptions.get_function(0)?;
     let mut room = Vec::new(alloc);
     for _ in 0..size {
         room.push(UnwindInfo::parse(&[1, 0, 0, 0], 0)?)?;
     }
-    let count = match read_plan(&exceptions, function, &[], &flat(), &mut room) {
+    let count = match read_plan(&exceptions, function, &map, &mut room) {
         Ok(Some(count)) => count,
         Ok(None) => return Ok(Ok(None)),
         Err(error) => return Ok(Err(error)),

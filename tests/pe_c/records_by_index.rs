@@ -1,5 +1,5 @@
-//! Unwind records of x64 and ARM64, plans and lists of codes, lookups of ARM64 functions and a step on ARM64 by an index of the
-//! sections.
+//! Unwind records of x64 and ARM64, plans and lists of codes, lookups of ARM64 functions and steps of a stack walk by an index of
+//! the sections.
 
 use super::arm64::with_table;
 use super::made::{
@@ -16,14 +16,16 @@ use crate::plan::{Plan, pe_c_next_record, pe_c_plan_from};
 use crate::ranges::Range;
 use crate::results::{DONE, NOTHING};
 use crate::section_index::pe_c_index;
-use pe_frame::IndexEntry;
+use crate::stack_frames::{FrameRegisters, StackFrame, pe_c_step};
 use crate::step_failures::arm64::pe_c_arm64_record_failure;
 use crate::step_failures::unwinding::pe_c_unwind_record_failure;
 use crate::unwinding::{Code, pe_c_unwind_record};
 use crate::view::View;
 use pe_core::SectionTable;
+use pe_frame::MemoryPiece;
+use pe_frame::IndexEntry;
 use pe_images::image as bytes_of;
-use pe_unwind::Arm64RuntimeFunction;
+use pe_unwind::{Arm64RuntimeFunction, RuntimeFunction};
 use std::test::Fail;
 
 /// An entry of an index before it is written.
@@ -99,6 +101,40 @@ fn failure_by(view: &View, table: &Range, unwind: u32) -> (u32, u32, u64) {
     (answer, out.result, out.value)
 }
 
+/// The result of a step in a function after its prolog, and the caller's instruction pointer. The words of the stack are 1, 2, 3
+/// and so on.
+fn x64_stepped_by(view: &View, table: &Range, unwind: u32) -> (u32, u64) {
+    let mut memory = [0; 64];
+    for word in 0..8 {
+        memory[8 * word] = word as u8 + 1;
+    }
+    let stack = MemoryPiece {
+        start: 0x10_0000,
+        offset: 0,
+        length: 64,
+    };
+    let mut registers = FrameRegisters {
+        general: [0; 16],
+        xmm: [0; 32],
+        rip: 0x1_4000_500F,
+    };
+    registers.general[4] = stack.start;
+    let mut frame = StackFrame {
+        registers,
+        address: 0,
+        function: RuntimeFunction {
+            begin_address: 0x5000,
+            end_address: 0x5010,
+            unwind_info_address: unwind,
+        },
+        rva: 0x500F,
+        leaf: 0,
+        interrupted: 0,
+    };
+    let answer = pe_c_step(view, table, &[], &memory, &[stack], &mut frame);
+    (answer, frame.registers.rip)
+}
+
 /// At 10h a table of four functions: the records of two are in the second and third of three sections; the third is a link to the
 /// second, the fourth one to itself. The record in the third section is chained to that in the second.
 const IN_SECTIONS: [(usize, &[u8]); 7] = [
@@ -149,6 +185,9 @@ fn records_with_an_index(rt: HostRuntime) -> Result<(), Fail> {
         ] {
             assert_eq!(rt; record_by(view, &table, unwind), [found; 3]);
             assert_eq!(rt; failure_by(view, &table, unwind).0, NOTHING);
+            // Before the return address are five words and rbp, and of the record that is chained rbx.
+            let rip = if found == third { 8 } else { 7 };
+            assert_eq!(rt; x64_stepped_by(view, &table, unwind), (DONE, rip));
         }
         for (unwind, number, value) in [
             (0x1035, FUNCTION_CYCLE, 0x1035),
@@ -159,6 +198,10 @@ fn records_with_an_index(rt: HostRuntime) -> Result<(), Fail> {
             let found = (number, NONE.0, NONE.1);
             assert_eq!(rt; record_by(view, &table, unwind), [found; 3]);
             assert_eq!(rt; failure_by(view, &table, unwind), (DONE, number, value));
+            assert_eq!(rt;
+                x64_stepped_by(view, &table, unwind),
+                (number, 0x1_4000_500F)
+            );
         }
         let mut plan = NO_PLAN;
         let _done = pe_c_plan_from(0x1029, &mut plan);
@@ -204,6 +247,7 @@ fn indices_that_lead_elsewhere(rt: HostRuntime) -> Result<(), Fail> {
     let first = (DONE, 7, [0x84, 0]);
     for unwind in [0x1080, 0x1011, 0x101D] {
         assert_eq!(rt; record_by(&without, &table, unwind), [first; 3]);
+        assert_eq!(rt; x64_stepped_by(&without, &table, unwind), (DONE, 1));
     }
     let by_first = from_start(1);
     let with = View {
@@ -212,6 +256,7 @@ fn indices_that_lead_elsewhere(rt: HostRuntime) -> Result<(), Fail> {
     };
     for unwind in [0x1080, 0x1011, 0x101D] {
         assert_eq!(rt; record_by(&with, &table, unwind), [first; 3]);
+        assert_eq!(rt; x64_stepped_by(&with, &table, unwind), (DONE, 1));
     }
     let by_second = from_start(2);
     let with = View {
@@ -227,6 +272,10 @@ fn indices_that_lead_elsewhere(rt: HostRuntime) -> Result<(), Fail> {
         failure_by(&with, &table, 0x1011),
         (DONE, FUNCTION_LINK, 0x1011)
     );
+    assert_eq!(rt;
+        x64_stepped_by(&with, &table, 0x1011),
+        (FUNCTION_LINK, 0x1_4000_500F)
+    );
     // One section alone is no shorter way past an index.
     for sections in [&sections[..], &sections[..1]] {
         for number in [0, 3, u64::MAX] {
@@ -240,6 +289,8 @@ fn indices_that_lead_elsewhere(rt: HostRuntime) -> Result<(), Fail> {
             for (unwind, value) in [(0x1080, 0x1080), (0x1011, 0x1010)] {
                 assert_eq!(rt; record_by(&with, &table, unwind), [refused; 3]);
                 assert_eq!(rt; failure_by(&with, &table, unwind), (DONE, UNMAPPED, value));
+                let stays = (UNMAPPED, 0x1_4000_500F);
+                assert_eq!(rt; x64_stepped_by(&with, &table, unwind), stays);
             }
         }
     }

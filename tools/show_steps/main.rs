@@ -70,10 +70,10 @@ fn caller(
     if code.is_empty() {
         step(&records, start, rva, registers, stack)
     } else {
+        let map = exceptions.section_map(&image.sections, &opts);
         let functions = ImageFunctions {
             exceptions,
-            sections: &image.sections,
-            opts,
+            map: &map,
         };
         let (caller, _) =
             step_in_image(&functions, &records, start, rva, code, registers, stack)?;

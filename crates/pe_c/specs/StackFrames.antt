@@ -2,10 +2,8 @@
 use Rattle.std.specs.Prelude.{◌≡◌, ℕ, zero, suc, ◌+◌, ◌*◌, ◌/◌, ◌%◌, ◌^◌, ◌==◌, if◌then◌else◌, Bool, List, slice_index, Option, Some, None, Result, Ok, Err}
 use Rattle.pe_core.specs.Refusals.{Refusal, kind_of}
 use Rattle.pe_core.specs.Rows.{each}
-use Rattle.pe_core.specs.declared.options.ParseOptions.{ParseOptions}
-use Rattle.pe_core.specs.declared.section_table.SectionTable.{SectionTable}
 use Rattle.pe_unwind.specs.ExceptionTable.{ExceptionView, exception_of_table}
-use Rattle.pe_unwind.specs.Links.{links_of}
+use Rattle.pe_unwind.specs.Links.{links_with}
 use Rattle.pe_unwind.specs.UnwindRecord.{UnwindInfoView}
 use Rattle.pe_plan.specs.ShortPlans.{PlansShort}
 use Rattle.pe_frame.specs.Jumps.{StepsInImage}
@@ -16,7 +14,7 @@ use Rattle.pe_frame.specs.declared.error.FrameError.TheVariants.{Codes, Memory, 
 use Rattle.pe_frame.specs.declared.memory_list.MemoryPiece.{MemoryPiece}
 use Rattle.pe_frame.specs.declared.registers.Registers.{Registers}
 use Rattle.pe_c.specs.HandsOut.{result_number}
-use Rattle.pe_c.specs.Modes.{options_of}
+use Rattle.pe_c.specs.Views.{map_of}
 use Rattle.pe_c.specs.declared.ranges.Range.{Range}
 use Rattle.pe_c.specs.declared.stack_frames.FrameRegisters.{FrameRegisters}
 use Rattle.pe_c.specs.declared.stack_frames.StackFrame.{StackFrame}
@@ -86,25 +84,25 @@ HandsOutPopped number old new (Err e) = (number ≡ error_number e) × (new ≡ 
 
 -- What a step by the records of a function leaves: it is a step of pe_frame in the image, with the code from the frame's RVA on.
 -- `HandsOut` says what becomes of it, or of a number that refuses it.
-abbrev pub StepsBy : ExceptionView → List SectionTable → ParseOptions → List ℕ → (ℕ → Option ℕ) → StackFrame → (Result (Result (Registers × Bool) FrameError) ℕ → Type 0) → Result (Option (List UnwindInfoView)) Refusal → Type 0
-StepsBy v sections opts code memory old HandsOut (Err refusal) = HandsOut (Err (result_number refusal))
-StepsBy v sections opts code memory old HandsOut (Ok None) = HandsOut (Err LONG_CHAIN)
-StepsBy v sections opts code memory old HandsOut (Ok (Some plan)) =
+abbrev pub StepsBy : ExceptionView → (ℕ → Option ℕ) → List ℕ → (ℕ → Option ℕ) → StackFrame → (Result (Result (Registers × Bool) FrameError) ℕ → Type 0) → Result (Option (List UnwindInfoView)) Refusal → Type 0
+StepsBy v offset code memory old HandsOut (Err refusal) = HandsOut (Err (result_number refusal))
+StepsBy v offset code memory old HandsOut (Ok None) = HandsOut (Err LONG_CHAIN)
+StepsBy v offset code memory old HandsOut (Ok (Some plan)) =
     (left : Result (Registers × Bool) FrameError)
-    × StepsInImage v sections opts memory plan (old.function).begin_address old.rva code (registers_of old.registers) left
+    × StepsInImage v offset memory plan (old.function).begin_address old.rva code (registers_of old.registers) left
     × HandsOut (Ok left)
 
--- the same by the exception data of an image
-abbrev pub StepsOf : ExceptionView → List SectionTable → ParseOptions → List ℕ → (ℕ → Option ℕ) → StackFrame → (Result (Result (Registers × Bool) FrameError) ℕ → Type 0) → Type 0
-StepsOf v sections opts code memory old HandsOut =
+-- the same by the exception data of an image and a map of its RVAs
+abbrev pub StepsOf : ExceptionView → (ℕ → Option ℕ) → List ℕ → (ℕ → Option ℕ) → StackFrame → (Result (Result (Registers × Bool) FrameError) ℕ → Type 0) → Type 0
+StepsOf v offset code memory old HandsOut =
     (plan : Result (Option (List UnwindInfoView)) Refusal)
-    × PlansShort (links_of v sections opts) v.content old.function plan
-    × StepsBy v sections opts code memory old HandsOut plan
+    × PlansShort (links_with v offset) v.content old.function plan
+    × StepsBy v offset code memory old HandsOut plan
 
 -- the same, or what refuses the exception data
-abbrev pub StepsIn : Result ExceptionView Refusal → List SectionTable → ℕ → List ℕ → (ℕ → Option ℕ) → StackFrame → (Result (Result (Registers × Bool) FrameError) ℕ → Type 0) → Type 0
-StepsIn (Err refusal) sections mode code memory old HandsOut = HandsOut (Err (result_number refusal))
-StepsIn (Ok v) sections mode code memory old HandsOut = StepsOf v sections (options_of mode) code memory old HandsOut
+abbrev pub StepsIn : Result ExceptionView Refusal → (ℕ → Option ℕ) → List ℕ → (ℕ → Option ℕ) → StackFrame → (Result (Result (Registers × Bool) FrameError) ℕ → Type 0) → Type 0
+StepsIn (Err refusal) offset code memory old HandsOut = HandsOut (Err (result_number refusal))
+StepsIn (Ok v) offset code memory old HandsOut = StepsOf v offset code memory old HandsOut
 
 -- the exception data of an image whose function table is at this range, or what refuses the range
 abbrev pub exceptions_by : View → Range → Result ExceptionView Refusal
@@ -115,7 +113,7 @@ exceptions_by v table =
 -- it is a leaf.
 abbrev pub HandsOutOver : ℕ → View → Range → List ℕ → (ℕ → Option ℕ) → ℕ → StackFrame → StackFrame → Type 0
 HandsOutOver zero image table code memory number old new =
-    StepsIn (exceptions_by image table) image.sections.now (image.image.now).mode code memory old (HandsOutLeftOr number old new)
+    StepsIn (exceptions_by image table) (map_of image) code memory old (HandsOutLeftOr number old new)
 HandsOutOver (suc n) image table code memory number old new =
     HandsOutPopped number old new (popped memory (registers_of old.registers))
 

@@ -8,10 +8,11 @@ ghost use Rattle.pe_core.specs.Rows.{each};
 ghost use Rattle.pe_frame.specs.InPlace.{changed_with};
 ghost use Rattle.pe_frame.specs.Undoing.{popped};
 ghost use Rattle.pe_c.specs.StackFrames.{whole_xmm, half_xmm, registers_of, flat_registers, error_number, error_address, at_address, exceptions_by, StepsOf, StepsIn, HandsOutLeft, HandsOutLeftOr, HandsOutOver, HandsOutPopped, HandsOutStep};
+ghost use Rattle.pe_c.specs.Views.{map_of};
 
 use crate::ranges::Range;
 use crate::results::{
-    BAD_ADDRESS, BAD_OPERATION, DONE, LONG_CHAIN, MISSING, NOT_RISING, number_of, options,
+    BAD_ADDRESS, BAD_OPERATION, DONE, LONG_CHAIN, MISSING, NOT_RISING, number_of,
 };
 use crate::view::View;
 use pe_core::{ByteRange, Result};
@@ -19,7 +20,7 @@ use pe_frame::{
     FrameError, ImageFunctions, Memory, MemoryList, MemoryPiece, Registers,
     step_in_function_in_place,
 };
-use pe_unwind::{ExceptionData, RuntimeFunction};
+use pe_unwind::{ExceptionData, RuntimeFunction, RvaMap};
 
 /// The stack pointer among the integer registers.
 const RSP: usize = 4;
@@ -252,14 +253,14 @@ fn put_caller(
 }
 
 /// A step by the records of the frame's function in an image, and its number.
-fn step_of<M: Memory>(
-    functions: &ImageFunctions<'_>,
+fn step_of<R: RvaMap, M: Memory>(
+    functions: &ImageFunctions<'_, R>,
     code: &[u8],
     memory: &M,
     frame: &mut StackFrame,
 ) -> u32
-    ensures { StepsOf functions.now.exceptions.now functions.now.sections.now functions.now.opts
-        code.now (M.word memory.now) frame.old (HandsOutLeftOr result frame.old frame.new) }
+    ensures { StepsOf functions.now.exceptions.now (R.offset functions.now.map.now) code.now
+        (M.word memory.now) frame.old (HandsOutLeftOr result frame.old frame.new) }
 {
     let (function, rva, mut caller) = (frame.function, frame.rva, registers_of(&frame.registers));
     match step_in_function_in_place(functions, function, rva, code, &mut caller, memory) {
@@ -289,16 +290,14 @@ fn step_by_table<M: Memory>(
     memory: &M,
     frame: &mut StackFrame,
 ) -> u32
-    ensures { StepsIn (exceptions_by image.now table.now) image.now.sections.now
-        image.now.image.now.mode code.now (M.word memory.now) frame.old
-        (HandsOutLeftOr result frame.old frame.new) }
+    ensures { StepsIn (exceptions_by image.now table.now) (map_of image.now) code.now
+        (M.word memory.now) frame.old (HandsOutLeftOr result frame.old frame.new) }
 {
     match exceptions_by(image, table) {
         Ok(exceptions) => {
             let functions = ImageFunctions {
                 exceptions: &exceptions,
-                sections: image.sections,
-                opts: options(image.image.mode),
+                map: image,
             };
             step_of(&functions, code, memory, frame)
         }

@@ -12,7 +12,7 @@ returns-in-Ok-Some g c =
     let image = c.args.functions.now in
     let frame = c.args.frame.now in
     let after = c.step_in_function_in_place.new.registers in
-    let In : Registers → Option (Result Bool FrameError) → Type 0 = λ u o. StepsInFunction image.exceptions.now image.sections.now image.opts (g.M.Memory.word c.args.memory.now) frame.function frame.rva c.args.code.now u (Ok (option_map (λ (left : Result Bool FrameError). changed_with left after) o)) in
+    let In : Registers → Option (Result Bool FrameError) → Type 0 = λ u o. StepsInFunction image.exceptions.now (g.R.RvaMap.offset image.map.now) (g.M.Memory.word c.args.memory.now) frame.function frame.rva c.args.code.now u (Ok (option_map (λ (left : Result Bool FrameError). changed_with left after) o)) in
     let left = subst (λ (o : Option (Result Bool FrameError)). In c.registers_of-caller.result o) c.in-Ok-Some.field-0-is c.in-Ok-Some.ensures in
     let steps = subst (λ (u : Registers). In u (Some c.in-Ok-Some.left)) c.registers_of-caller.ensures left in
     (Ok (Some steps.0), steps.1, (changed_with c.in-Ok-Some.left after, steps.2, c.put_caller.ensures))
@@ -22,7 +22,7 @@ returns-in-Ok-None g c =
     let image = c.args.functions.now in
     let frame = c.args.frame.now in
     let after = c.step_in_function_in_place.new.registers in
-    let In : Option (Result Bool FrameError) → Type 0 = λ o. StepsInFunction image.exceptions.now image.sections.now image.opts (g.M.Memory.word c.args.memory.now) frame.function frame.rva c.args.code.now c.registers_of-caller.result (Ok (option_map (λ (left : Result Bool FrameError). changed_with left after) o)) in
+    let In : Option (Result Bool FrameError) → Type 0 = λ o. StepsInFunction image.exceptions.now (g.R.RvaMap.offset image.map.now) (g.M.Memory.word c.args.memory.now) frame.function frame.rva c.args.code.now c.registers_of-caller.result (Ok (option_map (λ (left : Result Bool FrameError). changed_with left after) o)) in
     (Ok None, subst In c.in-Ok-None.field-0-is c.in-Ok-None.ensures, (refl, refl))
 
 pub returns-in-Err : goal.returns-in-Err
