@@ -5,12 +5,10 @@ use Rattle.pe_core.specs.Bytes.{holds}
 use Rattle.pe_core.specs.Refusals.{Refusal, ExceptionBounds, ExceptionOffset, ExceptionSize, outcome, ◌>>=◌}
 use Rattle.pe_core.specs.SectionMap.{section_map}
 use Rattle.pe_core.specs.declared.section_table.SectionTable.{SectionTable}
-use Rattle.pe_unwind.specs.Arm64Functions.{is_packed}
-use Rattle.pe_unwind.specs.Arm64Unwinding.{info_at_offset, info_of_function, offset_of_function}
+use Rattle.pe_unwind.specs.Arm64Unwinding.{info_by, info_of_function, offset_of_function, record_offset_by}
 use Rattle.pe_unwind.specs.ExceptionTable.{ExceptionView, exception_at, exception_at_offset}
 use Rattle.pe_unwind.specs.declared.arm64.function.Arm64RuntimeFunction.{Arm64RuntimeFunction}
-use Rattle.pe_c.specs.Arm64.{arm64_record_in, arm64_record_of, arm64_record_offset, info_in, record_rva}
-use Rattle.pe_c.specs.Arm64Frames.{arm64_info_by, if_present}
+use Rattle.pe_c.specs.Arm64.{arm64_record_in, arm64_record_of, info_in}
 use Rattle.pe_c.specs.Images.{exception_directory, map_of_image}
 use Rattle.pe_c.specs.Modes.{options_of}
 use Rattle.pe_c.specs.declared.arm64.records.Arm64Record.{Arm64Record}
@@ -24,15 +22,15 @@ by_tests true false v f g same = refl
 by_tests false inside v f g same = refl
 
 by_offset : (b : List ℕ) (image : Image) (s : List SectionTable) (f : Arm64RuntimeFunction) (size : ℕ) (o : Option ℕ) →
-    (exception_at_offset b size image.file_alignment o >>= λ v. info_in b (arm64_record_offset (map_of_image image s) f))
+    (exception_at_offset b size image.file_alignment o >>= λ v. info_in b (record_offset_by (map_of_image image s) f))
     ≡ (exception_at_offset b size image.file_alignment o >>= λ v. info_in b (offset_of_function v s (options_of image.mode) f))
 by_offset b image s f size None = refl
 by_offset b image s f size (Some p) =
     by_tests (p % 4 == 0) (holds b p size) (record { content = b; start = p; size = size; alignment = image.file_alignment })
-    (λ v. info_in b (arm64_record_offset (map_of_image image s) f)) (λ v. info_in b (offset_of_function v s (options_of image.mode) f)) refl
+    (λ v. info_in b (record_offset_by (map_of_image image s) f)) (λ v. info_in b (offset_of_function v s (options_of image.mode) f)) refl
 
 by_size : (whole : Bool) (b : List ℕ) (image : Image) (s : List SectionTable) (f : Arm64RuntimeFunction) (size : ℕ) (o : Option ℕ) →
-    ((if whole then exception_at_offset b size image.file_alignment o else Err ExceptionSize) >>= λ v. info_in b (arm64_record_offset (map_of_image image s) f))
+    ((if whole then exception_at_offset b size image.file_alignment o else Err ExceptionSize) >>= λ v. info_in b (record_offset_by (map_of_image image s) f))
     ≡ ((if whole then exception_at_offset b size image.file_alignment o else Err ExceptionSize) >>= λ v. info_in b (offset_of_function v s (options_of image.mode) f))
 by_size true b image s f size o = by_offset b image s f size o
 by_size false b image s f size o = refl
@@ -44,6 +42,5 @@ records_of_sections b image s f =
     by_size ((exception_directory image).size % 8 == 0) b image s f (exception_directory image).size (map_of_image image s (exception_directory image).virtual_address)
 
 pub infos_of_sections : (v : ExceptionView) (image : Image) (s : List SectionTable) (f : Arm64RuntimeFunction) → v.alignment ≡ image.file_alignment →
-    arm64_info_by (map_of_image image s) v.content f ≡ if_present (info_of_function v s (options_of image.mode) f)
-infos_of_sections v image s f same =
-    ap (λ (n : ℕ). if_present (if is_packed f then None else Some (info_at_offset v.content (section_map (options_of image.mode) s n (record_rva f))))) (sym same)
+    info_by (map_of_image image s) v.content f ≡ info_of_function v s (options_of image.mode) f
+infos_of_sections v image s f same = ap (λ (n : ℕ). info_by (section_map (options_of image.mode) s n) v.content f) (sym same)

@@ -2,16 +2,15 @@
 use Rattle.std.specs.Prelude.{◌≡◌, ℕ, ◌+◌, ◌*◌, ◌%◌, ◌<◌, ◌==◌, nat_le, List, [], ◌∷◌, length, Option, Some, None, Result, Ok, Err, if◌then◌else◌}
 use Rattle.pe_core.specs.Bytes.{le}
 use Rattle.pe_core.specs.Refusals.{Refusal, Arm64Stream, Arm64Cut, ExceptionSize, kind_of, outcome, ◌>>=◌}
-use Rattle.pe_core.specs.SectionMap.{mapped}
 use Rattle.pe_core.specs.declared.error.Error.{Error}
 use Rattle.pe_core.specs.declared.section_table.SectionTable.{SectionTable}
 use Rattle.pe_unwind.specs.Arm64Encoding.{bit, encoding, StartsWithArm64Code, StartsWithNoArm64Code}
 use Rattle.pe_unwind.specs.Arm64Functions.{is_packed, arm64_function_of, arm64_functions}
-use Rattle.pe_unwind.specs.Arm64Lookup.{FindsArm64, length_in_record}
+use Rattle.pe_unwind.specs.Arm64Lookup.{FindsArm64, length_by}
 use Rattle.pe_unwind.specs.Arm64Record.{Arm64HandlerView, Arm64InfoView, info_at, scopes_offset}
 use Rattle.pe_unwind.specs.Arm64Tiling.{stream_at}
 use Rattle.pe_unwind.specs.Arm64Words.{bits, has_epilog}
-use Rattle.pe_unwind.specs.Arm64Unwinding.{offset_of_function}
+use Rattle.pe_unwind.specs.Arm64Unwinding.{offset_of_function, record_offset_by}
 use Rattle.pe_unwind.specs.ExceptionTable.{ExceptionView, exception_at, exception_at_offset}
 use Rattle.pe_unwind.specs.declared.arm64.codes.Arm64CustomStackCase.{Arm64CustomStackCase}
 use Rattle.pe_unwind.specs.declared.arm64.codes.Arm64CustomStackCase.TheVariants.{TrapFrame, MachineFrame, Context, EcContext, ClearUnwoundToCall}
@@ -37,15 +36,6 @@ use Rattle.pe_c.specs.declared.ranges.Range.{Range}
 abbrev pub arm64_function_in : List ℕ → Range → ℕ → Result Arm64RuntimeFunction Refusal
 arm64_function_in b table index = bytes_at b table >>= λ entries. arm64_function_of entries index
 
--- the RVA of a function's record, where its unwind data is not packed: a multiple of 4
-abbrev pub record_rva : Arm64RuntimeFunction → ℕ
-record_rva f = 4 * bits f.unwind_data 2 30
-
--- the length of an entry's function: packed into the entry, or in its unwind record, which a map of RVAs finds
-unfoldable pub arm64_length_by : (ℕ → Option ℕ) → List ℕ → Arm64RuntimeFunction → Result ℕ Refusal
-arm64_length_by offset b f =
-    if is_packed f then Ok (4 * bits f.unwind_data 2 11) else (mapped (offset (record_rva f)) >>= length_in_record b)
-
 -- the result of a lookup of an RVA in these entries, or what refuses the table
 abbrev pub LocatesArm64In : (Arm64RuntimeFunction → Result ℕ Refusal) → Result (List ℕ) Refusal → ℕ → Result (Option Arm64RuntimeFunction) Refusal → Type 0
 LocatesArm64In length_of (Err refusal) a answer = answer ≡ Err refusal
@@ -54,7 +44,7 @@ LocatesArm64In length_of (Ok entries) a answer = FindsArm64 length_of (arm64_fun
 -- what a call for a lookup returns
 abbrev pub HandsOutArm64Found : (ℕ → Option ℕ) → List ℕ → Range → ℕ → ℕ → Arm64RuntimeFunction → Arm64RuntimeFunction → Type 0
 HandsOutArm64Found offset b table a number old new =
-    (answer : Result (Option Arm64RuntimeFunction) Refusal) × LocatesArm64In (arm64_length_by offset b) (bytes_at b table) a answer × HandsOutIf number old new answer
+    (answer : Result (Option Arm64RuntimeFunction) Refusal) × LocatesArm64In (length_by offset b) (bytes_at b table) a answer × HandsOutIf number old new answer
 
 -- the fields of an entry's unwind data, read as packed
 abbrev pub packed_fields : Arm64RuntimeFunction → Arm64Packed
@@ -120,13 +110,9 @@ arm64_exceptions offset b image =
     let d = exception_directory image in
     if d.size % 8 == 0 then exception_at_offset b d.size image.file_alignment (offset d.virtual_address) else Err ExceptionSize
 
--- the file offset of a function's record; none where its unwind data is packed
-abbrev pub arm64_record_offset : (ℕ → Option ℕ) → Arm64RuntimeFunction → Option (Result ℕ Refusal)
-arm64_record_offset offset f = if is_packed f then None else Some (mapped (offset (record_rva f)))
-
 -- the record of a function, or none where its unwind data is packed
 abbrev pub arm64_record_of : (ℕ → Option ℕ) → List ℕ → Image → Arm64RuntimeFunction → Result (Option Arm64Record) Refusal
-arm64_record_of offset b image f = arm64_exceptions offset b image >>= λ v. info_in b (arm64_record_offset offset f)
+arm64_record_of offset b image f = arm64_exceptions offset b image >>= λ v. info_in b (record_offset_by offset f)
 
 -- the same as pe_unwind finds it, by an image's sections. The law `arm64_records_are_those_of_the_image` cites it
 abbrev pub arm64_record_in : List ℕ → Image → List SectionTable → Arm64RuntimeFunction → Result (Option Arm64Record) Refusal

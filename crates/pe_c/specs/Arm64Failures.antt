@@ -5,7 +5,7 @@ use Rattle.pe_core.specs.Refusals.{Refusal, Arm64Cut, Arm64Stream, Arm64Version,
 use Rattle.pe_unwind.specs.Arm64Record.{code_words, extension_at, extension_size, handler_size, scope_count, scopes_offset}
 use Rattle.pe_unwind.specs.Arm64Words.{bits}
 use Rattle.pe_unwind.specs.declared.arm64.function.Arm64RuntimeFunction.{Arm64RuntimeFunction}
-use Rattle.pe_c.specs.Arm64.{StepsArm64Codes, record_rva}
+use Rattle.pe_c.specs.Arm64.{StepsArm64Codes}
 use Rattle.pe_c.specs.Exports.{or_zero}
 use Rattle.pe_c.specs.FailureNumbers.{failure_by, needed_at, no_numbers, number_there, numbers, refused, refused_value}
 use Rattle.pe_c.specs.HandsOut.{HandsOutIf, result_number}
@@ -49,6 +49,10 @@ arm64_parts b p =
     let codes = 4 * code_words header extension in
     let q = scopes_offset p header in
     (p, 4) ∷ (p + 4, extension_size header) ∷ (q, scopes) ∷ (q + scopes, codes) ∷ (q + scopes + codes, handler_size header) ∷ []
+
+-- the RVA of a function's record, where its unwind data is not packed: a multiple of 4
+abbrev pub record_rva : Arm64RuntimeFunction → ℕ
+record_rva f = 4 * bits f.unwind_data 2 30
 
 -- the RVA that is unmapped: that of the exception directory or, where it is mapped, that of the record
 abbrev pub unmapped_rva : (ℕ → Option ℕ) → Image → Arm64RuntimeFunction → ℕ

@@ -2,8 +2,7 @@
 use Rattle.std.specs.Prelude.{◌≡◌, ℕ, zero, suc, ◌-◌, ◌/◌, Bool, if◌then◌else◌, List, Option, Some, None, Result, Ok, Err}
 use Rattle.pe_core.specs.Refusals.{Refusal, ◌>>=◌}
 use Rattle.pe_unwind.specs.Arm64Record.{Arm64InfoView}
-use Rattle.pe_unwind.specs.Arm64Functions.{is_packed}
-use Rattle.pe_unwind.specs.Arm64Unwinding.{info_at_offset}
+use Rattle.pe_unwind.specs.Arm64Unwinding.{info_by}
 use Rattle.pe_unwind.specs.declared.arm64.function.Arm64RuntimeFunction.{Arm64RuntimeFunction}
 use Rattle.pe_frame.specs.Arm64Steps.{StepsOutArm64}
 use Rattle.pe_frame.specs.Arm64Undoing.{put_pc, link_register}
@@ -12,7 +11,6 @@ use Rattle.pe_frame.specs.MemoryLists.{memory_of}
 use Rattle.pe_frame.specs.declared.arm64.registers.Arm64Registers.{Arm64Registers}
 use Rattle.pe_frame.specs.declared.error.FrameError.{FrameError}
 use Rattle.pe_frame.specs.declared.memory_list.MemoryPiece.{MemoryPiece}
-use Rattle.pe_c.specs.Arm64.{record_rva}
 use Rattle.pe_c.specs.HandsOut.{result_number}
 use Rattle.pe_c.specs.StackFrames.{OverPieces, error_number, error_address}
 use Rattle.pe_c.specs.declared.arm64.frames.Arm64FrameRegisters.{Arm64FrameRegisters}
@@ -28,13 +26,9 @@ abbrev pub if_present : {X : Type 0} → Option (Result X Refusal) → Result (O
 if_present None = Ok None
 if_present (Some item) = item >>= λ x. Ok (Some x)
 
--- the unwind record of a function, which a map of RVAs finds; none where its unwind data are packed; or what refuses it
-abbrev pub arm64_info_by : (ℕ → Option ℕ) → List ℕ → Arm64RuntimeFunction → Result (Option Arm64InfoView) Refusal
-arm64_info_by offset b f = if_present (if is_packed f then None else Some (info_at_offset b (offset (record_rva f))))
-
--- the same of a function in an image
+-- the unwind record of a function in an image, none where its unwind data are packed; or what refuses it
 abbrev pub arm64_info_of : View → Arm64RuntimeFunction → Result (Option Arm64InfoView) Refusal
-arm64_info_of v f = arm64_info_by (map_of v) v.bytes.now f
+arm64_info_of v f = if_present (info_by (map_of v) v.bytes.now f)
 
 -- ---- registers
 

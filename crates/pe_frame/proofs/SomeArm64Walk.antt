@@ -123,7 +123,7 @@ some_found p m e s (Ok (Some f)) lack all = some_by_info p m f s (info_by (map_o
 some_by : (p : Process) (m : Module) (s : Arm64StackFrame) (o : Option ExceptionView) → HasBytes o → Caller (CallsBy p m s o)
 some_by p m s None all = (caller_of_leaf p.memory p.modules s, refl)
 some_by p m s (Some e) all =
-    let found = some_function (length_in m e) (arm64_functions (table_of e)) (lookup_address s - m.base) (λ f. length_lacks e.content _ f) in
+    let found = some_function (length_in m e) (arm64_functions (table_of e)) (lookup_address s - m.base) (λ f. length_lacks e.content (map_of_module m e) f) in
     let caller = some_found p m e s found.0 found.2 all in
     (caller.0, (found.0, found.1, caller.1))
 

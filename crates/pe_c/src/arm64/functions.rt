@@ -3,10 +3,9 @@
 
 ghost use Rattle.std.specs.Prelude.{◌≡◌};
 ghost use Rattle.pe_core.specs.Refusals.{answer_of};
-ghost use Rattle.pe_unwind.specs.Arm64Functions.{arm64_functions};
-ghost use Rattle.pe_unwind.specs.Arm64Lookup.{FindsArm64};
+ghost use Rattle.pe_unwind.specs.Arm64Lookup.{length_by};
 ghost use Rattle.pe_c.specs.HandsOut.{HandsOut, HandsOutIf};
-ghost use Rattle.pe_c.specs.Arm64.{HandsOutArm64Found, LocatesArm64In, arm64_function_in, arm64_length_by, packed_fields};
+ghost use Rattle.pe_c.specs.Arm64.{HandsOutArm64Found, LocatesArm64In, arm64_function_in, packed_fields};
 ghost use Rattle.pe_c.specs.Ranges.{bytes_at};
 ghost use Rattle.pe_c.specs.Unwinding.{exception_table_at};
 ghost use Rattle.pe_c.specs.Views.{map_of};
@@ -14,9 +13,9 @@ ghost use Rattle.pe_c.specs.Views.{map_of};
 use crate::image::{EXCEPTION_TABLE, directory, is_absent};
 use crate::ranges::{Range, range_of, slice_of};
 use crate::results::{DONE, hand_out, hand_out_some, options};
-use crate::view::{View, sections_of};
-use pe_core::{COFF_MACHINE_ARM64, CountedTable, Result, SectionMap};
-use pe_unwind::{Arm64RuntimeFunction, ExceptionData, last_start_arm64};
+use crate::view::View;
+use pe_core::{COFF_MACHINE_ARM64, CountedTable, Result};
+use pe_unwind::{Arm64RuntimeFunction, ExceptionData, search_arm64};
 
 /// Packed unwind data, as `pe_c_arm64_packed_fields` reads it from an entry of the function table.
 #[repr(C)]
@@ -76,46 +75,15 @@ pub extern "C" fn pe_c_arm64_table(view: &View, out: &mut Range) -> u32
     hand_out_some(table_of(view), out)
 }
 
-/// The length of a function in bytes.
-#[tactic(auto, unfolding(crate::specs::Arm64::arm64_length_by))]
-fn length_of(view: &View, function: Arm64RuntimeFunction) -> Result<u32>
-    ensures { answer_of result
-        ≡ arm64_length_by (map_of view.now) view.now.bytes.now function }
-{
-    let image = view.image;
-    let sections = sections_of(view, function.unwind_data_rva());
-    let sections = SectionMap::new(sections, image.file_alignment, &options(image.mode));
-    function.length(view.bytes, &sections)
-}
-
-/// The function that covers an RVA, in the entries of a table.
-#[tactic(auto, using(pe_unwind::proofs::Arm64Searches::finds_no_entry, pe_unwind::proofs::Arm64Searches::finds_refused, pe_unwind::proofs::Arm64Searches::finds_long_enough, pe_unwind::proofs::Arm64Searches::finds_too_short))]
-fn find_in(view: &View, entries: &[u8], rva: u32) -> Result<Option<Arm64RuntimeFunction>>
-    ensures { FindsArm64 (arm64_length_by (map_of view.now) view.now.bytes.now)
-        (arm64_functions entries.now) rva (answer_of result) }
-{
-    let mut counted = CountedTable::new(entries);
-    let Some(function) = last_start_arm64(&mut counted, rva) else {
-        return Ok(None);
-    };
-    let length = length_of(view, function)?;
-    // The function starts at or before the RVA, so the difference is not negative.
-    if rva - function.begin_address < length {
-        Ok(Some(function))
-    } else {
-        Ok(None)
-    }
-}
-
 fn find(view: &View, table: &Range, rva: u32) -> Result<Option<Arm64RuntimeFunction>>
-    ensures { LocatesArm64In (arm64_length_by (map_of view.now) view.now.bytes.now)
+    ensures { LocatesArm64In (length_by (map_of view.now) view.now.bytes.now)
         (bytes_at view.now.bytes.now table.now) rva (answer_of result) }
 {
-    let entries = slice_of(view.bytes, table)?;
-    find_in(view, entries, rva)
+    let mut counted = CountedTable::new(slice_of(view.bytes, table)?);
+    search_arm64(&mut counted, rva, view.bytes, view)
 }
 
-/// Returns the function that covers an RVA, as one `search_arm64` of pe_unwind finds it in the function table at this range:
+/// Returns the function that covers an RVA, by one `search_arm64` of pe_unwind in the function table at this range:
 /// `NOTHING` where it finds none. Lookup goes by the starts alone, and then reads the length of one function, which is
 /// packed into its entry or stands in its unwind record. In a table sorted by start RVA it finds what a linear scan finds;
 /// in any other it finds some function that covers the RVA, or none.

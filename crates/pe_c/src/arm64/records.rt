@@ -18,7 +18,7 @@ use crate::walks::next_entry;
 use pe_core::{Result, TableEntry};
 use pe_unwind::{
     Arm64EpilogScope, Arm64RuntimeFunction, Arm64UnwindExtension, Arm64UnwindHeader,
-    Arm64UnwindInfo, ExceptionData, RvaMap,
+    Arm64UnwindInfo, ExceptionData,
 };
 
 /// The size of an epilog scope in bytes.
@@ -152,11 +152,10 @@ pub fn read_record(view: &View, function: Arm64RuntimeFunction) -> Result<Option
         ≡ arm64_record_of (map_of view.now) view.now.bytes.now view.now.image.now function }
 {
     let _exceptions = exceptions_of(view)?;
-    if function.is_packed() {
-        return Ok(None);
+    match function.record_offset(view) {
+        None => Ok(None),
+        Some(offset) => Ok(Some(info_at(view.bytes, offset?)?)),
     }
-    let offset = view.file_offset(function.unwind_data_rva())?;
-    Ok(Some(info_at(view.bytes, offset)?))
 }
 
 /// Reads the unwind record of a function: `NOTHING` where its unwind data is packed.
