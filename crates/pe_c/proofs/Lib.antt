@@ -40,6 +40,7 @@ pub mod CallWalks
 pub mod RunWalks
 pub mod Runs
 pub mod Steps
+pub mod StepMaps
 pub mod TableLinks
 pub mod TableLookups
 pub mod VersionsReported

@@ -5,7 +5,6 @@ use Rattle.pe_frame.specs.FunctionSteps.{StepsInFunction}
 use Rattle.pe_frame.specs.InPlace.{changed_with}
 use Rattle.pe_frame.specs.Modules.{map_of_module}
 use Rattle.pe_frame.specs.declared.error.FrameError.{FrameError}
-use Rattle.pe_frame.specs.declared.registers.Registers.{Registers}
 use Rattle.pe_frame.proofs.walk.caller_by_records.Goals as goal
 
 pub returns-in-Ok-None : goal.returns-in-Ok-None

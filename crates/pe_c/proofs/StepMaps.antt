@@ -1,0 +1,21 @@
+-- The sections of an image map RVAs as the section map of its exception data does.
+use Rattle.std.proofs.Common.{◌≡◌, Bool, true, false, [], ◌∷◌, Ok, ap}
+use Rattle.pe_core.specs.Bytes.{holds}
+use Rattle.pe_core.specs.Refusals.{Short, outcome}
+use Rattle.pe_core.specs.SectionMap.{map_view, offset_in}
+use Rattle.pe_unwind.specs.ExceptionTable.{ExceptionView}
+use Rattle.pe_c.specs.Images.{map_of_image}
+use Rattle.pe_c.specs.Modes.{options_of}
+use Rattle.pe_c.specs.StackFrames.{exceptions_by}
+use Rattle.pe_c.specs.declared.ranges.Range.{Range}
+use Rattle.pe_c.specs.declared.view.View.{View}
+
+of_test : (inside : Bool) (x e : ExceptionView) → outcome ((inside, Short) ∷ []) x ≡ Ok e → x ≡ e
+of_test true x e h = let same : x ≡ e = cc in same
+of_test false x e h = absurd cc
+
+pub maps_of_steps : (v : View) (table : Range) (e : ExceptionView) → exceptions_by v table ≡ Ok e →
+    map_of_image v.image.now v.sections.now ≡ offset_in (map_view (options_of (v.image.now).mode) v.sections.now e.alignment)
+maps_of_steps v table e h =
+    let read : ExceptionView = record { content = v.bytes.now; start = table.offset; size = table.length; alignment = (v.image.now).file_alignment } in
+    ap (λ (x : ExceptionView). offset_in (map_view (options_of (v.image.now).mode) v.sections.now x.alignment)) (of_test (holds v.bytes.now table.offset table.length) read e h)
