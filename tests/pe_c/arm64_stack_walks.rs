@@ -2,7 +2,8 @@
 //! entered with.
 
 use super::made::{
-    ARM64, ARM64_VERSION, SHORT, bytes_of_words, image, lies, piece, range, sections, view,
+    ARM64, ARM64_VERSION, SHORT, UNMAPPED, bytes_of_words, image, lies, piece, range, sections,
+    view,
 };
 use crate::arm64::frames::Arm64FrameRegisters;
 use crate::arm64::stack_walk::{Arm64StackWalk, pe_c_next_arm64_frame, pe_c_next_arm64_frames};
@@ -11,7 +12,7 @@ use crate::ranges::Range;
 use crate::results::{DONE, MISSING, NOTHING};
 use crate::stack_walk::ModuleView;
 use pe_core::SectionTable;
-use pe_frame::MemoryPiece;
+use pe_frame::{IndexEntry, MemoryPiece};
 use pe_images::image as bytes_of;
 use std::alloc::{AllocError, Global};
 use std::test::Fail;
@@ -196,6 +197,29 @@ fn end_after(
         return Err("an end".into());
     }
     Ok(end_of(walk))
+}
+
+/// By an index that leads to the section a walk is as by the section; by one that leads to none no record is found.
+#[test]
+fn walks_by_an_index(rt: HostRuntime) -> Result<(), Fail> {
+    let (bytes, headers, sections) = (program(rt.alloc())?, image(ARM64), sections());
+    let (inner, outer) = (STACK + 32, STACK + 64);
+    let words = [
+        7, 7, inner, INSIDE, outer, AFTER_CALL, 7, 7, 0x1111, 0, 7, 7,
+    ];
+    let stack = bytes_of_words(rt.alloc(), &words)?;
+    for (section, frames, end) in [
+        (1, 3, [BOTTOM, 0]),
+        (0, 1, [OF_RECORDS, UNMAPPED]),
+        (2, 1, [OF_RECORDS, UNMAPPED]),
+    ] {
+        let index = [IndexEntry { start: 0, section }];
+        let mut module = module(&bytes, &headers, &sections);
+        module.image.index = &index;
+        let mut walk = walk_from(DISPATCHER, STACK, inner, 5, 9);
+        assert_eq!(rt; end_after(&[module], &stack, frames, &mut walk)?, ([0, 0], end));
+    }
+    Ok(())
 }
 
 /// At most as many frames as are wanted; and a walk that is lost says why.

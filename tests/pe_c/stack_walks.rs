@@ -1,14 +1,16 @@
 //! Walks of a stack, a frame a call. The image and the stacks are by hand: what is expected is what each function was entered
 //! with.
 
-use super::made::{SHORT, X64, bytes_of_words, image, lies, piece, range, sections, view};
+use super::made::{
+    SHORT, UNMAPPED, X64, bytes_of_words, image, lies, piece, range, sections, view,
+};
 use crate::image::Image;
 use crate::ranges::Range;
 use crate::results::{DONE, MISSING, NOTHING};
 use crate::stack_frames::FrameRegisters;
 use crate::stack_walk::{ModuleView, StackWalk, pe_c_next_frame, pe_c_next_frames};
 use pe_core::SectionTable;
-use pe_frame::MemoryPiece;
+use pe_frame::{IndexEntry, MemoryPiece};
 use pe_images::image as bytes_of;
 use std::alloc::{AllocError, Global};
 use std::test::Fail;
@@ -45,6 +47,8 @@ const BOUND: u32 = 0;
 const BOTTOM: u32 = 1;
 
 const NO_MODULE: u32 = 2;
+
+const OF_RECORDS: u32 = 4;
 
 const STEP: u32 = 6;
 
@@ -150,6 +154,32 @@ fn a_walk_returns_the_frames(rt: HostRuntime) -> Result<(), Fail> {
         assert_eq!(rt; answer, NOTHING);
         assert_eq!(rt; end_of(&walk), ([0, 0], [BOTTOM, 0]));
         assert_eq!(rt; walk.registers.rip, AFTER_CALL);
+    }
+    Ok(())
+}
+
+/// By an index that leads to the section a walk is as by the section; by one that leads to none no record is found.
+#[test]
+fn walks_by_an_index(rt: HostRuntime) -> Result<(), Fail> {
+    let (bytes, headers, sections) = (program(rt.alloc())?, image(X64), code());
+    let words = [1, 2, 3, 4, 0xB1, AFTER_CALL, 5, 6, 7, 8, 0xB2, 0];
+    let stack = bytes_of_words(rt.alloc(), &words)?;
+    let pieces = piece(STACK, &stack);
+    for (section, frames, end) in [
+        (1, 2, [BOTTOM, 0]),
+        (0, 1, [OF_RECORDS, UNMAPPED]),
+        (2, 1, [OF_RECORDS, UNMAPPED]),
+    ] {
+        let index = [IndexEntry { start: 0, section }];
+        let mut module = module(&bytes, &headers, &sections);
+        module.image.index = &index;
+        let modules = [module];
+        let mut walk = walk_from(JUMPING, STACK, 9);
+        for _ in 0..frames {
+            assert_eq!(rt; pe_c_next_frame(&modules, &stack, &pieces, &mut walk), DONE);
+        }
+        assert_eq!(rt; pe_c_next_frame(&modules, &stack, &pieces, &mut walk), NOTHING);
+        assert_eq!(rt; end_of(&walk), ([0, 0], end));
     }
     Ok(())
 }

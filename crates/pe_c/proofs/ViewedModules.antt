@@ -5,7 +5,7 @@ use Rattle.std.specs.Option.{option_map}
 use Rattle.std.specs.Borrow.{Bor}
 use Rattle.pe_core.specs.Refusals.{Refusal}
 use Rattle.pe_unwind.specs.Arm64Record.{Arm64InfoView}
-use Rattle.pe_unwind.specs.Arm64Unwinding.{info_of_function}
+use Rattle.pe_unwind.specs.Arm64Unwinding.{info_by}
 use Rattle.pe_unwind.specs.ExceptionTable.{ExceptionView}
 use Rattle.pe_unwind.specs.UnwindRecord.{UnwindInfoView}
 use Rattle.pe_unwind.specs.declared.arm64.function.Arm64RuntimeFunction.{Arm64RuntimeFunction}
@@ -13,7 +13,7 @@ use Rattle.pe_unwind.specs.declared.function_table.RuntimeFunction.{RuntimeFunct
 use Rattle.pe_frame.specs.AddressRanges.{has_address}
 use Rattle.pe_frame.specs.Arm64Walks as arm64
 use Rattle.pe_frame.specs.FrameWalks.{Process}
-use Rattle.pe_frame.specs.Modules.{module_at, module_base, module_size}
+use Rattle.pe_frame.specs.Modules.{map_of_module, module_at, module_base, module_size}
 use Rattle.pe_frame.specs.Walks.{CallsBy, CallsByPlan, CallsFound, CallsIn}
 use Rattle.pe_frame.specs.declared.arm64.walk.Arm64StackFrame.{Arm64StackFrame}
 use Rattle.pe_frame.specs.declared.modules.Module.{Module}
@@ -86,7 +86,7 @@ module _ (p : Process) (v : ModuleView) (s : Arm64StackFrame) where
   same_arm64_function : (x y : Option (Bor ExceptionView)) (e : ExceptionView) (found : Result (Option Arm64RuntimeFunction) Refusal) (answer : Result Arm64StackFrame WalkEnd) → arm64.CallsFound p (module_with v x) e s found answer → arm64.CallsFound p (module_with v y) e s found answer
   same_arm64_function x y e (Err r) answer h = h
   same_arm64_function x y e (Ok None) answer h = h
-  same_arm64_function x y e (Ok (Some f)) answer h = same_info x y f (info_of_function e (module_with v x).sections.now (module_with v x).opts f) answer h
+  same_arm64_function x y e (Ok (Some f)) answer h = same_info x y f (info_by (map_of_module (module_with v x) e) e.content f) answer h
 
   same_arm64_data : (x y : Option (Bor ExceptionView)) (seen : Option ExceptionView) (answer : Result Arm64StackFrame WalkEnd) → arm64.CallsBy p (module_with v x) s seen answer → arm64.CallsBy p (module_with v y) s seen answer
   same_arm64_data x y None answer h = h

@@ -1,11 +1,12 @@
 //! The laws of whole stack walks, a frame a call.
 
-ghost use Rattle.std.specs.Prelude.{◌≡◌, ◌↔◌, ℕ, List, Ok, true};
+ghost use Rattle.std.specs.Prelude.{◌≡◌, ◌↔◌, ℕ, List, Ok, Some, true};
 ghost use Rattle.std.specs.List.{list_all};
 ghost use Rattle.pe_core.specs.SectionMap.{map_view, offset_in};
 ghost use Rattle.pe_frame.specs.Arm64Walks as arm64;
 ghost use Rattle.pe_frame.specs.FrameWalks.{IsWalk, Process};
 ghost use Rattle.pe_frame.specs.MemoryLists.{are_inside, ascend, listed_word};
+ghost use Rattle.pe_frame.specs.Modules.{map_of_module};
 ghost use Rattle.pe_frame.specs.Walks.{Calls};
 ghost use Rattle.pe_frame.specs.declared.arm64.walk.Arm64StackFrame.{Arm64StackFrame};
 ghost use Rattle.pe_frame.specs.declared.memory_list.MemoryPiece.{MemoryPiece};
@@ -19,20 +20,24 @@ ghost use Rattle.pe_c.specs.Images.{map_of_image};
 ghost use Rattle.pe_c.specs.Modes.{options_of};
 ghost use Rattle.pe_c.specs.StackFrames.{exceptions_by};
 ghost use Rattle.pe_c.specs.StackWalks.{marked, stack_walks};
-ghost use Rattle.pe_c.specs.WalkModules.{has_table, modules_of};
+ghost use Rattle.pe_c.specs.Views.{map_of};
+ghost use Rattle.pe_c.specs.WalkModules.{exceptions_of, has_table, module_of, modules_of};
 ghost use Rattle.pe_c.specs.declared.arm64.stack_walk.Arm64StackWalk.{Arm64StackWalk};
 ghost use Rattle.pe_c.specs.declared.ranges.Range.{Range};
 ghost use Rattle.pe_c.specs.declared.stack_walk.ModuleView.{ModuleView};
 ghost use Rattle.pe_c.specs.declared.stack_walk.StackWalk.{StackWalk};
 ghost use Rattle.pe_c.specs.declared.view.View.{View};
 
-/// The sections of a view map RVAs as the section map of its exception data does, by which the walks of pe_frame step. So by a view
-/// without an index, or with one that `pe_c_index` made (`laws::indexes`), `pe_c_step` reads the records that those walks read.
-#[tactic(auto, using(crate::proofs::StepMaps::maps_of_steps))]
+/// The sections of a view map RVAs as the section map of its exception data does (`steps`), and a walk maps those of a module as its
+/// view does (`walks`). So by a view without an index, or with one that `pe_c_index` made (`laws::indexes`), steps and walks read
+/// the records that pe_unwind reads.
+#[tactic(auto, using(crate::proofs::StepMaps::maps_of_steps, crate::proofs::StepMaps::maps_of_walks))]
 pub fn steps_map_as_walks()
-    ensures { (v : View) (table : Range) (e : ExceptionView) → exceptions_by v table ≡ Ok e →
+    ensures steps { (v : View) (table : Range) (e : ExceptionView) → exceptions_by v table ≡ Ok e →
         map_of_image v.image.now v.sections.now
         ≡ offset_in (map_view (options_of v.image.now.mode) v.sections.now e.alignment) }
+    ensures walks { (v : ModuleView) (e : ExceptionView) → exceptions_of v ≡ Some e →
+        map_of_module (module_of v) e ≡ map_of v.image }
 {}
 
 /// Calls of `pe_c_next_frame` return, in turn, exactly the frames of a walk as pe_frame defines it, over the memory and the
