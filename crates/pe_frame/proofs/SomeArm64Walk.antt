@@ -6,7 +6,7 @@ use Rattle.std.specs.Option.{option_map}
 use Rattle.std.specs.Prelude.{nat_lt, if◌then◌else◌}
 use Rattle.pe_core.proofs.NoMemory.{Lacks, if_lacks, is_memory, one_test_lacks, outcome_lacks, then_lacks}
 use Rattle.pe_core.specs.Bytes.{holds, le}
-use Rattle.pe_core.specs.Refusals.{Refusal, Memory, Short, outcome}
+use Rattle.pe_core.specs.Refusals.{Refusal, Short, outcome}
 use Rattle.pe_core.specs.SectionMap.{mapped}
 use Rattle.pe_unwind.specs.Arm64Functions.{arm64_functions, is_packed}
 use Rattle.pe_unwind.specs.Arm64Lookup.{FindsArm64, if_long_enough, length_by, length_in_record}

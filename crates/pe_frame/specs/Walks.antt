@@ -1,7 +1,7 @@
 -- Walks of a stack on x64: from the frame of a function to that of its caller, through the modules of a process.
-use Rattle.std.specs.Prelude.{◌≡◌, ℕ, zero, suc, ◌+◌, ◌-◌, ◌*◌, ◌<◌, ◌^◌, ◌==◌, ◌&&◌, nat_lt, Bool, true, false, if◌then◌else◌, List, [], ◌∷◌, Option, Some, None, Result, Ok, Err}
+use Rattle.std.specs.Prelude.{◌≡◌, ℕ, ◌+◌, ◌-◌, ◌==◌, ◌&&◌, Bool, true, false, if◌then◌else◌, List, [], Option, Some, None, Result, Ok, Err}
 use Rattle.std.specs.List.{AllByRecursion}
-use Rattle.std.specs.Option.{is_none, option_and_then, option_map, option_map_or, option_or}
+use Rattle.std.specs.Option.{is_none, option_map, option_map_or, option_or}
 use Rattle.pe_core.specs.Refusals.{Refusal, kind_of}
 use Rattle.pe_core.specs.SectionMap.{rounded_up}
 use Rattle.pe_unwind.specs.ExceptionTable.{ExceptionView, table_of}

@@ -1,4 +1,4 @@
-use Rattle.std.proofs.Common.{map, Option, Some, Result, Ok, subst}
+use Rattle.std.proofs.Common.{map, Option, Ok, subst}
 use Rattle.std.specs.Option.{option_map}
 use Rattle.pe_unwind.specs.Links.{links_with}
 use Rattle.pe_unwind.specs.UnwindRecord.{unwind_view}
