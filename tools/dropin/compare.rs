@@ -270,9 +270,9 @@ fn as_mapped<'a>(bytes: &'a [u8], mut pe: old::pe::PE<'a>) -> old::pe::PE<'a> {
 }
 
 /// Whether both section maps have the same offset of each RVA that the imports stand at: that of the directory, and of each library
-/// those of its name, its two tables, and its hints. They have not where a section begins before the page ends in which the raw data of
-/// another one do: 0.2.1, whose sections reach up to the next page, finds RVAs of the one after the raw data of the other, and reads
-/// other bytes there.
+/// those of its name, its two tables, and its hints. 0.2.1 does not subtract the raw pointer from what a section has in the file: a
+/// section reaches past its raw data, up to the whole pages that these take. An RVA of another section that starts inside of these
+/// pages is found after the raw data of the first, where other bytes are.
 #[cfg(feature = "old")]
 fn has_imports_alike(bytes: &[u8]) -> bool {
     use dropin::pe::import::SyntheticImportLookupTableEntry::HintNameTableRVA;

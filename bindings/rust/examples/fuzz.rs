@@ -181,7 +181,8 @@ fn memory_of_lies(bytes: &[u8], random: &mut Random, number: u64) {
     }
 }
 
-/// Writes the text of a result, whatever its number is, into less room than it takes or more: as much of it as has room, and a zero.
+/// Writes the text of a result, whatever its number is, into less room than it takes or more: as much of it as has room, and
+/// a zero.
 fn show(number: u32, room: usize) {
     let mut text = [0xFF; 160];
     let room = room % text.len();
