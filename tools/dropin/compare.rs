@@ -196,7 +196,7 @@ macro_rules! old_reader {
             use super::*;
 
             pub fn facts(bytes: &[u8]) -> Result<Facts, String> {
-                let pe = $prepare($goblin::pe::PE::parse(bytes).map_err(shown)?);
+                let pe = $prepare(bytes, $goblin::pe::PE::parse(bytes).map_err(shown)?);
                 let mut facts = Facts::new();
                 let dos = pe.header.dos_header;
                 facts.push(("dos header", shown((dos.signature, dos.pe_pointer))));
@@ -234,14 +234,14 @@ macro_rules! old_reader {
 }
 
 #[cfg(feature = "old")]
-old_reader!(ours_old, dropin, |pe| pe, |it: Option<usize>| it, |it| it.map(|it| it.1));
+old_reader!(ours_old, dropin, |_, pe| pe, |it: Option<usize>| it, |it| it.map(|it| it.1));
 #[cfg(feature = "old")]
 old_reader!(theirs_old, old, as_mapped, |it: usize| Some(it), |it| it);
 
 /// An image without the exports, and without the name, whose RVAs the section map of 0.10.7 does not have, which is the crate's: 0.2.1
-/// also maps what follows the raw data of a section, up to the next page.
+/// also maps what follows the raw data of a section, up to the next page. Of an export that is its RVA, and that of its name.
 #[cfg(feature = "old")]
-fn as_mapped(mut pe: old::pe::PE<'_>) -> old::pe::PE<'_> {
+fn as_mapped<'a>(bytes: &'a [u8], mut pe: old::pe::PE<'a>) -> old::pe::PE<'a> {
     let sections = pe.sections.iter().map(|it| dropin::pe::section_table::SectionTable {
         virtual_size: it.virtual_size,
         virtual_address: it.virtual_address,
@@ -253,13 +253,46 @@ fn as_mapped(mut pe: old::pe::PE<'_>) -> old::pe::PE<'_> {
     let alignment = pe.header.optional_header.map_or(0, |it| it.windows_fields.file_alignment);
     let opts = dropin::pe::options::ParseOptions::default();
     let is_mapped = |rva| dropin::pe::utils::find_offset(rva, &sections, alignment, &opts).is_some();
-    pe.exports.retain(|it| is_mapped(it.rva));
     if let Some(data) = &mut pe.export_data {
+        // An export of 0.2.1 does not keep the RVA of its name: they are read again, of those names alone.
+        let (names, ordinals) = (data.export_name_pointer_table.clone(), data.export_ordinal_table.clone());
+        let pairs = names.iter().zip(&ordinals).map(|(name, ordinal)| (*name, *ordinal));
+        let mapped = pairs.filter(|it| is_mapped(it.0 as usize)).unzip();
+        (data.export_name_pointer_table, data.export_ordinal_table) = mapped;
+        pe.exports = old::pe::export::Export::parse(bytes, data, &pe.sections, alignment).unwrap_or_default();
+        (data.export_name_pointer_table, data.export_ordinal_table) = (names, ordinals);
         if !is_mapped(data.export_directory_table.name_rva as usize) {
             (data.name, pe.name) = (None, None);
         }
     }
+    pe.exports.retain(|it| is_mapped(it.rva));
     pe
+}
+
+/// Whether both section maps have the same offset of each RVA that the imports stand at: that of the directory, and of each library
+/// those of its name, its two tables, and its hints. 0.2.1 does not subtract the raw pointer from what a section has in the file: a
+/// section reaches past its raw data, up to the whole pages that these take. An RVA of another section that starts inside of these
+/// pages is found after the raw data of the first, where other bytes are.
+#[cfg(feature = "old")]
+fn has_imports_alike(bytes: &[u8]) -> bool {
+    use dropin::pe::import::SyntheticImportLookupTableEntry::HintNameTableRVA;
+    let (Ok(pe), Ok(theirs)) = (dropin::pe::PE::parse(bytes), old::pe::PE::parse(bytes)) else { return true };
+    let Some(header) = &pe.header.optional_header else { return true };
+    let opts = dropin::pe::options::ParseOptions::default();
+    let alignment = header.windows_fields.file_alignment;
+    let is_alike = |rva: u32| {
+        let offset = dropin::pe::utils::find_offset(rva as usize, &pe.sections, alignment, &opts);
+        offset == old::pe::utils::find_offset(rva as usize, &theirs.sections, alignment)
+    };
+    let directory = header.data_directories.get_import_table().map_or(true, |it| is_alike(it.virtual_address));
+    let libraries = pe.import_data.iter().flat_map(|it| &it.import_data);
+    directory
+        && libraries.into_iter().all(|it| {
+            let entry = &it.import_directory_entry;
+            let hints = it.import_lookup_table.iter().flatten();
+            [entry.name_rva, entry.import_lookup_table_rva, entry.import_address_table_rva].into_iter().all(is_alike)
+                && hints.into_iter().all(|it| !matches!(it, HintNameTableRVA((rva, _)) if !is_alike(*rva)))
+        })
 }
 
 #[cfg(feature = "old")]
@@ -328,7 +361,13 @@ fn try_new(bytes: &[u8], is_permissive: bool) {
 
 #[cfg(feature = "old")]
 fn try_old(bytes: &[u8]) {
-    compare_all(ours_old::facts(bytes), guarded(|| theirs_old::facts(bytes)), "old");
+    let (mut ours, mut theirs) = (ours_old::facts(bytes), guarded(|| theirs_old::facts(bytes)));
+    if let (Ok(ours), Ok(theirs)) = (&mut ours, &mut theirs) {
+        if !has_imports_alike(bytes) {
+            [ours, theirs].into_iter().for_each(|it| it.retain(|fact| !["imports", "old libraries"].contains(&fact.0)));
+        }
+    }
+    compare_all(ours, theirs, "old");
 }
 
 #[cfg(feature = "old")]

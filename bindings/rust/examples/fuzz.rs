@@ -181,12 +181,25 @@ fn memory_of_lies(bytes: &[u8], random: &mut Random, number: u64) {
     }
 }
 
+/// Writes the text of a result, whatever its number is, into less room than it takes or more: as much of it as has room, and
+/// a zero.
+fn show(number: u32, room: usize) {
+    let mut text = [0xFF; 160];
+    let room = room % text.len();
+    // SAFETY: the array has as many bytes as are lent for the call.
+    let length = unsafe { sys::pe_c_text(number, text.as_mut_ptr(), room) };
+    let written = length.min(room.saturating_sub(1));
+    assert!((1..128).contains(&length) && text[..written].iter().all(|it| (1..0x80).contains(it)), "{number}");
+    assert!((room == 0 || text[written] == 0) && text[room..].iter().all(|it| *it == 0xFF), "{number}");
+}
+
 /// Makes calls with wrong records: none may touch anything but the bytes and its arguments.
 fn read_by_lies(bytes: &[u8], random: &mut Random, seen: &mut Seen) {
     let (start, length) = (bytes.as_ptr(), bytes.len());
     let number = length as u64;
     let range = sys::Range { offset: random.edge(number), length: random.edge(number) };
     let few = random.next() as u32;
+    show(random.edge(600) as u32, few as usize);
     let directory = sys::Directory { virtual_address: random.edge(number) as u32, size: random.edge(64) as u32 };
     let image = sys::ImageInfo {
         sections_offset: random.edge(number),
@@ -222,7 +235,10 @@ fn read_by_lies(bytes: &[u8], random: &mut Random, seen: &mut Seen) {
             let mut out = sys::$out::default();
             let answer = $call(&mut out);
             assert!(answer == 0 || out == sys::$out::default());
-            seen.refusals += u64::from(answer != 0);
+            if answer != 0 {
+                seen.refusals += 1;
+                show(answer, few as usize);
+            }
             out
         }};
     }
