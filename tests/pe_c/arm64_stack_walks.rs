@@ -217,7 +217,10 @@ fn walks_by_an_index(rt: HostRuntime) -> Result<(), Fail> {
         let mut module = module(&bytes, &headers, &sections);
         module.image.index = &index;
         let mut walk = walk_from(DISPATCHER, STACK, inner, 5, 9);
-        assert_eq!(rt; end_after(&[module], &stack, frames, &mut walk)?, ([0, 0], end));
+        assert_eq!(rt;
+            end_after(&[module], &stack, frames, &mut walk)?,
+            ([0, 0], end)
+        );
     }
     Ok(())
 }

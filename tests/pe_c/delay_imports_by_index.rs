@@ -17,11 +17,11 @@ use crate::lists::library_functions::pe_c_list_all_delayed_functions_together;
 use crate::ranges::Range;
 use crate::results::DONE;
 use crate::section_index::pe_c_index;
-use pe_frame::IndexEntry;
 use crate::text_runs::Run;
 use crate::view::View;
 use pe_core::SectionTable;
 use pe_directories::DelayImport;
+use pe_frame::IndexEntry;
 use pe_images::image as bytes_of;
 use std::test::Fail;
 

@@ -9,9 +9,9 @@ use crate::image::Image;
 use crate::loaded::{pe_c_map, pe_c_relocate};
 use crate::results::{DONE, NOTHING, ROOM};
 use crate::section_index::pe_c_index;
-use pe_frame::IndexEntry;
 use crate::view::View;
 use pe_core::SectionTable;
+use pe_frame::IndexEntry;
 use std::test::Fail;
 
 /// An image of 0x28 bytes with headers of 5, which is mapped byte by byte.

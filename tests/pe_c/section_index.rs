@@ -6,9 +6,9 @@ use crate::map_ranges::pe_c_range_at;
 use crate::maps::pe_c_section_at;
 use crate::results::{DONE, NOTHING, ROOM};
 use crate::section_index::pe_c_index;
-use pe_frame::IndexEntry;
 use crate::view::View;
 use pe_core::SectionTable;
+use pe_frame::IndexEntry;
 
 /// What is in the room before a call.
 const LEFT: IndexEntry = IndexEntry {

@@ -178,7 +178,10 @@ fn walks_by_an_index(rt: HostRuntime) -> Result<(), Fail> {
         for _ in 0..frames {
             assert_eq!(rt; pe_c_next_frame(&modules, &stack, &pieces, &mut walk), DONE);
         }
-        assert_eq!(rt; pe_c_next_frame(&modules, &stack, &pieces, &mut walk), NOTHING);
+        assert_eq!(rt;
+            pe_c_next_frame(&modules, &stack, &pieces, &mut walk),
+            NOTHING
+        );
         assert_eq!(rt; end_of(&walk), ([0, 0], end));
     }
     Ok(())

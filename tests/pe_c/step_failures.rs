@@ -25,7 +25,6 @@ use crate::imports::{Imports, Libraries};
 use crate::ranges::{NO_BYTES, Range};
 use crate::resource_leaves::pe_c_next_resource_leaf;
 use crate::results::{DONE, NOTHING};
-use pe_frame::IndexEntry;
 use crate::step_failures::arm64::{pe_c_arm64_code_failure, pe_c_arm64_record_failure};
 use crate::step_failures::bound_imports::pe_c_bound_import_failure;
 use crate::step_failures::delay_imports::{
@@ -40,6 +39,7 @@ use crate::step_failures::{
 };
 use crate::unwinding::{CodeWalk, pe_c_unwind_record};
 use crate::view::View;
+use pe_frame::IndexEntry;
 use pe_images::put;
 use pe_unwind::Arm64RuntimeFunction;
 use std::alloc::Global;
