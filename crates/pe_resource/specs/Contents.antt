@@ -56,7 +56,16 @@ file_bytes f size offset = file_range f size offset >>= λ r. Ok (bytes_in f r)
 unfoldable pub named_range : (ℕ → Option ℕ) → List ℕ → List ℕ → ℕ → Result ByteRange Refusal
 named_range map f b p = record_at b p 16 (data_entry_at b p) >>= λ d. file_range f d.size (map d.offset_to_data)
 
--- the same, if there is a data entry
+-- the data entry at an offset, if there is one; its 16 bytes have to be there
+abbrev pub data_entry_in : List ℕ → Option ℕ → Result (Option ResourceDataEntry) Refusal
+data_entry_in b None = Ok None
+data_entry_in b (Some p) = record_at b p 16 (Some (data_entry_at b p))
+
+-- this is the data entry that the first entry with an id leads to
+abbrev pub IsDataEntry : List ℕ → List ResourceEntry → ℕ → Result (Option ResourceDataEntry) Refusal → Type 0
+IsDataEntry b es id r = (leaf : Result (Option ℕ) Refusal) × IsLeaf b (with_id id es) leaf × (r ≡ (leaf >>= data_entry_in b))
+
+-- the same as a range, if there is a data entry
 abbrev pub range_in : (ℕ → Option ℕ) → List ℕ → List ℕ → Option ℕ → Result (Option ByteRange) Refusal
 range_in map f b None = Ok None
 range_in map f b (Some p) = named_range map f b p >>= λ r. Ok (Some r)

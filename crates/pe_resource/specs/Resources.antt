@@ -9,12 +9,13 @@ use Rattle.pe_core.specs.declared.data_directories.DataDirectory.{DataDirectory}
 use Rattle.pe_core.specs.declared.options.ParseMode.{ParseMode}
 use Rattle.pe_core.specs.declared.options.ParseOptions.{ParseOptions}
 use Rattle.pe_core.specs.declared.section_table.SectionTable.{SectionTable}
+use Rattle.pe_resource.specs.declared.content.ResourceDataEntry.{ResourceDataEntry}
 use Rattle.pe_resource.specs.declared.directory.ImageResourceDirectory.{ImageResourceDirectory}
 use Rattle.pe_resource.specs.declared.entry.ResourceEntry.{ResourceEntry}
 use Rattle.pe_resource.specs.declared.manifest.ManifestData.{ManifestData}
 use Rattle.pe_resource.specs.declared.resource.FirstDirectory.{FirstDirectory}
 use Rattle.pe_resource.specs.declared.resource.ResourceData.{ResourceData}
-use Rattle.pe_resource.specs.Contents.{map_of, IsThere, file_bytes, IsContentRange, IsContent, version_of_content, IsVersion}
+use Rattle.pe_resource.specs.Contents.{map_of, IsThere, file_bytes, IsContentRange, IsContent, IsDataEntry, version_of_content, IsVersion}
 use Rattle.pe_resource.specs.Directories.{directory_at, count}
 use Rattle.pe_resource.specs.ResourceEntries.{entries}
 use Rattle.pe_resource.specs.VersionFields.{VersionView, version_view}
@@ -102,6 +103,11 @@ IsResource o f data_directory sections alignment r =
 abbrev pub IsResourceRange : ParseOptions → List ℕ → DataDirectory → ℕ → List SectionTable → ℕ → Result (Option ByteRange) Refusal → Type 0
 IsResourceRange o f data_directory id sections alignment r =
     IsOfFirst None (λ d. IsContentRange (map_of o sections alignment) f d.bytes d.entries id) (first_directory o f data_directory sections alignment) r
+
+-- this is the data entry of that content, or the first refusal on the way to it
+abbrev pub IsResourceEntry : ParseOptions → List ℕ → DataDirectory → ℕ → List SectionTable → ℕ → Result (Option ResourceDataEntry) Refusal → Type 0
+IsResourceEntry o f data_directory id sections alignment r =
+    IsOfFirst None (λ d. IsDataEntry d.bytes d.entries id) (first_directory o f data_directory sections alignment) r
 
 -- the range is found, it is in the file, and the manifest is its bytes
 abbrev pub IsManifestIn : List ℕ → Result (Option ByteRange) Refusal → Option (List ℕ) → Type 0

@@ -6,7 +6,7 @@ ghost use Rattle.std.specs.Prelude.{◌≡◌, ◌+◌, ◌≤◌, length, IfOk,
 ghost use Rattle.std.specs.Option.{option_map};
 ghost use Rattle.pe_core.specs.Offsets.{IsWithin};
 ghost use Rattle.pe_core.specs.Refusals.{Returns, answer_of, answer_by};
-ghost use Rattle.pe_resource.specs.Contents.{map_of, IsLeaf, data_entry_at, file_range, named_range, range_in, IsContentRange, IsContent};
+ghost use Rattle.pe_resource.specs.Contents.{map_of, IsLeaf, data_entry_at, data_entry_in, file_range, named_range, range_in, IsContentRange, IsContent, IsDataEntry};
 ghost use Rattle.pe_resource.specs.ResourceEntries.{entries_left, with_id};
 
 use crate::directory::ResourceEntryIterator;
@@ -47,6 +47,27 @@ impl ResourceDataEntry {
             reserved: read_u32(bytes, offset + 12),
         }
     }
+
+    /// Returns the file range of the content. `pe` is the whole file. Errors, in order: `Unmapped` if its RVA is not mapped;
+    /// `ResourceBounds` if it is not in the file.
+    pub fn content_range(
+        &self,
+        pe: &[u8],
+        sections: &[SectionTable],
+        file_alignment: u32,
+        opts: &ParseOptions,
+    ) -> Result<ByteRange>
+        ensures range { Returns result (file_range pe.now self.now.size (map_of
+            opts.now sections.now file_alignment self.now.offset_to_data)) }
+        ensures within { IfOk result (IsWithin pe.now) }
+    {
+        let ResourceDataEntry {
+            offset_to_data,
+            size,
+            ..
+        } = *self;
+        file_range(pe, offset_to_data, size, sections, file_alignment, opts)
+    }
 }
 
 /// The offset of the data entry that the first entry with this id leads to. `None` without such an entry, or if the
@@ -62,6 +83,29 @@ fn leaf(bytes: &[u8], it: ResourceEntryIterator, id: u16) -> Result<Option<u32>>
             Ok(last.offset_to_data())
         }
     }
+}
+
+/// The data entry at an offset, if there is one. `Short` where it is truncated.
+fn data_entry_in(bytes: &[u8], offset: Option<u32>) -> Result<Option<ResourceDataEntry>>
+    ensures { Returns result (data_entry_in bytes.now offset) }
+{
+    let Some(offset) = offset else {
+        return Ok(None);
+    };
+    let offset = offset as usize;
+    require_bytes(bytes, offset, SIZE_OF_DATA_ENTRY)?;
+    Ok(Some(ResourceDataEntry::at(bytes, offset)))
+}
+
+/// The data entry that the first entry with this id leads to.
+pub(crate) fn data_entry(
+    bytes: &[u8],
+    it: ResourceEntryIterator,
+    id: u16,
+) -> Result<Option<ResourceDataEntry>>
+    ensures { IsDataEntry bytes.now (entries_left it.entry) id (answer_of result) }
+{
+    data_entry_in(bytes, leaf(bytes, it, id)?)
 }
 
 /// The file range of `size` bytes at an RVA. `Unmapped`, or `ResourceBounds` if the bytes are not in the file.

@@ -23,7 +23,7 @@ ghost use Rattle.pe_resource.specs.VersionBlocks.{BlockReturns, block_view, leaf
 ghost use Rattle.pe_resource.specs.VersionFields.{version_view};
 
 use crate::constants::{RESOURCE_ENTRY_SIZE, RT_VERSION};
-use crate::content::{ResourceDataEntry, SIZE_OF_DATA_ENTRY, file_range};
+use crate::content::{ResourceDataEntry, SIZE_OF_DATA_ENTRY};
 use crate::directory::{ImageResourceDirectory, ResourceEntryIterator, SIZE_OF_DIRECTORY};
 use crate::entry::ResourceEntry;
 use crate::tree_error::ResourceTreeError;
@@ -62,12 +62,8 @@ impl ResourceLeaf {
             opts.now sections.now file_alignment self.now.data_entry.offset_to_data)) }
         ensures within { IfOk result (IsWithin pe.now) }
     {
-        let ResourceDataEntry {
-            offset_to_data,
-            size,
-            ..
-        } = self.data_entry;
-        file_range(pe, offset_to_data, size, sections, file_alignment, opts)
+        self.data_entry
+            .content_range(pe, sections, file_alignment, opts)
     }
 
     /// The content, if the type has this id.

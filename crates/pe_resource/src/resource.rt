@@ -12,9 +12,9 @@ ghost use Rattle.pe_resource.specs.Directories.{count};
 ghost use Rattle.pe_resource.specs.LeafPositions.{IsPlaced, first_position, leaf_start, leaves_at, tree_at, tree_view};
 ghost use Rattle.pe_resource.specs.Leaves.{walk_view, resource_tree, tree_leaves};
 ghost use Rattle.pe_resource.specs.ResourceEntries.{entries, entries_left};
-ghost use Rattle.pe_resource.specs.Resources.{resource_view, first_entries_in, first_directory_view, first_directory, AreResources, IsResource, IsResourceRange};
+ghost use Rattle.pe_resource.specs.Resources.{resource_view, first_entries_in, first_directory_view, first_directory, AreResources, IsResource, IsResourceEntry, IsResourceRange};
 
-use crate::content::{content_range, file_range};
+use crate::content::{ResourceDataEntry, content_range, data_entry, file_range};
 use crate::directory::{ImageResourceDirectory, ResourceEntryIterator, SIZE_OF_DIRECTORY};
 use crate::leaf_position::LeafPosition;
 use crate::leaves::ResourceLeaves;
@@ -235,6 +235,26 @@ impl<'a> ResourceData<'a> {
                 let it = first.entries();
                 content_range(bytes, first.bytes, it, id, sections, file_alignment, opts)
             }
+        }
+    }
+
+    /// Returns the data entry of the content that `content_range` returns the range of: what is read before its RVA is mapped. A
+    /// caller that has an index of its sections passes those that may map the RVA of the directory, and then to
+    /// `ResourceDataEntry::content_range` those that may map the content's. Errors: those of `content_range` but for the last two.
+    pub fn data_entry(
+        bytes: &[u8],
+        data_directory: DataDirectory,
+        id: u16,
+        sections: &[SectionTable],
+        file_alignment: u32,
+        opts: &ParseOptions,
+    ) -> Result<Option<ResourceDataEntry>>
+        ensures { IsResourceEntry
+            opts.now bytes.now data_directory id sections.now file_alignment (answer_of result) }
+    {
+        match FirstDirectory::parse(bytes, data_directory, sections, file_alignment, opts)? {
+            None => Ok(None),
+            Some(first) => data_entry(first.bytes, first.entries(), id),
         }
     }
 
