@@ -21,6 +21,7 @@ use crate::data_directories::DataDirectory;
 use crate::error::Result;
 use crate::many_texts::texts_at;
 use crate::options::ParseOptions;
+use crate::rva_map::RvaMap;
 use crate::section_index::{SectionIndex, SectionMap};
 use crate::section_table::SectionTable;
 use crate::section_window::Window;
@@ -84,31 +85,28 @@ impl ExportDirectoryTable {
 }
 
 /// The image's name, if it has one.
-fn image_name<'a>(bytes: &'a [u8], rva: u32, sections: &SectionMap<'_>) -> Option<&'a str>
+fn image_name<'a, R: RvaMap>(bytes: &'a [u8], rva: u32, map: &R) -> Option<&'a str>
     ensures { option_map
-        (λ s. s.now) result ≡ image_name (offset_in sections.now) bytes.entry.now rva }
+        (λ s. s.now) result ≡ image_name (R.offset map.now) bytes.entry.now rva }
 {
     if rva == 0 {
         return None;
     }
-    let offset = sections.find(rva as usize)?;
-    text_at(bytes, offset)
+    match map.file_offset(rva) {
+        Ok(offset) => text_at(bytes, offset),
+        Err(_) => None,
+    }
 }
 
 /// The table of `size` bytes at this RVA. An empty table has no RVA to map.
-fn table_at<'a>(
-    bytes: &'a [u8],
-    rva: u32,
-    size: usize,
-    sections: &SectionMap<'_>,
-) -> Result<&'a [u8]>
+fn table_at<'a, R: RvaMap>(bytes: &'a [u8], rva: u32, size: usize, map: &R) -> Result<&'a [u8]>
     ensures { ReturnsAs
-        (λ s. s.now) result (table_at (offset_in sections.now) bytes.entry.now rva size) }
+        (λ s. s.now) result (table_at (R.offset map.now) bytes.entry.now rva size) }
 {
     if size == 0 {
         return Ok(&[]);
     }
-    let offset = sections.offset_of(rva)?;
+    let offset = map.file_offset(rva)?;
     slice_at(bytes, offset, size)
 }
 
@@ -166,30 +164,30 @@ impl<'a> ExportData<'a> {
         ExportData::parse_with_map(bytes, directory, &sections)
     }
 
-    /// The export directory, as `parse_with_opts` returns it, by a section map.
+    /// The export directory, as `parse_with_opts` returns it, by any map of RVAs: the section map is one.
     #[tactic(auto, unfolding(crate::specs::Exports::export_data_at))]
-    pub fn parse_with_map(
+    pub fn parse_with_map<R: RvaMap>(
         bytes: &'a [u8],
         directory: DataDirectory,
-        sections: &SectionMap<'_>,
+        map: &R,
     ) -> Result<ExportData<'a>>
         ensures { ReturnsAs export_data_view result
-            (export_data_at (offset_in sections.now) bytes.entry.now directory.virtual_address) }
+            (export_data_at (R.offset map.now) bytes.entry.now directory.virtual_address) }
     {
-        let offset = sections.offset_of(directory.virtual_address)?;
+        let offset = map.file_offset(directory.virtual_address)?;
         require_bytes(bytes, offset, SIZE_OF_EXPORT_DIRECTORY)?;
         let directory = ExportDirectoryTable::at(bytes, offset);
         let size = 4 * directory.address_table_entries as usize;
         let rva = directory.address_table_rva;
-        let addresses = table_at(bytes, rva, size, sections)?;
+        let addresses = table_at(bytes, rva, size, map)?;
         let count = directory.number_of_name_pointers as usize;
         let rva = directory.name_pointer_rva;
-        let names = table_at(bytes, rva, 4 * count, sections)?;
+        let names = table_at(bytes, rva, 4 * count, map)?;
         let rva = directory.ordinal_table_rva;
-        let ordinals = table_at(bytes, rva, 2 * count, sections)?;
+        let ordinals = table_at(bytes, rva, 2 * count, map)?;
         Ok(ExportData {
             directory,
-            name: image_name(bytes, directory.name_rva, sections),
+            name: image_name(bytes, directory.name_rva, map),
             addresses,
             names,
             ordinals,

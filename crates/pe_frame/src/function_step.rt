@@ -14,10 +14,10 @@ use crate::error::FrameError;
 use crate::jump::{ImageFunctions, record_of, step_in_image, step_in_place};
 use crate::memory::Memory;
 use crate::registers::Registers;
-use pe_core::Result;
+use pe_core::{Result, RvaMap};
 use pe_plan::read_plan;
 use pe_unwind::laws::derives::clones_are_their_originals;
-use pe_unwind::{RuntimeFunction, RvaMap, UnwindInfo};
+use pe_unwind::{RuntimeFunction, UnwindInfo};
 use std::array::repeat;
 use std::slice;
 

@@ -21,8 +21,9 @@ use crate::error::FrameError;
 use crate::frame::{epilog_at, require_rising, run_out, undo_function_in_place};
 use crate::memory::Memory;
 use crate::registers::{RSP, Registers};
+use pe_core::RvaMap;
 use pe_plan::ShortPlan;
-use pe_unwind::{ExceptionData, RuntimeFunction, RvaMap, UnwindInfo, search};
+use pe_unwind::{ExceptionData, RuntimeFunction, UnwindInfo, search};
 use std::alloc::AllocError;
 use std::slice;
 

@@ -11,8 +11,8 @@ use crate::address_ranges::{AddressRange, first_overlap, range_with};
 use crate::arm64::is_call_arm64;
 use crate::call::is_call;
 use crate::section_index::{IndexEntry, sections_by};
-use pe_core::{ParseOptions, SectionTable, slice_at};
-use pe_unwind::{ExceptionData, RvaMap};
+use pe_core::{ParseOptions, RvaMap, SectionTable, slice_at};
+use pe_unwind::ExceptionData;
 
 /// `IMAGE_SCN_MEM_EXECUTE`: the section is executable.
 const MEM_EXECUTE: u32 = 0x2000_0000;

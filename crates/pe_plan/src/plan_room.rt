@@ -7,8 +7,8 @@ ghost use Rattle.pe_unwind.specs.Links.{links_with};
 ghost use Rattle.pe_unwind.specs.UnwindRecord.{unwind_view};
 ghost use Rattle.pe_plan.specs.ShortPlans.{PlansUpTo};
 
-use pe_core::Result;
-use pe_unwind::{ExceptionData, RuntimeFunction, RvaMap, UnwindInfo};
+use pe_core::{Result, RvaMap};
+use pe_unwind::{ExceptionData, RuntimeFunction, UnwindInfo};
 
 /// Reads the plan of a function, as `UnwindPlan::of_function` returns it, into the first entries of an array, if the array has
 /// room for it, and returns how many records it has. `None` where as many records as the array has entries are each chained to

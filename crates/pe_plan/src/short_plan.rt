@@ -7,9 +7,9 @@ ghost use Rattle.pe_unwind.specs.Links.{links_with};
 ghost use Rattle.pe_unwind.specs.UnwindRecord.{unwind_view};
 ghost use Rattle.pe_plan.specs.ShortPlans.{PlansShort, records_of};
 
-use pe_core::Result;
+use pe_core::{Result, RvaMap};
 use pe_unwind::laws::derives::clones_are_their_originals;
-use pe_unwind::{ExceptionData, RuntimeFunction, RvaMap, UnwindInfo};
+use pe_unwind::{ExceptionData, RuntimeFunction, UnwindInfo};
 use std::array::repeat;
 
 /// How many records a short plan has at most. Those of a part of a function and of the function are two.

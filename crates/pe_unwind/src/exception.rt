@@ -9,11 +9,10 @@ use crate::arm64::info::Arm64UnwindInfo;
 use crate::arm64::lookup::search_arm64;
 use crate::function_table::{RuntimeFunction, RuntimeFunctionIterator, SIZE_OF_FUNCTION, search};
 use crate::links::linked_record_offset;
-use crate::rva_map::RvaMap;
 use crate::unwind_info::UnwindInfo;
 use pe_core::{
-    ByteRange, CountedTable, DataDirectory, Error, ParseOptions, Reason, Result, SectionMap,
-    SectionTable, mapped_offset, require_bytes,
+    ByteRange, CountedTable, DataDirectory, Error, ParseOptions, Reason, Result, RvaMap,
+    SectionMap, SectionTable, mapped_offset, require_bytes,
 };
 use std::fmt;
 use std::marker::Model;

@@ -9,8 +9,7 @@ ghost use Rattle.pe_unwind.specs.Links.{Follows, linked_table};
 ghost use Rattle.pe_unwind.specs.Unwinding.{FindsRecord};
 
 use crate::function_table::{RuntimeFunction, SIZE_OF_FUNCTION};
-use crate::rva_map::RvaMap;
-use pe_core::{Error, Reason, Result, TableEntry};
+use pe_core::{Error, Reason, Result, RvaMap, TableEntry};
 
 /// The unwind RVA of the entry to which an odd RVA is a link. Errors: `Unmapped`; `FunctionLink` if no whole entry starts there.
 fn follow<M: RvaMap>(table: &[u8], start: usize, map: &M, address: u32) -> Result<u32>

@@ -13,8 +13,7 @@ ghost use Rattle.pe_unwind.specs.Lookup.{digits};
 use super::function::Arm64RuntimeFunction;
 use super::words::Arm64UnwindHeader;
 use crate::lookup::{FunctionEntry, last_start};
-use crate::rva_map::RvaMap;
-use pe_core::{CountedTable, Result, u32_at};
+use pe_core::{CountedTable, Result, RvaMap, u32_at};
 
 impl FunctionEntry for Arm64RuntimeFunction {
     ghost start_of = { λ f. f.begin_address };

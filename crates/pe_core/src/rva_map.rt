@@ -1,4 +1,4 @@
-//! How records are found: by any map from RVAs to file offsets. The section map of an image is one
+//! Any map from RVAs to file offsets, by which directories and records are found. The section map of an image is one
 //! ([section headers](https://learn.microsoft.com/windows/win32/debug/pe-format#section-table-section-headers)); a caller may bring
 //! another, as one that finds sections by an index of his own.
 
@@ -6,7 +6,8 @@ ghost use Rattle.std.specs.Prelude.{◌≡◌, ℕ, Option};
 ghost use Rattle.pe_core.specs.Refusals.{answer_of};
 ghost use Rattle.pe_core.specs.SectionMap.{mapped, offset_in};
 
-use pe_core::{Result, SectionMap};
+use crate::error::Result;
+use crate::section_index::SectionMap;
 
 /// A map from RVAs to file offsets.
 pub trait RvaMap {
