@@ -1,8 +1,10 @@
-/* Reads an image with an index of its sections or without: indexes FILE index|none list|step|offset|delayed|together|record MOST
+/* Reads an image with an index of its sections or without: indexes FILE index|none CALL MOST
  *
- * Of the exports that have a name MOST are read, by pe_c_list_exports or pe_c_next_export; or of what is imported of the first
- * delay-loaded DLL, by pe_c_next_delayed_function or pe_c_list_delayed_functions_together; or of the records of the first x64
- * function, by pe_c_next_record; or MOST RVAs are mapped by pe_c_offset. How many there are is printed. The text `index` makes the index alone where MOST is 0. */
+ * By the CALL `list` or `step` MOST of the exports that have a name are read, by pe_c_list_exports or pe_c_next_export; by `delayed`
+ * or `together` as many of what is imported of the first delay-loaded DLL, by pe_c_next_delayed_function or
+ * pe_c_list_delayed_functions_together; by `record` of the records of the first x64 function, by pe_c_next_record; by `tables` the
+ * calls for seven directories are made MOST times, and by `offset` as many RVAs are mapped by pe_c_offset. How many there are is
+ * printed. The text `index` makes the index alone where MOST is 0. */
 #include "reading.h"
 
 #include <stdio.h>
@@ -90,6 +92,25 @@ static uint64_t step_records(const pe_c_view *view, uint64_t most)
     return count;
 }
 
+/* The directories of an image, each by the call that returns where it is; how many calls are refused or have none does not matter. */
+static uint64_t read_directories(const pe_c_view *view, uint64_t most)
+{
+    uint64_t count = 0;
+    for (; count < most; count++) {
+        pe_c_exports exports = PE_C_EMPTY;
+        pe_c_libraries libraries = PE_C_EMPTY;
+        pe_c_range range = PE_C_EMPTY;
+        pe_c_export_tables(view, &exports);
+        pe_c_import_libraries(view, &libraries);
+        pe_c_function_table(view, &range);
+        pe_c_relocation_blocks(view, &range);
+        pe_c_debug_entries(view, &range);
+        pe_c_delay_imports(view, &range);
+        pe_c_manifest(view, &range);
+    }
+    return count;
+}
+
 /* Offsets of RVAs in the last section. */
 static uint64_t map_offsets(const pe_c_view *view, uint64_t most)
 {
@@ -124,6 +145,7 @@ int main(int argc, char **argv)
                                           : strcmp(argv[3], "delayed") == 0  ? step_delayed(&view, most)
                                           : strcmp(argv[3], "together") == 0 ? list_delayed(&view, most)
                                           : strcmp(argv[3], "record") == 0   ? step_records(&view, most)
+                                          : strcmp(argv[3], "tables") == 0   ? read_directories(&view, most)
                                                                              : map_offsets(&view, most)));
     free(bytes);
     free((void *)view.sections);

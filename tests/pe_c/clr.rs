@@ -17,7 +17,7 @@ use std::alloc::{AllocError, Global};
 use std::test::Fail;
 
 /// What `out` is before each call.
-fn no_header() -> ClrHeader {
+pub(crate) fn no_header() -> ClrHeader {
     ClrHeader {
         cb: 1,
         major_runtime_version: 2,

@@ -1,7 +1,8 @@
 //! Steps and lists over delay imports by an index of the sections.
 
 use super::made::{
-    MAPPED, OVER, SHORT, UNMAPPED, X64, image, in_mode, of_range, range, section, view,
+    LEFT_ENTRY, MAPPED, OVER, SHORT, UNMAPPED, X64, from_start, image, in_mode, of_range, range,
+    section, view,
 };
 use crate::delay_imports::{
     DelayLibrary, DelayedFunction, DelayedFunctions, pe_c_next_delay_import,
@@ -30,7 +31,7 @@ const NO_NAME: Range = Range {
     length: 0x77,
 };
 
-const NO_FUNCTIONS: DelayedFunctions = DelayedFunctions {
+pub(crate) const NO_FUNCTIONS: DelayedFunctions = DelayedFunctions {
     left: Range {
         offset: 0,
         length: 0,
@@ -65,17 +66,6 @@ const RUN: Run = Run {
     end: 0x77,
     text: 7,
 };
-
-/// An entry of an index before it is written.
-const LEFT: IndexEntry = IndexEntry {
-    start: 77,
-    section: 78,
-};
-
-/// The entry of an index from which all RVAs belong to the section with this index plus 1.
-fn from_start(section: u64) -> [IndexEntry; 1] {
-    [IndexEntry { start: 0, section }]
-}
 
 /// A DLL and what stands first in its table, with the results of both: the ranges of its name and its table; the range of the
 /// function's name, and its hint or ordinal.
@@ -193,7 +183,7 @@ fn sections_with_an_index(rt: HostRuntime) -> Result<(), Fail> {
         section(0x3000, 0x1000, 0x400, 0x200),
     ];
     let without = view(&bytes, &image, &sections);
-    let (mut room, mut written) = ([LEFT; 12], 0);
+    let (mut room, mut written) = ([LEFT_ENTRY; 12], 0);
     assert_eq!(rt; pe_c_index(&without, &mut room, &mut written), DONE);
     assert_eq!(rt; written, 6);
     let with = View {
@@ -297,7 +287,7 @@ fn addresses_past_32_bits(rt: HostRuntime) -> Result<(), Fail> {
     let image: Image = image(X64);
     let sections: [SectionTable; 1] = [section(0xFFFF_F000, 0x2000, 0, 0x2000)];
     let without = view(&bytes, &image, &sections);
-    let (mut room, mut written) = ([LEFT; 4], 0);
+    let (mut room, mut written) = ([LEFT_ENTRY; 4], 0);
     assert_eq!(rt; pe_c_index(&without, &mut room, &mut written), DONE);
     let with = View {
         index: &room[..2],

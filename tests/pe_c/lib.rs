@@ -15,6 +15,7 @@ mod debug_failure;
 mod debug_walks;
 mod delay_imports;
 mod delay_imports_by_index;
+mod directories_by_index;
 mod directory_failure;
 mod directory_tables;
 mod dump;

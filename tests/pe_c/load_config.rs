@@ -8,7 +8,7 @@ use std::alloc::{AllocError, Global};
 use std::test::Fail;
 
 /// What `out` is before each call.
-const UNTOUCHED: LoadConfig = LoadConfig {
+pub(crate) const UNTOUCHED: LoadConfig = LoadConfig {
     security_cookie: 1,
     se_handler_table: 2,
     se_handler_count: 3,

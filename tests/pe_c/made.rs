@@ -6,7 +6,7 @@ use crate::ranges::Range;
 use crate::results::NOTHING;
 use crate::view::View;
 use pe_core::{DataDirectory, SectionTable};
-use pe_frame::MemoryPiece;
+use pe_frame::{IndexEntry, MemoryPiece};
 use pe_images::image as bytes_of;
 use std::alloc::{AllocError, Global};
 
@@ -307,6 +307,17 @@ pub(crate) fn section(
         pointer_to_raw_data,
         ..other
     }
+}
+
+/// An entry of an index before it is written.
+pub(crate) const LEFT_ENTRY: IndexEntry = IndexEntry {
+    start: 77,
+    section: 78,
+};
+
+/// The entry of an index from which all RVAs belong to the section with this index plus 1.
+pub(crate) fn from_start(section: u64) -> [IndexEntry; 1] {
+    [IndexEntry { start: 0, section }]
 }
 
 /// The image, without an index of its sections.

@@ -3,8 +3,8 @@
 
 use super::arm64::with_table;
 use super::made::{
-    ARM64, FUNCTION_CYCLE, FUNCTION_LINK, NO_FAILURE, UNMAPPED, X64, directory, having, image,
-    of_range, range, section, view,
+    ARM64, FUNCTION_CYCLE, FUNCTION_LINK, LEFT_ENTRY, NO_FAILURE, UNMAPPED, X64, directory,
+    from_start, having, image, of_range, range, section, view,
 };
 use super::unwinding::no_record;
 use crate::arm64::frames::{Arm64FrameRegisters, Arm64StackFrame, pe_c_step_arm64};
@@ -26,17 +26,6 @@ use pe_frame::{IndexEntry, MemoryPiece};
 use pe_images::image as bytes_of;
 use pe_unwind::{Arm64RuntimeFunction, RuntimeFunction};
 use std::test::Fail;
-
-/// An entry of an index before it is written.
-const LEFT: IndexEntry = IndexEntry {
-    start: 77,
-    section: 78,
-};
-
-/// The entry of an index from which all RVAs belong to the section with this index plus 1.
-fn from_start(section: u64) -> [IndexEntry; 1] {
-    [IndexEntry { start: 0, section }]
-}
 
 /// The result of a call, the length of a record's prolog and the range of its codes.
 type Found = (u32, u8, [u64; 2]);
@@ -166,7 +155,7 @@ fn records_with_an_index(rt: HostRuntime) -> Result<(), Fail> {
     let bytes = bytes_of(rt.alloc(), 0x600, &IN_SECTIONS)?;
     let (image, sections, table) = (image(X64), three_sections(), range(0x10, 48));
     let without = view(&bytes, &image, &sections);
-    let (mut room, mut written) = ([LEFT; 12], 0);
+    let (mut room, mut written) = ([LEFT_ENTRY; 12], 0);
     assert_eq!(rt; pe_c_index(&without, &mut room, &mut written), DONE);
     let with = View {
         index: &room[..6],
@@ -377,7 +366,7 @@ fn arm64_records_with_an_index(rt: HostRuntime) -> Result<(), Fail> {
     let bytes = bytes_of(rt.alloc(), 0x600, &ARM64_IN_SECTIONS)?;
     let (image, sections) = (with_table(0x1010, 16), three_sections());
     let without = view(&bytes, &image, &sections);
-    let (mut room, mut written) = ([LEFT; 12], 0);
+    let (mut room, mut written) = ([LEFT_ENTRY; 12], 0);
     assert_eq!(rt; pe_c_index(&without, &mut room, &mut written), DONE);
     let with = View {
         index: &room[..6],

@@ -1,6 +1,8 @@
 //! An index of the sections, and what calls return by it.
 
-use super::made::{self, MAPPED, STRICT, UNTOUCHED, X64, image, in_mode, of_range, untouched};
+use super::made::{
+    self, LEFT_ENTRY, MAPPED, STRICT, UNTOUCHED, X64, image, in_mode, of_range, untouched,
+};
 use crate::image::Image;
 use crate::map_ranges::pe_c_range_at;
 use crate::maps::pe_c_section_at;
@@ -9,12 +11,6 @@ use crate::section_index::pe_c_index;
 use crate::view::View;
 use pe_core::SectionTable;
 use pe_frame::IndexEntry;
-
-/// What is in the room before a call.
-const LEFT: IndexEntry = IndexEntry {
-    start: 77,
-    section: 78,
-};
 
 /// A section of so many bytes in memory and in the file.
 fn section(rva: u32, offset: u32, size: u32) -> SectionTable {
@@ -65,7 +61,7 @@ const OWNERS: [u64; 16] = [9, 9, 3, 3, 0, 0, 0, 1, 1, 2, 2, 3, 3, 9, 4, 4];
 fn rvas_by_an_index(rt: HostRuntime) {
     let (bytes, image, sections) = ([0; 0x10400], aligned(0x200, STRICT), five_sections());
     let without = view_of(&bytes, &image, &sections, &[]);
-    let mut room = [LEFT; 23];
+    let mut room = [LEFT_ENTRY; 23];
     let mut written = 0;
     assert_eq!(rt; pe_c_index(&without, &mut room, &mut written), DONE);
     assert_eq!(rt; written, 10);
@@ -94,7 +90,7 @@ fn rvas_by_an_index(rt: HostRuntime) {
 fn rooms_of_an_index(rt: HostRuntime) {
     let (image, sections) = (aligned(0x200, STRICT), five_sections());
     let view = view_of(&[], &image, &sections, &[]);
-    let mut room = [LEFT; 20];
+    let mut room = [LEFT_ENTRY; 20];
     let mut written = 0;
     assert_eq!(rt; pe_c_index(&view, &mut room[..19], &mut written), ROOM);
     assert_eq!(rt; (written, room[0].start, room[18].section), (20, 77, 78));

@@ -12,7 +12,7 @@ use std::alloc::{AllocError, Global};
 use std::test::Fail;
 
 /// What `out` is before each call.
-const NONE: TlsDirectory = TlsDirectory {
+pub(crate) const NONE: TlsDirectory = TlsDirectory {
     start_address_of_raw_data: 1,
     end_address_of_raw_data: 2,
     address_of_index: 3,

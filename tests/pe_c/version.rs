@@ -20,7 +20,7 @@ use std::test::Fail;
 /// The first directory has two entries, with the ids 16 and 24, whose data entries stand at 0x20 and 0x30. These lead to
 /// the address 0x1044, of bytes that come after, and to the four bytes before that. Read as a directory, a data
 /// entry that ends with four zeros has no entries, so the walk ends there.
-const TREE: &[(usize, &[u8])] = &[
+pub(crate) const TREE: &[(usize, &[u8])] = &[
     (0x0E, &[2, 0]),
     (0x10, &[16, 0, 0, 0, 0x20, 0, 0, 0]),
     (0x18, &[24, 0, 0, 0, 0x30, 0, 0, 0]),

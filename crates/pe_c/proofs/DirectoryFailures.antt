@@ -1,5 +1,5 @@
 -- What a call returns agrees with what refuses it.
-use Rattle.std.proofs.Common.{◌≡◌, ℕ, true, Option, Some, None, Result, Ok, Err, refl}
+use Rattle.std.proofs.Common.{Option, Some, None, Result, Ok, Err, refl}
 use Rattle.pe_core.specs.Refusals.{Refusal}
 use Rattle.pe_directories.specs.DirectoryRefusals.{DirectoryRefusal}
 use Rattle.pe_resource.specs.Leaves.{TreeRefusal}

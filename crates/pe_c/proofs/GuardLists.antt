@@ -9,7 +9,7 @@ use Rattle.pe_core.specs.Refusals.{Short, outcome, ◌>>=◌}
 use Rattle.pe_core.specs.declared.section_table.SectionTable.{SectionTable}
 use Rattle.pe_directories.specs.DirectoryRefusals.{DirectoryRefusal, Image}
 use Rattle.pe_directories.specs.GuardTables.{Guarded, first_guarded, guard_table}
-use Rattle.pe_directories.specs.ImageParts.{ImageView, offset_of_va}
+use Rattle.pe_directories.specs.ImageParts.{offset_of_va}
 use Rattle.pe_directories.specs.LoadConfig.{load_config}
 use Rattle.pe_directories.specs.Walks.{First, Items}
 use Rattle.pe_directories.specs.declared.load_config.LoadConfig.{LoadConfig}
@@ -174,17 +174,19 @@ from_place b false false (Ok p) count n w s items z e g f =
     subst (λ (v : GuardEntries). ReturnsEntries b v items) walk
     (from_offset b p count n items z (subst (λ (d : ℕ × List ℕ). Items (first_guarded n) d items) (sym left) f) (tail_there b p (holds b p (length b - p)) refl))
 
-of_place : (i : ImageView) (p : Place) (w : GuardEntries) (s : ℕ × List ℕ) (items : List (Result Guarded DirectoryRefusal)) → entries_of i p ≡ Ok (Some w) → guard_table i p.va p.count ≡ Ok (Some s) → Items (first_guarded p.flag_size) s items → ReturnsEntries i.bytes w items
+of_place : (b : List ℕ) (image : images.Image) (sections : List SectionTable) (p : Place) (w : GuardEntries) (s : ℕ × List ℕ) (items : List (Result Guarded DirectoryRefusal)) →
+    entries_of b image (λ _. sections) p ≡ Ok (Some w) → guard_table (image_parts b image sections) p.va p.count ≡ Ok (Some s) → Items (first_guarded p.flag_size) s items → ReturnsEntries b w items
 unfolding guard_table
-of_place i p w s items e g f = from_place i.bytes (unwrap_or p.va 0 == 0) (unwrap_or p.count 0 == 0) (offset_of_va i (unwrap_or p.va 0)) (unwrap_or p.count 0) p.flag_size w s items refl e g f
+of_place b image sections p w s items e g f =
+    from_place b (unwrap_or p.va 0 == 0) (unwrap_or p.count 0 == 0) (offset_of_va (image_parts b image sections) (unwrap_or p.va 0)) (unwrap_or p.count 0) p.flag_size w s items refl e g f
 
-of_config : (i : ImageView) (absent : Bool) (n : ℕ) (c : LoadConfig) (read : Result LoadConfig DirectoryRefusal) (w : GuardEntries) → read ≡ Ok c →
-    ◌≡◌ {A = Result (Option GuardEntries) DirectoryRefusal} (if absent then Ok None else (read >>= λ d. entries_of i (place_of n d))) (Ok (Some w)) → entries_of i (place_of n c) ≡ Ok (Some w)
-of_config i true n c read w h e = absurd (cc (e))
-of_config i false n c read w h e = subst (λ (r : Result LoadConfig DirectoryRefusal). (r >>= λ d. entries_of i (place_of n d)) ≡ Ok (Some w)) h e
+of_config : (entries : Place → Result (Option GuardEntries) DirectoryRefusal) (absent : Bool) (n : ℕ) (c : LoadConfig) (read : Result LoadConfig DirectoryRefusal) (w : GuardEntries) → read ≡ Ok c →
+    ◌≡◌ {A = Result (Option GuardEntries) DirectoryRefusal} (if absent then Ok None else (read >>= λ d. entries (place_of n d))) (Ok (Some w)) → entries (place_of n c) ≡ Ok (Some w)
+of_config entries true n c read w h e = absurd (cc (e))
+of_config entries false n c read w h e = subst (λ (r : Result LoadConfig DirectoryRefusal). (r >>= λ d. entries (place_of n d)) ≡ Ok (Some w)) h e
 
 pub entries_of_image : (n : ℕ) (b : List ℕ) (image : images.Image) (sections : List SectionTable) (w : GuardEntries) (c : LoadConfig) (s : ℕ × List ℕ) (items : List (Result Guarded DirectoryRefusal)) →
-    guard_table_at n b image sections ≡ Ok (Some w) → load_config (image_parts b image sections) (directory image 10) ≡ Ok c → guard_table (image_parts b image sections) (place_of n c).va (place_of n c).count ≡ Ok (Some s) →
+    guard_table_at n b image (λ _. sections) ≡ Ok (Some w) → load_config (image_parts b image sections) (directory image 10) ≡ Ok c → guard_table (image_parts b image sections) (place_of n c).va (place_of n c).count ≡ Ok (Some s) →
     Items (first_guarded (place_of n c).flag_size) s items → ReturnsEntries b w items
 entries_of_image n b image sections w c s items e h g f =
-    of_place (image_parts b image sections) (place_of n c) w s items (of_config (image_parts b image sections) (is_absent (directory image 10)) n c (load_config (image_parts b image sections) (directory image 10)) w h e) g f
+    of_place b image sections (place_of n c) w s items (of_config (entries_of b image (λ _. sections)) (is_absent (directory image 10)) n c (load_config (image_parts b image sections) (directory image 10)) w h e) g f

@@ -69,16 +69,16 @@ numbers_stand offset b rva d e =
 
 table_by : (b : List ℕ) (image : Image) (sections : List SectionTable) (d : ExportDataView) → is_absent (export_directory image) ≡ false →
     export_data_at (map_of_image image sections) b (export_directory image).virtual_address ≡ Ok d →
-    address_table_at b image sections ≡ Ok (Some (address_table (map_of_image image sections) b (export_directory image) d))
+    address_table_at b image (map_of_image image sections) ≡ Ok (Some (address_table (map_of_image image sections) b (export_directory image) d))
 unfolding address_table_at
 table_by b image sections d h e = rw h (rw e refl)
 
 walk_by : (b : List ℕ) (image : Image) (sections : List SectionTable) → is_absent (export_directory image) ≡ false →
-    tables_at b image sections ≡ (export_data_at (map_of_image image sections) b (export_directory image).virtual_address >>= λ d. Ok (Some (walk_over (map_of_image image sections) d)))
+    tables_at b image (map_of_image image sections) ≡ (export_data_at (map_of_image image sections) b (export_directory image).virtual_address >>= λ d. Ok (Some (walk_over (map_of_image image sections) d)))
 unfolding tables_at
 walk_by b image sections h = rw h refl
 
-no_walk : (b : List ℕ) (image : Image) (sections : List SectionTable) → is_absent (export_directory image) ≡ true → tables_at b image sections ≡ Ok None
+no_walk : (b : List ℕ) (image : Image) (sections : List SectionTable) → is_absent (export_directory image) ≡ true → tables_at b image (map_of_image image sections) ≡ Ok None
 unfolding tables_at
 no_walk b image sections h = rw h refl
 

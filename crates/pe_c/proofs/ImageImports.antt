@@ -163,7 +163,7 @@ abbrev pub imports_part : (ℕ → Option ℕ) → ℕ → List ℕ → Option D
 imports_part offset w b d = import_data_of offset w b d >>= λ found. imports_of offset w b found >>= λ list. Ok (option_map (λ records. (records, list)) found)
 
 by_records : (b : List ℕ) (image : Image) (sections : List SectionTable) (walk : Libraries) (records : Result (List ImportRecordView) Refusal) → AreBytes b → length b ≤ 2 ^ 63 →
-    libraries_at image sections ≡ Ok (Some walk) →
+    libraries_at image (map_of_image image sections) ≡ Ok (Some walk) →
     import_data_at (map_of_image image sections) (entry_size (image.width == 64)) b (import_directory image).virtual_address ≡ records →
     AreImportsAfter (map_of_image image sections) (entry_size (image.width == 64)) b walk records
     (records >>= λ rs. imports (map_of_image image sections) (entry_size (image.width == 64)) b rs >>= λ list. Ok (Some (rs, list)))
@@ -194,7 +194,7 @@ by_offset : (b : List ℕ) (image : Image) (sections : List SectionTable) (at : 
     (records_at image sections b at >>= λ rs. imports (map_of_image image sections) (entry_size (image.width == 64)) b rs >>= λ list. Ok (Some (rs, list)))
 by_offset b image sections None bytes small h e = refl
 by_offset b image sections (Some p) bytes small h e =
-    let start : libraries_at image sections ≡ Ok (Some (libraries_from p)) = rw h (rw e refl) in
+    let start : libraries_at image (map_of_image image sections) ≡ Ok (Some (libraries_from p)) = rw h (rw e refl) in
     let same : import_data_at (map_of_image image sections) (entry_size (image.width == 64)) b (import_directory image).virtual_address ≡ records_at image sections b (Some p) = ap (records_at image sections b) e in
     (records_at image sections b (Some p), by_records b image sections (libraries_from p) (records_at image sections b (Some p)) bytes small start same)
 
@@ -211,13 +211,13 @@ imports_are_by : (b : List ℕ) (image : Image) (sections : List SectionTable) (
     AreImports wanted b image sections (part_if wanted (map_of_image image sections) (entry_size (image.width == 64)) b d)
 imports_are_by b image sections false d bytes small h e = refl
 imports_are_by b image sections true None bytes small h e =
-    let none : libraries_at image sections ≡ Ok None = rw (ap is_absent e) refl in
+    let none : libraries_at image (map_of_image image sections) ≡ Ok None = rw (ap is_absent e) refl in
     subst (λ (r : Result (Option Libraries) Refusal). AreImportsBy true b image sections r (Ok None)) (sym none) refl
 imports_are_by b image sections true (Some d) bytes small h e =
     let offset = map_of_image image sections in
     let w = entry_size (image.width == 64) in
     let there : is_absent (import_directory image) ≡ false = ap is_absent e ∙ h in
-    let start : libraries_at image sections ≡ (mapped (offset (import_directory image).virtual_address) >>= λ p. Ok (Some (libraries_from p))) = rw there refl in
+    let start : libraries_at image (map_of_image image sections) ≡ (mapped (offset (import_directory image).virtual_address) >>= λ p. Ok (Some (libraries_from p))) = rw there refl in
     let at : records_at image sections b (offset (import_directory image).virtual_address) ≡ import_data_at offset w b d.virtual_address = ap (λ (x : DataDirectory). records_at image sections b (offset x.virtual_address)) e in
     let part : (records_at image sections b (offset (import_directory image).virtual_address) >>= λ rs. imports offset w b rs >>= λ list. Ok (Some (rs, list))) ≡ imports_part offset w b (Some d) =
     ap (λ (q : Result (List ImportRecordView) Refusal). q >>= λ rs. imports offset w b rs >>= λ list. Ok (Some (rs, list))) at ∙ sym (in_one offset w b (import_data_at offset w b d.virtual_address)) in

@@ -192,8 +192,8 @@ tree_by b image sections d p r h first stands are =
     let manifest = are.3 in
     let walk : ResourceLeaves = walk_at (range_of (record { offset = p; length = (images.resource_directory image).size })) (first_position d) in
     let content : Result (Option ByteRange) Refusal = version.1.0 in
-    let is_content : (id : ℕ) (c : Result (Option ByteRange) Refusal) → IsContentRange map b d.bytes d.entries id c → IsContentOf b image sections image.mode id c = λ id c is.
-    subst (λ (absent : Bool). IsContentBy absent (options_of image.mode) b image sections id c) (sym h)
+    let is_content : (id : ℕ) (c : Result (Option ByteRange) Refusal) → IsContentRange map b d.bytes d.entries id c → IsContentOf b image (λ _. sections) image.mode id c = λ id c is.
+    subst (λ (absent : Bool). IsContentBy absent (options_of image.mode) b image (λ _. sections) id c) (sym h)
     (subst (λ (q : Result (Option FirstDirectoryView) Refusal). IsOfFirst None (λ x. IsContentRange map b x.bytes x.entries id) q c) (sym first) is) in
     let of_version : are.0 ≡ ((content >>= λ c. Ok (content_of b c)) >>= version_of_content) = version.2 ∙ ap (λ (c : Result (Option (List ℕ)) Refusal). c >>= version_of_content) version.1.2 in (
       content,

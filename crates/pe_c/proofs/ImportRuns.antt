@@ -351,13 +351,13 @@ by_directory offset w b walk false None some bytes small e = absurd cc
 by_directory offset w b walk false (Some p) some bytes small e =
     subst (λ (x : Libraries). ReturnsReported (StepsLibraries offset w b) (ReportsLibrary offset w b) x (import_records offset w b p)) (some_inside (libraries_from p) walk e) (directory_run offset w b p some bytes small)
 
-reported_of_image : (b : List ℕ) (image : Image) (sections : List SectionTable) (walk : Libraries) → AreBytes b → length b ≤ 2 ^ 63 → libraries_at image sections ≡ Ok (Some walk) →
+reported_of_image : (b : List ℕ) (image : Image) (sections : List SectionTable) (walk : Libraries) → AreBytes b → length b ≤ 2 ^ 63 → libraries_at image (map_of_image image sections) ≡ Ok (Some walk) →
     ReturnsReported (StepsLibraries (map_of_image image sections) (entry_size (image.width == 64)) b) (ReportsLibrary (map_of_image image sections) (entry_size (image.width == 64)) b) walk
     (import_data_at (map_of_image image sections) (entry_size (image.width == 64)) b (import_directory image).virtual_address)
 reported_of_image b image sections walk bytes small e =
     by_directory (map_of_image image sections) (entry_size (image.width == 64)) b walk (is_absent (import_directory image)) (map_of_image image sections (import_directory image).virtual_address) (some_size (image.width == 64)) bytes small e
 
-pub libraries_in_turn : (b : List ℕ) (image : Image) (sections : List SectionTable) (walk : Libraries) (rs : List ImportRecordView) → AreBytes b → length b ≤ 2 ^ 63 → libraries_at image sections ≡ Ok (Some walk) →
+pub libraries_in_turn : (b : List ℕ) (image : Image) (sections : List SectionTable) (walk : Libraries) (rs : List ImportRecordView) → AreBytes b → length b ≤ 2 ^ 63 → libraries_at image (map_of_image image sections) ≡ Ok (Some walk) →
     import_data_at (map_of_image image sections) (entry_size (image.width == 64)) b (import_directory image).virtual_address ≡ Ok rs →
     (reported : List Library) × ReturnsItems (StepsLibraries (map_of_image image sections) (entry_size (image.width == 64)) b) walk (map (λ x. Ok x) reported) ×
     AllZip (ReportsLibrary (map_of_image image sections) (entry_size (image.width == 64)) b) reported rs
@@ -365,7 +365,7 @@ libraries_in_turn b image sections walk rs bytes small e whole =
     subst (ReturnsReported (StepsLibraries (map_of_image image sections) (entry_size (image.width == 64)) b) (ReportsLibrary (map_of_image image sections) (entry_size (image.width == 64)) b) walk) whole
     (reported_of_image b image sections walk bytes small e)
 
-pub refused_in_turn : (b : List ℕ) (image : Image) (sections : List SectionTable) (walk : Libraries) (refusal : Refusal) → AreBytes b → length b ≤ 2 ^ 63 → libraries_at image sections ≡ Ok (Some walk) →
+pub refused_in_turn : (b : List ℕ) (image : Image) (sections : List SectionTable) (walk : Libraries) (refusal : Refusal) → AreBytes b → length b ≤ 2 ^ 63 → libraries_at image (map_of_image image sections) ≡ Ok (Some walk) →
     import_data_at (map_of_image image sections) (entry_size (image.width == 64)) b (import_directory image).virtual_address ≡ Err refusal →
     (reported : List Library) × (rs : List ImportRecordView) ×
     ReturnsItems (StepsLibraries (map_of_image image sections) (entry_size (image.width == 64)) b) walk (map (λ x. Ok x) reported ++ Err refusal ∷ []) ×

@@ -43,6 +43,7 @@ pub mod Steps
 pub mod StepMaps
 pub mod TableLinks
 pub mod TableLookups
+pub mod VersionContents
 pub mod VersionsReported
 pub mod Ways
 pub mod LeafRuns
@@ -72,6 +73,7 @@ pub mod ViewRuns
 pub mod IndexHalves
 pub mod IndexFound
 pub mod IndexMaps
+pub mod IndexedCalls
 pub mod RecordCodes
 pub mod CodeBytes
 pub mod SplitRooms

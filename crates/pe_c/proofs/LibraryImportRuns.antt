@@ -169,13 +169,13 @@ module _ (offset : ℕ → Option ℕ) (w : ℕ) (b : List ℕ) where
       ReturnsItems All (before_first start) (of_libraries w b imports 0 libraries)
   from_first libraries imports start h are = from_libraries imports libraries (before_first start) (none_left 0) h are
 
-started : (image : Image) (sections : List SectionTable) (start : Libraries) (walk : LibraryImports) → libraries_at image sections ≡ Ok (Some start) → library_imports_at image sections ≡ Ok (Some walk) → before_first start ≡ walk
+started : (image : Image) (sections : List SectionTable) (start : Libraries) (walk : LibraryImports) → libraries_at image (map_of_image image sections) ≡ Ok (Some start) → library_imports_at image (map_of_image image sections) ≡ Ok (Some walk) → before_first start ≡ walk
 started image sections start walk at is =
     let same : Ok (Some (before_first start)) ≡ Ok (Some walk) = ap (λ (r : Result (Option Libraries) Refusal). r >>= λ o. Ok (option_map before_first o)) (sym at) ∙ is in
     cc
 
 pub all_of_image : (b : List ℕ) (image : Image) (sections : List SectionTable) (start : Libraries) (walk : LibraryImports) (libraries : List (Result Library Refusal)) (imports : Library → List (Result Import Refusal)) →
-    libraries_at image sections ≡ Ok (Some start) → library_imports_at image sections ≡ Ok (Some walk) →
+    libraries_at image (map_of_image image sections) ≡ Ok (Some start) → library_imports_at image (map_of_image image sections) ≡ Ok (Some walk) →
     ReturnsItems (StepsLibraries (map_of_image image sections) (entry_size (image.width == 64)) b) start libraries →
     AreImportsOf (map_of_image image sections) (entry_size (image.width == 64)) b imports libraries →
     ReturnsItems (StepsLibraryImports (map_of_image image sections) (entry_size (image.width == 64)) b) walk (of_libraries (entry_size (image.width == 64)) b imports 0 libraries)

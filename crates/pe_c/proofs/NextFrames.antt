@@ -1,5 +1,5 @@
 -- A call that steps a walk: what it leaves in the walk is what the walk of pe_frame does.
-use Rattle.std.proofs.Common.{◌≡◌, inl, inr, ℕ, zero, suc, ◌+◌, ◌<◌, List, [], ◌∷◌, ◌++◌, length, set, take, drop, Option, Some, None, Result, Ok, Err, refl, ap, sym, ◌∙◌, subst, arith}
+use Rattle.std.proofs.Common.{◌≡◌, inl, inr, ℕ, zero, suc, ◌+◌, ◌<◌, List, [], ◌∷◌, ◌++◌, length, set, take, drop, Some, None, Result, Ok, Err, refl, ap, sym, ◌∙◌, subst, arith}
 use Rattle.std.proofs.lemmas.List.{drop-drop, drop-set-lt, take_more_set}
 use Rattle.pe_frame.specs.FrameWalks.{Advances, AdvancesBy, Follows, FrameWalk, Process, returned_frame, walk_after}
 use Rattle.pe_frame.specs.declared.walk.WalkEnd.{WalkEnd}

@@ -189,7 +189,7 @@ callbacks_from b image false (Ok p) w table items some e g f =
     (callbacks_by b image p items some (subst (λ (d : List ℕ). Items (first_va (wide image)) d items) (sym bytes) f) (tail_there b p (holds b p (length b - p)) refl))
 
 pub callbacks_of_image : (b : List ℕ) (image : images.Image) (sections : List SectionTable) (tls : TlsDirectory) (w : Range) (table : List ℕ) (items : List (Result ℕ DirectoryRefusal)) → 0 < length b →
-    callbacks_at b image sections tls ≡ Ok (Some w) → callback_table (image_parts b image sections) tls ≡ Ok (Some table) → Items (first_va (wide image)) table items → ReturnsItems (StepsCallbacks image b) w items
+    callbacks_at b image (λ _. sections) tls ≡ Ok (Some w) → callback_table (image_parts b image sections) tls ≡ Ok (Some table) → Items (first_va (wide image)) table items → ReturnsItems (StepsCallbacks image b) w items
 unfolding callback_table
 callbacks_of_image b image sections tls w table items some e g f =
     callbacks_from b image (tls.address_of_callbacks == 0) (offset_of_va (image_parts b image sections) tls.address_of_callbacks) w table items some e g f

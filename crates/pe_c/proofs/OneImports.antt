@@ -85,4 +85,4 @@ one_by b image sections true (Ok None) x y g h = g ∙ sym h
 one_by b image sections true (Ok (Some walk)) x y g h = one_after (map_of_image image sections) (entry_size (image.width == 64)) b walk g.0 h.0 x y g.1 h.1
 
 pub one_imports : (wanted : Bool) (b : List ℕ) (image : Image) (sections : List SectionTable) (x y : Result Found Refusal) → AreImports wanted b image sections x → AreImports wanted b image sections y → x ≡ y
-one_imports wanted b image sections x y g h = one_by b image sections wanted (libraries_at image sections) x y g h
+one_imports wanted b image sections x y g h = one_by b image sections wanted (libraries_at image (map_of_image image sections)) x y g h

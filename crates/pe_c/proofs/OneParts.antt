@@ -161,7 +161,7 @@ one_directory : (b : List ℕ) (image : Image) (sections : List SectionTable) (w
 one_directory b image sections w d e g h =
     let place : g.numbers.0 ≡ h.numbers.0 = same_some (map_of_image image sections (export_directory image).virtual_address) g.numbers.0 h.numbers.0 g.numbers.1 h.numbers.1 in
     let numbers : d.directory ≡ e.directory = g.numbers.2 ∙ ap (export_directory_at b) place ∙ sym h.numbers.2 in
-    let table : g.name.0 ≡ h.name.0 = same_ok (address_table_at b image sections) g.name.0 h.name.0 g.name.1 h.name.1 in
+    let table : g.name.0 ≡ h.name.0 = same_ok (address_table_at b image (map_of_image image sections)) g.name.0 h.name.0 g.name.1 h.name.1 in
     let name : d.name ≡ e.name = one_part b g.name.0.name d.name e.name g.name.2 (rw table h.name.2) (sym g.name.3 ∙ ap (λ (t : AddressTable). t.has_name) table ∙ h.name.3) in
     let addresses : d.addresses ≡ e.addresses = one_range b w.addresses d.addresses e.addresses g.tables.addresses h.tables.addresses in
     let names : d.names ≡ e.names = one_range b w.names d.names e.names g.tables.names h.tables.names in
@@ -185,4 +185,4 @@ one_exports_by b image sections (Ok None) d e xs ys g h = (g.0 ∙ sym h.0, g.1 
 one_exports_by b image sections (Err refusal) d e xs ys g h = (g.0 ∙ sym h.0, g.1 ∙ sym h.1)
 
 pub one_exports : (b : List ℕ) (image : Image) (sections : List SectionTable) (d e : Option ExportDataView) (xs ys : List ExportView) → AreExports b image sections d xs → AreExports b image sections e ys → (d ≡ e) × (xs ≡ ys)
-one_exports b image sections d e xs ys g h = one_exports_by b image sections (tables_at b image sections) d e xs ys g h
+one_exports b image sections d e xs ys g h = one_exports_by b image sections (tables_at b image (map_of_image image sections)) d e xs ys g h

@@ -28,11 +28,11 @@ abbrev pub OneContent : Type 0
 OneContent = (o : ParseOptions) (f : List ℕ) (d : DataDirectory) (id : ℕ) (sections : List SectionTable) (alignment : ℕ) (r s : Result (Option ByteRange) Refusal) → IsResourceRange o f d id sections alignment r → IsResourceRange o f d id sections alignment s → r ≡ s
 
 one_content_by : OneContent → (o : ParseOptions) (b : List ℕ) (image : Image) (sections : List SectionTable) (id : ℕ) (absent : Bool) (r s : Result (Option ByteRange) Refusal) →
-    IsContentBy absent o b image sections id r → IsContentBy absent o b image sections id s → r ≡ s
+    IsContentBy absent o b image (λ _. sections) id r → IsContentBy absent o b image (λ _. sections) id s → r ≡ s
 one_content_by law o b image sections id true r s g h = g ∙ sym h
 one_content_by law o b image sections id false r s g h = law o b (resource_directory image) id sections image.file_alignment r s g h
 
-one_content : OneContent → (b : List ℕ) (image : Image) (sections : List SectionTable) (id : ℕ) (r s : Result (Option ByteRange) Refusal) → IsContentOf b image sections image.mode id r → IsContentOf b image sections image.mode id s → r ≡ s
+one_content : OneContent → (b : List ℕ) (image : Image) (sections : List SectionTable) (id : ℕ) (r s : Result (Option ByteRange) Refusal) → IsContentOf b image (λ _. sections) image.mode id r → IsContentOf b image (λ _. sections) image.mode id s → r ≡ s
 one_content law b image sections id r s g h = one_content_by law (options_of image.mode) b image sections id (is_absent (resource_directory image)) r s g h
 
 -- ---- version information

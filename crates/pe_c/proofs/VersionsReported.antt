@@ -21,8 +21,8 @@ use Rattle.pe_c.specs.Versions.{IsContentBy, IsContentOf, HandsOutManifest, fixe
 use Rattle.pe_c.specs.declared.image.Image.{Image}
 use Rattle.pe_c.specs.declared.ranges.Range.{Range}
 
-content_range : (b : List ℕ) (image : Image) (sections : List SectionTable) (mode id : ℕ) (r : Result (Option ByteRange) Refusal) → is_absent (resource_directory image) ≡ false → IsContentOf b image sections mode id r → IsResourceRange (options_of mode) b (resource_directory image) id sections image.file_alignment r
-content_range b image sections mode id r there h = subst (λ (t : Bool). IsContentBy t (options_of mode) b image sections id r) there h
+content_range : (b : List ℕ) (image : Image) (sections : List SectionTable) (mode id : ℕ) (r : Result (Option ByteRange) Refusal) → is_absent (resource_directory image) ≡ false → IsContentOf b image (λ _. sections) mode id r → IsResourceRange (options_of mode) b (resource_directory image) id sections image.file_alignment r
+content_range b image sections mode id r there h = subst (λ (t : Bool). IsContentBy t (options_of mode) b image (λ _. sections) id r) there h
 
 -- ---- ranges
 
@@ -33,7 +33,7 @@ reports : (b : List ℕ) (c : Option ByteRange) (m : Option (List ℕ)) (number 
 reports b None m number old new h k = subst (ReportsRange b number new) (sym h) k.0
 reports b (Some r) m number old new h k = subst (ReportsRange b number new) (sym h.1) (k.0, goes_out b r new h.0 k.1)
 
-pub manifest_reported : (b : List ℕ) (image : Image) (sections : List SectionTable) (mode : ℕ) (x : ResourceView) (number : ℕ) (old new : Range) → AreImageResources b image sections mode x → HandsOutManifest b image sections mode number old new → ReportsRange b number new x.manifest
+pub manifest_reported : (b : List ℕ) (image : Image) (sections : List SectionTable) (mode : ℕ) (x : ResourceView) (number : ℕ) (old new : Range) → AreImageResources b image sections mode x → HandsOutManifest b image (λ _. sections) mode number old new → ReportsRange b number new x.manifest
 manifest_reported b image sections mode x number old new h k =
     let found = manifest_in (options_of mode) b (resource_directory image) sections image.file_alignment x k.0 h.1 (content_range b image sections mode 24 k.0 h.0 k.1) in
     reports b found.0 x.manifest number old new found.2 (subst (λ (r : Result (Option ByteRange) Refusal). HandsOutIf number old new (r >>= λ c. Ok (option_map range_of c))) found.1 k.2)
@@ -56,7 +56,7 @@ fixed_is b (Some r) bytes v h k =
     let reads = a_version (bytes_in b r) v bytes h.1 k in
     version_fixed (bytes_in b r) reads.0 reads.1 ∙ ap (λ (o : Option VersionView). Ok (fixed_of o)) (sym reads.2)
 
-pub fixed_reported : (b : List ℕ) (image : Image) (sections : List SectionTable) (mode : ℕ) (x : ResourceView) (number : ℕ) (old new : VsFixedFileInfo) → AreImageResources b image sections mode x → HandsOutFixed b image sections mode number old new → HandsOutIf number old new (Ok (fixed_of x.version))
+pub fixed_reported : (b : List ℕ) (image : Image) (sections : List SectionTable) (mode : ℕ) (x : ResourceView) (number : ℕ) (old new : VsFixedFileInfo) → AreImageResources b image sections mode x → HandsOutFixed b image (λ _. sections) mode number old new → HandsOutIf number old new (Ok (fixed_of x.version))
 fixed_reported b image sections mode x number old new h k =
     let found = version_in_range (options_of mode) b (resource_directory image) sections image.file_alignment x k.0 h.1 (content_range b image sections mode 16 k.0 h.0 k.1) in
     subst (HandsOutIf number old new) (fixed_is b found.0 found.1 x.version found.3 found.4)
@@ -78,7 +78,7 @@ value_is b name (Some r) bytes v number old new h k answers =
     (there_inside b r found.0 (value_named name reads.0.strings) number old new h.0 found.2
     (subst (λ (q : Result (Option ByteRange) Refusal). HandsOutIf number old new (q >>= λ v. Ok (option_map (λ v. range_of (inner r v)) v))) found.1 answers))
 
-pub value_reported : (b : List ℕ) (image : Image) (sections : List SectionTable) (mode : ℕ) (name : VersionName) (x : ResourceView) (number : ℕ) (old new : Range) → AreImageResources b image sections mode x → HandsOutText b image sections mode (Some name) number old new → ReportsRange b number new (version_value name x.version)
+pub value_reported : (b : List ℕ) (image : Image) (sections : List SectionTable) (mode : ℕ) (name : VersionName) (x : ResourceView) (number : ℕ) (old new : Range) → AreImageResources b image sections mode x → HandsOutText b image (λ _. sections) mode (Some name) number old new → ReportsRange b number new (version_value name x.version)
 value_reported b image sections mode name x number old new h k =
     let found = version_in_range (options_of mode) b (resource_directory image) sections image.file_alignment x k.0 h.1 (content_range b image sections mode 16 k.0 h.0 k.1) in
     value_is b name found.0 found.1 x.version number old new found.3 found.4

@@ -53,6 +53,10 @@ image_parts b image sections = record {
   opts = options_of image.mode;
 }
 
+-- the file offset of a virtual address, by the sections that may map its RVA
+abbrev pub va_offset : List ℕ → images.Image → (ℕ → List SectionTable) → ℕ → Result ℕ DirectoryRefusal
+va_offset b image may_map va = offset_of_va (image_parts b image (may_map (va - image.base))) va
+
 -- what a directory is read as, if it is not absent
 abbrev pub if_present : {Y : Type 0} → DataDirectory → Result Y DirectoryRefusal → Result (Option Y) DirectoryRefusal
 if_present d value = if is_absent d then Ok None else (value >>= λ y. Ok (Some y))
@@ -102,10 +106,10 @@ abbrev pub tls_at : List ℕ → images.Image → List SectionTable → Result (
 tls_at b image sections = if_present (directory image 9) (tls_directory (image_parts b image sections) (directory image 9))
 
 -- the callbacks of a TLS directory, if it has a table of them: from its first number to the end of the bytes
-abbrev pub callbacks_at : List ℕ → images.Image → List SectionTable → TlsDirectory → Result (Option Range) DirectoryRefusal
-callbacks_at b image sections tls =
+abbrev pub callbacks_at : List ℕ → images.Image → (ℕ → List SectionTable) → TlsDirectory → Result (Option Range) DirectoryRefusal
+callbacks_at b image may_map tls =
     if tls.address_of_callbacks == 0 then Ok None
-    else (offset_of_va (image_parts b image sections) tls.address_of_callbacks >>= λ p. Ok (Some (record { offset = p; length = length b - p })))
+    else (va_offset b image may_map tls.address_of_callbacks >>= λ p. Ok (Some (record { offset = p; length = length b - p })))
 
 -- the number that stands first in a table of virtual addresses; the range without bytes at offset 0 is that of a walk that is
 -- over, another one without bytes that of a table which is truncated

@@ -1,5 +1,5 @@
 -- Why the directories of an image are refused: by the refusal of the call that reads a directory, with the numbers by its bytes.
-use Rattle.std.specs.Prelude.{◌≡◌, ℕ, ◌+◌, ◌*◌, ◌-◌, ◌^◌, ◌==◌, ◌||◌, min, Bool, false, List, Option, Some, None, if◌then◌else◌}
+use Rattle.std.specs.Prelude.{ℕ, ◌+◌, ◌*◌, ◌-◌, ◌^◌, ◌==◌, ◌||◌, min, Bool, false, List, Option, Some, None, if◌then◌else◌}
 use Rattle.pe_core.specs.Bytes.{holds, le}
 use Rattle.pe_core.specs.Records.{export_directory}
 use Rattle.pe_core.specs.Refusals.{Short, Unmapped, DebugBounds, ExceptionSize, ExceptionOffset, ExceptionBounds, ResourceBounds}
@@ -15,7 +15,7 @@ use Rattle.pe_c.specs.Exports.{or_zero, tables_at}
 use Rattle.pe_c.specs.FailureNumbers.{directory_refused, needed_at, no_numbers, number_there, numbers, refused, refused_value}
 use Rattle.pe_c.specs.HandsOut.{result_number}
 use Rattle.pe_c.specs.ImageParts.{function_table}
-use Rattle.pe_c.specs.Images.{directory, map_of_image}
+use Rattle.pe_c.specs.Images.{directory, for_directory, map_by}
 use Rattle.pe_c.specs.Imports.{libraries_at}
 use Rattle.pe_c.specs.LoadConfigs.{load_config_at}
 use Rattle.pe_c.specs.ResourceLeaves.{leaves_start}
@@ -30,21 +30,21 @@ abbrev pub certificate_table : Image → Range
 certificate_table image = record { offset = (directory image 4).virtual_address; length = (directory image 4).size }
 
 -- what refuses the directory with this index: the refusal of the call which reads it, of the certificate table that of the
--- first step
-unfoldable pub directory_refusal : ℕ → List ℕ → Image → List SectionTable → Option ℕ
-directory_refusal i b image sections =
-    if i == 0 then refused (tables_at b image sections)
-    else if i == 1 then refused (libraries_at image sections)
-    else if i == 2 then refused (leaves_start b image sections)
-    else if i == 3 then refused (function_table b image sections)
+-- first step. `may_map` gives the sections that may map an RVA
+unfoldable pub directory_refusal : ℕ → List ℕ → Image → (ℕ → List SectionTable) → Option ℕ
+directory_refusal i b image may_map =
+    if i == 0 then refused (tables_at b image (map_by image may_map))
+    else if i == 1 then refused (libraries_at image (map_by image may_map))
+    else if i == 2 then refused (leaves_start b image (for_directory may_map image 2))
+    else if i == 3 then refused (function_table b image (for_directory may_map image 3))
     else if i == 4 then refused ((certificate_step b (certificate_table image)).0)
-    else if i == 5 then directory_refused (table_at 5 b image sections)
-    else if i == 6 then refused (debug_entries_range b image sections image.mode)
-    else if i == 9 then directory_refused (tls_at b image sections)
-    else if i == 10 then directory_refused (load_config_at b image sections)
+    else if i == 5 then directory_refused (table_at 5 b image (for_directory may_map image 5))
+    else if i == 6 then refused (debug_entries_range b image (for_directory may_map image 6) image.mode)
+    else if i == 9 then directory_refused (tls_at b image (for_directory may_map image 9))
+    else if i == 10 then directory_refused (load_config_at b image (for_directory may_map image 10))
     else if i == 11 then directory_refused (bound_imports_at b image)
-    else if i == 13 then directory_refused (table_at 13 b image sections)
-    else if i == 14 then directory_refused (clr_header_at b image sections)
+    else if i == 13 then directory_refused (table_at 13 b image (for_directory may_map image 13))
+    else if i == 14 then directory_refused (clr_header_at b image (for_directory may_map image 14))
     else None
 
 -- ---- what a directory needs
@@ -80,10 +80,10 @@ missing_export offset b rva =
 
 -- what the directory with this index needs: a part of exports; the first directory of resources, the TLS directory, the size of
 -- the load configuration, the CLR header; of any other all of it
-unfoldable pub needed_part : ℕ → List ℕ → Image → List SectionTable → NeededPart
-needed_part i b image sections =
+unfoldable pub needed_part : ℕ → List ℕ → Image → (ℕ → Option ℕ) → NeededPart
+needed_part i b image offset =
     let d = directory image i in
-    if i == 0 then missing_export (map_of_image image sections) b d.virtual_address
+    if i == 0 then missing_export offset b d.virtual_address
     else if i == 2 then part d.virtual_address 16
     else if i == 9 then part d.virtual_address (if image.width == 64 then 40 else 24)
     else if i == 10 then part d.virtual_address 4
@@ -91,8 +91,8 @@ needed_part i b image sections =
     else part d.virtual_address d.size
 
 -- where an RVA that it has is in the file, 0 where it is unmapped; those of bound imports are offsets
-abbrev pub directory_offset : ℕ → Image → List SectionTable → ℕ → ℕ
-directory_offset i image sections rva = if i == 11 then rva else or_zero (map_of_image image sections rva)
+abbrev pub directory_offset : ℕ → (ℕ → Option ℕ) → ℕ → ℕ
+directory_offset i offset rva = if i == 11 then rva else or_zero (offset rva)
 
 -- the size of the entries after the first directory of resources, 8 bytes each: the sum of two counts, at most 65,535
 abbrev pub entries_size : List ℕ → ℕ → ℕ
@@ -103,13 +103,13 @@ abbrev pub resource_end : List ℕ → ℕ → ℕ → ℕ
 resource_end b p n = if holds b p n then end_of p (16 + entries_size b p) else end_of p n
 
 -- the numbers of the failure of the directory with this index; that of certificates is the failure of the first
-unfoldable pub directory_numbers : ℕ → List ℕ → Image → List SectionTable → ℕ → ErrorNumbers
-directory_numbers i b image sections n =
+unfoldable pub directory_numbers : ℕ → List ℕ → Image → (ℕ → Option ℕ) → ℕ → ErrorNumbers
+directory_numbers i b image offset n =
     let d = directory image i in
-    let p = directory_offset i image sections d.virtual_address in
-    let needed = needed_part i b image sections in
+    let p = directory_offset i offset d.virtual_address in
+    let needed = needed_part i b image offset in
     if i == 4 then certificate_numbers b (certificate_table image) n
-    else if n == result_number Short then needed_at (directory_offset i image sections needed.rva) needed.size
+    else if n == result_number Short then needed_at (directory_offset i offset needed.rva) needed.size
     else if n == result_number Unmapped then refused_value needed.rva
     else if n == result_number ExceptionSize then refused_value d.size
     else if n == result_number ExceptionOffset then numbers p 0 0

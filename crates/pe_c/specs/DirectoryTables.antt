@@ -1,16 +1,15 @@
 -- The tables that head a directory with fields of their own: that of exports, and each directory of a resource tree.
-use Rattle.std.specs.Prelude.{ℕ, ◌+◌, ◌*◌, List, length, Option, Some, None, Result, Ok, if◌then◌else◌}
+use Rattle.std.specs.Prelude.{ℕ, ◌+◌, ◌*◌, List, Option, Some, None, Result, Ok, if◌then◌else◌}
 use Rattle.pe_core.specs.Bytes.{record_at}
 use Rattle.pe_core.specs.Records as records
 use Rattle.pe_core.specs.Refusals.{Refusal, ◌>>=◌}
 use Rattle.pe_core.specs.SectionMap.{mapped}
 use Rattle.pe_core.specs.declared.export.ExportDirectoryTable.{ExportDirectoryTable}
-use Rattle.pe_core.specs.declared.section_table.SectionTable.{SectionTable}
 use Rattle.pe_resource.specs.Directories.{count, directory_of, entries_at}
 use Rattle.pe_resource.specs.ResourceEntries.{directory_offset, entry_at, is_directory}
 use Rattle.pe_resource.specs.declared.directory.ImageResourceDirectory.{ImageResourceDirectory}
 use Rattle.pe_resource.specs.declared.entry.ResourceEntry as trees
-use Rattle.pe_c.specs.Images.{export_directory, is_absent, map_of_image}
+use Rattle.pe_c.specs.Images.{export_directory, is_absent}
 use Rattle.pe_c.specs.Ranges.{bytes_at}
 use Rattle.pe_c.specs.ResourceLeaves.{name_in}
 use Rattle.pe_c.specs.Walks.{next_of}
@@ -40,10 +39,10 @@ export_fields d = record {
 }
 
 -- the fields of an image's export directory, if it has one; or what refuses its 40 bytes
-abbrev pub export_directory_at : List ℕ → Image → List SectionTable → Result (Option ExportFields) Refusal
-export_directory_at b image sections =
+abbrev pub export_directory_at : List ℕ → Image → (ℕ → Option ℕ) → Result (Option ExportFields) Refusal
+export_directory_at b image offset =
     if is_absent (export_directory image) then Ok None
-    else mapped (map_of_image image sections (export_directory image).virtual_address) >>= λ p.
+    else mapped (offset (export_directory image).virtual_address) >>= λ p.
     record_at b p 40 (Some (export_fields (records.export_directory b p)))
 
 -- ---- resources

@@ -7,9 +7,8 @@ use Rattle.pe_core.specs.Refusals.{Refusal, ◌>>=◌}
 use Rattle.pe_core.specs.Text.{text_at}
 use Rattle.pe_core.specs.declared.data_directories.DataDirectory.{DataDirectory}
 use Rattle.pe_core.specs.declared.export_addresses.ExportAddress.{ExportAddress}
-use Rattle.pe_core.specs.declared.section_table.SectionTable.{SectionTable}
 use Rattle.pe_c.specs.Exports.{export_table, one_if_some}
-use Rattle.pe_c.specs.Images.{export_directory, is_absent, map_of_image}
+use Rattle.pe_c.specs.Images.{export_directory, is_absent}
 use Rattle.pe_c.specs.Ranges.{bytes_at, or_no_bytes}
 use Rattle.pe_c.specs.declared.export_addresses.AddressTable.{AddressTable}
 use Rattle.pe_c.specs.declared.export_addresses.Exported.{Exported}
@@ -39,10 +38,10 @@ address_table offset b directory d = record {
 }
 
 -- the address table of an image, if it has an export directory; or what refuses that
-unfoldable pub address_table_at : List ℕ → Image → List SectionTable → Result (Option AddressTable) Refusal
-address_table_at b image sections =
+unfoldable pub address_table_at : List ℕ → Image → (ℕ → Option ℕ) → Result (Option AddressTable) Refusal
+address_table_at b image offset =
     if is_absent (export_directory image) then Ok None
-    else export_data_at (map_of_image image sections) b (export_directory image).virtual_address >>= λ d. Ok (Some (address_table (map_of_image image sections) b (export_directory image) d))
+    else export_data_at offset b (export_directory image).virtual_address >>= λ d. Ok (Some (address_table offset b (export_directory image) d))
 
 -- 1 or 0
 abbrev pub one_if : Bool → ℕ

@@ -6,14 +6,13 @@ use Rattle.pe_core.specs.Bytes.{le}
 use Rattle.pe_core.specs.Exports.{ExportDataView, ExportView, export_data_at, named_export}
 use Rattle.pe_core.specs.Refusals.{Refusal, ◌>>=◌}
 use Rattle.pe_core.specs.Text.{text_at}
-use Rattle.pe_core.specs.declared.section_table.SectionTable.{SectionTable}
 use Rattle.pe_c.specs.declared.exports.Export.{Export}
 use Rattle.pe_c.specs.declared.exports.Exports.{Exports}
 use Rattle.pe_c.specs.declared.exports.Tables.{Tables}
 use Rattle.pe_c.specs.declared.image.Image.{Image}
 use Rattle.pe_c.specs.declared.ranges.Range.{Range}
 use Rattle.pe_c.specs.HandsOut.{HandsOutIf}
-use Rattle.pe_c.specs.Images.{export_directory, is_absent, map_of_image}
+use Rattle.pe_c.specs.Images.{export_directory, is_absent}
 use Rattle.pe_c.specs.Ranges.{bytes_at, no_bytes, range_from}
 
 -- ---- the tables
@@ -32,10 +31,10 @@ walk_over offset d = record {
 }
 
 -- the tables of an image's export directory as a walk, if it has one; or what refuses it
-unfoldable pub tables_at : List ℕ → Image → List SectionTable → Result (Option Exports) Refusal
-tables_at b image sections =
+unfoldable pub tables_at : List ℕ → Image → (ℕ → Option ℕ) → Result (Option Exports) Refusal
+tables_at b image offset =
     if is_absent (export_directory image) then Ok None
-    else export_data_at (map_of_image image sections) b (export_directory image).virtual_address >>= λ d. Ok (Some (walk_over (map_of_image image sections) d))
+    else export_data_at offset b (export_directory image).virtual_address >>= λ d. Ok (Some (walk_over offset d))
 
 -- ---- the walk
 

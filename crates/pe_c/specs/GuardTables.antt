@@ -5,11 +5,10 @@ use Rattle.pe_core.specs.Refusals.{◌>>=◌}
 use Rattle.pe_core.specs.declared.section_table.SectionTable.{SectionTable}
 use Rattle.pe_directories.specs.DirectoryRefusals.{DirectoryRefusal, of_image}
 use Rattle.pe_directories.specs.GuardTables.{Guarded, first_guarded, flag_size, guard_table}
-use Rattle.pe_directories.specs.ImageParts.{ImageView, offset_of_va}
 use Rattle.pe_directories.specs.LoadConfig.{load_config}
 use Rattle.pe_directories.specs.Walks.{First}
 use Rattle.pe_directories.specs.declared.load_config.LoadConfig.{LoadConfig}
-use Rattle.pe_c.specs.Directories.{first_of, image_parts, range_left}
+use Rattle.pe_c.specs.Directories.{first_of, image_parts, range_left, va_offset}
 use Rattle.pe_c.specs.DirectoryRuns.{StepsBy}
 use Rattle.pe_c.specs.Images.{directory, is_absent}
 use Rattle.pe_c.specs.Ranges.{IsRange, bytes_at, no_bytes, range_after}
@@ -33,21 +32,22 @@ place_of n c =
 
 -- a walk over a table: its bytes are those from its first entry to the end of the bytes. Where its address or the number of its
 -- entries is 0 or absent there is none
-abbrev pub entries_of : ImageView → Place → Result (Option GuardEntries) DirectoryRefusal
-entries_of i p =
+abbrev pub entries_of : List ℕ → images.Image → (ℕ → List SectionTable) → Place → Result (Option GuardEntries) DirectoryRefusal
+entries_of b image may_map p =
     if unwrap_or p.va 0 == 0 || unwrap_or p.count 0 == 0 then Ok None
-    else (offset_of_va i (unwrap_or p.va 0) >>= λ q. Ok (Some (record {
-      entries = record { offset = q; length = length i.bytes - q };
+    else (va_offset b image may_map (unwrap_or p.va 0) >>= λ q. Ok (Some (record {
+      entries = record { offset = q; length = length b - q };
       count = unwrap_or p.count 0;
       flag_size = p.flag_size;
       spare = 0;
     })))
 
 -- a walk over the table with this number, if the image has a load configuration and this has the table
-abbrev pub guard_table_at : ℕ → List ℕ → images.Image → List SectionTable → Result (Option GuardEntries) DirectoryRefusal
-guard_table_at n b image sections =
-    if is_absent (directory image 10) then Ok None
-    else (load_config (image_parts b image sections) (directory image 10) >>= λ c. entries_of (image_parts b image sections) (place_of n c))
+abbrev pub guard_table_at : ℕ → List ℕ → images.Image → (ℕ → List SectionTable) → Result (Option GuardEntries) DirectoryRefusal
+guard_table_at n b image may_map =
+    let d = directory image 10 in
+    if is_absent d then Ok None
+    else (load_config (image_parts b image (may_map d.virtual_address)) d >>= λ c. entries_of b image may_map (place_of n c))
 
 -- ---- the entries
 
@@ -101,6 +101,6 @@ ReturnsEntries b w items =
 
 -- the walk over the table with this number, and as pe_directories defines it the number of its entries and its bytes
 pub record StartsEntries (n : ℕ) (b : List ℕ) (image : images.Image) (sections : List SectionTable) (w : GuardEntries) (c : LoadConfig) (s : ℕ × List ℕ) : Type 0 where
-  pub started : guard_table_at n b image sections ≡ Ok (Some w)
+  pub started : guard_table_at n b image (λ _. sections) ≡ Ok (Some w)
   pub config : load_config (image_parts b image sections) (directory image 10) ≡ Ok c
   pub read : guard_table (image_parts b image sections) (place_of n c).va (place_of n c).count ≡ Ok (Some s)

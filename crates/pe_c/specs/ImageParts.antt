@@ -103,7 +103,7 @@ AreCertificates wanted b image part = AreListed (is_left_out wanted (directory i
 -- which no call returns, stand at the offset that `pe_c_offset` returns of its RVA
 pub record IsExportData (b : List ℕ) (image : Image) (sections : List SectionTable) (w : Exports) (d : ExportDataView) : Type 0 where
   pub tables : HasTables b w d
-  pub name : (t : AddressTable) × (address_table_at b image sections ≡ Ok (Some t)) × IsPart b t.name d.name × (t.has_name ≡ one_if_some d.name)
+  pub name : (t : AddressTable) × (address_table_at b image (map_of_image image sections) ≡ Ok (Some t)) × IsPart b t.name d.name × (t.has_name ≡ one_if_some d.name)
   pub numbers : (p : ℕ) × (map_of_image image sections (export_directory image).virtual_address ≡ Some p) × (d.directory ≡ export_directory_at b p)
 
 -- by what `pe_c_export_tables` returns: its walk returns the list; without one there is no directory, and a refused one counts
@@ -116,7 +116,7 @@ AreExportsBy b image sections (Ok None) found list = (found ≡ None) × (list �
 AreExportsBy b image sections (Err refusal) found list = (found ≡ None) × (list ≡ [])
 
 abbrev pub AreExports : List ℕ → Image → List SectionTable → Option ExportDataView → List ExportView → Type 0
-AreExports b image sections found list = AreExportsBy b image sections (tables_at b image sections) found list
+AreExports b image sections found list = AreExportsBy b image sections (tables_at b image (map_of_image image sections)) found list
 
 -- ---- imports
 
@@ -154,7 +154,7 @@ AreImportsBy true b image sections (Ok (Some walk)) part =
     (records : Result (List ImportRecordView) Refusal) × AreImportsAfter (map_of_image image sections) (entry_size (image.width == 64)) b walk records part
 
 abbrev pub AreImports : Bool → List ℕ → Image → List SectionTable → Result (Option (List ImportRecordView × List ImportView)) Refusal → Type 0
-AreImports wanted b image sections part = AreImportsBy wanted b image sections (libraries_at image sections) part
+AreImports wanted b image sections part = AreImportsBy wanted b image sections (libraries_at image (map_of_image image sections)) part
 
 -- ---- resources
 
@@ -188,9 +188,9 @@ AreResourcesBy b image sections (Err refusal) part = part ≡ Err refusal
 AreResourcesBy b image sections (Ok None) part = part ≡ Ok (Some no_resources)
 AreResourcesBy b image sections (Ok (Some w)) part =
     (content : Result (Option ByteRange) Refusal) × (version : Result (Option VersionView) Refusal) × (manifest : Result (Option ByteRange) Refusal)
-    × IsContentOf b image sections image.mode 16 content
+    × IsContentOf b image (λ _. sections) image.mode 16 content
     × IsVersionAt b content version
-    × IsContentOf b image sections image.mode 24 manifest
+    × IsContentOf b image (λ _. sections) image.mode 24 manifest
     × (part ≡ resources_at b w version manifest)
 
 abbrev pub AreResourcesUnless : Bool → List ℕ → Image → List SectionTable → Result (Option ResourceView) Refusal → Type 0

@@ -114,6 +114,14 @@ debug_directory image = directory image 6
 abbrev pub map_of_image : Image → List SectionTable → ℕ → Option ℕ
 map_of_image image sections = section_map (options_of image.mode) sections image.file_alignment
 
+-- the same by the sections that may map an RVA, which are all sections of the image or fewer
+abbrev pub map_by : Image → (ℕ → List SectionTable) → ℕ → Option ℕ
+map_by image may_map x = map_of_image image (may_map x) x
+
+-- those that may map the RVA of the directory with this index
+abbrev pub for_directory : (ℕ → List SectionTable) → Image → ℕ → List SectionTable
+for_directory may_map image i = may_map (directory image i).virtual_address
+
 -- the image of these bytes in this mode, or the first refusal of its headers
 abbrev pub image_at : List ℕ → ℕ → Result Image Refusal
 image_at b mode = header_at b (mode_of_number mode) >>= λ h. Ok (image_info_of mode h)

@@ -6,7 +6,6 @@ use Rattle.pe_core.specs.Imports.{EntryView, ImportRecordView, ImportView, impor
 use Rattle.pe_core.specs.Refusals.{Refusal, ◌>>=◌}
 use Rattle.pe_core.specs.SectionMap.{mapped}
 use Rattle.pe_core.specs.declared.import.ImportDirectoryEntry.{ImportDirectoryEntry}
-use Rattle.pe_core.specs.declared.section_table.SectionTable.{SectionTable}
 use Rattle.pe_c.specs.declared.image.Image.{Image}
 use Rattle.pe_c.specs.declared.imports.Import.{Import}
 use Rattle.pe_c.specs.declared.imports.Imports.{Imports}
@@ -14,7 +13,7 @@ use Rattle.pe_c.specs.declared.imports.Libraries.{Libraries}
 use Rattle.pe_c.specs.declared.imports.Library.{Library}
 use Rattle.pe_c.specs.declared.ranges.Range.{Range}
 use Rattle.pe_c.specs.Exports.{one_if_some}
-use Rattle.pe_c.specs.Images.{import_directory, is_absent, map_of_image}
+use Rattle.pe_c.specs.Images.{import_directory, is_absent}
 use Rattle.pe_c.specs.Ranges.{range_after, no_bytes, range_from}
 use Rattle.pe_c.specs.Walks.{left_entry}
 
@@ -29,10 +28,10 @@ abbrev pub no_libraries : Libraries
 no_libraries = record { next = 0; is_over = 1; spare = 0 }
 
 -- the libraries of an image's import directory, if it has one; its RVA has to be mapped
-abbrev pub libraries_at : Image → List SectionTable → Result (Option Libraries) Refusal
-libraries_at image sections =
+abbrev pub libraries_at : Image → (ℕ → Option ℕ) → Result (Option Libraries) Refusal
+libraries_at image offset =
     if is_absent (import_directory image) then Ok None
-    else mapped (map_of_image image sections (import_directory image).virtual_address) >>= λ p. Ok (Some (libraries_from p))
+    else mapped (offset (import_directory image).virtual_address) >>= λ p. Ok (Some (libraries_from p))
 
 -- a library, its name and its list as ranges
 abbrev pub library_reported : (ℕ → Option ℕ) → ImportRecordView → Library

@@ -3,7 +3,6 @@ use Rattle.std.specs.Prelude.{◌≡◌, ℕ, zero, suc, ◌+◌, ◌-◌, ◌%�
 use Rattle.std.specs.Option.{option_map}
 use Rattle.pe_core.specs.Bytes.{le}
 use Rattle.pe_core.specs.Refusals.{Refusal, ◌>>=◌}
-use Rattle.pe_core.specs.declared.section_table.SectionTable.{SectionTable}
 use Rattle.pe_c.specs.declared.image.Image.{Image}
 use Rattle.pe_c.specs.declared.imports.Import.{Import}
 use Rattle.pe_c.specs.declared.imports.Imports.{Imports}
@@ -23,8 +22,8 @@ abbrev pub before_first : Libraries → LibraryImports
 before_first libraries = record { libraries = libraries; imports = record { left = no_bytes; rva = 0 }; library_name = no_bytes; begun = 0 }
 
 -- the imports of an image's import directory, if it has one
-abbrev pub library_imports_at : Image → List SectionTable → Result (Option LibraryImports) Refusal
-library_imports_at image sections = libraries_at image sections >>= λ o. Ok (option_map before_first o)
+abbrev pub library_imports_at : Image → (ℕ → Option ℕ) → Result (Option LibraryImports) Refusal
+library_imports_at image offset = libraries_at image offset >>= λ o. Ok (option_map before_first o)
 
 -- how many libraries a walk has begun after one more
 abbrev pub one_more : ℕ → ℕ

@@ -1,6 +1,7 @@
 -- What the calls return that lay an image out as a loader does, and that relocate it.
 use Rattle.std.specs.Prelude.{◌≡◌, ℕ, ◌-◌, ◌^◌, ◌<◌, ◌≤◌, ◌==◌, Bool, true, false, List, ◌++◌, drop, length, slice_index_or, nat_lt, nat_le, Option, Some, None, Result, Ok, Err, if◌then◌else◌}
 use Rattle.pe_core.specs.Refusals.{◌>>=◌}
+use Rattle.pe_core.specs.declared.section_table.SectionTable.{SectionTable}
 use Rattle.pe_directories.specs.DirectoryRefusals.{DirectoryRefusal, directory_kind_of}
 use Rattle.pe_directories.specs.ImageParts.{table_of}
 use Rattle.pe_directories.specs.LoadedImages.{loaded}
@@ -39,12 +40,11 @@ base_field image =
     else if image.width == 32 then Some (record { kind = IMAGE_REL_BASED_HIGHLOW; rva = image.checksum_offset - 36; argument = None })
     else None
 
--- an image as loaded, relocated by the table of a view, if that has one
-abbrev pub relocated_by : View → ℕ → List ℕ → Result (Option (List ℕ)) DirectoryRefusal
-relocated_by v difference old =
-    if_present (directory v.image.now 5)
-    (table_of (image_parts v.bytes.now v.image.now v.sections.now) (directory v.image.now 5) >>= λ table.
-    relocated difference (base_field v.image.now) table old)
+-- an image as loaded, relocated by the table of an image, if that has one
+abbrev pub relocated_by : List ℕ → Image → List SectionTable → ℕ → List ℕ → Result (Option (List ℕ)) DirectoryRefusal
+relocated_by b image sections difference old =
+    if_present (directory image 5)
+    (table_of (image_parts b image sections) (directory image 5) >>= λ table. relocated difference (base_field image) table old)
 
 -- DONE and the image; NOTHING where there is no table; else the number of the refusal. The image is unchanged but where it is DONE
 abbrev pub ChangesRoom : ℕ → List ℕ → List ℕ → Result (Option (List ℕ)) DirectoryRefusal → Type 0

@@ -24,9 +24,9 @@ refusal_of blocks.PastEnd = Short
 refusal_of blocks.KeyEnd = ResourceString
 
 -- what a call for the blocks of an image returns: the range of the content of the resource with the id 16
-abbrev pub HandsOutBlocks : List ℕ → Image → List SectionTable → ℕ → ℕ → Range → Range → Type 0
-HandsOutBlocks b image sections mode number old new =
-    (c : Result (Option ByteRange) Refusal) × IsContentOf b image sections mode 16 c
+abbrev pub HandsOutBlocks : List ℕ → Image → (ℕ → List SectionTable) → ℕ → ℕ → Range → Range → Type 0
+HandsOutBlocks b image may_map mode number old new =
+    (c : Result (Option ByteRange) Refusal) × IsContentOf b image may_map mode 16 c
     × HandsOutIf number old new (c >>= λ c. Ok (option_map range_of c))
 
 -- where the value of a block starts, from the start of the block: after its head, its key and the zero code unit, at a

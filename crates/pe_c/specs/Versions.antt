@@ -7,9 +7,11 @@ use Rattle.pe_core.specs.Refusals.{Refusal, ◌>>=◌}
 use Rattle.pe_core.specs.declared.byte_range.ByteRange.{ByteRange}
 use Rattle.pe_core.specs.declared.options.ParseOptions.{ParseOptions}
 use Rattle.pe_core.specs.declared.section_table.SectionTable.{SectionTable}
-use Rattle.pe_resource.specs.Contents.{inner}
-use Rattle.pe_resource.specs.Resources.{ResourceView, IsResource, IsResourceRange}
+use Rattle.pe_core.specs.SectionMap.{section_map}
+use Rattle.pe_resource.specs.Contents.{IsContentRange, file_range, inner}
+use Rattle.pe_resource.specs.Resources.{ResourceView, IsOfFirst, IsResource, first_directory}
 use Rattle.pe_resource.specs.VersionFields.{VersionView, fixed_info_of, value_named, value_range_in}
+use Rattle.pe_resource.specs.declared.content.ResourceDataEntry.{ResourceDataEntry}
 use Rattle.pe_resource.specs.declared.version.VersionName.{VersionName}
 use Rattle.pe_resource.specs.declared.version.VersionName.TheVariants as names
 use Rattle.pe_resource.specs.declared.version.VsFixedFileInfo.{VsFixedFileInfo}
@@ -21,19 +23,28 @@ use Rattle.pe_c.specs.Modes.{options_of}
 use Rattle.pe_c.specs.Ranges.{range_of, IsRange}
 use Rattle.pe_c.specs.declared.results.TheConstants.{DONE, NOTHING}
 
--- the range of the content of the first resource with an id, or what refuses it; none without a resource directory
-abbrev pub IsContentBy : Bool → ParseOptions → List ℕ → Image → List SectionTable → ℕ → Result (Option ByteRange) Refusal → Type 0
-IsContentBy true o b image sections id r = r ≡ Ok None
-IsContentBy false o b image sections id r = IsResourceRange o b (resource_directory image) id sections image.file_alignment r
+-- the range of the content of the first resource with an id, or what refuses it; none without a resource directory. `may_map` gives
+-- the sections that may map an RVA: one is that of the directory, one that of the content
+abbrev pub IsContentBy : Bool → ParseOptions → List ℕ → Image → (ℕ → List SectionTable) → ℕ → Result (Option ByteRange) Refusal → Type 0
+IsContentBy true o b image may_map id r = r ≡ Ok None
+IsContentBy false o b image may_map id r =
+    let d = resource_directory image in
+    IsOfFirst None (λ first. IsContentRange (λ x. section_map o (may_map x) image.file_alignment x) b first.bytes first.entries id)
+    (first_directory o b d (may_map d.virtual_address) image.file_alignment) r
+
+-- the range of the content of a data entry, if there is one
+abbrev pub entry_range : List ℕ → (ℕ → Option ℕ) → Option ResourceDataEntry → Result (Option ByteRange) Refusal
+entry_range b offset None = Ok None
+entry_range b offset (Some e) = file_range b e.size (offset e.offset_to_data) >>= λ r. Ok (Some r)
 
 -- the same of an image in this mode
-abbrev pub IsContentOf : List ℕ → Image → List SectionTable → ℕ → ℕ → Result (Option ByteRange) Refusal → Type 0
-IsContentOf b image sections mode id r = IsContentBy (is_absent (resource_directory image)) (options_of mode) b image sections id r
+abbrev pub IsContentOf : List ℕ → Image → (ℕ → List SectionTable) → ℕ → ℕ → Result (Option ByteRange) Refusal → Type 0
+IsContentOf b image may_map mode id r = IsContentBy (is_absent (resource_directory image)) (options_of mode) b image may_map id r
 
 -- what a call for the manifest returns: the range of the content of the resource with the id 24
-abbrev pub HandsOutManifest : List ℕ → Image → List SectionTable → ℕ → ℕ → Range → Range → Type 0
-HandsOutManifest b image sections mode number old new =
-    (c : Result (Option ByteRange) Refusal) × IsContentOf b image sections mode 24 c
+abbrev pub HandsOutManifest : List ℕ → Image → (ℕ → List SectionTable) → ℕ → ℕ → Range → Range → Type 0
+HandsOutManifest b image may_map mode number old new =
+    (c : Result (Option ByteRange) Refusal) × IsContentOf b image may_map mode 24 c
     × HandsOutIf number old new (c >>= λ c. Ok (option_map range_of c))
 
 -- the fixed file information of the version information at a range
@@ -42,9 +53,9 @@ fixed_at b None = Ok None
 fixed_at b (Some c) = fixed_info_of (bytes_in b c)
 
 -- what a call for fixed file information returns: version information is the content of the resource with the id 16
-abbrev pub HandsOutFixed : List ℕ → Image → List SectionTable → ℕ → ℕ → VsFixedFileInfo → VsFixedFileInfo → Type 0
-HandsOutFixed b image sections mode number old new =
-    (c : Result (Option ByteRange) Refusal) × IsContentOf b image sections mode 16 c × HandsOutIf number old new (c >>= fixed_at b)
+abbrev pub HandsOutFixed : List ℕ → Image → (ℕ → List SectionTable) → ℕ → ℕ → VsFixedFileInfo → VsFixedFileInfo → Type 0
+HandsOutFixed b image may_map mode number old new =
+    (c : Result (Option ByteRange) Refusal) × IsContentOf b image may_map mode 16 c × HandsOutIf number old new (c >>= fixed_at b)
 
 -- the range of the value of a name in the version information at a range
 abbrev pub value_at : List ℕ → VersionName → Option ByteRange → Result (Option Range) Refusal
@@ -68,10 +79,10 @@ name_at n =
     else (if n == 11 then Some names.SpecialBuild else None)))))))))))
 
 -- what a call for the value of a name returns; any other number is no name
-abbrev pub HandsOutText : List ℕ → Image → List SectionTable → ℕ → Option VersionName → ℕ → Range → Range → Type 0
-HandsOutText b image sections mode None number old new = (number ≡ NOTHING) × (new ≡ old)
-HandsOutText b image sections mode (Some name) number old new =
-    (c : Result (Option ByteRange) Refusal) × IsContentOf b image sections mode 16 c × HandsOutIf number old new (c >>= value_at b name)
+abbrev pub HandsOutText : List ℕ → Image → (ℕ → List SectionTable) → ℕ → Option VersionName → ℕ → Range → Range → Type 0
+HandsOutText b image may_map mode None number old new = (number ≡ NOTHING) × (new ≡ old)
+HandsOutText b image may_map mode (Some name) number old new =
+    (c : Result (Option ByteRange) Refusal) × IsContentOf b image may_map mode 16 c × HandsOutIf number old new (c >>= value_at b name)
 
 -- ---- the same of one version information, whose range a caller has
 
@@ -113,14 +124,14 @@ version_value name (Some v) = value_named name v.strings
 abbrev pub ReportsManifest : Type 0
 ReportsManifest =
     (b : List ℕ) (image : Image) (sections : List SectionTable) (mode : ℕ) (x : ResourceView) (number : ℕ) (old new : Range) →
-    AreImageResources b image sections mode x → HandsOutManifest b image sections mode number old new → ReportsRange b number new x.manifest
+    AreImageResources b image sections mode x → HandsOutManifest b image (λ _. sections) mode number old new → ReportsRange b number new x.manifest
 
 abbrev pub ReportsFixed : Type 0
 ReportsFixed =
     (b : List ℕ) (image : Image) (sections : List SectionTable) (mode : ℕ) (x : ResourceView) (number : ℕ) (old new : VsFixedFileInfo) →
-    AreImageResources b image sections mode x → HandsOutFixed b image sections mode number old new → HandsOutIf number old new (Ok (fixed_of x.version))
+    AreImageResources b image sections mode x → HandsOutFixed b image (λ _. sections) mode number old new → HandsOutIf number old new (Ok (fixed_of x.version))
 
 abbrev pub ReportsValue : Type 0
 ReportsValue =
     (b : List ℕ) (image : Image) (sections : List SectionTable) (mode : ℕ) (name : VersionName) (x : ResourceView) (number : ℕ) (old new : Range) →
-    AreImageResources b image sections mode x → HandsOutText b image sections mode (Some name) number old new → ReportsRange b number new (version_value name x.version)
+    AreImageResources b image sections mode x → HandsOutText b image (λ _. sections) mode (Some name) number old new → ReportsRange b number new (version_value name x.version)

@@ -28,7 +28,7 @@ pub record StartsTable (index : ℕ) (b : List ℕ) (image : Image) (sections : 
 
 -- the walk over TLS callbacks, and the bytes of their table
 pub record StartsCallbacks (b : List ℕ) (image : Image) (sections : List SectionTable) (tls : TlsDirectory) (walk : Range) (table : List ℕ) : Type 0 where
-  pub started : callbacks_at b image sections tls ≡ Ok (Some walk)
+  pub started : callbacks_at b image (λ _. sections) tls ≡ Ok (Some walk)
   pub read : callback_table (image_parts b image sections) tls ≡ Ok (Some table)
 
 -- the metadata root of a CLR header, with the walk over its streams, as a call returns it and as pe_directories does

@@ -5,6 +5,7 @@ ghost use Rattle.std.specs.Prelude.{◌≡◌};
 ghost use Rattle.pe_directories.specs.BaseRelocations.{first_block, first_relocation};
 ghost use Rattle.pe_directories.specs.DirectoryRefusals.{directory_answer};
 ghost use Rattle.pe_c.specs.Directories.{DirectoryHandsOut, block_reported, first_in, left_after, relocation_reported, step_of, table_at};
+ghost use Rattle.pe_c.specs.Views.{directory_sections};
 
 use crate::directories::{Result, range_left, table_at};
 use crate::image::BASE_RELOCATION_TABLE;
@@ -44,7 +45,7 @@ pub struct Relocation {
 #[unsafe(no_mangle)]
 pub extern "C" fn pe_c_relocation_blocks(view: &View, out: &mut Range) -> u32
     ensures { DirectoryHandsOut result out.old out.new
-        (table_at 5 view.now.bytes.now view.now.image.now view.now.sections.now) }
+        (table_at 5 view.now.bytes.now view.now.image.now (directory_sections view.now 5)) }
 {
     hand_out_found(table_at(view, BASE_RELOCATION_TABLE), out)
 }

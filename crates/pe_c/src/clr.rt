@@ -8,8 +8,9 @@ ghost use Rattle.pe_directories.specs.Clr.{first_stream, stream_view};
 ghost use Rattle.pe_directories.specs.DirectoryRefusals.{directory_answer};
 ghost use Rattle.pe_c.specs.Clr.{clr_header_at, clr_metadata_at, content_of, first_stream_in, metadata_in, stream_reported, streams_after};
 ghost use Rattle.pe_c.specs.Directories.{DirectoryHandsOut, step_of};
+ghost use Rattle.pe_c.specs.Views.{directory_sections, may_map};
 
-use crate::directories::{Result, image_bytes, range_left};
+use crate::directories::{Result, image_at, range_left};
 use crate::image::{CLR_RUNTIME_HEADER, directory, is_absent};
 use crate::ranges::{NO_BYTES, Range, range_of, slice_of};
 use crate::results::hand_out_found;
@@ -86,13 +87,13 @@ const NO_STREAMS: MetadataStreams = MetadataStreams {
 
 pub fn clr_header_at(view: &View) -> Result<Option<ClrHeader>>
     ensures { directory_answer (λ h. h) result
-        ≡ clr_header_at view.now.bytes.now view.now.image.now view.now.sections.now }
+        ≡ clr_header_at view.now.bytes.now view.now.image.now (directory_sections view.now 14) }
 {
     let directory = directory(view.image, CLR_RUNTIME_HEADER);
     if is_absent(directory) {
         return Ok(None);
     }
-    let header = ClrHeader::parse(&image_bytes(view), directory)?;
+    let header = ClrHeader::parse(&image_at(view, directory), directory)?;
     Ok(Some(header))
 }
 
@@ -102,7 +103,7 @@ pub fn clr_header_at(view: &View) -> Result<Option<ClrHeader>>
 #[unsafe(no_mangle)]
 pub extern "C" fn pe_c_clr_header(view: &View, out: &mut ClrHeader) -> u32
     ensures { DirectoryHandsOut result out.old out.new
-        (clr_header_at view.now.bytes.now view.now.image.now view.now.sections.now) }
+        (clr_header_at view.now.bytes.now view.now.image.now (directory_sections view.now 14)) }
 {
     hand_out_found(clr_header_at(view), out)
 }
@@ -135,9 +136,10 @@ fn metadata_in(bytes: &[u8], range: ByteRange) -> Result<Option<Metadata>>
 
 fn clr_metadata_at(view: &View, header: &ClrHeader) -> Result<Option<Metadata>>
     ensures { directory_answer (λ m. m) result
-        ≡ clr_metadata_at view.now.bytes.now view.now.image.now view.now.sections.now header.now }
+        ≡ clr_metadata_at view.now.bytes.now view.now.image.now
+        (may_map view.now header.now.metadata.virtual_address) header.now }
 {
-    let range = image_bytes(view).range_of(header.metadata)?;
+    let range = image_at(view, header.metadata).range_of(header.metadata)?;
     metadata_in(view.bytes, range)
 }
 
@@ -149,7 +151,8 @@ fn clr_metadata_at(view: &View, header: &ClrHeader) -> Result<Option<Metadata>>
 #[unsafe(no_mangle)]
 pub extern "C" fn pe_c_clr_metadata(view: &View, header: &ClrHeader, out: &mut Metadata) -> u32
     ensures { DirectoryHandsOut result out.old out.new
-        (clr_metadata_at view.now.bytes.now view.now.image.now view.now.sections.now header.now) }
+        (clr_metadata_at view.now.bytes.now view.now.image.now
+        (may_map view.now header.now.metadata.virtual_address) header.now) }
 {
     hand_out_found(clr_metadata_at(view, header), out)
 }

@@ -5,11 +5,15 @@
 //! A call that returns a record reads the first entry of its type and no other: what damages another entry, or the record of
 //! another type, makes no difference. `laws::debug` says so over all bytes.
 
-ghost use Rattle.std.specs.Prelude.{◌≡◌};
-ghost use Rattle.pe_core.specs.Refusals.{answer_of};
+ghost use Rattle.std.specs.Prelude.{◌≡◌, IfOk};
+ghost use Rattle.pe_core.specs.Offsets.{IsWithin};
+ghost use Rattle.pe_core.specs.Refusals.{Returns, answer_of};
+ghost use Rattle.pe_records.specs.DebugDirectory.{directory_range};
 ghost use Rattle.pe_records.specs.declared.debug.constants.TheConstants.{IMAGE_DEBUG_TYPE_CODEVIEW, IMAGE_DEBUG_TYPE_EX_DLLCHARACTERISTICS, IMAGE_DEBUG_TYPE_POGO, IMAGE_DEBUG_TYPE_REPRO, IMAGE_DEBUG_TYPE_VC_FEATURE};
 ghost use Rattle.pe_c.specs.Debug.{characteristics_of, debug_entries_range, features_of, first_entry, key_of, pdb20_of, pogo_of, read_first, repro_of};
 ghost use Rattle.pe_c.specs.HandsOut.{HandsOutIf};
+ghost use Rattle.pe_c.specs.Modes.{options_of};
+ghost use Rattle.pe_c.specs.Views.{directory_sections, may_map};
 
 use crate::debug_records::{
     Pdb20, Pogo, Repro, SymbolKey, characteristics_of, features_of, key_of, pdb20_of, pogo_of,
@@ -18,27 +22,38 @@ use crate::debug_records::{
 use crate::image::{DEBUG_TABLE, directory, is_absent};
 use crate::ranges::{Range, range_of};
 use crate::results::{hand_out_some, options};
-use crate::view::View;
-use pe_core::Result;
+use crate::view::{View, sections_of};
+use pe_core::{ByteRange, DataDirectory, Result};
 use pe_records::{
     DebugData, IMAGE_DEBUG_TYPE_CODEVIEW, IMAGE_DEBUG_TYPE_EX_DLLCHARACTERISTICS,
     IMAGE_DEBUG_TYPE_POGO, IMAGE_DEBUG_TYPE_REPRO, IMAGE_DEBUG_TYPE_VC_FEATURE,
     ImageDebugDirectory, ImageDebugDirectoryIterator, VCFeatureInfo,
 };
 
+/// The range of the entries of a debug directory.
+fn entries_at(view: &View, directory: DataDirectory) -> Result<ByteRange>
+    ensures range { Returns result (directory_range (options_of view.now.image.now.mode)
+        view.now.bytes.now directory (may_map view.now directory.virtual_address)
+        view.now.image.now.file_alignment) }
+    ensures within { IfOk result (IsWithin view.now.bytes.now) }
+{
+    let sections = sections_of(view, directory.virtual_address);
+    let alignment = view.image.file_alignment;
+    let opts = options(view.image.mode);
+    DebugData::table_range(view.bytes, directory, sections, alignment, &opts)
+}
+
 #[tactic(auto, unfolding(crate::specs::Debug::debug_entries_range))]
 pub fn table_of(view: &View) -> Result<Option<Range>>
     ensures { answer_of result
-        ≡ debug_entries_range view.now.bytes.now view.now.image.now view.now.sections.now
-        view.now.image.now.mode }
+        ≡ debug_entries_range view.now.bytes.now view.now.image.now
+        (directory_sections view.now 6) view.now.image.now.mode }
 {
     let directory = directory(view.image, DEBUG_TABLE);
     if is_absent(directory) {
         return Ok(None);
     }
-    let alignment = view.image.file_alignment;
-    let opts = options(view.image.mode);
-    let range = DebugData::table_range(view.bytes, directory, view.sections, alignment, &opts)?;
+    let range = entries_at(view, directory)?;
     Ok(Some(range_of(range)))
 }
 
@@ -50,7 +65,7 @@ pub fn table_of(view: &View) -> Result<Option<Range>>
 #[unsafe(no_mangle)]
 pub extern "C" fn pe_c_debug_entries(view: &View, out: &mut Range) -> u32
     ensures { HandsOutIf result out.old out.new
-        (debug_entries_range view.now.bytes.now view.now.image.now view.now.sections.now
+        (debug_entries_range view.now.bytes.now view.now.image.now (directory_sections view.now 6)
         view.now.image.now.mode) }
 {
     hand_out_some(table_of(view), out)
@@ -59,15 +74,13 @@ pub extern "C" fn pe_c_debug_entries(view: &View, out: &mut Range) -> u32
 #[tactic(auto, unfolding(crate::specs::Debug::first_entry, pe_records::specs::DebugDirectory::directory_table))]
 fn first_entry(view: &View, data_type: u32) -> Result<Option<ImageDebugDirectory>>
     ensures { answer_of result ≡ first_entry view.now.bytes.now view.now.image.now
-        view.now.sections.now data_type }
+        (directory_sections view.now 6) data_type }
 {
     let directory = directory(view.image, DEBUG_TABLE);
     if is_absent(directory) {
         return Ok(None);
     }
-    let alignment = view.image.file_alignment;
-    let opts = options(view.image.mode);
-    let range = DebugData::table_range(view.bytes, directory, view.sections, alignment, &opts)?;
+    let range = entries_at(view, directory)?;
     Ok(ImageDebugDirectoryIterator::new(range.of(view.bytes), 0).find_type(data_type))
 }
 
@@ -82,14 +95,15 @@ pub extern "C" fn pe_c_first_debug_entry(
     out: &mut ImageDebugDirectory,
 ) -> u32
     ensures { HandsOutIf result out.old out.new
-        (first_entry view.now.bytes.now view.now.image.now view.now.sections.now data_type) }
+        (first_entry view.now.bytes.now view.now.image.now (directory_sections view.now 6)
+        data_type) }
 {
     hand_out_some(first_entry(view, data_type), out)
 }
 
 fn first_key(view: &View) -> Result<Option<SymbolKey>>
     ensures { answer_of result ≡ read_first key_of IMAGE_DEBUG_TYPE_CODEVIEW view.now.bytes.now
-        view.now.image.now view.now.sections.now }
+        view.now.image.now (directory_sections view.now 6) }
 {
     match first_entry(view, IMAGE_DEBUG_TYPE_CODEVIEW)? {
         Some(entry) => key_of(view.bytes, view.image.mode, &entry),
@@ -105,14 +119,14 @@ fn first_key(view: &View) -> Result<Option<SymbolKey>>
 pub extern "C" fn pe_c_symbol_key(view: &View, out: &mut SymbolKey) -> u32
     ensures { HandsOutIf result out.old out.new
         (read_first key_of IMAGE_DEBUG_TYPE_CODEVIEW view.now.bytes.now view.now.image.now
-        view.now.sections.now) }
+        (directory_sections view.now 6)) }
 {
     hand_out_some(first_key(view), out)
 }
 
 fn first_pdb20(view: &View) -> Result<Option<Pdb20>>
     ensures { answer_of result ≡ read_first pdb20_of IMAGE_DEBUG_TYPE_CODEVIEW view.now.bytes.now
-        view.now.image.now view.now.sections.now }
+        view.now.image.now (directory_sections view.now 6) }
 {
     match first_entry(view, IMAGE_DEBUG_TYPE_CODEVIEW)? {
         Some(entry) => pdb20_of(view.bytes, view.image.mode, &entry),
@@ -128,7 +142,7 @@ fn first_pdb20(view: &View) -> Result<Option<Pdb20>>
 pub extern "C" fn pe_c_debug_pdb20(view: &View, out: &mut Pdb20) -> u32
     ensures { HandsOutIf result out.old out.new
         (read_first pdb20_of IMAGE_DEBUG_TYPE_CODEVIEW view.now.bytes.now view.now.image.now
-        view.now.sections.now) }
+        (directory_sections view.now 6)) }
 {
     hand_out_some(first_pdb20(view), out)
 }
@@ -136,7 +150,7 @@ pub extern "C" fn pe_c_debug_pdb20(view: &View, out: &mut Pdb20) -> u32
 fn first_features(view: &View) -> Result<Option<VCFeatureInfo>>
     ensures { answer_of result
         ≡ read_first features_of IMAGE_DEBUG_TYPE_VC_FEATURE view.now.bytes.now view.now.image.now
-        view.now.sections.now }
+        (directory_sections view.now 6) }
 {
     match first_entry(view, IMAGE_DEBUG_TYPE_VC_FEATURE)? {
         Some(entry) => features_of(view.bytes, view.image.mode, &entry),
@@ -151,7 +165,7 @@ fn first_features(view: &View) -> Result<Option<VCFeatureInfo>>
 pub extern "C" fn pe_c_debug_vc_features(view: &View, out: &mut VCFeatureInfo) -> u32
     ensures { HandsOutIf result out.old out.new
         (read_first features_of IMAGE_DEBUG_TYPE_VC_FEATURE view.now.bytes.now view.now.image.now
-        view.now.sections.now) }
+        (directory_sections view.now 6)) }
 {
     hand_out_some(first_features(view), out)
 }
@@ -159,7 +173,7 @@ pub extern "C" fn pe_c_debug_vc_features(view: &View, out: &mut VCFeatureInfo) -
 fn first_characteristics(view: &View) -> Result<Option<u32>>
     ensures { answer_of result
         ≡ read_first characteristics_of IMAGE_DEBUG_TYPE_EX_DLLCHARACTERISTICS view.now.bytes.now
-        view.now.image.now view.now.sections.now }
+        view.now.image.now (directory_sections view.now 6) }
 {
     match first_entry(view, IMAGE_DEBUG_TYPE_EX_DLLCHARACTERISTICS)? {
         Some(entry) => characteristics_of(view.bytes, view.image.mode, &entry),
@@ -175,14 +189,14 @@ fn first_characteristics(view: &View) -> Result<Option<u32>>
 pub extern "C" fn pe_c_debug_characteristics(view: &View, out: &mut u32) -> u32
     ensures { HandsOutIf result out.old out.new
         (read_first characteristics_of IMAGE_DEBUG_TYPE_EX_DLLCHARACTERISTICS view.now.bytes.now
-        view.now.image.now view.now.sections.now) }
+        view.now.image.now (directory_sections view.now 6)) }
 {
     hand_out_some(first_characteristics(view), out)
 }
 
 fn first_repro(view: &View) -> Result<Option<Repro>>
     ensures { answer_of result ≡ read_first repro_of IMAGE_DEBUG_TYPE_REPRO view.now.bytes.now
-        view.now.image.now view.now.sections.now }
+        view.now.image.now (directory_sections view.now 6) }
 {
     match first_entry(view, IMAGE_DEBUG_TYPE_REPRO)? {
         Some(entry) => repro_of(view.bytes, view.image.mode, &entry),
@@ -197,14 +211,14 @@ fn first_repro(view: &View) -> Result<Option<Repro>>
 pub extern "C" fn pe_c_debug_repro(view: &View, out: &mut Repro) -> u32
     ensures { HandsOutIf result out.old out.new
         (read_first repro_of IMAGE_DEBUG_TYPE_REPRO view.now.bytes.now view.now.image.now
-        view.now.sections.now) }
+        (directory_sections view.now 6)) }
 {
     hand_out_some(first_repro(view), out)
 }
 
 fn first_pogo(view: &View) -> Result<Option<Pogo>>
     ensures { answer_of result ≡ read_first pogo_of IMAGE_DEBUG_TYPE_POGO view.now.bytes.now
-        view.now.image.now view.now.sections.now }
+        view.now.image.now (directory_sections view.now 6) }
 {
     match first_entry(view, IMAGE_DEBUG_TYPE_POGO)? {
         Some(entry) => pogo_of(view.bytes, view.image.mode, &entry),
@@ -220,7 +234,7 @@ fn first_pogo(view: &View) -> Result<Option<Pogo>>
 pub extern "C" fn pe_c_debug_pogo(view: &View, out: &mut Pogo) -> u32
     ensures { HandsOutIf result out.old out.new
         (read_first pogo_of IMAGE_DEBUG_TYPE_POGO view.now.bytes.now view.now.image.now
-        view.now.sections.now) }
+        (directory_sections view.now 6)) }
 {
     hand_out_some(first_pogo(view), out)
 }

@@ -9,7 +9,7 @@ ghost use Rattle.pe_directories.specs.DirectoryRefusals.{directory_answer};
 ghost use Rattle.pe_c.specs.DelayImports.{address_in, address_offset, library_of, dll_range, first_library_in, first_function_in, first_of_walk, function_of, functions_after, functions_of, name_range, named_at, ordinal_in, rva_of};
 ghost use Rattle.pe_c.specs.Directories.{DirectoryHandsOut, left_after, step_of, table_at};
 ghost use Rattle.pe_c.specs.NearMaps.{IsWindow};
-ghost use Rattle.pe_c.specs.Views.{map_of};
+ghost use Rattle.pe_c.specs.Views.{directory_sections, map_of};
 
 use crate::directories::{Result, range_left, table_at};
 use crate::image::{DELAY_IMPORT_DESCRIPTOR, Image};
@@ -68,7 +68,7 @@ pub struct DelayedFunction {
 #[unsafe(no_mangle)]
 pub extern "C" fn pe_c_delay_imports(view: &View, out: &mut Range) -> u32
     ensures { DirectoryHandsOut result out.old out.new
-        (table_at 13 view.now.bytes.now view.now.image.now view.now.sections.now) }
+        (table_at 13 view.now.bytes.now view.now.image.now (directory_sections view.now 13)) }
 {
     hand_out_found(table_at(view, DELAY_IMPORT_DESCRIPTOR), out)
 }

@@ -6,8 +6,8 @@ ghost use Rattle.pe_c.specs.DirectoryFailures.{certificate_table, directory_numb
 ghost use Rattle.pe_c.specs.FailureNumbers.{failure_by, refused};
 ghost use Rattle.pe_c.specs.HandsOut.{HandsOutIf};
 ghost use Rattle.pe_c.specs.ImageParts.{function_table};
-ghost use Rattle.pe_c.specs.Images.{map_of_image};
 ghost use Rattle.pe_c.specs.ResourceLeaves.{leaves_start};
+ghost use Rattle.pe_c.specs.Views.{directory_sections, map_of, may_map};
 
 use crate::arm64::functions;
 use crate::directories::table_at;
@@ -19,12 +19,12 @@ use crate::failure_numbers::{
 };
 use crate::image::{
     BASE_RELOCATION_TABLE, CERTIFICATE_TABLE, DELAY_IMPORT_DESCRIPTOR, Image, RESOURCE_TABLE,
-    directory, is_absent, offset_of,
+    directory, is_absent,
 };
 use crate::ranges::Range;
 use crate::resource_leaves::leaf_position;
 use crate::step_failures::certificate_numbers;
-use crate::view::View;
+use crate::view::{View, map_by};
 use crate::{
     bound_imports, certificates, clr, debug, exports, imports, load_config, tls, unwinding,
 };
@@ -59,7 +59,7 @@ fn certificate_table(image: &Image) -> Range
 /// What refuses the first directory of resources.
 fn resource_refusal(view: &View) -> Option<u32>
     ensures { result ≡ refused (leaves_start view.now.bytes.now view.now.image.now
-        view.now.sections.now) }
+        (directory_sections view.now 2)) }
 {
     let directory = directory(view.image, RESOURCE_TABLE);
     if is_absent(directory) {
@@ -71,7 +71,7 @@ fn resource_refusal(view: &View) -> Option<u32>
 /// What refuses the function table of an image for x64 or ARM64.
 fn function_refusal(view: &View) -> Option<u32>
     ensures { result ≡ refused (function_table view.now.bytes.now view.now.image.now
-        view.now.sections.now) }
+        (directory_sections view.now 3)) }
 {
     if view.image.machine == COFF_MACHINE_X86_64 {
         refused(unwinding::table_of(view))
@@ -84,7 +84,7 @@ fn function_refusal(view: &View) -> Option<u32>
 #[tactic(auto, unfolding(crate::specs::DirectoryFailures::directory_refusal))]
 fn directory_refusal(view: &View, index: u32) -> Option<u32>
     ensures { result ≡ directory_refusal index view.now.bytes.now view.now.image.now
-        view.now.sections.now }
+        (may_map view.now) }
 {
     match index {
         0 => refused(exports::tables_at(view)),
@@ -111,13 +111,13 @@ fn part(rva: u32, size: u64) -> NeededPart
 
 /// Whether a part is there: its RVA is mapped, and its bytes are in the file. One without bytes is.
 fn is_there(view: &View, part: &NeededPart) -> bool
-    ensures { result ≡ is_there (map_of_image view.now.image.now view.now.sections.now)
+    ensures { result ≡ is_there (map_of view.now)
         view.now.bytes.now part.now }
 {
     if part.size == 0 {
         return true;
     }
-    match offset_of(part.rva, view.image, view.sections) {
+    match map_by(view, part.rva) {
         Some(offset) => require_bytes(view.bytes, offset, part.size as usize).is_ok(),
         None => false,
     }
@@ -125,7 +125,7 @@ fn is_there(view: &View, part: &NeededPart) -> bool
 
 /// The first table of an export directory that is not there, of addresses, names and ordinals; or else the last.
 fn missing_table(view: &View, exports: &ExportDirectoryTable) -> NeededPart
-    ensures { result ≡ missing_table (map_of_image view.now.image.now view.now.sections.now)
+    ensures { result ≡ missing_table (map_of view.now)
         view.now.bytes.now exports.now }
 {
     let names = u64::from(exports.number_of_name_pointers);
@@ -146,10 +146,10 @@ fn missing_table(view: &View, exports: &ExportDirectoryTable) -> NeededPart
 /// What is not there of an export directory at an RVA: the directory itself, or a table.
 #[tactic(auto, unfolding(crate::specs::DirectoryFailures::missing_export))]
 fn missing_export(view: &View, rva: u32) -> NeededPart
-    ensures { result ≡ missing_export (map_of_image view.now.image.now view.now.sections.now)
+    ensures { result ≡ missing_export (map_of view.now)
         view.now.bytes.now rva }
 {
-    let Some(offset) = offset_of(rva, view.image, view.sections) else {
+    let Some(offset) = map_by(view, rva) else {
         return part(rva, SIZE_OF_EXPORT_DIRECTORY as u64);
     };
     match require_bytes(view.bytes, offset, SIZE_OF_EXPORT_DIRECTORY) {
@@ -162,7 +162,7 @@ fn missing_export(view: &View, rva: u32) -> NeededPart
 #[tactic(auto, unfolding(crate::specs::DirectoryFailures::needed_part))]
 fn needed_part(view: &View, index: u32) -> NeededPart
     ensures { result ≡ needed_part index view.now.bytes.now view.now.image.now
-        view.now.sections.now }
+        (map_of view.now) }
 {
     let DataDirectory {
         virtual_address,
@@ -183,13 +183,12 @@ fn needed_part(view: &View, index: u32) -> NeededPart
 
 /// Where an RVA of the directory with an index is in the file, 0 where it is unmapped. Those of bound imports are offsets.
 fn directory_offset(view: &View, index: u32, rva: u32) -> u64
-    ensures { result
-        ≡ directory_offset index view.now.image.now view.now.sections.now rva }
+    ensures { result ≡ directory_offset index (map_of view.now) rva }
 {
     if index == 11 {
         return u64::from(rva);
     }
-    offset_of(rva, view.image, view.sections).unwrap_or(0) as u64
+    map_by(view, rva).unwrap_or(0) as u64
 }
 
 /// The size of the entries of the first directory of resources, which is at an offset.
@@ -222,7 +221,7 @@ fn resource_end(bytes: &[u8], offset: u64, size: u32) -> u64
 #[tactic(auto, unfolding(crate::specs::DirectoryFailures::directory_numbers))]
 fn directory_numbers(view: &View, index: u32, number: u32) -> ErrorNumbers
     ensures { result ≡ directory_numbers index view.now.bytes.now view.now.image.now
-        view.now.sections.now number }
+        (map_of view.now) number }
 {
     if index == 4 {
         return certificate_numbers(view.bytes, &certificate_table(view.image), number);
@@ -248,8 +247,8 @@ fn directory_numbers(view: &View, index: u32, number: u32) -> ErrorNumbers
 /// The failure of the directory with an index.
 fn directory_failure(view: &View, index: u32) -> Option<Failure>
     ensures { result ≡ failure_by
-        (directory_numbers index view.now.bytes.now view.now.image.now view.now.sections.now)
-        (directory_refusal index view.now.bytes.now view.now.image.now view.now.sections.now) }
+        (directory_numbers index view.now.bytes.now view.now.image.now (map_of view.now))
+        (directory_refusal index view.now.bytes.now view.now.image.now (may_map view.now)) }
 {
     match directory_refusal(view, index) {
         Some(number) => Some(failure_with(number, directory_numbers(view, index, number))),
@@ -267,8 +266,8 @@ fn directory_failure(view: &View, index: u32) -> Option<Failure>
 #[unsafe(no_mangle)]
 pub extern "C" fn pe_c_directory_failure(view: &View, index: u32, out: &mut Failure) -> u32
     ensures { HandsOutIf result out.old out.new (Ok (failure_by
-        (directory_numbers index view.now.bytes.now view.now.image.now view.now.sections.now)
-        (directory_refusal index view.now.bytes.now view.now.image.now view.now.sections.now))) }
+        (directory_numbers index view.now.bytes.now view.now.image.now (map_of view.now))
+        (directory_refusal index view.now.bytes.now view.now.image.now (may_map view.now)))) }
 {
     hand_out_failure(directory_failure(view, index), out)
 }

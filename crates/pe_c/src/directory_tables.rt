@@ -8,14 +8,15 @@ ghost use Rattle.pe_core.specs.Refusals.{answer_by, answer_of};
 ghost use Rattle.pe_c.specs.DirectoryTables.{directory_reported, item_in, export_directory_at, export_fields, next_item_of, resource_directory_at};
 ghost use Rattle.pe_c.specs.HandsOut.{HandsOut, HandsOutIf};
 ghost use Rattle.pe_c.specs.Walks.{walk_of};
+ghost use Rattle.pe_c.specs.Views.{map_of};
 
 use crate::image::{EXPORT_TABLE, directory, is_absent};
 use crate::ranges::{Range, slice_of};
 use crate::resource_leaves::{ResourceName, name_in};
-use crate::results::{hand_out, hand_out_some, options};
+use crate::results::{hand_out, hand_out_some};
 use crate::view::View;
 use crate::walks::next_entry;
-use pe_core::{ExportDirectoryTable, Result, TableEntry, mapped_offset, require_bytes};
+use pe_core::{ExportDirectoryTable, Result, RvaMap, TableEntry, require_bytes};
 use pe_resource::{ImageResourceDirectory, ResourceEntry};
 
 // Sizes in bytes.
@@ -102,15 +103,13 @@ fn export_fields(table: &ExportDirectoryTable) -> ExportFields
 
 fn export_directory_at(view: &View) -> Result<Option<ExportFields>>
     ensures { answer_of result ≡ export_directory_at view.now.bytes.now view.now.image.now
-        view.now.sections.now }
+        (map_of view.now) }
 {
     let directory = directory(view.image, EXPORT_TABLE);
     if is_absent(directory) {
         return Ok(None);
     }
-    let (image, opts) = (view.image, options(view.image.mode));
-    let rva = directory.virtual_address;
-    let offset = mapped_offset(rva, view.sections, image.file_alignment, &opts)?;
+    let offset = view.file_offset(directory.virtual_address)?;
     require_bytes(view.bytes, offset, SIZE_OF_EXPORT_DIRECTORY)?;
     let table = ExportDirectoryTable::at(view.bytes, offset);
     Ok(Some(export_fields(&table)))
@@ -122,8 +121,8 @@ fn export_directory_at(view: &View) -> Result<Option<ExportFields>>
 /// Errors: `UNMAPPED`, `SHORT` of its 40 bytes.
 #[unsafe(no_mangle)]
 pub extern "C" fn pe_c_export_directory(view: &View, out: &mut ExportFields) -> u32
-    ensures { HandsOutIf result out.old out.new (export_directory_at view.now.bytes.now view.now.image.now
-        view.now.sections.now) }
+    ensures { HandsOutIf result out.old out.new (export_directory_at
+        view.now.bytes.now view.now.image.now (map_of view.now)) }
 {
     hand_out_some(export_directory_at(view), out)
 }

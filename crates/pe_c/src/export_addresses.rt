@@ -11,10 +11,10 @@ ghost use Rattle.pe_c.specs.ExportAddresses.{address_table, address_table_at, ad
 ghost use Rattle.pe_c.specs.Ranges.{or_no_bytes};
 ghost use Rattle.pe_c.specs.HandsOut.{HandsOutIf};
 ghost use Rattle.pe_c.specs.Views.{map_of};
-ghost use Rattle.pe_c.specs.Images.{export_directory, map_of_image};
+ghost use Rattle.pe_c.specs.Images.{export_directory};
 
 use crate::exports::{export_data, export_table};
-use crate::image::{EXPORT_TABLE, directory, is_absent, offset_of};
+use crate::image::{EXPORT_TABLE, directory, is_absent};
 use crate::named_view::NamedView;
 use crate::ranges::{NO_BYTES, Range, slice_of};
 use crate::results::hand_out_some;
@@ -65,23 +65,18 @@ fn text_from(names: &NamedView<'_>, offset: Option<usize>) -> Option<Range>
 
 /// The range of the DLL's name. The RVA 0 is that of none.
 fn dll_name(view: &View, rva: u32) -> Option<Range>
-    ensures { result ≡ dll_name (map_of_image view.now.image.now view.now.sections.now)
-        view.now.bytes.now rva }
+    ensures { result ≡ dll_name (map_of view.now) view.now.bytes.now rva }
 {
     if rva == 0 {
         return None;
     }
-    text_from(
-        &NamedView::alone(view),
-        offset_of(rva, view.image, view.sections),
-    )
+    text_from(&NamedView::alone(view), map_by(view, rva))
 }
 
 /// The address table of export data.
 fn table_of(view: &View, export_data: &ExportData) -> AddressTable
-    ensures { result ≡ address_table (map_of_image view.now.image.now view.now.sections.now)
-        view.now.bytes.now (export_directory view.now.image.now)
-        (export_data_view export_data.now) }
+    ensures { result ≡ address_table (map_of view.now) view.now.bytes.now
+        (export_directory view.now.image.now) (export_data_view export_data.now) }
 {
     let fields = &export_data.directory;
     let size = 4 * u64::from(fields.address_table_entries);
@@ -98,7 +93,7 @@ fn table_of(view: &View, export_data: &ExportData) -> AddressTable
 #[tactic(auto, unfolding(crate::specs::ExportAddresses::address_table_at))]
 fn table_at(view: &View) -> Result<Option<AddressTable>>
     ensures { answer_of result ≡ address_table_at view.now.bytes.now view.now.image.now
-        view.now.sections.now }
+        (map_of view.now) }
 {
     let directory = directory(view.image, EXPORT_TABLE);
     if is_absent(directory) {
@@ -115,7 +110,7 @@ fn table_at(view: &View) -> Result<Option<AddressTable>>
 #[unsafe(no_mangle)]
 pub extern "C" fn pe_c_export_addresses(view: &View, out: &mut AddressTable) -> u32
     ensures { HandsOutIf result out.old out.new
-        (address_table_at view.now.bytes.now view.now.image.now view.now.sections.now) }
+        (address_table_at view.now.bytes.now view.now.image.now (map_of view.now)) }
 {
     hand_out_some(table_at(view), out)
 }

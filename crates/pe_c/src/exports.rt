@@ -8,14 +8,13 @@ ghost use Rattle.pe_core.specs.Exports.{export_data_at, export_data_view};
 ghost use Rattle.pe_core.specs.Refusals.{ReturnsAs, answer_of};
 ghost use Rattle.pe_c.specs.HandsOut.{HandsOutIf};
 ghost use Rattle.pe_c.specs.Exports.{HandsOutExport, FindsNext, StepsExports, export_table, tables_at, tables_or_short, reported_entry, view_of, walk_over};
-ghost use Rattle.pe_c.specs.Images.{map_of_image};
 ghost use Rattle.pe_c.specs.Views.{map_of};
 
-use crate::image::{EXPORT_TABLE, directory, is_absent, offset_of};
+use crate::image::{EXPORT_TABLE, directory, is_absent};
 use crate::named_view::NamedView;
 use crate::near_map::{NO_WINDOW, map_near};
 use crate::ranges::{NO_BYTES, Range, range_from, slice_of};
-use crate::results::{hand_out_some, options};
+use crate::results::hand_out_some;
 use crate::text_runs::{Run, TextCosts, end_of_next};
 use crate::view::{View, map_by};
 use pe_core::{DataDirectory, ExportData, Result, read_u32, u16_at, u32_at};
@@ -55,16 +54,16 @@ pub struct Export {
 /// The range of a table of so many bytes at an RVA. An empty table needs no mapped RVA.
 pub fn export_table(view: &View, rva: u32, size: u64) -> Range
     ensures { result
-        ≡ export_table (map_of_image view.now.image.now view.now.sections.now) rva size }
+        ≡ export_table (map_of view.now) rva size }
 {
     if size == 0 {
         return NO_BYTES;
     }
-    range_from(size, offset_of(rva, view.image, view.sections))
+    range_from(size, map_by(view, rva))
 }
 
 fn walk_over(view: &View, export_data: &ExportData) -> Exports
-    ensures { result ≡ walk_over (map_of_image view.now.image.now view.now.sections.now)
+    ensures { result ≡ walk_over (map_of view.now)
         (export_data_view export_data.now) }
 {
     let directory = &export_data.directory;
@@ -81,18 +80,16 @@ fn walk_over(view: &View, export_data: &ExportData) -> Exports
 /// The export directory of an image, whose entry among the directories this is.
 pub fn export_data<'a>(view: &View<'a>, directory: DataDirectory) -> Result<ExportData<'a>>
     ensures { ReturnsAs export_data_view result
-        (export_data_at (map_of_image view.now.image.now view.now.sections.now)
+        (export_data_at (map_of view.now)
         view.now.bytes.now directory.virtual_address) }
 {
-    let (image, sections) = (view.image, view.sections);
-    let opts = options(image.mode);
-    ExportData::parse_with_opts(view.bytes, directory, sections, image.file_alignment, &opts)
+    ExportData::parse_with_map(view.bytes, directory, view)
 }
 
 #[tactic(auto, unfolding(crate::specs::Exports::tables_at))]
 pub fn tables_at(view: &View) -> Result<Option<Exports>>
     ensures { answer_of result ≡ tables_at view.now.bytes.now view.now.image.now
-        view.now.sections.now }
+        (map_of view.now) }
 {
     let directory = directory(view.image, EXPORT_TABLE);
     if is_absent(directory) {
@@ -109,7 +106,7 @@ pub fn tables_at(view: &View) -> Result<Option<Exports>>
 #[unsafe(no_mangle)]
 pub extern "C" fn pe_c_export_tables(view: &View, out: &mut Exports) -> u32
     ensures { HandsOutIf result out.old out.new (tables_at view.now.bytes.now view.now.image.now
-        view.now.sections.now) }
+        (map_of view.now)) }
 {
     hand_out_some(tables_at(view), out)
 }

@@ -6,16 +6,16 @@
 ghost use Rattle.std.specs.Prelude.{◌≡◌, ◌+◌, ◌<◌, ◌^◌};
 ghost use Rattle.pe_directories.specs.DirectoryRefusals.{directory_answer};
 ghost use Rattle.pe_directories.specs.GuardTables.{guarded_view};
-ghost use Rattle.pe_directories.specs.ImageParts.{image_view};
 ghost use Rattle.pe_c.specs.Directories.{DirectoryHandsOut, step_of};
 ghost use Rattle.pe_c.specs.GuardTables.{entries_after, entries_of, entry_reported, first_entry_in, guard_table_at, place_of};
+ghost use Rattle.pe_c.specs.Views.{may_map};
 
-use crate::directories::{Result, image_bytes, range_left};
+use crate::directories::{Result, image_at, offset_of_va, range_left};
 use crate::image::{LOAD_CONFIG_TABLE, directory, is_absent};
 use crate::ranges::{NO_BYTES, Range, slice_of};
 use crate::results::hand_out_found;
 use crate::view::View;
-use pe_directories::{GuardEntry as Entry, GuardTable, ImageBytes, LoadConfig};
+use pe_directories::{GuardEntry as Entry, GuardTable, LoadConfig};
 
 /// A walk over the entries of a table.
 #[repr(C)]
@@ -92,19 +92,20 @@ fn place_of(table: u32, config: &LoadConfig) -> Place
 }
 
 /// A walk over the table that is there, if it has an address and entries.
-fn entries_of(image: &ImageBytes<'_>, place: Place) -> Result<Option<GuardEntries>>
-    ensures { directory_answer (λ w. w) result ≡ entries_of (image_view image.now) place }
+fn entries_of(view: &View, place: Place) -> Result<Option<GuardEntries>>
+    ensures { directory_answer (λ w. w) result
+        ≡ entries_of view.now.bytes.now view.now.image.now (may_map view.now) place }
 {
     let va = place.va.unwrap_or(0);
     let count = place.count.unwrap_or(0);
     if va == 0 || count == 0 {
         return Ok(None);
     }
-    let offset = image.offset_of_va(va)?;
+    let offset = offset_of_va(view, va)?;
     Ok(Some(GuardEntries {
         entries: Range {
             offset: offset as u64,
-            length: image.bytes.len().saturating_sub(offset) as u64,
+            length: view.bytes.len().saturating_sub(offset) as u64,
         },
         count,
         flag_size: u32::from(place.flag_size),
@@ -114,15 +115,14 @@ fn entries_of(image: &ImageBytes<'_>, place: Place) -> Result<Option<GuardEntrie
 
 fn guard_table_at(view: &View, table: u32) -> Result<Option<GuardEntries>>
     ensures { directory_answer (λ w. w) result
-        ≡ guard_table_at table view.now.bytes.now view.now.image.now view.now.sections.now }
+        ≡ guard_table_at table view.now.bytes.now view.now.image.now (may_map view.now) }
 {
     let directory = directory(view.image, LOAD_CONFIG_TABLE);
     if is_absent(directory) {
         return Ok(None);
     }
-    let image = image_bytes(view);
-    let config = LoadConfig::parse(&image, directory)?;
-    entries_of(&image, place_of(table, &config))
+    let config = LoadConfig::parse(&image_at(view, directory), directory)?;
+    entries_of(view, place_of(table, &config))
 }
 
 /// Returns a walk over a table of the load configuration of an image, by the table's number: 0 exception handlers of x86
@@ -135,7 +135,7 @@ fn guard_table_at(view: &View, table: u32) -> Result<Option<GuardEntries>>
 #[unsafe(no_mangle)]
 pub extern "C" fn pe_c_guard_table(view: &View, table: u32, out: &mut GuardEntries) -> u32
     ensures { DirectoryHandsOut result out.old out.new
-        (guard_table_at table view.now.bytes.now view.now.image.now view.now.sections.now) }
+        (guard_table_at table view.now.bytes.now view.now.image.now (may_map view.now)) }
 {
     hand_out_found(guard_table_at(view, table), out)
 }

@@ -9,23 +9,20 @@ ghost use Rattle.pe_core.specs.Refusals.{Returns, ReturnsAs, answer_of};
 ghost use Rattle.pe_core.specs.SectionMap.{mapped};
 ghost use Rattle.pe_core.specs.Text.{text_at};
 ghost use Rattle.pe_c.specs.HandsOut.{HandsOutIf};
-ghost use Rattle.pe_c.specs.Images.{map_of_image};
 ghost use Rattle.pe_c.specs.Views.{map_of};
 ghost use Rattle.pe_c.specs.Imports.{import_at, import_step, libraries_at, library_at, library_of, library_step, named_reported};
 
-use crate::image::{IMPORT_TABLE, Image, directory, is_absent};
+use crate::image::{IMPORT_TABLE, directory, is_absent};
 use crate::named_view::NamedView;
 use crate::near_map::{NO_WINDOW, map_near};
 use crate::ranges::{NO_BYTES, Range, range_from, slice_of};
-use crate::results::{hand_out_some, options};
+use crate::results::hand_out_some;
 use crate::text_runs::Run;
 use crate::view::{View, map_by};
 use crate::walks::next_entry;
 use pe_core::{
-    Error, ImportDirectoryEntry, Reason, Result, SectionTable, lookup_number, lookup_size,
-    mapped_offset, u16_at,
+    Error, ImportDirectoryEntry, Reason, Result, RvaMap, lookup_number, lookup_size, u16_at,
 };
-use pe_frame::sections_by;
 
 /// The size of a record of the import directory in bytes.
 const SIZE_OF_RECORD: u64 = 20;
@@ -98,21 +95,6 @@ pub const NO_LIBRARIES: Libraries = Libraries {
     spare: 0,
 };
 
-/// The file offset of an RVA of an image, or `Unmapped`.
-fn require_offset(rva: u32, image: &Image, sections: &[SectionTable]) -> Result<usize>
-    ensures { Returns result (mapped (map_of_image image.now sections.now rva)) }
-{
-    mapped_offset(rva, sections, image.file_alignment, &options(image.mode))
-}
-
-/// The same of a view.
-fn require_offset_by(view: &View, rva: u32) -> Result<usize>
-    ensures { Returns result (mapped (map_of view.now rva)) }
-{
-    let sections = sections_by(view.sections, view.index, u64::from(rva));
-    require_offset(rva, view.image, sections)
-}
-
 /// The name at a file offset, to which an RVA leads: `ImportName` where it is not NUL-terminated or not UTF-8.
 fn name_at<'a>(names: &NamedView<'a>, offset: usize, rva: u32) -> Result<&'a str>
     ensures { ReturnsAs (λ s. s.now) result
@@ -126,13 +108,13 @@ fn name_at<'a>(names: &NamedView<'a>, offset: usize, rva: u32) -> Result<&'a str
 
 /// The import directory of an image as a walk over its libraries.
 pub fn libraries_at(view: &View) -> Result<Option<Libraries>>
-    ensures { answer_of result ≡ libraries_at view.now.image.now view.now.sections.now }
+    ensures { answer_of result ≡ libraries_at view.now.image.now (map_of view.now) }
 {
     let directory = directory(view.image, IMPORT_TABLE);
     if is_absent(directory) {
         return Ok(None);
     }
-    let offset = require_offset(directory.virtual_address, view.image, view.sections)?;
+    let offset = view.file_offset(directory.virtual_address)?;
     Ok(Some(Libraries {
         next: offset as u64,
         is_over: 0,
@@ -147,7 +129,7 @@ pub fn libraries_at(view: &View) -> Result<Option<Libraries>>
 #[unsafe(no_mangle)]
 pub extern "C" fn pe_c_import_libraries(view: &View, out: &mut Libraries) -> u32
     ensures { HandsOutIf result out.old out.new (libraries_at view.now.image.now
-        view.now.sections.now) }
+        (map_of view.now)) }
 {
     hand_out_some(libraries_at(view), out)
 }
@@ -158,7 +140,7 @@ fn library_of(names: &NamedView<'_>, entry: &ImportDirectoryEntry) -> Result<Lib
     ensures { ReturnsAs (λ l. Some l) result (library_of (map_of names.now.view.now)
         (entry_size (names.now.view.now.image.now.width == 64)) names.now.view.now.bytes.now entry.now) }
 {
-    let offset = require_offset_by(names.view, entry.name_rva)?;
+    let offset = names.view.file_offset(entry.name_rva)?;
     let name = name_at(names, offset, entry.name_rva)?;
     let list_offset = map_by(names.view, entry.lookups_rva());
     let list = names.list_at(list_offset)?;
@@ -240,7 +222,7 @@ fn named_import(names: &NamedView<'_>, entry: u64, rva: u64) -> Result<Import>
         (named_reported (map_of names.now.view.now) names.now.view.now.bytes.now entry rva) }
 {
     let name_rva = (entry % 0x8000_0000) as u32;
-    let offset = require_offset_by(names.view, name_rva)?;
+    let offset = names.view.file_offset(name_rva)?;
     let hint = u16_at(names.view.bytes, offset)?;
     let name = name_at(names, offset + SIZE_OF_HINT, name_rva)?;
     Ok(Import {

@@ -294,12 +294,13 @@ pub fn exports_by_index_are_those_by_name()
 pub fn walks_report_the_imports()
     ensures libraries { (b : List ℕ) (image : Image) (sections : List SectionTable)
         (walk : Libraries) (rs : List ImportRecordView) → AreBytes b → length b ≤ 2 ^ 63 →
-        libraries_at image sections ≡ Ok (Some walk) → import_records_at b image sections ≡ Ok rs →
+        libraries_at image (map_of_image image sections) ≡ Ok (Some walk) →
+        import_records_at b image sections ≡ Ok rs →
         (reported : List Library)
         × ReportsLibraries b image sections walk (map (λ x. Ok x) reported) reported rs }
     ensures refused { (b : List ℕ) (image : Image) (sections : List SectionTable)
         (walk : Libraries) (refusal : Refusal) → AreBytes b → length b ≤ 2 ^ 63 →
-        libraries_at image sections ≡ Ok (Some walk) →
+        libraries_at image (map_of_image image sections) ≡ Ok (Some walk) →
         import_records_at b image sections ≡ Err refusal →
         ReportsLibrariesUntil b image sections walk refusal }
     ensures in_turn { ImportsInTurn }

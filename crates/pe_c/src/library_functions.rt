@@ -8,7 +8,7 @@ ghost use Rattle.pe_directories.specs.DirectoryRefusals.{directory_answer};
 ghost use Rattle.pe_c.specs.Directories.{DirectoryHandsOut};
 ghost use Rattle.pe_c.specs.LibraryFunctions.{StepsLibraryFunctions, all_over, at_library, before_first, library_functions_at, next_library, turn, with_library};
 ghost use Rattle.pe_c.specs.NearMaps.{IsWindow};
-ghost use Rattle.pe_c.specs.Views.{map_of};
+ghost use Rattle.pe_c.specs.Views.{directory_sections, map_of};
 
 use crate::delay_imports::{
     DelayLibrary, DelayedFunction, DelayedFunctions, next_function, next_library as next_dll,
@@ -68,7 +68,7 @@ fn before_first(libraries: Range) -> LibraryFunctions
 
 fn library_functions_at(view: &View) -> Result<Option<LibraryFunctions>>
     ensures { directory_answer (λ x. x) result ≡ library_functions_at
-        view.now.bytes.now view.now.image.now view.now.sections.now }
+        view.now.bytes.now view.now.image.now (directory_sections view.now 13) }
 {
     match table_at(view, DELAY_IMPORT_DESCRIPTOR)? {
         Some(libraries) => Ok(Some(before_first(libraries))),
@@ -83,7 +83,7 @@ fn library_functions_at(view: &View) -> Result<Option<LibraryFunctions>>
 #[unsafe(no_mangle)]
 pub extern "C" fn pe_c_all_delayed_functions(view: &View, out: &mut LibraryFunctions) -> u32
     ensures { DirectoryHandsOut result out.old out.new (library_functions_at
-        view.now.bytes.now view.now.image.now view.now.sections.now) }
+        view.now.bytes.now view.now.image.now (directory_sections view.now 13)) }
 {
     hand_out_found(library_functions_at(view), out)
 }

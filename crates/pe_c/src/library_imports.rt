@@ -55,7 +55,7 @@ pub struct LibraryImport {
 }
 
 fn library_imports_at(view: &View) -> Result<Option<LibraryImports>>
-    ensures { answer_of result ≡ library_imports_at view.now.image.now view.now.sections.now }
+    ensures { answer_of result ≡ library_imports_at view.now.image.now (map_of view.now) }
 {
     let Some(libraries) = libraries_at(view)? else {
         return Ok(None);
@@ -78,7 +78,7 @@ fn library_imports_at(view: &View) -> Result<Option<LibraryImports>>
 #[unsafe(no_mangle)]
 pub extern "C" fn pe_c_all_imports(view: &View, out: &mut LibraryImports) -> u32
     ensures { HandsOutIf result out.old out.new (library_imports_at view.now.image.now
-        view.now.sections.now) }
+        (map_of view.now)) }
 {
     hand_out_some(library_imports_at(view), out)
 }

@@ -8,8 +8,9 @@ ghost use Rattle.pe_directories.specs.DirectoryRefusals.{directory_answer};
 ghost use Rattle.pe_c.specs.Directories.{DirectoryHandsOut};
 ghost use Rattle.pe_c.specs.Exports.{one_if_some, or_zero};
 ghost use Rattle.pe_c.specs.LoadConfigs.{config_reported, later_fields, load_config_at, numbered_field, numbered_field_at, process_fields};
+ghost use Rattle.pe_c.specs.Views.{directory_sections};
 
-use crate::directories::{Result, image_bytes};
+use crate::directories::{Result, image_at};
 use crate::image::{LOAD_CONFIG_TABLE, directory, is_absent};
 use crate::results::hand_out_found;
 use crate::view::View;
@@ -133,13 +134,13 @@ fn config_reported(config: &Structure) -> LoadConfig
 
 pub fn load_config_at(view: &View) -> Result<Option<LoadConfig>>
     ensures { directory_answer (λ c. c) result
-        ≡ load_config_at view.now.bytes.now view.now.image.now view.now.sections.now }
+        ≡ load_config_at view.now.bytes.now view.now.image.now (directory_sections view.now 10) }
 {
     let directory = directory(view.image, LOAD_CONFIG_TABLE);
     if is_absent(directory) {
         return Ok(None);
     }
-    let config = Structure::parse(&image_bytes(view), directory)?;
+    let config = Structure::parse(&image_at(view, directory), directory)?;
     Ok(Some(config_reported(&config)))
 }
 
@@ -150,7 +151,7 @@ pub fn load_config_at(view: &View) -> Result<Option<LoadConfig>>
 #[unsafe(no_mangle)]
 pub extern "C" fn pe_c_load_config(view: &View, out: &mut LoadConfig) -> u32
     ensures { DirectoryHandsOut result out.old out.new
-        (load_config_at view.now.bytes.now view.now.image.now view.now.sections.now) }
+        (load_config_at view.now.bytes.now view.now.image.now (directory_sections view.now 10)) }
 {
     hand_out_found(load_config_at(view), out)
 }
@@ -249,13 +250,14 @@ fn numbered_field(config: &Structure, number: u32) -> Option<u64>
 
 fn numbered_field_at(view: &View, number: u32) -> Result<Option<u64>>
     ensures { directory_answer (λ n. n) result
-        ≡ numbered_field_at number view.now.bytes.now view.now.image.now view.now.sections.now }
+        ≡ numbered_field_at number view.now.bytes.now view.now.image.now
+        (directory_sections view.now 10) }
 {
     let directory = directory(view.image, LOAD_CONFIG_TABLE);
     if is_absent(directory) {
         return Ok(None);
     }
-    let config = Structure::parse(&image_bytes(view), directory)?;
+    let config = Structure::parse(&image_at(view, directory), directory)?;
     Ok(numbered_field(&config, number))
 }
 
@@ -268,7 +270,8 @@ fn numbered_field_at(view: &View, number: u32) -> Result<Option<u64>>
 #[unsafe(no_mangle)]
 pub extern "C" fn pe_c_load_config_field(view: &View, field: u32, out: &mut u64) -> u32
     ensures { DirectoryHandsOut result out.old out.new
-        (numbered_field_at field view.now.bytes.now view.now.image.now view.now.sections.now) }
+        (numbered_field_at field view.now.bytes.now view.now.image.now
+        (directory_sections view.now 10)) }
 {
     hand_out_found(numbered_field_at(view, field), out)
 }

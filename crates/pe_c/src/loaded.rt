@@ -6,9 +6,9 @@
 ghost use Rattle.std.specs.Prelude.{◌≡◌, ◌<◌, ◌≤◌, length};
 ghost use Rattle.pe_directories.specs.LoadedImages.{IsRun};
 ghost use Rattle.pe_c.specs.Loaded.{ChangesRoom, PutsImage, RelocatesRoom, StartedUntil, base_field, number_of_last, relocated_by, start_of_last};
-ghost use Rattle.pe_c.specs.Views.{map_of};
+ghost use Rattle.pe_c.specs.Views.{directory_sections, map_of};
 
-use crate::directories::{Result, image_bytes};
+use crate::directories::{Result, image_at};
 use crate::image::{BASE_RELOCATION_TABLE, Image, directory, is_absent};
 use crate::results::{DONE, NOTHING, ROOM, number_of_directory, options};
 use crate::view::View;
@@ -132,13 +132,14 @@ fn base_field(image: &Image) -> Option<BaseRelocation>
 
 /// Relocates an image as loaded by the table of a view, and returns whether there is a table.
 fn relocate_by(view: &View, difference: u64, room: &mut [u8]) -> Result<bool>
-    ensures { RelocatesRoom result (relocated_by view.now difference room.old) room.old room.new }
+    ensures { RelocatesRoom result (relocated_by view.now.bytes.now view.now.image.now
+        (directory_sections view.now 5) difference room.old) room.old room.new }
 {
     let table = directory(view.image, BASE_RELOCATION_TABLE);
     if is_absent(table) {
         return Ok(false);
     }
-    let blocks = RelocationBlocks::parse(&image_bytes(view), table)?;
+    let blocks = RelocationBlocks::parse(&image_at(view, table), table)?;
     relocate(room, base_field(view.image), blocks.rest(), difference)?;
     Ok(true)
 }
@@ -154,7 +155,9 @@ fn relocate_by(view: &View, difference: u64, room: &mut [u8]) -> Result<bool>
 /// than ABSOLUTE, HIGH, LOW, HIGHLOW and DIR64.
 #[unsafe(no_mangle)]
 pub extern "C" fn pe_c_relocate(view: &View, difference: u64, room: &mut [u8]) -> u32
-    ensures { ChangesRoom result room.old room.new (relocated_by view.now difference room.old) }
+    ensures { ChangesRoom result room.old room.new
+        (relocated_by view.now.bytes.now view.now.image.now (directory_sections view.now 5)
+        difference room.old) }
 {
     match relocate_by(view, difference, room) {
         Ok(true) => DONE,

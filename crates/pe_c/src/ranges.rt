@@ -1,6 +1,7 @@
 //! Ranges of the caller's bytes: results have them in place of pointers, and callers pass them back to other calls.
 
 ghost use Rattle.std.specs.Prelude.{◌≡◌, ◌+◌, ◌≤◌};
+ghost use Rattle.std.specs.Option.{option_map};
 ghost use Rattle.pe_core.specs.Refusals.{ReturnsAs};
 ghost use Rattle.pe_c.specs.Ranges.{bytes_at, range_of, range_from};
 
@@ -37,6 +38,13 @@ pub fn range_of(range: ByteRange) -> Range
         offset: range.offset as u64,
         length: range.length as u64,
     }
+}
+
+/// The same, if there is one.
+pub fn some_range(range: Option<ByteRange>) -> Option<Range>
+    ensures { result ≡ option_map range_of range }
+{
+    range.map(range_of)
 }
 
 /// So many bytes from a file offset on, or the empty range without an offset.

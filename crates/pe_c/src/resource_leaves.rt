@@ -10,17 +10,16 @@ ghost use Rattle.pe_resource.specs.Contents.{file_range};
 ghost use Rattle.pe_resource.specs.LeafPositions.{leaf_start, tree_at, tree_view};
 ghost use Rattle.pe_resource.specs.Leaves.{tree_answer};
 ghost use Rattle.pe_c.specs.HandsOut.{HandsOutIf};
-ghost use Rattle.pe_c.specs.Images.{map_of_image};
 ghost use Rattle.pe_c.specs.Modes.{options_of};
-ghost use Rattle.pe_c.specs.Views.{map_of};
+ghost use Rattle.pe_c.specs.Views.{directory_sections, map_of, may_map};
 ghost use Rattle.pe_c.specs.ResourceLeaves.{StartsLeaves, TreeHandsOut, after_item, content_of, first_item, image_tree, items_left, leaf_reported, leaves_start, leaves_walk, name_in, position_of, walk_at};
 
 use crate::image::{RESOURCE_TABLE, directory, is_absent};
 use crate::ranges::{NO_BYTES, Range, range_of, slice_of};
 use crate::results::{DONE, NOTHING, hand_out_leaf, number_of, options};
-use crate::view::View;
+use crate::version::range_by;
+use crate::view::{View, sections_of};
 use pe_core::{ByteRange, DataDirectory, Result};
-use pe_frame::sections_by;
 use pe_resource::{LeafPosition, ResourceData, ResourceEntry, ResourceTreeError};
 
 /// What names a type, a resource or a language: an id, or a name.
@@ -139,10 +138,7 @@ pub fn name_in(start: u64, data: &[u8], entry: ResourceEntry) -> Result<Resource
 fn content_of(view: &View, leaf: &pe_resource::ResourceLeaf) -> (Range, u32)
     ensures { result ≡ content_of view.now.bytes.now (map_of view.now) leaf.now.data_entry }
 {
-    let (image, rva) = (view.image, leaf.data_entry.offset_to_data);
-    let sections = sections_by(view.sections, view.index, u64::from(rva));
-    let opts = options(image.mode);
-    match leaf.content_range(view.bytes, sections, image.file_alignment, &opts) {
+    match range_by(view, &leaf.data_entry) {
         Ok(range) => (range_of(range), DONE),
         Err(error) => (NO_BYTES, number_of(&error)),
     }
@@ -196,18 +192,19 @@ pub fn leaf_position(
     directory: DataDirectory,
 ) -> Result<Option<(ByteRange, LeafPosition)>>
     ensures tree { ReturnsAs (option_map (tree_view view.now.bytes.now)) result
-        (tree_at (options_of view.now.image.now.mode) view.now.bytes.now directory view.now.sections.now
-        view.now.image.now.file_alignment) }
+        (tree_at (options_of view.now.image.now.mode) view.now.bytes.now directory
+        (may_map view.now directory.virtual_address) view.now.image.now.file_alignment) }
     ensures place { IfOk result (λ x. IfSome x (λ x. file_range view.now.bytes.now directory.size
-        (map_of_image view.now.image.now view.now.sections.now directory.virtual_address) ≡ Ok x.0)) }
+        (map_of view.now directory.virtual_address) ≡ Ok x.0)) }
     ensures within { IfOk result (λ x. IfSome x (λ x. IsWithin view.now.bytes.now x.0)) }
     ensures value { Returns result
-        (leaf_start (options_of view.now.image.now.mode) view.now.bytes.now directory view.now.sections.now
-        view.now.image.now.file_alignment) }
+        (leaf_start (options_of view.now.image.now.mode) view.now.bytes.now directory
+        (may_map view.now directory.virtual_address) view.now.image.now.file_alignment) }
 {
     let alignment = view.image.file_alignment;
     let opts = options(view.image.mode);
-    ResourceData::leaf_position(view.bytes, directory, view.sections, alignment, &opts)
+    let sections = sections_of(view, directory.virtual_address);
+    ResourceData::leaf_position(view.bytes, directory, sections, alignment, &opts)
 }
 
 /// Returns a walk over the leaves of the resource tree: `NOTHING` where the directory is absent, and in permissive mode where
@@ -217,11 +214,11 @@ pub fn leaf_position(
 /// where the first directory or its entries are not all in the data.
 #[unsafe(no_mangle)]
 pub extern "C" fn pe_c_resource_leaves(view: &View, out: &mut ResourceLeaves) -> u32
-    ensures tree { StartsLeaves view.now.bytes.now view.now.image.now view.now.sections.now result
-        out.old out.new
-        (image_tree view.now.bytes.now view.now.image.now view.now.sections.now) }
+    ensures tree { StartsLeaves view.now.bytes.now view.now.image.now
+        (directory_sections view.now 2) result out.old out.new
+        (image_tree view.now.bytes.now view.now.image.now (directory_sections view.now 2)) }
     ensures walk { HandsOutIf result out.old out.new
-        (leaves_start view.now.bytes.now view.now.image.now view.now.sections.now) }
+        (leaves_start view.now.bytes.now view.now.image.now (directory_sections view.now 2)) }
 {
     let directory = directory(view.image, RESOURCE_TABLE);
     if is_absent(directory) {

@@ -15,12 +15,12 @@ use crate::results::{
     BAD_ADDRESS, BAD_OPERATION, DONE, LONG_CHAIN, MISSING, NOT_RISING, number_of,
 };
 use crate::view::View;
-use pe_core::{ByteRange, Result};
+use pe_core::{ByteRange, Result, RvaMap};
 use pe_frame::{
     FrameError, ImageFunctions, Memory, MemoryList, MemoryPiece, Registers,
     step_in_function_in_place,
 };
-use pe_unwind::{ExceptionData, RuntimeFunction, RvaMap};
+use pe_unwind::{ExceptionData, RuntimeFunction};
 
 /// The stack pointer among the integer registers.
 const RSP: usize = 4;

@@ -4,8 +4,9 @@
 ghost use Rattle.std.specs.Prelude.{◌≡◌};
 ghost use Rattle.pe_directories.specs.DirectoryRefusals.{directory_answer};
 ghost use Rattle.pe_c.specs.Directories.{DirectoryHandsOut, callbacks_at, first_va_in, left_after, step_of, tls_at};
+ghost use Rattle.pe_c.specs.Views.{directory_sections, may_map};
 
-use crate::directories::{Result, image_bytes, range_left};
+use crate::directories::{Result, image_at, offset_of_va, range_left};
 use crate::image::{TLS_TABLE, directory, is_absent};
 use crate::ranges::{NO_BYTES, Range, slice_of};
 use crate::results::hand_out_found;
@@ -14,13 +15,13 @@ use pe_directories::{TlsDirectory, VaTable};
 
 pub fn tls_at(view: &View) -> Result<Option<TlsDirectory>>
     ensures { directory_answer (λ t. t) result ≡ tls_at view.now.bytes.now view.now.image.now
-        view.now.sections.now }
+        (directory_sections view.now 9) }
 {
     let directory = directory(view.image, TLS_TABLE);
     if is_absent(directory) {
         return Ok(None);
     }
-    let tls = TlsDirectory::parse(&image_bytes(view), directory)?;
+    let tls = TlsDirectory::parse(&image_at(view, directory), directory)?;
     Ok(Some(tls))
 }
 
@@ -30,19 +31,20 @@ pub fn tls_at(view: &View) -> Result<Option<TlsDirectory>>
 #[unsafe(no_mangle)]
 pub extern "C" fn pe_c_tls(view: &View, out: &mut TlsDirectory) -> u32
     ensures { DirectoryHandsOut result out.old out.new (tls_at view.now.bytes.now view.now.image.now
-        view.now.sections.now) }
+        (directory_sections view.now 9)) }
 {
     hand_out_found(tls_at(view), out)
 }
 
 fn callbacks_at(view: &View, tls: &TlsDirectory) -> Result<Option<Range>>
     ensures { directory_answer (λ r. r) result
-        ≡ callbacks_at view.now.bytes.now view.now.image.now view.now.sections.now tls.now }
+        ≡ callbacks_at view.now.bytes.now view.now.image.now
+        (may_map view.now) tls.now }
 {
     if tls.address_of_callbacks == 0 {
         return Ok(None);
     }
-    let offset = image_bytes(view).offset_of_va(tls.address_of_callbacks)?;
+    let offset = offset_of_va(view, tls.address_of_callbacks)?;
     Ok(Some(Range {
         offset: offset as u64,
         length: view.bytes.len().saturating_sub(offset) as u64,
@@ -56,7 +58,8 @@ fn callbacks_at(view: &View, tls: &TlsDirectory) -> Result<Option<Range>>
 #[unsafe(no_mangle)]
 pub extern "C" fn pe_c_tls_callbacks(view: &View, tls: &TlsDirectory, out: &mut Range) -> u32
     ensures { DirectoryHandsOut result out.old out.new
-        (callbacks_at view.now.bytes.now view.now.image.now view.now.sections.now tls.now) }
+        (callbacks_at view.now.bytes.now view.now.image.now
+        (may_map view.now) tls.now) }
 {
     hand_out_found(callbacks_at(view, tls), out)
 }

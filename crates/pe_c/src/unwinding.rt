@@ -17,21 +17,21 @@ ghost use Rattle.pe_frame.specs.Undoing.{bytes_above};
 ghost use Rattle.pe_c.specs.Exports.{one_if_some};
 ghost use Rattle.pe_c.specs.NearRecords.{PutsRecord, codes_after};
 ghost use Rattle.pe_c.specs.Unwinding.{exception_table_at, HandsOutFound, function_in, or_no_function, handler_kind, handler_address, handler_range, flat_record, flat_record_at, FindsOffset, FollowsToRecord, HandsOutRecord, links_at, from_frame, saving, plain, flat, StepsOver, WalksIn, HandsOutCode, scopes_at};
-ghost use Rattle.pe_c.specs.Views.{map_of};
+ghost use Rattle.pe_c.specs.Views.{directory_sections, map_of};
 ghost use Rattle.pe_c.specs.Walks.{next_of, walk_of};
 
 use crate::image::{EXCEPTION_TABLE, directory, is_absent};
 use crate::ranges::{NO_BYTES, Range, last_range, range_of, slice_of};
 use crate::results::{DONE, NOTHING, hand_out, hand_out_some, number_of, options};
-use crate::view::{View, map_by};
+use crate::view::{View, map_by, sections_of};
 use crate::walks::next_entry;
 use pe_core::{
-    COFF_MACHINE_X86_64, CountedTable, Result, SectionTable, TableEntry, read_u8, read_u32,
+    COFF_MACHINE_X86_64, CountedTable, Result, RvaMap, SectionTable, TableEntry, read_u8, read_u32,
 };
 use pe_unwind::{
-    ExceptionData, Register, RuntimeFunction, RvaMap, ScopeTableEntry, StackFrameOffset,
-    UnwindCode, UnwindCodeIterator, UnwindHandler, UnwindInfo, UnwindOperation,
-    linked_record_offset, scope_table_size, search,
+    ExceptionData, Register, RuntimeFunction, ScopeTableEntry, StackFrameOffset, UnwindCode,
+    UnwindCodeIterator, UnwindHandler, UnwindInfo, UnwindOperation, linked_record_offset,
+    scope_table_size, search,
 };
 
 /// The size of an entry of a scope table in bytes.
@@ -112,7 +112,7 @@ pub struct Code {
 pub fn table_of(view: &View) -> Result<Option<Range>>
     ensures { answer_of result
         ≡ exception_table_at COFF_MACHINE_X86_64 12 view.now.bytes.now view.now.image.now
-        view.now.sections.now view.now.image.now.mode }
+        (directory_sections view.now 3) view.now.image.now.mode }
 {
     let directory = directory(view.image, EXCEPTION_TABLE);
     if view.image.machine != COFF_MACHINE_X86_64 || is_absent(directory) {
@@ -122,7 +122,7 @@ pub fn table_of(view: &View) -> Result<Option<Range>>
     let exceptions = ExceptionData::parse_with_opts(
         view.bytes,
         directory,
-        view.sections,
+        sections_of(view, directory.virtual_address),
         alignment,
         &options(view.image.mode),
     )?;
@@ -137,7 +137,7 @@ pub fn table_of(view: &View) -> Result<Option<Range>>
 pub extern "C" fn pe_c_function_table(view: &View, out: &mut Range) -> u32
     ensures { HandsOutIf result out.old out.new
         (exception_table_at COFF_MACHINE_X86_64 12 view.now.bytes.now view.now.image.now
-        view.now.sections.now view.now.image.now.mode) }
+        (directory_sections view.now 3) view.now.image.now.mode) }
 {
     hand_out_some(table_of(view), out)
 }

@@ -6,21 +6,62 @@
 ghost use Rattle.std.specs.Prelude.{◌≡◌, IfOk, IfSome};
 ghost use Rattle.std.specs.Option.{option_map};
 ghost use Rattle.pe_core.specs.Offsets.{IsWithin};
-ghost use Rattle.pe_core.specs.Refusals.{answer_of};
-ghost use Rattle.pe_resource.specs.Contents.{inner};
+ghost use Rattle.pe_core.specs.Refusals.{Returns, answer_of};
+ghost use Rattle.pe_resource.specs.Contents.{file_range, inner};
+ghost use Rattle.pe_resource.specs.Resources.{IsResourceEntry};
 ghost use Rattle.pe_c.specs.HandsOut.{HandsOutIf};
-ghost use Rattle.pe_c.specs.Versions.{IsContentOf, HandsOutManifest, content_at, fixed_at, fixed_in, HandsOutFixed, value_at, name_at, text_in, HandsOutText};
+ghost use Rattle.pe_c.specs.Modes.{options_of};
+ghost use Rattle.pe_c.specs.Versions.{IsContentOf, HandsOutManifest, content_at, entry_range, fixed_at, fixed_in, HandsOutFixed, value_at, name_at, text_in, HandsOutText};
+ghost use Rattle.pe_c.specs.Views.{map_of, may_map};
 
 use crate::image::{RESOURCE_TABLE, directory, is_absent};
-use crate::ranges::{Range, range_of};
+use crate::ranges::{Range, some_range};
 use crate::results::{NOTHING, hand_out_some, number_of, options};
-use crate::view::View;
-use pe_core::{ByteRange, Result, require_bytes};
-use pe_resource::{RT_MANIFEST, RT_VERSION, ResourceData, VersionName, VsFixedFileInfo};
+use crate::view::{View, sections_of};
+use pe_core::{ByteRange, DataDirectory, Result, require_bytes};
+use pe_resource::{
+    RT_MANIFEST, RT_VERSION, ResourceData, ResourceDataEntry, VersionName, VsFixedFileInfo,
+};
+
+/// The range of the content of a data entry.
+pub fn range_by(view: &View, entry: &ResourceDataEntry) -> Result<ByteRange>
+    ensures range { Returns result
+        (file_range view.now.bytes.now entry.now.size (map_of view.now entry.now.offset_to_data)) }
+    ensures within { IfOk result (IsWithin view.now.bytes.now) }
+{
+    let sections = sections_of(view, entry.offset_to_data);
+    let opts = options(view.image.mode);
+    entry.content_range(view.bytes, sections, view.image.file_alignment, &opts)
+}
+
+/// The same, if there is a data entry.
+fn entry_range(view: &View, entry: Option<ResourceDataEntry>) -> Result<Option<ByteRange>>
+    ensures range { Returns result
+        (entry_range view.now.bytes.now (map_of view.now) entry) }
+    ensures within { IfOk result (λ c. IfSome c (IsWithin view.now.bytes.now)) }
+{
+    match entry {
+        Some(entry) => Ok(Some(range_by(view, &entry)?)),
+        None => Ok(None),
+    }
+}
+
+/// The data entry of the first resource with an id, if the directory of resources has one.
+fn data_entry(view: &View, directory: DataDirectory, id: u16) -> Result<Option<ResourceDataEntry>>
+    ensures { IsResourceEntry (options_of view.now.image.now.mode) view.now.bytes.now directory id
+        (may_map view.now directory.virtual_address) view.now.image.now.file_alignment
+        (answer_of result) }
+{
+    let sections = sections_of(view, directory.virtual_address);
+    let alignment = view.image.file_alignment;
+    let opts = options(view.image.mode);
+    ResourceData::data_entry(view.bytes, directory, id, sections, alignment, &opts)
+}
 
 /// The range of the content of the first resource with an id, if the image has resources and this one.
+#[tactic(auto, using(crate::proofs::VersionContents::content_from_entry))]
 pub fn content_of(view: &View, id: u16) -> Result<Option<ByteRange>>
-    ensures content { IsContentOf view.now.bytes.now view.now.image.now view.now.sections.now
+    ensures content { IsContentOf view.now.bytes.now view.now.image.now (may_map view.now)
         view.now.image.now.mode id
         (answer_of result) }
     ensures within { IfOk result (λ c. IfSome c (IsWithin view.now.bytes.now)) }
@@ -29,15 +70,8 @@ pub fn content_of(view: &View, id: u16) -> Result<Option<ByteRange>>
     if is_absent(directory) {
         return Ok(None);
     }
-    let alignment = view.image.file_alignment;
-    ResourceData::content_range(
-        view.bytes,
-        directory,
-        id,
-        view.sections,
-        alignment,
-        &options(view.image.mode),
-    )
+    let entry = data_entry(view, directory, id)?;
+    entry_range(view, entry)
 }
 
 /// Returns the range of the manifest: `NOTHING` without one. What the version information says makes no difference.
@@ -45,11 +79,11 @@ pub fn content_of(view: &View, id: u16) -> Result<Option<ByteRange>>
 #[unsafe(no_mangle)]
 pub extern "C" fn pe_c_manifest(view: &View, out: &mut Range) -> u32
     ensures { HandsOutManifest
-        view.now.bytes.now view.now.image.now view.now.sections.now view.now.image.now.mode result
+        view.now.bytes.now view.now.image.now (may_map view.now) view.now.image.now.mode result
         out.old out.new }
 {
     match content_of(view, RT_MANIFEST) {
-        Ok(content) => hand_out_some(Ok(content.map(range_of)), out),
+        Ok(content) => hand_out_some(Ok(some_range(content)), out),
         Err(error) => number_of(&error),
     }
 }
@@ -69,7 +103,7 @@ fn fixed_at(bytes: &[u8], content: Option<ByteRange>) -> Result<Option<VsFixedFi
 /// `ResourceData::content_range`, then those of `VsFixedFileInfo::of_strings`.
 #[unsafe(no_mangle)]
 pub extern "C" fn pe_c_fixed_version(view: &View, out: &mut VsFixedFileInfo) -> u32
-    ensures { HandsOutFixed view.now.bytes.now view.now.image.now view.now.sections.now
+    ensures { HandsOutFixed view.now.bytes.now view.now.image.now (may_map view.now)
         view.now.image.now.mode result out.old out.new }
 {
     match content_of(view, RT_VERSION) {
@@ -121,7 +155,7 @@ fn name_at(number: u32) -> Option<VersionName>
 /// for a number above 11. Errors are those of `ResourceData::content_range`, then those of `VersionName::value_range`.
 #[unsafe(no_mangle)]
 pub extern "C" fn pe_c_version_text(view: &View, name: u32, out: &mut Range) -> u32
-    ensures { HandsOutText view.now.bytes.now view.now.image.now view.now.sections.now
+    ensures { HandsOutText view.now.bytes.now view.now.image.now (may_map view.now)
         view.now.image.now.mode
         (name_at name) result out.old out.new }
 {

@@ -8,9 +8,10 @@ ghost use Rattle.pe_core.specs.Refusals.{answer_of, kind_of};
 ghost use Rattle.pe_resource.specs.VersionBlocks.{block_kind_of, block_view};
 ghost use Rattle.pe_c.specs.HandsOut.{HandsOutIf};
 ghost use Rattle.pe_c.specs.VersionBlocks.{HandsOutBlocks, block_step, block_walk, refusal_of, reported};
+ghost use Rattle.pe_c.specs.Views.{may_map};
 
 use crate::directories::range_left;
-use crate::ranges::{NO_BYTES, Range, range_of, slice_of};
+use crate::ranges::{NO_BYTES, Range, slice_of, some_range};
 use crate::results::{hand_out_some, number_of};
 use crate::version::content_of;
 use crate::view::View;
@@ -47,11 +48,11 @@ pub struct VersionBlock {
 #[unsafe(no_mangle)]
 pub extern "C" fn pe_c_version_blocks(view: &View, out: &mut Range) -> u32
     ensures { HandsOutBlocks
-        view.now.bytes.now view.now.image.now view.now.sections.now view.now.image.now.mode result
+        view.now.bytes.now view.now.image.now (may_map view.now) view.now.image.now.mode result
         out.old out.new }
 {
     match content_of(view, RT_VERSION) {
-        Ok(content) => hand_out_some(Ok(content.map(range_of)), out),
+        Ok(content) => hand_out_some(Ok(some_range(content)), out),
         Err(error) => number_of(&error),
     }
 }

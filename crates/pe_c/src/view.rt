@@ -7,9 +7,8 @@ ghost use Rattle.pe_c.specs.Views.{map_of};
 
 use crate::image::{Image, offset_of};
 use crate::results::options;
-use pe_core::{Result, SectionTable, find_offset, mapped_offset};
+use pe_core::{Result, RvaMap, SectionTable, find_offset, mapped_offset};
 use pe_frame::{IndexEntry, sections_by};
-use pe_unwind::RvaMap;
 
 /// What `pe_c_image` and `pe_c_sections` returned of the bytes, or what a caller made in their place.
 #[repr(C)]

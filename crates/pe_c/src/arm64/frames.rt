@@ -12,12 +12,12 @@ ghost use Rattle.pe_c.specs.Arm64Frames.{arm64_registers_of, flat_arm64_register
 use crate::results::{DONE, number_of};
 use crate::stack_frames::reported;
 use crate::view::View;
-use pe_core::Error;
+use pe_core::{Error, RvaMap};
 use pe_frame::{
     Arm64Registers, FrameError, Memory, MemoryList, MemoryPiece, leaf_arm64, step_arm64_packed,
     step_out_arm64,
 };
-use pe_unwind::{Arm64RuntimeFunction, Arm64UnwindInfo, RvaMap};
+use pe_unwind::{Arm64RuntimeFunction, Arm64UnwindInfo};
 
 /// The registers of a thread that unwinding restores.
 #[repr(C)]

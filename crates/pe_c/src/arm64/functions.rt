@@ -8,12 +8,12 @@ ghost use Rattle.pe_c.specs.HandsOut.{HandsOut, HandsOutIf};
 ghost use Rattle.pe_c.specs.Arm64.{HandsOutArm64Found, LocatesArm64In, arm64_function_in, packed_fields};
 ghost use Rattle.pe_c.specs.Ranges.{bytes_at};
 ghost use Rattle.pe_c.specs.Unwinding.{exception_table_at};
-ghost use Rattle.pe_c.specs.Views.{map_of};
+ghost use Rattle.pe_c.specs.Views.{directory_sections, map_of};
 
 use crate::image::{EXCEPTION_TABLE, directory, is_absent};
 use crate::ranges::{Range, range_of, slice_of};
 use crate::results::{DONE, hand_out, hand_out_some, options};
-use crate::view::View;
+use crate::view::{View, sections_of};
 use pe_core::{COFF_MACHINE_ARM64, CountedTable, Result};
 use pe_unwind::{Arm64RuntimeFunction, ExceptionData, search_arm64};
 
@@ -44,7 +44,7 @@ pub struct Arm64Packed {
 pub fn table_of(view: &View) -> Result<Option<Range>>
     ensures { answer_of result
         ≡ exception_table_at COFF_MACHINE_ARM64 8 view.now.bytes.now view.now.image.now
-        view.now.sections.now view.now.image.now.mode }
+        (directory_sections view.now 3) view.now.image.now.mode }
 {
     let directory = directory(view.image, EXCEPTION_TABLE);
     if view.image.machine != COFF_MACHINE_ARM64 || is_absent(directory) {
@@ -55,7 +55,7 @@ pub fn table_of(view: &View) -> Result<Option<Range>>
     let exceptions = ExceptionData::parse_arm64_with_opts(
         view.bytes,
         directory,
-        view.sections,
+        sections_of(view, directory.virtual_address),
         alignment,
         &opts,
     )?;
@@ -70,7 +70,7 @@ pub fn table_of(view: &View) -> Result<Option<Range>>
 pub extern "C" fn pe_c_arm64_table(view: &View, out: &mut Range) -> u32
     ensures { HandsOutIf result out.old out.new
         (exception_table_at COFF_MACHINE_ARM64 8 view.now.bytes.now view.now.image.now
-        view.now.sections.now view.now.image.now.mode) }
+        (directory_sections view.now 3) view.now.image.now.mode) }
 {
     hand_out_some(table_of(view), out)
 }

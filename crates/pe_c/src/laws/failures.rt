@@ -24,7 +24,7 @@ ghost use Rattle.pe_c.specs.DirectoryFailures.{certificate_table, directory_refu
 ghost use Rattle.pe_c.specs.Exports.{tables_at};
 ghost use Rattle.pe_c.specs.FailureNumbers.{Agrees, AllAgree, DirectoriesAgree, TreesAgree, directory_refused, refused, tree_refused};
 ghost use Rattle.pe_c.specs.Failures.{Explains, first_failure, image_failure, object_section_failures, section_failures, te_failures, te_section_failures};
-ghost use Rattle.pe_c.specs.Images.{image_at};
+ghost use Rattle.pe_c.specs.Images.{for_directory, image_at, map_by};
 ghost use Rattle.pe_c.specs.Imports.{import_step, libraries_at, library_step};
 ghost use Rattle.pe_c.specs.LoadConfigs.{load_config_at};
 ghost use Rattle.pe_c.specs.ResourceLeaves.{first_item, items_left, leaves_start};
@@ -65,34 +65,48 @@ pub fn failures_are_those_of_the_calls()
 /// `pe_c_directory_failure` has a failure exactly where the call that reads the directory returns an error, with its number.
 #[tactic(auto, using(crate::proofs::DirectoryFailures::agree, crate::proofs::DirectoryFailures::directories_agree), unfolding(crate::specs::DirectoryFailures::directory_refusal))]
 pub fn directory_failures_are_those_of_the_calls()
-    ensures exports { (b : List ℕ) (image : Image) (sections : List SectionTable)
-        → AllAgree (tables_at b image sections) (directory_refusal 0 b image sections) }
-    ensures imports { (b : List ℕ) (image : Image) (sections : List SectionTable)
-        → AllAgree (libraries_at image sections) (directory_refusal 1 b image sections) }
-    ensures resources { (b : List ℕ) (image : Image) (sections : List SectionTable)
-        → AllAgree (leaves_start b image sections) (directory_refusal 2 b image sections) }
-    ensures functions { (b : List ℕ) (image : Image) (sections : List SectionTable)
+    ensures exports { (b : List ℕ) (image : Image) (may_map : ℕ → List SectionTable)
+        → AllAgree (tables_at b image (map_by image may_map))
+        (directory_refusal 0 b image may_map) }
+    ensures imports { (b : List ℕ) (image : Image) (may_map : ℕ → List SectionTable)
+        → AllAgree (libraries_at image (map_by image may_map))
+        (directory_refusal 1 b image may_map) }
+    ensures resources { (b : List ℕ) (image : Image) (may_map : ℕ → List SectionTable)
+        → AllAgree (leaves_start b image (for_directory may_map image 2))
+        (directory_refusal 2 b image may_map) }
+    ensures functions { (b : List ℕ) (image : Image) (may_map : ℕ → List SectionTable)
         → image.machine ≡ COFF_MACHINE_X86_64
-        → AllAgree (exception_table_at COFF_MACHINE_X86_64 12 b image sections image.mode) (directory_refusal 3 b image sections) }
-    ensures arm64_functions { (b : List ℕ) (image : Image) (sections : List SectionTable)
+        → AllAgree (exception_table_at COFF_MACHINE_X86_64 12 b image
+        (for_directory may_map image 3) image.mode)
+        (directory_refusal 3 b image may_map) }
+    ensures arm64_functions { (b : List ℕ) (image : Image) (may_map : ℕ → List SectionTable)
         → (image.machine == COFF_MACHINE_X86_64) ≡ false
-        → AllAgree (exception_table_at COFF_MACHINE_ARM64 8 b image sections image.mode) (directory_refusal 3 b image sections) }
-    ensures certificates { (b : List ℕ) (image : Image) (sections : List SectionTable)
-        → AllAgree (certificate_step b (certificate_table image)).0 (directory_refusal 4 b image sections) }
-    ensures relocations { (b : List ℕ) (image : Image) (sections : List SectionTable)
-        → DirectoriesAgree (table_at 5 b image sections) (directory_refusal 5 b image sections) }
-    ensures debug_entries { (b : List ℕ) (image : Image) (sections : List SectionTable)
-        → AllAgree (debug_entries_range b image sections image.mode) (directory_refusal 6 b image sections) }
-    ensures tls { (b : List ℕ) (image : Image) (sections : List SectionTable)
-        → DirectoriesAgree (tls_at b image sections) (directory_refusal 9 b image sections) }
-    ensures load_config { (b : List ℕ) (image : Image) (sections : List SectionTable)
-        → DirectoriesAgree (load_config_at b image sections) (directory_refusal 10 b image sections) }
-    ensures bound_imports { (b : List ℕ) (image : Image) (sections : List SectionTable)
-        → DirectoriesAgree (bound_imports_at b image) (directory_refusal 11 b image sections) }
-    ensures delay_imports { (b : List ℕ) (image : Image) (sections : List SectionTable)
-        → DirectoriesAgree (table_at 13 b image sections) (directory_refusal 13 b image sections) }
-    ensures clr_header { (b : List ℕ) (image : Image) (sections : List SectionTable)
-        → DirectoriesAgree (clr_header_at b image sections) (directory_refusal 14 b image sections) }
+        → AllAgree (exception_table_at COFF_MACHINE_ARM64 8 b image
+        (for_directory may_map image 3) image.mode)
+        (directory_refusal 3 b image may_map) }
+    ensures certificates { (b : List ℕ) (image : Image) (may_map : ℕ → List SectionTable)
+        → AllAgree (certificate_step b (certificate_table image)).0
+        (directory_refusal 4 b image may_map) }
+    ensures relocations { (b : List ℕ) (image : Image) (may_map : ℕ → List SectionTable)
+        → DirectoriesAgree (table_at 5 b image (for_directory may_map image 5))
+        (directory_refusal 5 b image may_map) }
+    ensures debug_entries { (b : List ℕ) (image : Image) (may_map : ℕ → List SectionTable)
+        → AllAgree (debug_entries_range b image (for_directory may_map image 6) image.mode)
+        (directory_refusal 6 b image may_map) }
+    ensures tls { (b : List ℕ) (image : Image) (may_map : ℕ → List SectionTable)
+        → DirectoriesAgree (tls_at b image (for_directory may_map image 9))
+        (directory_refusal 9 b image may_map) }
+    ensures load_config { (b : List ℕ) (image : Image) (may_map : ℕ → List SectionTable)
+        → DirectoriesAgree (load_config_at b image (for_directory may_map image 10))
+        (directory_refusal 10 b image may_map) }
+    ensures bound_imports { (b : List ℕ) (image : Image) (may_map : ℕ → List SectionTable)
+        → DirectoriesAgree (bound_imports_at b image) (directory_refusal 11 b image may_map) }
+    ensures delay_imports { (b : List ℕ) (image : Image) (may_map : ℕ → List SectionTable)
+        → DirectoriesAgree (table_at 13 b image (for_directory may_map image 13))
+        (directory_refusal 13 b image may_map) }
+    ensures clr_header { (b : List ℕ) (image : Image) (may_map : ℕ → List SectionTable)
+        → DirectoriesAgree (clr_header_at b image (for_directory may_map image 14))
+        (directory_refusal 14 b image may_map) }
 {}
 
 /// `pe_c_debug_failure` has a failure exactly where the call that reads the record returns an error, with its number.

@@ -1,25 +1,72 @@
 //! The law of indexes: what calls return by an index that `pe_c_index` made is what they return without one.
 
-ghost use Rattle.std.specs.Prelude.{◌≡◌, ℕ, List};
+ghost use Rattle.std.specs.Prelude.{◌≡◌, ℕ, List, Option, Result};
+ghost use Rattle.pe_core.specs.Refusals.{Refusal};
+ghost use Rattle.pe_core.specs.declared.byte_range.ByteRange.{ByteRange};
+ghost use Rattle.pe_directories.specs.declared.clr.ClrHeader.{ClrHeader};
+ghost use Rattle.pe_directories.specs.declared.tls.TlsDirectory.{TlsDirectory};
+ghost use Rattle.pe_c.specs.Clr.{clr_header_at, clr_metadata_at};
+ghost use Rattle.pe_c.specs.Debug.{debug_entries_range, first_entry};
+ghost use Rattle.pe_c.specs.Directories.{callbacks_at, table_at, tls_at};
+ghost use Rattle.pe_c.specs.DirectoryFailures.{directory_refusal};
+ghost use Rattle.pe_c.specs.GuardTables.{guard_table_at};
 ghost use Rattle.pe_c.specs.Images.{map_of_image};
+ghost use Rattle.pe_c.specs.LoadConfigs.{load_config_at, numbered_field_at};
+ghost use Rattle.pe_c.specs.Loaded.{relocated_by};
 ghost use Rattle.pe_c.specs.MapRanges.{range_at};
 ghost use Rattle.pe_c.specs.Maps.{section_at};
-ghost use Rattle.pe_frame.specs.SectionIndexes.{sections_by};
-ghost use Rattle.pe_c.specs.SectionIndexes.{IsIndexOf, section_by};
-ghost use Rattle.pe_c.specs.Views.{map_of};
+ghost use Rattle.pe_c.specs.ResourceLeaves.{image_tree, leaves_start};
+ghost use Rattle.pe_c.specs.SectionIndexes.{HasIndex, SameByAny, SameByIndex, section_by};
+ghost use Rattle.pe_c.specs.Unwinding.{exception_table_at};
+ghost use Rattle.pe_c.specs.Versions.{IsContentOf};
+ghost use Rattle.pe_c.specs.Views.{map_of, may_map};
 ghost use Rattle.pe_c.specs.declared.view.View.{View};
 
 /// Where a view has an index of its sections, as `pe_c_index` writes it, its map of RVAs is that of the sections: so every call
 /// whose definition takes a map returns what it returns without the index. The section of an RVA and the bytes from it on are the
 /// same too. Each clause is a field of `IsIndexOf`, said of the view.
 pub fn indexes_change_nothing()
-    ensures maps { (v : View) → IsIndexOf v.image.now v.sections.now v.index.now →
+    ensures maps { (v : View) → HasIndex v →
         map_of v ≡ map_of_image v.image.now v.sections.now }
-    ensures owners { (v : View) → IsIndexOf v.image.now v.sections.now v.index.now → (x : ℕ) →
+    ensures owners { (v : View) → HasIndex v → (x : ℕ) →
         section_by v.image.now v.sections.now v.index.now x
         ≡ section_at v.image.now v.sections.now x }
-    ensures ranges { (v : View) → IsIndexOf v.image.now v.sections.now v.index.now →
-        (b : List ℕ) (x : ℕ) →
-        range_at b v.image.now (sections_by v.sections.now v.index.now x) x
-        ≡ range_at b v.image.now v.sections.now x }
+    ensures ranges { (v : View) → HasIndex v → (b : List ℕ) (x : ℕ) →
+        range_at b v.image.now (may_map v x) x ≡ range_at b v.image.now v.sections.now x }
+{}
+
+/// Of such a view the calls for directories return what they return without the index: where the table of a directory is, and what
+/// is read at the RVA of the directory. (The definitions of exports and imports take a map.)
+
+pub fn directories_are_those_of_all_sections()
+    ensures tables { (i : ℕ) → SameByIndex (table_at i) i }
+    ensures relocations { (difference : ℕ) (old : List ℕ) →
+        SameByIndex (λ b image s. relocated_by b image s difference old) 5 }
+    ensures tls { SameByIndex tls_at 9 }
+    ensures load_config { SameByIndex load_config_at 10 }
+    ensures fields { (n : ℕ) → SameByIndex (numbered_field_at n) 10 }
+    ensures clr_header { SameByIndex clr_header_at 14 }
+    ensures debug_entries { SameByIndex (λ b image s. debug_entries_range b image s image.mode) 6 }
+    ensures first_debug_entry { (kind : ℕ) →
+        SameByIndex (λ b image s. first_entry b image s kind) 6 }
+    ensures functions { (machine width : ℕ) →
+        SameByIndex (λ b image s. exception_table_at machine width b image s image.mode) 3 }
+    ensures leaves { SameByIndex leaves_start 2 }
+    ensures tree { SameByIndex image_tree 2 }
+{}
+
+/// The same of calls that map more than the RVA of a directory: the callbacks of TLS, the metadata of a CLR header, the tables of the
+/// load configuration, the content of a resource, and why a directory is refused.
+
+pub fn parts_are_those_of_all_sections()
+    ensures callbacks { (tls : TlsDirectory) →
+        SameByAny (λ b image may_map. callbacks_at b image may_map tls) }
+    ensures metadata { (h : ClrHeader) → SameByAny
+        (λ b image may_map. clr_metadata_at b image (may_map h.metadata.virtual_address) h) }
+    ensures guard_tables { (n : ℕ) → SameByAny (guard_table_at n) }
+    ensures contents { (v : View) → HasIndex v →
+        (id : ℕ) (r : Result (Option ByteRange) Refusal) →
+        IsContentOf v.bytes.now v.image.now (may_map v) v.image.now.mode id r →
+        IsContentOf v.bytes.now v.image.now (λ _. v.sections.now) v.image.now.mode id r }
+    ensures refusals { (i : ℕ) → SameByAny (directory_refusal i) }
 {}

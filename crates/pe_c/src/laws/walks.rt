@@ -157,8 +157,8 @@ pub fn walks_give_all_imports()
     ensures of_image { (b : List ℕ) (image : Image) (sections : List SectionTable)
         (start : Libraries) (walk : LibraryImports) (libraries : List (Result Library Refusal))
         (imports : Library → List (Result Import Refusal)) →
-        libraries_at image sections ≡ Ok (Some start) →
-        library_imports_at image sections ≡ Ok (Some walk) →
+        libraries_at image (map_of_image image sections) ≡ Ok (Some start) →
+        library_imports_at image (map_of_image image sections) ≡ Ok (Some walk) →
         ReturnsItems (StepsLibraries
         (map_of_image image sections) (entry_size (image.width == 64)) b) start libraries →
         AreImportsOf (map_of_image image sections) (entry_size (image.width == 64)) b imports libraries →

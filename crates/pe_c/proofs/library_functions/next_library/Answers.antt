@@ -1,4 +1,4 @@
-use Rattle.std.proofs.Common.{◌≡◌, ◌<◌, Result, Option, Ok, sym, ap, subst, ◌∙◌}
+use Rattle.std.proofs.Common.{◌<◌, Option, Ok, sym, ap, subst, ◌∙◌}
 use Rattle.pe_c.specs.Views.{map_of}
 use Rattle.pe_c.specs.declared.delay_imports.DelayLibrary.{DelayLibrary}
 use Rattle.pe_c.specs.declared.library_functions.LibraryFunctions.{LibraryFunctions}

@@ -1,4 +1,4 @@
-use Rattle.std.proofs.Common.{ℕ, ◌-◌, ◌^◌, Option, Result}
+use Rattle.std.proofs.Common.{◌-◌, ◌^◌, Option, Result}
 use Rattle.std.specs.Prelude.{◌==◌}
 use Rattle.pe_core.specs.Imports.{entry_size}
 use Rattle.pe_core.specs.Refusals.{Refusal}

@@ -1,4 +1,4 @@
-use Rattle.std.proofs.Common.{◌≡◌, inl, inr, Option, Result, Ok, Err, Some, None, length, length-set, refl, sym, subst, ap, ◌∙◌, arith}
+use Rattle.std.proofs.Common.{◌≡◌, inl, Option, Ok, Err, Some, length-set, refl, sym, subst, ap, ◌∙◌, arith}
 use Rattle.std.proofs.lemmas.Bool.{eqb-true}
 use Rattle.pe_c.proofs.CodeBytes.{any_step, frequent_step}
 use Rattle.pe_c.proofs.PutCodes.{none_left, one_more}
