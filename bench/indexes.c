@@ -92,23 +92,23 @@ static uint64_t step_records(const pe_c_view *view, uint64_t most)
     return count;
 }
 
-/* The directories of an image, each by the call that returns where it is; how many calls are refused or have none does not matter. */
+/* How many of seven directories an image has, MOST times, each by the call that returns where it is. */
 static uint64_t read_directories(const pe_c_view *view, uint64_t most)
 {
-    uint64_t count = 0;
-    for (; count < most; count++) {
+    uint64_t found = 0;
+    for (uint64_t turn = 0; turn < most; turn++) {
         pe_c_exports exports = PE_C_EMPTY;
         pe_c_libraries libraries = PE_C_EMPTY;
         pe_c_range range = PE_C_EMPTY;
-        pe_c_export_tables(view, &exports);
-        pe_c_import_libraries(view, &libraries);
-        pe_c_function_table(view, &range);
-        pe_c_relocation_blocks(view, &range);
-        pe_c_debug_entries(view, &range);
-        pe_c_delay_imports(view, &range);
-        pe_c_manifest(view, &range);
+        found += pe_c_export_tables(view, &exports) == PE_C_DONE;
+        found += pe_c_import_libraries(view, &libraries) == PE_C_DONE;
+        found += pe_c_function_table(view, &range) == PE_C_DONE;
+        found += pe_c_relocation_blocks(view, &range) == PE_C_DONE;
+        found += pe_c_debug_entries(view, &range) == PE_C_DONE;
+        found += pe_c_delay_imports(view, &range) == PE_C_DONE;
+        found += pe_c_manifest(view, &range) == PE_C_DONE;
     }
-    return count;
+    return found;
 }
 
 /* Offsets of RVAs in the last section. */
