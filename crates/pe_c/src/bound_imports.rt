@@ -48,6 +48,7 @@ pub struct BoundForwarder {
     pub spare: u32,
 }
 
+/// The directory of bound imports, if it is not absent: its address is a file offset.
 pub fn bound_imports_at(view: &View) -> Result<Option<Range>>
     ensures { directory_answer (λ r. r) result ≡ bound_imports_at view.now.bytes.now
         view.now.image.now }

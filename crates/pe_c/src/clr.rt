@@ -85,6 +85,7 @@ const NO_STREAMS: MetadataStreams = MetadataStreams {
     spare_too: 0,
 };
 
+/// The CLR header, if its directory is not absent.
 pub fn clr_header_at(view: &View) -> Result<Option<ClrHeader>>
     ensures { directory_answer (λ h. h) result
         ≡ clr_header_at view.now.bytes.now view.now.image.now (directory_sections view.now 14) }

@@ -195,6 +195,7 @@ pub fn symbol_with(table: &Range, rows: u64, index: u64, symbol: &pe_core::Symbo
     }
 }
 
+/// The symbol of a table with an index, if the table has it.
 pub fn symbol_at(bytes: &[u8], table: &Range, index: u64) -> Result<Option<Symbol>>
     ensures symbol { answer_of result ≡ symbol_at bytes.now table.now index }
     ensures small { IfOk result (λ o. IfSome o (λ s. index < 2 ^ 62)) }

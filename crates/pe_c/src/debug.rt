@@ -43,6 +43,7 @@ fn entries_at(view: &View, directory: DataDirectory) -> Result<ByteRange>
     DebugData::table_range(view.bytes, directory, sections, alignment, &opts)
 }
 
+/// The range of the entries, if the debug directory is not absent.
 #[tactic(auto, unfolding(crate::specs::Debug::debug_entries_range))]
 pub fn table_of(view: &View) -> Result<Option<Range>>
     ensures { answer_of result

@@ -175,6 +175,7 @@ pub fn exported_in(
     }
 }
 
+/// The entry of a table with an index, if the table has it.
 pub fn exported_at(
     names: &NamedView<'_>,
     table: &AddressTable,

@@ -86,6 +86,7 @@ pub fn export_data<'a>(view: &View<'a>, directory: DataDirectory) -> Result<Expo
     ExportData::parse_with_map(view.bytes, directory, view)
 }
 
+/// The tables of exports as a walk at its start, if the export directory is not absent.
 #[tactic(auto, unfolding(crate::specs::Exports::tables_at))]
 pub fn tables_at(view: &View) -> Result<Option<Exports>>
     ensures { answer_of result ≡ tables_at view.now.bytes.now view.now.image.now

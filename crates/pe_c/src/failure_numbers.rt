@@ -88,6 +88,7 @@ pub struct ErrorNumbers {
     pub value: u64,
 }
 
+/// The numbers of a failure.
 pub fn numbers(offset: u64, needed: u64, value: u64) -> ErrorNumbers
     ensures { result ≡ numbers offset needed value }
 {
@@ -98,6 +99,7 @@ pub fn numbers(offset: u64, needed: u64, value: u64) -> ErrorNumbers
     }
 }
 
+/// Those of a failure that has none.
 pub fn no_numbers() -> ErrorNumbers
     ensures { result ≡ no_numbers }
 {
@@ -198,6 +200,7 @@ pub fn tree_refused<T: Copy>(given: std::result::Result<T, ResourceTreeError>) -
     }
 }
 
+/// The failure with the number of its kind and these numbers.
 pub fn failure_with(number: u32, numbers: ErrorNumbers) -> Failure
     ensures { result ≡ failure_with number numbers }
 {

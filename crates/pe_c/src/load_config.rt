@@ -132,6 +132,7 @@ fn config_reported(config: &Structure) -> LoadConfig
     }
 }
 
+/// The load configuration, if its directory is not absent.
 pub fn load_config_at(view: &View) -> Result<Option<LoadConfig>>
     ensures { directory_answer (λ c. c) result
         ≡ load_config_at view.now.bytes.now view.now.image.now (directory_sections view.now 10) }

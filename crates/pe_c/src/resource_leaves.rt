@@ -84,6 +84,7 @@ fn byte_range(range: &Range) -> ByteRange
     }
 }
 
+/// Where a walk stands, in the numbers of pe_resource.
 pub fn position_of(walk: &ResourceLeaves) -> LeafPosition
     ensures { result ≡ position_of walk.now }
 {

@@ -13,6 +13,7 @@ use crate::results::hand_out_found;
 use crate::view::View;
 use pe_directories::{TlsDirectory, VaTable};
 
+/// The TLS directory, if it is not absent.
 pub fn tls_at(view: &View) -> Result<Option<TlsDirectory>>
     ensures { directory_answer (λ t. t) result ≡ tls_at view.now.bytes.now view.now.image.now
         (directory_sections view.now 9) }

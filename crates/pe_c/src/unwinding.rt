@@ -108,6 +108,7 @@ pub struct Code {
     pub value: u32,
 }
 
+/// The range of the function table, if the image is for x64 and has one.
 #[tactic(auto, unfolding(crate::specs::Unwinding::exception_table_at))]
 pub fn table_of(view: &View) -> Result<Option<Range>>
     ensures { answer_of result
@@ -171,6 +172,7 @@ pub extern "C" fn pe_c_find_function(
     }
 }
 
+/// The function of a table with an index.
 pub fn function_in(bytes: &[u8], table: &Range, index: u64) -> Result<RuntimeFunction>
     ensures { answer_of result ≡ function_in bytes.now table.now index }
 {
@@ -587,6 +589,7 @@ pub fn plain(code_offset: u8, operation: u8, operand: u8, value: u32) -> Code
     }
 }
 
+/// A code as callers get it.
 pub fn flat(code: UnwindCode) -> Code
     ensures { result ≡ flat code }
 {
@@ -633,6 +636,7 @@ fn step(left: &[u8], walk: &mut CodeWalk) -> Option<Result<UnwindCode>>
     code
 }
 
+/// The next code of a walk, if there is one. After an error the walk is over.
 pub fn next_code(bytes: &[u8], walk: &mut CodeWalk) -> Option<Result<UnwindCode>>
     ensures { WalksIn (bytes_at bytes.now walk.old.left) walk.old result walk.new }
 {

@@ -231,6 +231,7 @@ fn step(left: &[u8], walk: &mut Arm64CodeWalk) -> Result<Option<Arm64Code>>
     }
 }
 
+/// The next code of a walk. After an error the walk is over.
 pub fn next_code(bytes: &[u8], walk: &mut Arm64CodeWalk) -> Result<Option<Arm64Code>>
     ensures { WalksInArm64
         (left_of_stream bytes.now walk.old) walk.old (answer_of result) walk.new }

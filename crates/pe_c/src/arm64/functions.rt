@@ -40,6 +40,7 @@ pub struct Arm64Packed {
     pub is_packed: u32,
 }
 
+/// The range of the function table, if the image is for ARM64 and has one.
 #[tactic(auto, unfolding(crate::specs::Unwinding::exception_table_at))]
 pub fn table_of(view: &View) -> Result<Option<Range>>
     ensures { answer_of result
@@ -103,6 +104,7 @@ pub extern "C" fn pe_c_find_arm64_function(
     hand_out_some(find(view, table, rva), out)
 }
 
+/// The function of a table with an index.
 pub fn function_in(bytes: &[u8], table: &Range, index: u64) -> Result<Arm64RuntimeFunction>
     ensures { answer_of result ≡ arm64_function_in bytes.now table.now index }
 {

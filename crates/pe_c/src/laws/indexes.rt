@@ -1,6 +1,6 @@
 //! The law of indexes: what calls return by an index that `pe_c_index` made is what they return without one.
 
-ghost use Rattle.std.specs.Prelude.{◌≡◌, ℕ, List, Option, Result};
+ghost use Rattle.std.specs.Prelude.{◌≡◌, ℕ, List, [], Option, Result};
 ghost use Rattle.pe_core.specs.Refusals.{Refusal};
 ghost use Rattle.pe_core.specs.declared.byte_range.ByteRange.{ByteRange};
 ghost use Rattle.pe_directories.specs.declared.clr.ClrHeader.{ClrHeader};
@@ -24,8 +24,10 @@ ghost use Rattle.pe_c.specs.declared.view.View.{View};
 
 /// Where a view has an index of its sections, as `pe_c_index` writes it, its map of RVAs is that of the sections: so every call
 /// whose definition takes a map returns what it returns without the index. The section of an RVA and the bytes from it on are the
-/// same too. Each clause is a field of `IsIndexOf`, said of the view.
+/// same too. Each of these clauses is a field of `IsIndexOf`, said of the view. A view without entries counts as one that has an index:
+/// so these laws lead from the contract of any call to what is defined over all sections.
 pub fn indexes_change_nothing()
+    ensures without { (v : View) → v.index.now ≡ [] → HasIndex v }
     ensures maps { (v : View) → HasIndex v →
         map_of v ≡ map_of_image v.image.now v.sections.now }
     ensures owners { (v : View) → HasIndex v → (x : ℕ) →

@@ -1,5 +1,9 @@
 use Rattle.std.proofs.Math.Path.{fun_ext}
+use Rattle.pe_c.proofs.IndexMaps.{without_entries}
 use Rattle.pe_c.proofs.laws.indexes.indexes_change_nothing.Goals as goal
+
+pub returns-clause-without : goal.returns-clause-without
+returns-clause-without c = without_entries
 
 pub returns-clause-maps : goal.returns-clause-maps
 returns-clause-maps c v is = fun_ext is.maps
