@@ -50,3 +50,39 @@ fn imports_of_many_sections() {
     let kernel = b"KERNEL32.dll".as_slice();
     assert_eq!(found, [(kernel, Some(b"Sleep".as_slice())), (kernel, None), (b"a.dll", Some(b"f"))]);
 }
+
+/// What calls for directories return of an image, and how many items each walk has.
+fn directories_of(bytes: &[u8]) -> [String; 13] {
+    let image = Image::parse(bytes, Mode::Permissive).unwrap();
+    [
+        format!("{:?}", image.export_directory()),
+        format!("{:?}", image.libraries().map(|found| found.map(Iterator::count))),
+        format!("{:?}", image.resource_leaves().map(|found| found.map(Iterator::count))),
+        format!("{:?}", image.manifest()),
+        format!("{:?}", image.version()),
+        format!("{:?}", image.functions().map(|found| found.map(|table| table.iter().count()))),
+        format!("{:?}", image.relocation_blocks().map(|found| found.map(Iterator::count))),
+        format!("{:?}", image.debug_entry(2)),
+        format!("{:?}", image.symbol_key()),
+        format!("{:?}", image.tls().map(|found| found.map(|_| ()))),
+        format!("{:?}", image.load_config()),
+        format!("{:?}", image.delay_imports().map(|found| found.map(Iterator::count))),
+        format!("{:?}", image.clr().map(|found| found.map(|clr| clr.metadata().is_ok()))),
+    ]
+}
+
+#[test]
+fn directories_of_many_sections() {
+    let mut there = [false; 13];
+    for (name, bytes) in made::all() {
+        if Image::parse(&bytes, Mode::Permissive).unwrap().sections().len() != 1 {
+            continue;
+        }
+        let found = directories_of(&bytes);
+        assert_eq!(directories_of(&after_empty_sections(bytes)), found, "{name}");
+        for (is_there, part) in there.iter_mut().zip(&found) {
+            *is_there |= part.starts_with("Ok(Some(");
+        }
+    }
+    assert_eq!(there, [true; 13]);
+}
