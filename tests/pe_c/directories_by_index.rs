@@ -2,11 +2,12 @@
 //! which of them maps an RVA: so each RVA that a call maps goes by the index, or the call returns what is in the other half.
 
 use super::clr::no_header;
+use super::directory_tables::NO_EXPORT_FIELDS;
 use super::exports::with_exports;
 use super::load_config::UNTOUCHED as NO_CONFIG;
 use super::made::{
-    ARM64, BAD_MAGIC, LEFT_ENTRY, NO_FAILURE, SHORT, UNMAPPED, UNTOUCHED, X64, directory,
-    from_start, having, image, of_range, range, section, untouched, view,
+    ARM64, BAD_MAGIC, LEFT_ENTRY, NO_FAILURE, RESOURCE_BOUNDS, SHORT, UNMAPPED, UNTOUCHED, X64,
+    directory, from_start, having, image, of_range, range, section, untouched, view,
 };
 use super::resource_leaves::{walk, with_tree};
 use super::tls::NONE as NO_TLS;
@@ -18,7 +19,7 @@ use crate::debug::{pe_c_debug_entries, pe_c_first_debug_entry, pe_c_symbol_key};
 use crate::debug_records::SymbolKey;
 use crate::delay_imports::pe_c_delay_imports;
 use crate::directory_failure::pe_c_directory_failure;
-use crate::directory_tables::{ExportFields, pe_c_export_directory};
+use crate::directory_tables::pe_c_export_directory;
 use crate::export_addresses::{AddressTable, pe_c_export_addresses};
 use crate::exports::{Exports, pe_c_export_tables};
 use crate::guard_tables::{GuardEntries, pe_c_guard_table};
@@ -243,19 +244,7 @@ fn addresses_by(view: &View<'_>) -> (u32, [[u64; 2]; 2]) {
 
 /// How many names there are.
 fn names_by(view: &View<'_>) -> (u32, u32) {
-    let mut out = ExportFields {
-        characteristics: 1,
-        time_date_stamp: 2,
-        major_version: 3,
-        minor_version: 4,
-        name: 5,
-        base: 6,
-        number_of_functions: 7,
-        number_of_names: 8,
-        address_of_functions: 9,
-        address_of_names: 10,
-        address_of_name_ordinals: 11,
-    };
+    let mut out = NO_EXPORT_FIELDS;
     let answer = pe_c_export_directory(view, &mut out);
     (answer, out.number_of_names)
 }
@@ -374,29 +363,24 @@ fn contents(rt: HostRuntime) -> Result<(), Fail> {
     Ok(())
 }
 
-/// Version information without strings has no value, and one of zeros no numbers: where the index names no section for the content
-/// the answer is another.
+/// Version information of zeros has no values and no numbers. The data entry of the second half says 65,535 bytes, which are not there:
+/// so the answer says which half the tree is of, and whether a section maps the content.
 #[test]
 fn versions(rt: HostRuntime) -> Result<(), Fail> {
     let mut bytes = in_both(rt.alloc(), TREE)?;
-    put(&mut bytes, &[(0x24, &[8]), (HALF + 0x24, &[8])]);
+    put(&mut bytes, &[(0x24, &[8]), (HALF + 0x24, &[0xFF, 0xFF])]);
     let image = having(image(X64), 2, directory(0x1000, 0x40));
     let text = |view: &View<'_>| range_by(|v, out| pe_c_version_text(v, 3, out), view).0;
-    let want = alike(NOTHING, NOTHING, UNMAPPED);
+    let want = alike(NOTHING, RESOURCE_BOUNDS, UNMAPPED);
+    let split = [NOTHING, RESOURCE_BOUNDS, UNMAPPED];
     assert_eq!(rt; answers(&bytes, &image, text), want);
-    assert_eq!(rt;
-        split_answers(&bytes, &image, text),
-        [NOTHING, NOTHING, UNMAPPED]
-    );
+    assert_eq!(rt; split_answers(&bytes, &image, text), split);
     let fixed = |view: &View<'_>| {
         let mut out = VsFixedFileInfo::default();
         pe_c_fixed_version(view, &mut out)
     };
     assert_eq!(rt; answers(&bytes, &image, fixed), want);
-    assert_eq!(rt;
-        split_answers(&bytes, &image, fixed),
-        [NOTHING, NOTHING, UNMAPPED]
-    );
+    assert_eq!(rt; split_answers(&bytes, &image, fixed), split);
     Ok(())
 }
 

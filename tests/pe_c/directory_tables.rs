@@ -22,22 +22,25 @@ type Fields = ([u32; 2], [u16; 2], [u32; 7]);
 
 const NO_FIELDS: Fields = ([1, 2], [3, 4], [5, 6, 7, 8, 9, 10, 11]);
 
+/// What `out` is before each call.
+pub(crate) const NO_EXPORT_FIELDS: ExportFields = ExportFields {
+    characteristics: 1,
+    time_date_stamp: 2,
+    major_version: 3,
+    minor_version: 4,
+    name: 5,
+    base: 6,
+    number_of_functions: 7,
+    number_of_names: 8,
+    address_of_functions: 9,
+    address_of_names: 10,
+    address_of_name_ordinals: 11,
+};
+
 /// With the RVA and the size 0 the directory is absent.
 fn fields_of(bytes: &[u8], address: u32, mode: u32) -> (u32, Fields) {
     let image = having(image(X64), 0, directory(address, u32::from(address != 0)));
-    let mut out = ExportFields {
-        characteristics: 1,
-        time_date_stamp: 2,
-        major_version: 3,
-        minor_version: 4,
-        name: 5,
-        base: 6,
-        number_of_functions: 7,
-        number_of_names: 8,
-        address_of_functions: 9,
-        address_of_names: 10,
-        address_of_name_ordinals: 11,
-    };
+    let mut out = NO_EXPORT_FIELDS;
     let answer = pe_c_export_directory(&view(bytes, &in_mode(&image, mode), &sections()), &mut out);
     let ExportFields {
         characteristics,
