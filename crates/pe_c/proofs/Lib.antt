@@ -24,6 +24,7 @@ pub mod ImportRuns
 pub mod LibraryImportRuns
 pub mod LibraryFunctionRuns
 pub mod Indices
+pub mod KeptSections
 pub mod LastText
 pub mod LeftBytes
 pub mod Listings

@@ -81,6 +81,7 @@ pub mod SectionWrites
 pub mod ImageWrites
 pub mod NearMaps
 pub mod ExportWindows
+pub mod KeptSections
 pub mod NearLists
 pub mod StepFailures
 pub mod ResourceFailures

@@ -9,23 +9,25 @@ ghost use Rattle.pe_directories.specs.DirectoryRefusals.{directory_answer};
 ghost use Rattle.pe_c.specs.DelayImports.{address_in, address_offset, library_of, dll_range, first_library_in, first_function_in, first_of_walk, function_of, functions_after, functions_of, name_range, named_at, ordinal_in, rva_of};
 ghost use Rattle.pe_c.specs.Directories.{DirectoryHandsOut, left_after, step_of, table_at};
 ghost use Rattle.pe_c.specs.NearMaps.{IsWindow};
+ghost use Rattle.pe_c.specs.KeptSections.{ChangeNothing, KeepsOn, map_kept};
 ghost use Rattle.pe_c.specs.Views.{directory_sections, map_of};
 
 use crate::directories::{Result, range_left, table_at};
 use crate::image::{DELAY_IMPORT_DESCRIPTOR, Image};
+use crate::kept_sections::{KeptSections, NO_SECTIONS, kept_after, map_kept};
 use crate::named_view::NamedView;
 use crate::near_map::{NO_WINDOW, Window, map_near};
 use crate::ranges::{NO_BYTES, Range, slice_of};
 use crate::results::hand_out_found;
 use crate::text_runs::Run;
-use crate::view::{View, map_u64};
-use pe_core::{Error, Reason, u16_at};
+use crate::view::View;
+use pe_core::{Error, Reason, lookup_number, lookup_size, u16_at};
 use pe_directories::{DelayImport, DelayImports, DirectoryError, VaTable};
 
 /// The size of the hint before a function's name in bytes.
 const SIZE_OF_HINT: usize = 2;
 
-/// A walk over what is imported of a DLL.
+/// Where a walk over what is imported of a DLL stands.
 #[repr(C)]
 #[derive(Clone, Copy)]
 pub struct DelayedFunctions {
@@ -37,13 +39,30 @@ pub struct DelayedFunctions {
     pub spare: u32,
 }
 
+/// A walk over the DLLs of the delay import directory step by step.
+#[repr(C)]
+#[derive(Clone, Copy)]
+pub struct DelayWalk {
+    /// The entries that are left.
+    pub entries: Range,
+    pub kept: KeptSections,
+}
+
+/// A walk over what is imported of a DLL step by step.
+#[repr(C)]
+#[derive(Clone, Copy)]
+pub struct DelayedFunctionWalk {
+    pub functions: DelayedFunctions,
+    pub kept: KeptSections,
+}
+
 /// A DLL that is loaded when one of its functions is called first.
 #[repr(C)]
 #[derive(Clone, Copy)]
 pub struct DelayLibrary {
     /// The DLL's name: UTF-8, without its final zero.
     pub name: Range,
-    /// A walk for `pe_c_next_delayed_function`, at its start.
+    /// Where a walk over what is imported of it starts, for `DelayedFunctionWalk`.
     pub functions: DelayedFunctions,
     /// The entry of the directory.
     pub descriptor: DelayImport,
@@ -88,12 +107,17 @@ fn rva_of(image: &Image, attributes: u32, address: u64) -> Result<u64>
 
 /// The file offset of such an address.
 #[tactic(auto, unfolding(crate::specs::DelayImports::address_offset))]
-pub fn address_offset(view: &View, attributes: u32, address: u64) -> Result<usize>
-    ensures { directory_answer (λ p. p) result ≡ address_offset (map_of view.now)
+pub fn address_offset(
+    view: &View,
+    kept: KeptSections,
+    attributes: u32,
+    address: u64,
+) -> Result<usize>
+    ensures { directory_answer (λ p. p) result ≡ address_offset (map_kept view.now kept)
         view.now.image.now.base attributes address }
 {
     let rva = rva_of(view.image, attributes, address)?;
-    match map_u64(view, rva) {
+    match map_kept(view, kept, rva) {
         Some(offset) => Ok(offset),
         None => Err(DirectoryError::Image(Error::Malformed(Reason::Unmapped(rva)))),
     }
@@ -124,21 +148,21 @@ fn name_range(names: &NamedView<'_>, offset: usize) -> Result<Range>
 }
 
 /// The range of the name of an entry's DLL.
-fn dll_range(names: &NamedView<'_>, entry: &DelayImport) -> Result<Range>
-    ensures { directory_answer (λ r. r) result ≡ dll_range (map_of names.now.view.now)
+fn dll_range(names: &NamedView<'_>, kept: KeptSections, entry: &DelayImport) -> Result<Range>
+    ensures { directory_answer (λ r. r) result ≡ dll_range (map_kept names.now.view.now kept)
         names.now.view.now.bytes.now names.now.view.now.image.now entry.now }
 {
-    let offset = address_offset(names.view, entry.attributes, u64::from(entry.name))?;
+    let offset = address_offset(names.view, kept, entry.attributes, u64::from(entry.name))?;
     name_range(names, offset)
 }
 
 /// A walk over what is imported of an entry's DLL.
-fn functions_of(view: &View, entry: &DelayImport) -> Result<DelayedFunctions>
-    ensures { directory_answer (λ w. w) result ≡ functions_of (map_of view.now)
+fn functions_of(view: &View, kept: KeptSections, entry: &DelayImport) -> Result<DelayedFunctions>
+    ensures { directory_answer (λ w. w) result ≡ functions_of (map_kept view.now kept)
         view.now.bytes.now view.now.image.now entry.now }
 {
     let table = u64::from(entry.import_name_table);
-    let offset = address_offset(view, entry.attributes, table)?;
+    let offset = address_offset(view, kept, entry.attributes, table)?;
     Ok(DelayedFunctions {
         left: Range {
             offset: offset as u64,
@@ -150,22 +174,31 @@ fn functions_of(view: &View, entry: &DelayImport) -> Result<DelayedFunctions>
 }
 
 /// An entry as callers get it.
-fn library_of(names: &NamedView<'_>, entry: DelayImport) -> Result<DelayLibrary>
-    ensures { directory_answer (λ x. x) result ≡ library_of (map_of names.now.view.now)
+fn library_of(
+    names: &NamedView<'_>,
+    kept: KeptSections,
+    entry: DelayImport,
+) -> Result<DelayLibrary>
+    ensures { directory_answer (λ x. x) result ≡ library_of (map_kept names.now.view.now kept)
         names.now.view.now.bytes.now names.now.view.now.image.now entry }
 {
     Ok(DelayLibrary {
-        name: dll_range(names, &entry)?,
-        functions: functions_of(names.view, &entry)?,
+        name: dll_range(names, kept, &entry)?,
+        functions: functions_of(names.view, kept, &entry)?,
         descriptor: entry,
     })
 }
 
 /// The next DLL of a walk. It is over after an error.
-pub fn next_library(names: &NamedView<'_>, walk: &mut Range) -> Result<Option<DelayLibrary>>
-    ensures library { directory_answer (λ x. x) result ≡ step_of (λ x. x) (first_library_in (map_of names.now.view.now)
+pub fn next_library(
+    names: &NamedView<'_>,
+    kept: KeptSections,
+    walk: &mut Range,
+) -> Result<Option<DelayLibrary>>
+    ensures library { directory_answer (λ x. x) result ≡ step_of (λ x. x)
+        (first_library_in (map_kept names.now.view.now kept)
         names.now.view.now.bytes.now names.now.view.now.image.now walk.old) }
-    ensures walk { walk.new ≡ left_after walk.old (first_library_in (map_of names.now.view.now)
+    ensures walk { walk.new ≡ left_after walk.old (first_library_in (map_kept names.now.view.now kept)
         names.now.view.now.bytes.now names.now.view.now.image.now walk.old) }
 {
     let range = *walk;
@@ -175,9 +208,20 @@ pub fn next_library(names: &NamedView<'_>, walk: &mut Range) -> Result<Option<De
         *walk = range;
         return Ok(None);
     };
-    let library = library_of(names, entry?)?;
+    let library = library_of(names, kept, entry?)?;
     *walk = range_left(range, entries.rest());
     Ok(Some(library))
+}
+
+/// The same of a walk that keeps no sections.
+pub fn library_by_view(names: &NamedView<'_>, walk: &mut Range) -> Result<Option<DelayLibrary>>
+    ensures library { directory_answer (λ x. x) result ≡ step_of (λ x. x)
+        (first_library_in (map_of names.now.view.now)
+        names.now.view.now.bytes.now names.now.view.now.image.now walk.old) }
+    ensures walk { walk.new ≡ left_after walk.old (first_library_in (map_of names.now.view.now)
+        names.now.view.now.bytes.now names.now.view.now.image.now walk.old) }
+{
+    next_library(names, NO_SECTIONS, walk)
 }
 
 /// Writes the offsets of the names of the next DLLs to a room, as starts, of as many as it has room for, and returns how many they
@@ -206,6 +250,33 @@ pub fn put_dll_names(view: &View, walk: &Range, room: &mut [Run]) -> usize
     count
 }
 
+/// What a walk keeps after an address in an entry with these attributes.
+fn kept_after_address(
+    view: &View,
+    kept: KeptSections,
+    attributes: u32,
+    address: u64,
+) -> KeptSections
+    ensures { ChangeNothing view.now kept → ChangeNothing view.now result }
+{
+    let Ok(rva) = rva_of(view.image, attributes, address) else {
+        return kept;
+    };
+    match u32::try_from(rva) {
+        Ok(rva) => kept_after(view, kept, rva),
+        Err(_) => kept,
+    }
+}
+
+/// What a walk keeps after a DLL: the sections of its name and of its table.
+fn kept_after_library(view: &View, kept: KeptSections, entry: &DelayImport) -> KeptSections
+    ensures { ChangeNothing view.now kept → ChangeNothing view.now result }
+{
+    let kept = kept_after_address(view, kept, entry.attributes, u64::from(entry.name));
+    let table = u64::from(entry.import_name_table);
+    kept_after_address(view, kept, entry.attributes, table)
+}
+
 /// Steps through the DLLs of the delay import directory: returns the next one, and moves `walk` past it. `NOTHING` where no
 /// bytes are left, or where the next entry has no name: then `walk` stays. Strict and permissive mode make no difference.
 ///
@@ -215,15 +286,22 @@ pub fn put_dll_names(view: &View, walk: &Range, room: &mut [Run]) -> usize
 #[unsafe(no_mangle)]
 pub extern "C" fn pe_c_next_delay_import(
     view: &View,
-    walk: &mut Range,
+    walk: &mut DelayWalk,
     out: &mut DelayLibrary,
 ) -> u32
     ensures library { DirectoryHandsOut result out.old out.new (step_of (λ x. x)
-        (first_library_in (map_of view.now) view.now.bytes.now view.now.image.now walk.old)) }
-    ensures walk { walk.new ≡ left_after walk.old
-        (first_library_in (map_of view.now) view.now.bytes.now view.now.image.now walk.old) }
+        (first_library_in (map_kept view.now walk.old.kept)
+        view.now.bytes.now view.now.image.now walk.old.entries)) }
+    ensures entries { walk.new.entries ≡ left_after walk.old.entries
+        (first_library_in (map_kept view.now walk.old.kept)
+        view.now.bytes.now view.now.image.now walk.old.entries) }
+    ensures kept { KeepsOn view.now result walk.old.kept walk.new.kept }
 {
-    hand_out_found(next_library(&NamedView::alone(view), walk), out)
+    let given = next_library(&NamedView::alone(view), walk.kept, &mut walk.entries);
+    if let Ok(Some(library)) = &given {
+        walk.kept = kept_after_library(view, walk.kept, &library.descriptor);
+    }
+    hand_out_found(given, out)
 }
 
 /// The least number of a table that is an ordinal: its highest bit is set.
@@ -270,8 +348,13 @@ fn named_at(names: &NamedView<'_>, offset: usize) -> Result<DelayedFunction>
 
 /// What a number of the table imports, as callers get it.
 #[tactic(auto, unfolding(crate::specs::DelayImports::function_of))]
-fn function_of(names: &NamedView<'_>, attributes: u32, lookup: u64) -> Result<DelayedFunction>
-    ensures { directory_answer (λ x. x) result ≡ function_of (map_of names.now.view.now)
+fn function_of(
+    names: &NamedView<'_>,
+    kept: KeptSections,
+    attributes: u32,
+    lookup: u64,
+) -> Result<DelayedFunction>
+    ensures { directory_answer (λ x. x) result ≡ function_of (map_kept names.now.view.now kept)
         names.now.view.now.bytes.now names.now.view.now.image.now attributes lookup }
 {
     let is_64 = names.view.image.width == 64;
@@ -283,21 +366,22 @@ fn function_of(names: &NamedView<'_>, attributes: u32, lookup: u64) -> Result<De
         });
     }
     let address = address_in(is_64, attributes, lookup);
-    let offset = address_offset(names.view, attributes, address)?;
+    let offset = address_offset(names.view, kept, attributes, address)?;
     named_at(names, offset)
 }
 
 /// The next function of a walk, whose attributes and bytes left are these. It is over after an error.
 pub fn next_function(
     names: &NamedView<'_>,
+    kept: KeptSections,
     attributes: u32,
     left: &mut Range,
 ) -> Result<Option<DelayedFunction>>
     ensures function { directory_answer (λ x. x) result ≡ step_of (λ x. x)
-        (first_function_in (map_of names.now.view.now)
+        (first_function_in (map_kept names.now.view.now kept)
         names.now.view.now.bytes.now names.now.view.now.image.now attributes left.old) }
     ensures left { left.new ≡ left_after left.old
-        (first_function_in (map_of names.now.view.now)
+        (first_function_in (map_kept names.now.view.now kept)
         names.now.view.now.bytes.now names.now.view.now.image.now attributes left.old) }
 {
     let range = *left;
@@ -311,9 +395,25 @@ pub fn next_function(
         *left = range;
         return Ok(None);
     };
-    let function = function_of(names, attributes, lookup?)?;
+    let function = function_of(names, kept, attributes, lookup?)?;
     *left = range_left(range, table.rest());
     Ok(Some(function))
+}
+
+/// The same of a walk that keeps no sections.
+pub fn function_by_view(
+    names: &NamedView<'_>,
+    attributes: u32,
+    left: &mut Range,
+) -> Result<Option<DelayedFunction>>
+    ensures function { directory_answer (λ x. x) result ≡ step_of (λ x. x)
+        (first_function_in (map_of names.now.view.now)
+        names.now.view.now.bytes.now names.now.view.now.image.now attributes left.old) }
+    ensures left { left.new ≡ left_after left.old
+        (first_function_in (map_of names.now.view.now)
+        names.now.view.now.bytes.now names.now.view.now.image.now attributes left.old) }
+{
+    next_function(names, NO_SECTIONS, attributes, left)
 }
 
 /// Writes the offsets of the names of what is imported next of a DLL to a room, as starts, of as many numbers of its table as the
@@ -347,6 +447,15 @@ pub fn put_function_names(
     count
 }
 
+/// The number that a walk is at, 0 where it has none.
+fn lookup_of(view: &View, left: &Range) -> u64 {
+    let is_64 = view.image.width == 64;
+    match slice_of(view.bytes, left) {
+        Ok(table) if lookup_size(is_64) <= table.len() => lookup_number(table, 0, is_64),
+        _ => 0,
+    }
+}
+
 /// Steps through what is imported of a DLL: returns the next function, and moves `walk` past it. `NOTHING` where the table
 /// ends: then `walk` stays. Strict and permissive mode make no difference.
 ///
@@ -356,17 +465,30 @@ pub fn put_function_names(
 #[unsafe(no_mangle)]
 pub extern "C" fn pe_c_next_delayed_function(
     view: &View,
-    walk: &mut DelayedFunctions,
+    walk: &mut DelayedFunctionWalk,
     out: &mut DelayedFunction,
 ) -> u32
     ensures function { DirectoryHandsOut result out.old out.new (step_of (λ x. x)
-        (first_of_walk (map_of view.now) view.now.bytes.now view.now.image.now walk.old)) }
-    ensures walk { walk.new ≡ functions_after walk.old
-        (first_of_walk (map_of view.now) view.now.bytes.now view.now.image.now walk.old) }
+        (first_of_walk (map_kept view.now walk.old.kept)
+        view.now.bytes.now view.now.image.now walk.old.functions)) }
+    ensures functions { walk.new.functions ≡ functions_after walk.old.functions
+        (first_of_walk (map_kept view.now walk.old.kept)
+        view.now.bytes.now view.now.image.now walk.old.functions) }
+    ensures kept { KeepsOn view.now result walk.old.kept walk.new.kept }
 {
-    let attributes = walk.attributes;
-    hand_out_found(
-        next_function(&NamedView::alone(view), attributes, &mut walk.left),
-        out,
-    )
+    let DelayedFunctions {
+        mut left,
+        attributes,
+        ..
+    } = walk.functions;
+    let lookup = lookup_of(view, &left);
+    let given = next_function(&NamedView::alone(view), walk.kept, attributes, &mut left);
+    walk.functions.left = left;
+    if let Ok(Some(function)) = &given {
+        if function.has_name != 0 {
+            let address = address_in(view.image.width == 64, attributes, lookup);
+            walk.kept = kept_after_address(view, walk.kept, attributes, address);
+        }
+    }
+    hand_out_found(given, out)
 }

@@ -8,9 +8,11 @@ ghost use Rattle.pe_core.specs.Exports.{export_data_at, export_data_view};
 ghost use Rattle.pe_core.specs.Refusals.{ReturnsAs, answer_of};
 ghost use Rattle.pe_c.specs.HandsOut.{HandsOutIf};
 ghost use Rattle.pe_c.specs.Exports.{HandsOutExport, FindsNext, StepsExports, export_table, tables_at, tables_or_short, reported_entry, view_of, walk_over};
+ghost use Rattle.pe_c.specs.KeptSections.{ChangeNothing, KeepsOn, map_kept};
 ghost use Rattle.pe_c.specs.Views.{map_of};
 
 use crate::image::{EXPORT_TABLE, directory, is_absent};
+use crate::kept_sections::{KeptSections, kept_after, map_kept};
 use crate::named_view::NamedView;
 use crate::near_map::{NO_WINDOW, map_near};
 use crate::ranges::{NO_BYTES, Range, range_from, slice_of};
@@ -19,7 +21,7 @@ use crate::text_runs::{Run, TextCosts, end_of_next};
 use crate::view::{View, map_by};
 use pe_core::{DataDirectory, ExportData, Result, read_u32, u16_at, u32_at};
 
-/// A walk over the exports of an image: the tables of its export directory, and the index of the next name.
+/// Where a walk over the exports of an image stands: the tables of its export directory, and the index of the next name.
 #[repr(C)]
 #[derive(Clone, Copy)]
 pub struct Exports {
@@ -31,6 +33,14 @@ pub struct Exports {
     pub addresses: Range,
     /// Index of the next name.
     pub next: u64,
+}
+
+/// A walk over exports step by step.
+#[repr(C)]
+#[derive(Clone, Copy)]
+pub struct ExportWalk {
+    pub exports: Exports,
+    pub kept: KeptSections,
 }
 
 /// An export that has a name.
@@ -122,16 +132,22 @@ pub struct Tables<'a> {
 
 /// The export of entry `i` of the name table, if its name is mapped and is text, and its ordinal is in the address
 /// table.
-fn reported_entry(names: &NamedView<'_>, tables: &Tables<'_>, i: usize) -> Option<Export>
+fn reported_entry(
+    names: &NamedView<'_>,
+    kept: KeptSections,
+    tables: &Tables<'_>,
+    i: usize,
+) -> Option<Export>
     requires { 4 * i + 4 ≤ length tables.now.names.now }
-    ensures { result ≡ reported_entry
-        (map_of names.now.view.now) names.now.view.now.bytes.now (view_of tables.now) i }
+    ensures { result ≡ reported_entry (map_kept names.now.view.now kept)
+        names.now.view.now.bytes.now (view_of tables.now) i }
 {
-    let offset = map_by(names.view, read_u32(tables.names, 4 * i))?;
+    let name_rva = read_u32(tables.names, 4 * i);
+    let offset = map_kept(names.view, kept, u64::from(name_rva))?;
     let name = names.text_at(offset)?;
     let ordinal = u16_at(tables.ordinals, 2 * i).ok()?;
     let rva = u32_at(tables.addresses, 4 * usize::from(ordinal)).ok()?;
-    let exported = map_by(names.view, rva);
+    let exported = map_kept(names.view, kept, u64::from(rva));
     Some(Export {
         name: Range {
             offset: offset as u64,
@@ -146,12 +162,18 @@ fn reported_entry(names: &NamedView<'_>, tables: &Tables<'_>, i: usize) -> Optio
 }
 
 /// The first entry of the name table, from `from` on, that has an export, and the index after it.
-fn find_next(names: &NamedView<'_>, tables: &Tables<'_>, from: usize) -> Option<(Export, u64)>
-    ensures { FindsNext (reported_entry (map_of names.now.view.now) names.now.view.now.bytes.now (view_of tables.now))
+fn find_next(
+    names: &NamedView<'_>,
+    kept: KeptSections,
+    tables: &Tables<'_>,
+    from: usize,
+) -> Option<(Export, u64)>
+    ensures { FindsNext (reported_entry
+        (map_kept names.now.view.now kept) names.now.view.now.bytes.now (view_of tables.now))
         from (length tables.now.names.now / 4) result }
 {
     for i in from..tables.names.len() / 4 {
-        if let Some(export) = reported_entry(names, tables, i) {
+        if let Some(export) = reported_entry(names, kept, tables, i) {
             return Some((export, i as u64 + 1));
         }
     }
@@ -210,9 +232,13 @@ pub fn put_name_offsets(view: &View, walk: &Exports, room: &mut [Run]) -> usize
 }
 
 /// One step of a walk.
-pub fn step(names: &NamedView<'_>, walk: &mut Exports) -> Result<Option<Export>>
-    ensures { StepsExports
-        (map_of names.now.view.now) names.now.view.now.bytes.now walk.old (answer_of result) walk.new }
+pub fn step(
+    names: &NamedView<'_>,
+    kept: KeptSections,
+    walk: &mut Exports,
+) -> Result<Option<Export>>
+    ensures { StepsExports (map_kept names.now.view.now kept)
+        names.now.view.now.bytes.now walk.old (answer_of result) walk.new }
 {
     let count = walk.names.length / 4;
     if count <= walk.next {
@@ -226,7 +252,7 @@ pub fn step(names: &NamedView<'_>, walk: &mut Exports) -> Result<Option<Export>>
             return Err(error);
         }
     };
-    match find_next(names, &tables, walk.next as usize) {
+    match find_next(names, kept, &tables, walk.next as usize) {
         Some((export, next)) => {
             walk.next = next;
             Ok(Some(export))
@@ -238,15 +264,43 @@ pub fn step(names: &NamedView<'_>, walk: &mut Exports) -> Result<Option<Export>>
     }
 }
 
+/// The RVA of the name of the export before the next, if the table has it.
+fn name_rva_before(view: &View, walk: &Exports) -> Option<u32> {
+    let names = slice_of(view.bytes, &walk.names).ok()?;
+    let entry = (walk.next as usize).saturating_sub(1);
+    u32_at(names, entry.saturating_mul(4)).ok()
+}
+
+/// What a walk keeps after an export: the sections of what is exported and of its name.
+fn kept_after_export(
+    view: &View,
+    kept: KeptSections,
+    walk: &Exports,
+    export: &Export,
+) -> KeptSections
+    ensures { ChangeNothing view.now kept → ChangeNothing view.now result }
+{
+    let exported = kept_after(view, kept, export.rva);
+    match name_rva_before(view, walk) {
+        Some(name_rva) => kept_after(view, exported, name_rva),
+        None => exported,
+    }
+}
+
 /// Reads the next export that has a name, in the order of the name table: `NOTHING` after the last. Entries are skipped
 /// whose name is unmapped, not NUL-terminated or not UTF-8, or whose ordinal is not in the address table. Strict
 /// and permissive mode make no difference. Each name is read to its end, so names that overlap are read once each.
 ///
 /// Errors: `SHORT` where the tables are not inside the bytes. After it the walk is over.
 #[unsafe(no_mangle)]
-pub extern "C" fn pe_c_next_export(view: &View, walk: &mut Exports, out: &mut Export) -> u32
-    ensures { HandsOutExport
-        (map_of view.now) view.now.bytes.now walk.old walk.new result out.old out.new }
+pub extern "C" fn pe_c_next_export(view: &View, walk: &mut ExportWalk, out: &mut Export) -> u32
+    ensures export { HandsOutExport (map_kept view.now walk.old.kept) view.now.bytes.now
+        walk.old.exports walk.new.exports result out.old out.new }
+    ensures kept { KeepsOn view.now result walk.old.kept walk.new.kept }
 {
-    hand_out_some(step(&NamedView::alone(view), walk), out)
+    let given = step(&NamedView::alone(view), walk.kept, &mut walk.exports);
+    if let Ok(Some(export)) = &given {
+        walk.kept = kept_after_export(view, walk.kept, &walk.exports, export);
+    }
+    hand_out_some(given, out)
 }

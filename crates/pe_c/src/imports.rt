@@ -9,10 +9,12 @@ ghost use Rattle.pe_core.specs.Refusals.{Returns, ReturnsAs, answer_of};
 ghost use Rattle.pe_core.specs.SectionMap.{mapped};
 ghost use Rattle.pe_core.specs.Text.{text_at};
 ghost use Rattle.pe_c.specs.HandsOut.{HandsOutIf};
+ghost use Rattle.pe_c.specs.KeptSections.{ChangeNothing, KeepsOn, map_kept};
 ghost use Rattle.pe_c.specs.Views.{map_of};
 ghost use Rattle.pe_c.specs.Imports.{import_at, import_step, libraries_at, library_at, library_of, library_step, named_reported};
 
 use crate::image::{IMPORT_TABLE, directory, is_absent};
+use crate::kept_sections::{KeptSections, NO_SECTIONS, kept_after, map_kept, require_kept};
 use crate::named_view::NamedView;
 use crate::near_map::{NO_WINDOW, map_near};
 use crate::ranges::{NO_BYTES, Range, range_from, slice_of};
@@ -30,7 +32,7 @@ const SIZE_OF_RECORD: u64 = 20;
 /// The size of the hint before an import's name in bytes.
 pub const SIZE_OF_HINT: usize = 2;
 
-/// A walk over the libraries of an import directory.
+/// Where a walk over the libraries of an import directory stands.
 #[repr(C)]
 #[derive(Clone, Copy)]
 pub struct Libraries {
@@ -42,7 +44,7 @@ pub struct Libraries {
     pub spare: u32,
 }
 
-/// A walk over the imports of a library.
+/// Where a walk over the imports of a library stands.
 #[repr(C)]
 #[derive(Clone, Copy)]
 pub struct Imports {
@@ -52,13 +54,29 @@ pub struct Imports {
     pub rva: u64,
 }
 
+/// A walk over libraries step by step.
+#[repr(C)]
+#[derive(Clone, Copy)]
+pub struct LibraryWalk {
+    pub libraries: Libraries,
+    pub kept: KeptSections,
+}
+
+/// A walk over the imports of a library step by step.
+#[repr(C)]
+#[derive(Clone, Copy)]
+pub struct ImportWalk {
+    pub imports: Imports,
+    pub kept: KeptSections,
+}
+
 /// A library (DLL) that an image imports from, and the numbers of its record (`IMAGE_IMPORT_DESCRIPTOR`).
 #[repr(C)]
 #[derive(Clone, Copy)]
 pub struct Library {
     /// UTF-8, without its final zero.
     pub name: Range,
-    /// A walk for `pe_c_next_import`, at its start.
+    /// Where a walk over its imports starts, for `ImportWalk`.
     pub imports: Imports,
     /// RVA of its lookup table, or 0: then the address table is the list of its imports.
     pub lookup_table_rva: u32,
@@ -136,13 +154,17 @@ pub extern "C" fn pe_c_import_libraries(view: &View, out: &mut Libraries) -> u32
 
 /// The library of a record. Errors: `Unmapped`, `ImportName` of its name, then `Short` of its list.
 #[tactic(auto, unfolding(pe_core::specs::Imports::import_record))]
-fn library_of(names: &NamedView<'_>, entry: &ImportDirectoryEntry) -> Result<Library>
-    ensures { ReturnsAs (λ l. Some l) result (library_of (map_of names.now.view.now)
+fn library_of(
+    names: &NamedView<'_>,
+    kept: KeptSections,
+    entry: &ImportDirectoryEntry,
+) -> Result<Library>
+    ensures { ReturnsAs (λ l. Some l) result (library_of (map_kept names.now.view.now kept)
         (entry_size (names.now.view.now.image.now.width == 64)) names.now.view.now.bytes.now entry.now) }
 {
-    let offset = names.view.file_offset(entry.name_rva)?;
+    let offset = require_kept(names.view, kept, entry.name_rva)?;
     let name = name_at(names, offset, entry.name_rva)?;
-    let list_offset = map_by(names.view, entry.lookups_rva());
+    let list_offset = map_kept(names.view, kept, u64::from(entry.lookups_rva()));
     let list = names.list_at(list_offset)?;
     Ok(Library {
         name: range_from(name.len() as u64, Some(offset)),
@@ -161,8 +183,12 @@ fn library_of(names: &NamedView<'_>, entry: &ImportDirectoryEntry) -> Result<Lib
 
 /// The library whose record is at a file offset, or none where the record ends the directory.
 #[tactic(auto, unfolding(pe_core::specs::Imports::import_record_at))]
-fn library_at(names: &NamedView<'_>, offset: usize) -> Result<Option<Library>>
-    ensures returned { Returns result (library_at (map_of names.now.view.now)
+fn library_at(
+    names: &NamedView<'_>,
+    kept: KeptSections,
+    offset: usize,
+) -> Result<Option<Library>>
+    ensures returned { Returns result (library_at (map_kept names.now.view.now kept)
         (entry_size (names.now.view.now.image.now.width == 64)) names.now.view.now.bytes.now offset) }
     ensures small { IfOk result (λ l. IfSome l (λ _. offset + 20 < 2 ^ 64)) }
 {
@@ -170,21 +196,25 @@ fn library_at(names: &NamedView<'_>, offset: usize) -> Result<Option<Library>>
     if entry.is_last() {
         return Ok(None);
     }
-    let library = library_of(names, &entry)?;
+    let library = library_of(names, kept, &entry)?;
     Ok(Some(library))
 }
 
 /// One step over libraries: its result, and the walk after it.
 #[tactic(auto, unfolding(crate::specs::Imports::library_step))]
-pub fn library_step(names: &NamedView<'_>, walk: Libraries) -> (Result<Option<Library>>, Libraries)
-    ensures returned { (answer_of result.0, result.1) ≡ library_step (map_of names.now.view.now)
-        (entry_size (names.now.view.now.image.now.width == 64)) names.now.view.now.bytes.now walk }
+pub fn library_step(
+    names: &NamedView<'_>,
+    kept: KeptSections,
+    walk: Libraries,
+) -> (Result<Option<Library>>, Libraries)
+    ensures returned { (answer_of result.0, result.1) ≡ library_step
+        (map_kept names.now.view.now kept) (entry_size (names.now.view.now.image.now.width == 64)) names.now.view.now.bytes.now walk }
     ensures onward { IfOk result.0 (λ l. IfSome l (λ _. walk.next < result.1.next)) }
 {
     if walk.is_over != 0 {
         return (Ok(None), walk);
     }
-    match library_at(names, walk.next as usize) {
+    match library_at(names, kept, walk.next as usize) {
         Ok(Some(library)) => {
             let after = Libraries {
                 next: walk.next + SIZE_OF_RECORD,
@@ -197,6 +227,31 @@ pub fn library_step(names: &NamedView<'_>, walk: Libraries) -> (Result<Option<Li
     }
 }
 
+/// What a walk keeps after a library: the sections of its name and of its list.
+fn kept_after_library(view: &View, kept: KeptSections, library: &Library) -> KeptSections
+    ensures { ChangeNothing view.now kept → ChangeNothing view.now result }
+{
+    let kept = kept_after(view, kept, library.name_rva);
+    let list = if library.lookup_table_rva == 0 {
+        library.address_table_rva
+    } else {
+        library.lookup_table_rva
+    };
+    kept_after(view, kept, list)
+}
+
+/// The same of a walk that keeps no sections.
+pub fn library_by_view(
+    names: &NamedView<'_>,
+    walk: Libraries,
+) -> (Result<Option<Library>>, Libraries)
+    ensures returned { (answer_of result.0, result.1) ≡ library_step (map_of names.now.view.now)
+        (entry_size (names.now.view.now.image.now.width == 64)) names.now.view.now.bytes.now walk }
+    ensures onward { IfOk result.0 (λ l. IfSome l (λ _. walk.next < result.1.next)) }
+{
+    library_step(names, NO_SECTIONS, walk)
+}
+
 /// Reads the next library of an import directory: `NOTHING` after the last. The directory ends at a record whose name
 /// or address table has the RVA 0. A list whose RVA is unmapped is empty. Each name and each list is read to its end,
 /// so those that overlap are read once each. Strict and permissive mode make no difference.
@@ -204,25 +259,35 @@ pub fn library_step(names: &NamedView<'_>, walk: Libraries) -> (Result<Option<Li
 /// Errors: `SHORT` where the record is truncated; `UNMAPPED`, `IMPORT_NAME` of its name; `SHORT` where no zero entry
 /// ends its list. After the last and after an error the walk is over.
 #[unsafe(no_mangle)]
-pub extern "C" fn pe_c_next_library(view: &View, walk: &mut Libraries, out: &mut Library) -> u32
+pub extern "C" fn pe_c_next_library(view: &View, walk: &mut LibraryWalk, out: &mut Library) -> u32
     ensures returned { HandsOutIf result out.old out.new
-        (library_step (map_of view.now)
-        (entry_size (view.now.image.now.width == 64)) view.now.bytes.now walk.old).0 }
-    ensures walk { walk.new ≡ (library_step (map_of view.now)
-        (entry_size (view.now.image.now.width == 64)) view.now.bytes.now walk.old).1 }
+        (library_step (map_kept view.now walk.old.kept) (entry_size (view.now.image.now.width == 64))
+        view.now.bytes.now walk.old.libraries).0 }
+    ensures libraries { walk.new.libraries
+        ≡ (library_step (map_kept view.now walk.old.kept) (entry_size (view.now.image.now.width == 64))
+        view.now.bytes.now walk.old.libraries).1 }
+    ensures kept { KeepsOn view.now result walk.old.kept walk.new.kept }
 {
-    let (reported, after) = library_step(&NamedView::alone(view), *walk);
-    *walk = after;
-    hand_out_some(reported, out)
+    let (given, after) = library_step(&NamedView::alone(view), walk.kept, walk.libraries);
+    walk.libraries = after;
+    if let Ok(Some(library)) = &given {
+        walk.kept = kept_after_library(view, walk.kept, library);
+    }
+    hand_out_some(given, out)
 }
 
 /// The import by name of an entry. Errors: `Unmapped` of the entry's RVA, `Short` of the hint, `ImportName`.
-fn named_import(names: &NamedView<'_>, entry: u64, rva: u64) -> Result<Import>
-    ensures { Returns result
-        (named_reported (map_of names.now.view.now) names.now.view.now.bytes.now entry rva) }
+fn named_import(
+    names: &NamedView<'_>,
+    kept: KeptSections,
+    entry: u64,
+    rva: u64,
+) -> Result<Import>
+    ensures { Returns result (named_reported
+        (map_kept names.now.view.now kept) names.now.view.now.bytes.now entry rva) }
 {
     let name_rva = (entry % 0x8000_0000) as u32;
-    let offset = names.view.file_offset(name_rva)?;
+    let offset = require_kept(names.view, kept, name_rva)?;
     let hint = u16_at(names.view.bytes, offset)?;
     let name = name_at(names, offset + SIZE_OF_HINT, name_rva)?;
     Ok(Import {
@@ -236,8 +301,8 @@ fn named_import(names: &NamedView<'_>, entry: u64, rva: u64) -> Result<Import>
 /// The import of an entry and its slot. With its highest bit set the low 16 bits of an entry are an ordinal; else its
 /// low 31 bits are the RVA of a hint and a name.
 #[tactic(auto, unfolding(pe_core::specs::Imports::import_of))]
-fn import_at(names: &NamedView<'_>, entry: u64, rva: u64) -> Result<Import>
-    ensures { Returns result (import_at (map_of names.now.view.now)
+fn import_at(names: &NamedView<'_>, kept: KeptSections, entry: u64, rva: u64) -> Result<Import>
+    ensures { Returns result (import_at (map_kept names.now.view.now kept)
         (entry_size (names.now.view.now.image.now.width == 64)) names.now.view.now.bytes.now entry rva) }
 {
     let highest = if names.view.image.width == 64 {
@@ -253,15 +318,19 @@ fn import_at(names: &NamedView<'_>, entry: u64, rva: u64) -> Result<Import>
             has_name: 0,
         });
     }
-    named_import(names, entry, rva)
+    named_import(names, kept, entry, rva)
 }
 
 /// One step over the imports of a library. Inlined in each of its callers, since a call costs a fifth of a step.
 #[inline(always)]
 #[tactic(auto, unfolding(crate::specs::Imports::import_step))]
-pub fn import_step(names: &NamedView<'_>, walk: &mut Imports) -> Result<Option<Import>>
-    ensures returned { (answer_of result, walk.new) ≡ import_step (map_of names.now.view.now)
-        (entry_size (names.now.view.now.image.now.width == 64)) names.now.view.now.bytes.now walk.old }
+pub fn import_step(
+    names: &NamedView<'_>,
+    kept: KeptSections,
+    walk: &mut Imports,
+) -> Result<Option<Import>>
+    ensures returned { (answer_of result, walk.new) ≡ import_step
+        (map_kept names.now.view.now kept) (entry_size (names.now.view.now.image.now.width == 64)) names.now.view.now.bytes.now walk.old }
     ensures there { IfOk result (λ i. IfSome i (λ _. walk.old.left.offset
         + entry_size (names.now.view.now.image.now.width == 64) ≤ length names.now.view.now.bytes.now)) }
 {
@@ -271,7 +340,7 @@ pub fn import_step(names: &NamedView<'_>, walk: &mut Imports) -> Result<Option<I
         return Ok(None);
     };
     let entry = lookup_number(left, 0, is_64);
-    match import_at(names, entry, walk.rva) {
+    match import_at(names, kept, entry, walk.rva) {
         Ok(import) => {
             // A caller may pass any RVA.
             walk.rva = walk.rva.wrapping_add(size as u64);
@@ -282,6 +351,14 @@ pub fn import_step(names: &NamedView<'_>, walk: &mut Imports) -> Result<Option<I
             Err(error)
         }
     }
+}
+
+/// The same of a walk that keeps no sections.
+pub fn import_by_view(names: &NamedView<'_>, walk: &mut Imports) -> Result<Option<Import>>
+    ensures { (answer_of result, walk.new) ≡ import_step (map_of names.now.view.now)
+        (entry_size (names.now.view.now.image.now.width == 64)) names.now.view.now.bytes.now walk.old }
+{
+    import_step(names, NO_SECTIONS, walk)
 }
 
 /// One of the records that a walk may have left, by its index among them. None at the record that ends the directory.
@@ -357,18 +434,37 @@ pub fn entries_left<'a>(view: &View<'a>, walk: &Imports) -> &'a [u8] {
     }
 }
 
+/// The entry that a walk is at, 0 where it has none.
+fn entry_of(view: &View, walk: &Imports) -> u64 {
+    let is_64 = view.image.width == 64;
+    let left = entries_left(view, walk);
+    if left.len() < lookup_size(is_64) {
+        return 0;
+    }
+    lookup_number(left, 0, is_64)
+}
+
 /// Reads the next import of a library: `NOTHING` after the last. Each name is read to its end, so names that overlap
 /// are read once each. Strict and permissive mode make no difference.
 ///
 /// Errors: `SHORT` where the walk is not inside the bytes, or its entry is truncated; `UNMAPPED` of the entry's RVA;
 /// `SHORT` of the hint there; `IMPORT_NAME` of the name. After an error the walk is over.
 #[unsafe(no_mangle)]
-pub extern "C" fn pe_c_next_import(view: &View, walk: &mut Imports, out: &mut Import) -> u32
+pub extern "C" fn pe_c_next_import(view: &View, walk: &mut ImportWalk, out: &mut Import) -> u32
     ensures returned { HandsOutIf result out.old out.new
-        (import_step (map_of view.now)
-        (entry_size (view.now.image.now.width == 64)) view.now.bytes.now walk.old).0 }
-    ensures walk { walk.new ≡ (import_step (map_of view.now)
-        (entry_size (view.now.image.now.width == 64)) view.now.bytes.now walk.old).1 }
+        (import_step (map_kept view.now walk.old.kept) (entry_size (view.now.image.now.width == 64))
+        view.now.bytes.now walk.old.imports).0 }
+    ensures imports { walk.new.imports
+        ≡ (import_step (map_kept view.now walk.old.kept) (entry_size (view.now.image.now.width == 64))
+        view.now.bytes.now walk.old.imports).1 }
+    ensures kept { KeepsOn view.now result walk.old.kept walk.new.kept }
 {
-    hand_out_some(import_step(&NamedView::alone(view), walk), out)
+    let entry = entry_of(view, &walk.imports);
+    let given = import_step(&NamedView::alone(view), walk.kept, &mut walk.imports);
+    if let Ok(Some(import)) = &given {
+        if import.has_name != 0 {
+            walk.kept = kept_after(view, walk.kept, (entry % 0x8000_0000) as u32);
+        }
+    }
+    hand_out_some(given, out)
 }

@@ -39,6 +39,7 @@ mod image;
 mod image_write;
 mod imports;
 pub mod laws;
+mod kept_sections;
 mod library_functions;
 mod library_imports;
 mod lists;

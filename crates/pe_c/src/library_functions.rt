@@ -11,8 +11,8 @@ ghost use Rattle.pe_c.specs.NearMaps.{IsWindow};
 ghost use Rattle.pe_c.specs.Views.{directory_sections, map_of};
 
 use crate::delay_imports::{
-    DelayLibrary, DelayedFunction, DelayedFunctions, next_function, next_library as next_dll,
-    offset_near, put_function_names,
+    DelayLibrary, DelayedFunction, DelayedFunctions, function_by_view,
+    library_by_view as next_dll, offset_near, put_function_names,
 };
 use crate::directories::{Result, table_at};
 use crate::image::DELAY_IMPORT_DESCRIPTOR;
@@ -138,7 +138,7 @@ fn turn(
     ensures onward { IfNone result.0 (result.1.libraries.length < walk.libraries.length) }
 {
     let mut left = walk.functions.left;
-    match next_function(names, walk.functions.attributes, &mut left) {
+    match function_by_view(names, walk.functions.attributes, &mut left) {
         Ok(Some(function)) => {
             let found = with_library(&walk, function);
             let functions = DelayedFunctions {

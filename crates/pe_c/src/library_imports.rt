@@ -12,7 +12,7 @@ ghost use Rattle.pe_c.specs.NearMaps.{IsWindow};
 ghost use Rattle.pe_c.specs.Views.{map_of};
 
 use crate::imports::{
-    Import, Imports, Libraries, Library, NO_LIBRARIES, entries_left, libraries_at, library_step,
+    Import, Imports, Libraries, Library, NO_LIBRARIES, entries_left, libraries_at, library_by_view,
     put_entry_names, record_left,
 };
 use crate::named_view::NamedView;
@@ -167,7 +167,7 @@ fn next_library(
         (entry_size (names.now.view.now.image.now.width == 64)) names.now.view.now.bytes.now walk }
     ensures onward { IfNone result.0 (walk.libraries.next < result.1.libraries.next) }
 {
-    let (given, rest) = library_step(names, walk.libraries);
+    let (given, rest) = library_by_view(names, walk.libraries);
     match given {
         Ok(Some(library)) => (None, at_library(&walk, rest, &library)),
         Ok(None) => (

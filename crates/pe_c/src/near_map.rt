@@ -94,7 +94,7 @@ fn window_by_sections(sections: &[SectionTable], alignment: u32, rva: u64) -> Op
 
 /// The window of an RVA by these sections.
 #[tactic(auto, using(pe_core::proofs::Map::positive, crate::proofs::NearMaps::as_loaded, crate::proofs::NearMaps::by_none, crate::proofs::NearMaps::by_sections))]
-fn window_in(image: &Image, sections: &[SectionTable], rva: u32) -> Option<Window>
+pub fn window_in(image: &Image, sections: &[SectionTable], rva: u32) -> Option<Window>
     ensures { FindsWindow (map_of_image image.now sections.now) rva result }
 {
     if !options(image.mode).resolve_rva {

@@ -11,10 +11,12 @@ ghost use Rattle.pe_resource.specs.LeafPositions.{leaf_start, tree_at, tree_view
 ghost use Rattle.pe_resource.specs.Leaves.{tree_answer};
 ghost use Rattle.pe_c.specs.HandsOut.{HandsOutIf};
 ghost use Rattle.pe_c.specs.Modes.{options_of};
+ghost use Rattle.pe_c.specs.KeptSections.{KeepsOn, map_kept};
 ghost use Rattle.pe_c.specs.Views.{directory_sections, map_of, may_map};
 ghost use Rattle.pe_c.specs.ResourceLeaves.{StartsLeaves, TreeHandsOut, after_item, content_of, first_item, image_tree, items_left, leaf_reported, leaves_start, leaves_walk, name_in, position_of, walk_at};
 
 use crate::image::{RESOURCE_TABLE, directory, is_absent};
+use crate::kept_sections::{KeptSections, kept_after, sections_for};
 use crate::ranges::{NO_BYTES, Range, range_of, slice_of};
 use crate::results::{DONE, NOTHING, hand_out_leaf, number_of, options};
 use crate::version::range_by;
@@ -56,7 +58,7 @@ pub struct ResourceLeaf {
     pub code_page: u32,
 }
 
-/// A walk over the leaves of a resource tree. The ranges of entries count from the start of the data.
+/// Where a walk over the leaves of a resource tree stands. The ranges of entries count from the start of the data.
 #[repr(C)]
 #[derive(Clone, Copy)]
 pub struct ResourceLeaves {
@@ -72,6 +74,14 @@ pub struct ResourceLeaves {
     pub resource_type: ResourceEntry,
     /// The entry of the name that the languages are of.
     pub name: ResourceEntry,
+}
+
+/// A walk over the leaves of a resource tree step by step.
+#[repr(C)]
+#[derive(Clone, Copy)]
+pub struct LeafWalk {
+    pub leaves: ResourceLeaves,
+    pub kept: KeptSections,
 }
 
 fn byte_range(range: &Range) -> ByteRange
@@ -136,10 +146,15 @@ pub fn name_in(start: u64, data: &[u8], entry: ResourceEntry) -> Result<Resource
 }
 
 /// Where the content of a leaf is: its range and 0, or the empty range and why there is none.
-fn content_of(view: &View, leaf: &pe_resource::ResourceLeaf) -> (Range, u32)
-    ensures { result ≡ content_of view.now.bytes.now (map_of view.now) leaf.now.data_entry }
+fn content_of(
+    view: &View,
+    kept: KeptSections,
+    leaf: &pe_resource::ResourceLeaf,
+) -> (Range, u32)
+    ensures { result ≡ content_of view.now.bytes.now (map_kept view.now kept) leaf.now.data_entry }
 {
-    match range_by(view, &leaf.data_entry) {
+    let sections = sections_for(view, kept, leaf.data_entry.offset_to_data);
+    match range_by(view, sections, &leaf.data_entry) {
         Ok(range) => (range_of(range), DONE),
         Err(error) => (NO_BYTES, number_of(&error)),
     }
@@ -147,18 +162,19 @@ fn content_of(view: &View, leaf: &pe_resource::ResourceLeaf) -> (Range, u32)
 
 fn leaf_reported(
     view: &View,
+    kept: KeptSections,
     start: u64,
     data: &[u8],
     leaf: &pe_resource::ResourceLeaf,
 ) -> Result<ResourceLeaf>
     requires { start ≤ 2 ^ 63 }
     ensures { answer_of result
-        ≡ leaf_reported view.now.bytes.now (map_of view.now) start data.now leaf.now }
+        ≡ leaf_reported view.now.bytes.now (map_kept view.now kept) start data.now leaf.now }
 {
     let resource_type = name_in(start, data, leaf.resource_type)?;
     let name = name_in(start, data, leaf.name)?;
     let language = name_in(start, data, leaf.language)?;
-    let (content, content_result) = content_of(view, leaf);
+    let (content, content_result) = content_of(view, kept, leaf);
     Ok(ResourceLeaf {
         resource_type,
         name,
@@ -239,13 +255,14 @@ pub extern "C" fn pe_c_resource_leaves(view: &View, out: &mut ResourceLeaves) ->
 #[tactic(auto, using(crate::proofs::LeafRuns::over_has_none))]
 pub fn next_leaf(
     view: &View,
+    kept: KeptSections,
     walk: &mut ResourceLeaves,
 ) -> std::result::Result<Option<ResourceLeaf>, ResourceTreeError>
     ensures leaf { tree_answer result
-        ≡ first_item (items_left view.now.bytes.now (map_of view.now) walk.old) }
-    ensures left { items_left view.now.bytes.now (map_of view.now) walk.new
-        ≡ after_item (items_left view.now.bytes.now (map_of view.now) walk.old) }
-    ensures walk { walk.new ≡ leaves_walk view.now.bytes.now (map_of view.now) walk.old }
+        ≡ first_item (items_left view.now.bytes.now (map_kept view.now kept) walk.old) }
+    ensures left { items_left view.now.bytes.now (map_kept view.now kept) walk.new
+        ≡ after_item (items_left view.now.bytes.now (map_kept view.now kept) walk.old) }
+    ensures walk { walk.new ≡ leaves_walk view.now.bytes.now (map_kept view.now kept) walk.old }
 {
     let tree = walk.tree;
     let mut position = position_of(walk);
@@ -254,7 +271,7 @@ pub fn next_leaf(
     let Some(item) = position.next(data) else {
         return Ok(None);
     };
-    let leaf = leaf_reported(view, tree.offset, data, &item?)?;
+    let leaf = leaf_reported(view, kept, tree.offset, data, &item?)?;
     *walk = walk_at(tree, &position);
     Ok(Some(leaf))
 }
@@ -266,14 +283,20 @@ pub fn next_leaf(
 #[unsafe(no_mangle)]
 pub extern "C" fn pe_c_next_resource_leaf(
     view: &View,
-    walk: &mut ResourceLeaves,
+    walk: &mut LeafWalk,
     out: &mut ResourceLeaf,
 ) -> u32
-    ensures leaf { TreeHandsOut result out.old out.new
-        (first_item (items_left view.now.bytes.now (map_of view.now) walk.old)) }
-    ensures left { items_left view.now.bytes.now (map_of view.now) walk.new
-        ≡ after_item (items_left view.now.bytes.now (map_of view.now) walk.old) }
-    ensures walk { walk.new ≡ leaves_walk view.now.bytes.now (map_of view.now) walk.old }
+    ensures leaf { TreeHandsOut result out.old out.new (first_item (items_left view.now.bytes.now
+        (map_kept view.now walk.old.kept) walk.old.leaves)) }
+    ensures left { items_left view.now.bytes.now (map_kept view.now walk.old.kept) walk.new.leaves
+        ≡ after_item (items_left view.now.bytes.now (map_kept view.now walk.old.kept) walk.old.leaves) }
+    ensures leaves { walk.new.leaves
+        ≡ leaves_walk view.now.bytes.now (map_kept view.now walk.old.kept) walk.old.leaves }
+    ensures kept { KeepsOn view.now result walk.old.kept walk.new.kept }
 {
-    hand_out_leaf(next_leaf(view, walk), out)
+    let given = next_leaf(view, walk.kept, &mut walk.leaves);
+    if let Ok(Some(leaf)) = &given {
+        walk.kept = kept_after(view, walk.kept, leaf.rva);
+    }
+    hand_out_leaf(given, out)
 }

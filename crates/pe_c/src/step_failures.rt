@@ -28,7 +28,7 @@ use crate::failure_numbers::{
     directory_refused, failure_with, needed_at, needed_in, no_numbers, numbers, refused,
     refused_value, u16_there, u32_there,
 };
-use crate::imports::{Imports, Libraries, import_step, library_step};
+use crate::imports::{Imports, Libraries, import_by_view, library_by_view};
 use crate::named_view::NamedView;
 use crate::ranges::Range;
 use crate::view::{View, map_by};
@@ -93,7 +93,7 @@ fn library_failure(view: &View, walk: &Libraries) -> Option<Failure>
         (refused (library_step (map_of view.now)
         (entry_size (view.now.image.now.width == 64)) view.now.bytes.now walk.now).0) }
 {
-    match refused(library_step(&NamedView::alone(view), *walk).0) {
+    match refused(library_by_view(&NamedView::alone(view), *walk).0) {
         Some(number) => Some(failure_with(number, library_numbers(view, walk, number))),
         None => None,
     }
@@ -155,7 +155,7 @@ fn import_failure(view: &View, walk: &Imports) -> Option<Failure>
         (entry_size (view.now.image.now.width == 64)) view.now.bytes.now walk.now).0) }
 {
     let mut after = *walk;
-    match refused(import_step(&NamedView::alone(view), &mut after)) {
+    match refused(import_by_view(&NamedView::alone(view), &mut after)) {
         Some(number) => Some(failure_with(number, import_numbers(view, walk, number))),
         None => None,
     }

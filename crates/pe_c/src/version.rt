@@ -10,6 +10,7 @@ ghost use Rattle.pe_core.specs.Refusals.{Returns, answer_of};
 ghost use Rattle.pe_resource.specs.Contents.{file_range, inner};
 ghost use Rattle.pe_resource.specs.Resources.{IsResourceEntry};
 ghost use Rattle.pe_c.specs.HandsOut.{HandsOutIf};
+ghost use Rattle.pe_c.specs.Images.{map_of_image};
 ghost use Rattle.pe_c.specs.Modes.{options_of};
 ghost use Rattle.pe_c.specs.Versions.{IsContentOf, HandsOutManifest, content_at, entry_range, fixed_at, fixed_in, HandsOutFixed, value_at, name_at, text_in, HandsOutText};
 ghost use Rattle.pe_c.specs.Views.{map_of, may_map};
@@ -18,18 +19,21 @@ use crate::image::{RESOURCE_TABLE, directory, is_absent};
 use crate::ranges::{Range, some_range};
 use crate::results::{NOTHING, hand_out_some, number_of, options};
 use crate::view::{View, sections_of};
-use pe_core::{ByteRange, DataDirectory, Result, require_bytes};
+use pe_core::{ByteRange, DataDirectory, Result, SectionTable, require_bytes};
 use pe_resource::{
     RT_MANIFEST, RT_VERSION, ResourceData, ResourceDataEntry, VersionName, VsFixedFileInfo,
 };
 
-/// The range of the content of a data entry.
-pub fn range_by(view: &View, entry: &ResourceDataEntry) -> Result<ByteRange>
-    ensures range { Returns result
-        (file_range view.now.bytes.now entry.now.size (map_of view.now entry.now.offset_to_data)) }
+/// The range of the content of a data entry, by the sections that may map its RVA.
+pub fn range_by(
+    view: &View,
+    sections: &[SectionTable],
+    entry: &ResourceDataEntry,
+) -> Result<ByteRange>
+    ensures range { Returns result (file_range view.now.bytes.now entry.now.size
+        (map_of_image view.now.image.now sections.now entry.now.offset_to_data)) }
     ensures within { IfOk result (IsWithin view.now.bytes.now) }
 {
-    let sections = sections_of(view, entry.offset_to_data);
     let opts = options(view.image.mode);
     entry.content_range(view.bytes, sections, view.image.file_alignment, &opts)
 }
@@ -41,7 +45,10 @@ fn entry_range(view: &View, entry: Option<ResourceDataEntry>) -> Result<Option<B
     ensures within { IfOk result (λ c. IfSome c (IsWithin view.now.bytes.now)) }
 {
     match entry {
-        Some(entry) => Ok(Some(range_by(view, &entry)?)),
+        Some(entry) => {
+            let sections = sections_of(view, entry.offset_to_data);
+            Ok(Some(range_by(view, sections, &entry)?))
+        }
         None => Ok(None),
     }
 }

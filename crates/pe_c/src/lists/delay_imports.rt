@@ -7,7 +7,7 @@ ghost use Rattle.pe_c.specs.Lists.{HandsOutList, Numbered};
 ghost use Rattle.pe_c.specs.Views.{map_of};
 
 use crate::delay_imports::{
-    DelayLibrary, DelayedFunction, DelayedFunctions, next_function, next_library, put_dll_names,
+    DelayLibrary, DelayedFunction, DelayedFunctions, function_by_view, library_by_view, put_dll_names,
     put_function_names,
 };
 use crate::lists::{Steps, hand_out_list};
@@ -23,7 +23,7 @@ impl<'a> Steps<Range, DelayLibrary> for NamedView<'a> {
         (map_of s.view.now) s.view.now.bytes.now s.view.now.image.now) };
 
     fn step(&self, walk: &mut Range) -> Result<Option<DelayLibrary>, u32> {
-        match next_library(self, walk) {
+        match library_by_view(self, walk) {
             Ok(library) => Ok(library),
             Err(error) => Err(number_of_directory(&error)),
         }
@@ -76,7 +76,7 @@ impl<'a> Steps<DelayedFunctions, DelayedFunction> for NamedView<'a> {
         (map_of s.view.now) s.view.now.bytes.now s.view.now.image.now) };
 
     fn step(&self, walk: &mut DelayedFunctions) -> Result<Option<DelayedFunction>, u32> {
-        match next_function(self, walk.attributes, &mut walk.left) {
+        match function_by_view(self, walk.attributes, &mut walk.left) {
             Ok(function) => Ok(function),
             Err(error) => Err(number_of_directory(&error)),
         }

@@ -11,6 +11,7 @@ ghost use Rattle.pe_c.specs.Views.{map_of};
 
 use crate::export_addresses::{AddressTable, Exported, addresses_in, exported_at, exported_in};
 use crate::exports::{Export, Exports, Tables, names_cost_much, put_name_offsets, step, tables_of};
+use crate::kept_sections::NO_SECTIONS;
 use crate::lists::{Steps, hand_out_list, next_index, numbered};
 use crate::named_view::NamedView;
 use crate::near_exports::{ExportWindows, NearExports, find_near};
@@ -25,7 +26,7 @@ impl<'a> Steps<Exports, Export> for NamedView<'a> {
         (map_of s.view.now) s.view.now.bytes.now) };
 
     fn step(&self, walk: &mut Exports) -> Result<Option<Export>, u32> {
-        numbered(step(self, walk))
+        numbered(step(self, NO_SECTIONS, walk))
     }
 }
 

@@ -9,7 +9,7 @@ ghost use Rattle.pe_c.specs.NearLists.{StepsNearImports};
 ghost use Rattle.pe_c.specs.Views.{map_of};
 
 use crate::imports::{
-    Import, Imports, Libraries, Library, entries_left, library_step, put_entry_names,
+    Import, Imports, Libraries, Library, entries_left, library_by_view, put_entry_names,
     put_library_lists, put_library_names,
 };
 use crate::lists::{Steps, hand_out_list, numbered};
@@ -25,7 +25,7 @@ impl<'a> Steps<Libraries, Library> for NamedView<'a> {
         (entry_size (s.view.now.image.now.width == 64)) s.view.now.bytes.now) };
 
     fn step(&self, walk: &mut Libraries) -> Result<Option<Library>, u32> {
-        let (given, after) = library_step(self, *walk);
+        let (given, after) = library_by_view(self, *walk);
         *walk = after;
         numbered(given)
     }

@@ -6,6 +6,7 @@ ghost use Rattle.pe_c.specs.Lists.{HandsOutList, Numbered, StepsVersionBlocks};
 ghost use Rattle.pe_c.specs.ResourceLeaves.{StepsLeaves, tree_number};
 ghost use Rattle.pe_c.specs.Views.{map_of};
 
+use crate::kept_sections::NO_SECTIONS;
 use crate::lists::{Steps, hand_out_list, numbered};
 use crate::ranges::Range;
 use crate::resource_leaves::{ResourceLeaf, ResourceLeaves, next_leaf};
@@ -24,7 +25,7 @@ impl<'a> Steps<ResourceLeaves, ResourceLeaf> for Leaves<'a> {
         (StepsLeaves s.view.now.bytes.now (map_of s.view.now)) };
 
     fn step(&self, walk: &mut ResourceLeaves) -> Result<Option<ResourceLeaf>, u32> {
-        match next_leaf(self.view, walk) {
+        match next_leaf(self.view, NO_SECTIONS, walk) {
             Ok(leaf) => Ok(leaf),
             Err(error) => Err(number_of_tree(&error)),
         }

@@ -10,7 +10,7 @@ ghost use Rattle.pe_c.specs.HandsOut.{HandsOutIf};
 ghost use Rattle.pe_c.specs.Views.{map_of};
 
 use crate::delay_imports::{
-    DelayedFunctions, address_in, address_offset, next_function, next_library,
+    DelayedFunctions, address_in, address_offset, function_by_view, library_by_view,
 };
 use crate::failure::{Failure, hand_out_failure};
 use crate::failure_numbers::{
@@ -18,6 +18,7 @@ use crate::failure_numbers::{
     directory_refused, failure_with, needed_at, needed_in, no_numbers, numbers, refused_value,
     u32_there,
 };
+use crate::kept_sections::NO_SECTIONS;
 use crate::named_view::NamedView;
 use crate::ranges::Range;
 use crate::view::View;
@@ -52,7 +53,7 @@ fn name_offset(view: &View, entry: &[u8]) -> Option<usize>
     ensures { result ≡ name_offset (map_of view.now) view.now.image.now.base entry.now }
 {
     let address = u64::from(u32_there(entry, NAME_IN_ENTRY));
-    match address_offset(view, u32_there(entry, 0), address) {
+    match address_offset(view, NO_SECTIONS, u32_there(entry, 0), address) {
         Ok(offset) => Some(offset),
         Err(_) => None,
     }
@@ -93,7 +94,7 @@ fn delay_import_failure(view: &View, walk: &Range) -> Option<Failure>
         view.now.bytes.now view.now.image.now walk.now))) }
 {
     let mut after = *walk;
-    match directory_refused(next_library(&NamedView::alone(view), &mut after)) {
+    match directory_refused(library_by_view(&NamedView::alone(view), &mut after)) {
         Some(number) => Some(failure_with(number, delay_import_numbers(view, walk, number))),
         None => None,
     }
@@ -125,7 +126,7 @@ fn hint_at(view: &View, attributes: u32, lookup: u64) -> u64
     ensures { result ≡ hint_at (map_of view.now) view.now.image.now attributes lookup }
 {
     let address = address_in(view.image.width == 64, attributes, lookup);
-    match address_offset(view, attributes, address) {
+    match address_offset(view, NO_SECTIONS, attributes, address) {
         Ok(offset) => offset as u64,
         Err(_) => 0,
     }
@@ -168,7 +169,7 @@ fn delayed_function_failure(view: &View, walk: &DelayedFunctions) -> Option<Fail
         view.now.image.now walk.now))) }
 {
     let mut left = walk.left;
-    let found = next_function(&NamedView::alone(view), walk.attributes, &mut left);
+    let found = function_by_view(&NamedView::alone(view), walk.attributes, &mut left);
     match directory_refused(found) {
         Some(number) => Some(failure_with(number, delayed_function_numbers(view, walk, number))),
         None => None,

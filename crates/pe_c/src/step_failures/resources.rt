@@ -14,6 +14,7 @@ use crate::failure::{Failure, hand_out_failure};
 use crate::failure_numbers::{
     ErrorNumbers, failure_with, needed_at, no_numbers, numbers, tree_refused,
 };
+use crate::kept_sections::NO_SECTIONS;
 use crate::ranges::slice_of;
 use crate::resource_leaves::{ResourceLeaves, next_leaf, position_of};
 use crate::view::View;
@@ -238,7 +239,7 @@ fn leaf_failure(view: &View, walk: &ResourceLeaves) -> Option<Failure>
         (first_item (items_left view.now.bytes.now (map_of view.now) walk.now))) }
 {
     let mut after = *walk;
-    match tree_refused(next_leaf(view, &mut after)) {
+    match tree_refused(next_leaf(view, NO_SECTIONS, &mut after)) {
         Some(number) => Some(failure_with(number, leaf_numbers(view.bytes, walk))),
         None => None,
     }

@@ -1,0 +1,44 @@
+-- The sections that a walk keeps: those of its last RVAs, which a step tests before the others.
+use Rattle.std.specs.Prelude.{◌≡◌, ℕ, ◌+◌, ◌<◌, ◌≤◌, ◌++◌, List, Option, Some}
+use Rattle.pe_core.specs.SectionMap.{raw_start, reach}
+use Rattle.pe_core.specs.declared.section_table.SectionTable.{SectionTable}
+use Rattle.pe_frame.specs.SectionIndexes.{numbered}
+use Rattle.pe_c.specs.Images.{map_of_image}
+use Rattle.pe_c.specs.Views.{map_of, may_map}
+use Rattle.pe_c.specs.declared.image.Image.{Image}
+use Rattle.pe_c.specs.declared.kept_sections.KeptSections.{KeptSections}
+use Rattle.pe_c.specs.declared.near_map.Window.{Window}
+use Rattle.pe_c.specs.declared.view.View.{View}
+
+-- a walk keeps none at its start
+abbrev pub no_sections : KeptSections
+no_sections = record { first = 0; second = 0 }
+
+-- the sections with these indices plus 1; 0, and a number past the last section, is none
+abbrev pub sections_kept : List SectionTable → KeptSections → List SectionTable
+sections_kept sections k = numbered sections k.first ++ numbered sections k.second
+
+-- the file offset of an RVA by the first section that covers it, where those that a walk keeps come before those that may map it
+abbrev pub map_kept : View → KeptSections → ℕ → Option ℕ
+map_kept v k x = map_of_image v.image.now (sections_kept v.sections.now k ++ may_map v x) x
+
+-- to keep these changes no offset
+abbrev pub ChangeNothing : View → KeptSections → Type 0
+ChangeNothing v k = (x : ℕ) → map_kept v k x ≡ map_of v x
+
+-- what a walk keeps after a call with this result: where it is not DONE as before, else what changes nothing if that before did not
+pub record KeepsOn (v : View) (number : ℕ) (old new : KeptSections) : Type 0 where
+  pub right : ChangeNothing v old → ChangeNothing v new
+  pub same : 0 < number → new ≡ old
+
+-- ---- how one is found that changes nothing. Only private contracts cite these
+
+-- the section with this index plus 1 maps RVAs as all sections do
+pub record IsAlone (image : Image) (sections : List SectionTable) (number : ℕ) : Type 0 where
+  pub maps : (x p : ℕ) → map_of_image image (numbered sections number) x ≡ Some p → map_of_image image sections x ≡ Some p
+
+-- a window starts where the section does, has all RVAs that it covers, and the offset of its data
+pub record HasAll (alignment : ℕ) (s : SectionTable) (w : Window) : Type 0 where
+  pub starts : w.start ≡ s.virtual_address
+  pub ends : s.virtual_address + reach alignment s ≤ w.end
+  pub offset : w.offset ≡ raw_start s

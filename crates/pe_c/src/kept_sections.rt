@@ -1,0 +1,165 @@
+//! The sections that a walk keeps. The RVAs of one table mostly lie in one section or two, so a walk that tests the sections of its
+//! last RVAs first maps most of them without a search. Where sections overlap the first in the table maps an RVA: a walk keeps none that
+//! shares an RVA with an earlier one.
+//! https://learn.microsoft.com/windows/win32/debug/pe-format#section-table-section-headers
+
+ghost use Rattle.std.specs.Prelude.{◌≡◌, ◌<◌, length, true, IfSome};
+ghost use Rattle.pe_core.specs.Refusals.{Returns};
+ghost use Rattle.pe_core.specs.SectionMap.{mapped};
+ghost use Rattle.pe_frame.specs.SectionIndexes as indexes;
+ghost use Rattle.pe_c.specs.Images.{map_of_image};
+ghost use Rattle.pe_c.specs.SectionIndexes.{is_searched};
+ghost use Rattle.pe_c.specs.KeptSections.{ChangeNothing, HasAll, IsAlone, map_kept};
+
+use crate::image::Image;
+use crate::near_map::{Window, window_in};
+use crate::results::options;
+use crate::section_index::is_searched;
+use crate::view::{View, map_u64, sections_of};
+use pe_core::{Error, Reason, Result, SectionTable, find_offset};
+use pe_directories::{raw_start, reach};
+use pe_frame::numbered;
+
+/// The sections of the last RVAs of a walk. Only steps read and write it: where it is not as a step left it, and sections overlap, a
+/// step may return another offset, and no other harm is done.
+#[repr(C)]
+#[derive(Clone, Copy)]
+pub struct KeptSections {
+    /// The index of a section plus 1; 0 for none, as at the start of a walk.
+    pub first: u32,
+    /// The same of the one that was kept before it.
+    pub second: u32,
+}
+
+/// No section, as at the start of a walk.
+pub const NO_SECTIONS: KeptSections = KeptSections {
+    first: 0,
+    second: 0,
+};
+
+/// The offset of an RVA by the section with an index plus 1.
+#[inline(always)]
+fn offset_in(view: &View, number: u32, rva: u64) -> Option<usize>
+    ensures { result ≡ map_of_image view.now.image.now
+        (indexes.numbered view.now.sections.now number) rva }
+{
+    let image = view.image;
+    find_offset(
+        rva as usize,
+        numbered(view.sections, u64::from(number)),
+        image.file_alignment,
+        &options(image.mode),
+    )
+}
+
+/// The offset of an RVA, of which these sections are tested first.
+#[tactic(auto, using(crate::proofs::KeptSections::by_first, crate::proofs::KeptSections::by_second, crate::proofs::KeptSections::by_others))]
+pub fn map_kept(view: &View, kept: KeptSections, rva: u64) -> Option<usize>
+    ensures { result ≡ map_kept view.now kept rva }
+{
+    match offset_in(view, kept.first, rva) {
+        Some(offset) => Some(offset),
+        None => match offset_in(view, kept.second, rva) {
+            Some(offset) => Some(offset),
+            None => map_u64(view, rva),
+        },
+    }
+}
+
+/// The sections that may map an RVA: of those that are kept the one that does, else as without them.
+#[tactic(auto, using(crate::proofs::KeptSections::by_first, crate::proofs::KeptSections::by_second, crate::proofs::KeptSections::by_others))]
+pub fn sections_for<'a>(view: &View<'a>, kept: KeptSections, rva: u32) -> &'a [SectionTable]
+    ensures { map_of_image view.now.image.now result.now rva ≡ map_kept view.now kept rva }
+{
+    let rva_64 = u64::from(rva);
+    match offset_in(view, kept.first, rva_64) {
+        Some(_) => numbered(view.sections, u64::from(kept.first)),
+        None => match offset_in(view, kept.second, rva_64) {
+            Some(_) => numbered(view.sections, u64::from(kept.second)),
+            None => sections_of(view, rva),
+        },
+    }
+}
+
+/// The same, or `Unmapped`.
+pub fn require_kept(view: &View, kept: KeptSections, rva: u32) -> Result<usize>
+    ensures { Returns result (mapped (map_kept view.now kept rva)) }
+{
+    match map_kept(view, kept, u64::from(rva)) {
+        Some(offset) => Ok(offset),
+        None => Err(Error::Malformed(Reason::Unmapped(u64::from(rva)))),
+    }
+}
+
+/// The index of the first section that covers an RVA.
+fn index_covering(sections: &[SectionTable], alignment: u32, rva: u64) -> Option<usize>
+    requires { 0 < alignment }
+    ensures { IfSome result (λ i. i < length sections.now) }
+{
+    for i in 0..sections.len() {
+        let start = u64::from(sections[i].virtual_address);
+        if start <= rva && rva < start + reach(&sections[i], alignment) {
+            return Some(i);
+        }
+    }
+    None
+}
+
+/// Whether a window has all RVAs that a section covers, and maps them as the section does: no earlier section covers one.
+fn has_all(window: &Window, section: &SectionTable, alignment: u32) -> bool
+    requires { 0 < alignment }
+    ensures { result ≡ true → HasAll alignment section.now window.now }
+{
+    let start = u64::from(section.virtual_address);
+    window.start == start
+        && start + reach(section, alignment) <= window.end
+        && window.offset == raw_start(section)
+}
+
+/// The index plus 1 of the section that maps an RVA, if it shares none with an earlier one.
+fn number_alone(image: &Image, sections: &[SectionTable], rva: u32) -> Option<u32>
+    requires searched { is_searched image.now ≡ true }
+    requires aligned { 0 < image.now.file_alignment }
+    ensures { IfSome result (IsAlone image.now sections.now) }
+{
+    let alignment = image.file_alignment;
+    let window = window_in(image, sections, rva)?;
+    let index = index_covering(sections, alignment, u64::from(rva))?;
+    if index < 0xffff_ffff && has_all(&window, &sections[index], alignment) {
+        Some((index + 1) as u32)
+    } else {
+        None
+    }
+}
+
+/// What a walk keeps after an RVA that none of its sections maps. With an index of the sections it keeps none. Out of line, as it is rare.
+#[cold]
+#[inline(never)]
+#[tactic(auto, using(crate::proofs::KeptSections::one_more))]
+fn kept_anew(view: &View, kept: KeptSections, rva: u32) -> KeptSections
+    ensures { ChangeNothing view.now kept → ChangeNothing view.now result }
+{
+    if view.index.is_empty() && is_searched(view.image) {
+        return match number_alone(view.image, view.sections, rva) {
+            Some(number) => KeptSections {
+                first: number,
+                second: kept.first,
+            },
+            None => kept,
+        };
+    }
+    kept
+}
+
+/// What a walk keeps after an RVA.
+pub fn kept_after(view: &View, kept: KeptSections, rva: u32) -> KeptSections
+    ensures { ChangeNothing view.now kept → ChangeNothing view.now result }
+{
+    let rva_64 = u64::from(rva);
+    if offset_in(view, kept.first, rva_64).is_some()
+        || offset_in(view, kept.second, rva_64).is_some()
+    {
+        return kept;
+    }
+    kept_anew(view, kept, rva)
+}
