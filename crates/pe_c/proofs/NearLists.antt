@@ -3,20 +3,32 @@ use Rattle.std.proofs.Common.{◌≡◌, ℕ, List, length, Option, Result, Ok, 
 use Rattle.pe_core.specs.ExportAddresses.{AddressesView}
 use Rattle.pe_core.specs.Imports.{entry_size}
 use Rattle.pe_core.specs.Refusals.{Refusal, ◌>>=◌}
+use Rattle.pe_c.specs.Directories.{directory_number}
+use Rattle.pe_c.specs.DirectoryRuns.{StepsDelayLibraries, StepsDelayedFunctions}
+use Rattle.pe_c.specs.ResourceLeaves.{StepsLeaves, tree_number}
+use Rattle.pe_c.specs.declared.delay_imports.DelayLibrary.{DelayLibrary}
+use Rattle.pe_c.specs.declared.delay_imports.DelayedFunction.{DelayedFunction}
+use Rattle.pe_c.specs.declared.delay_imports.DelayedFunctions.{DelayedFunctions}
+use Rattle.pe_c.specs.declared.ranges.Range.{Range}
+use Rattle.pe_c.specs.declared.resource_leaves.ResourceLeaf.{ResourceLeaf}
+use Rattle.pe_c.specs.declared.resource_leaves.ResourceLeaves.{ResourceLeaves}
 use Rattle.pe_c.proofs.FilledLists.{StepsAs, hands_out_as, numbered_as}
 use Rattle.pe_c.specs.ExportAddresses.{addresses_in, exported_at, exported_in}
 use Rattle.pe_c.specs.Exports.{StepsExports}
 use Rattle.pe_c.specs.HandsOut.{result_number}
-use Rattle.pe_c.specs.Imports.{StepsImports}
+use Rattle.pe_c.specs.Imports.{StepsImports, StepsLibraries}
 use Rattle.pe_c.specs.LibraryImports.{StepsLibraryImports}
 use Rattle.pe_c.specs.Lists.{HandsOutList, Numbered, StepsByIndex}
-use Rattle.pe_c.specs.NearLists.{StepsNear, StepsNearExports, StepsNearImports, StepsNearLibraryImports}
+use Rattle.pe_c.specs.NearLists.{StepsKeptDelayLibraries, StepsKeptFunctions, StepsKeptLeaves, StepsKeptLibraries, StepsNear, StepsNearExports, StepsNearImports, StepsNearLibraryImports}
 use Rattle.pe_c.specs.Ranges.{bytes_at}
 use Rattle.pe_c.specs.Views.{map_of}
 use Rattle.pe_c.specs.declared.export_addresses.AddressTable.{AddressTable}
 use Rattle.pe_c.specs.declared.export_addresses.Exported.{Exported}
 use Rattle.pe_c.specs.declared.exports.Export.{Export}
 use Rattle.pe_c.specs.declared.imports.Import.{Import}
+use Rattle.pe_c.specs.declared.imports.Libraries.{Libraries}
+use Rattle.pe_c.specs.declared.imports.Library.{Library}
+use Rattle.pe_c.specs.declared.kept_sections.KeptWalk.{KeptWalk}
 use Rattle.pe_c.specs.declared.library_imports.LibraryImport.{LibraryImport}
 use Rattle.pe_c.specs.declared.near_exports.NearExports.{NearExports}
 use Rattle.pe_c.specs.declared.near_imports.NearImports.{NearImports}
@@ -56,6 +68,30 @@ pub lists_imports : (v : View) (number : ℕ) (s t : NearImports) (old new : Lis
     HandsOutList (Numbered result_number (StepsImports (map_of v) (entry_size (v.image.now.width == 64)) v.bytes.now)) number s.walk t.walk old new before written
 lists_imports v number s t old new before written k h =
     near_lists result_number (λ (s : NearImports). s.names.view.now) (λ (s : NearImports). s.walk) (λ (v : View). StepsImports (map_of v) (entry_size (v.image.now.width == 64)) v.bytes.now) v number s t old new before written k h
+
+pub lists_libraries : (v : View) (number : ℕ) (s t : KeptWalk Libraries) (old new : List Library) (before written : ℕ) → s.names.view.now ≡ v →
+    HandsOutList (Numbered result_number StepsKeptLibraries) number s t old new before written →
+    HandsOutList (Numbered result_number (StepsLibraries (map_of v) (entry_size (v.image.now.width == 64)) v.bytes.now)) number s.walk t.walk old new before written
+lists_libraries v number s t old new before written k h =
+    near_lists result_number (λ (s : KeptWalk Libraries). s.names.view.now) (λ (s : KeptWalk Libraries). s.walk) (λ (v : View). StepsLibraries (map_of v) (entry_size (v.image.now.width == 64)) v.bytes.now) v number s t old new before written k h
+
+pub lists_delay_libraries : (v : View) (number : ℕ) (s t : KeptWalk Range) (old new : List DelayLibrary) (before written : ℕ) → s.names.view.now ≡ v →
+    HandsOutList (Numbered directory_number StepsKeptDelayLibraries) number s t old new before written →
+    HandsOutList (Numbered directory_number (StepsDelayLibraries (map_of v) v.bytes.now v.image.now)) number s.walk t.walk old new before written
+lists_delay_libraries v number s t old new before written k h =
+    near_lists directory_number (λ (s : KeptWalk Range). s.names.view.now) (λ (s : KeptWalk Range). s.walk) (λ (v : View). StepsDelayLibraries (map_of v) v.bytes.now v.image.now) v number s t old new before written k h
+
+pub lists_functions : (v : View) (number : ℕ) (s t : KeptWalk DelayedFunctions) (old new : List DelayedFunction) (before written : ℕ) → s.names.view.now ≡ v →
+    HandsOutList (Numbered directory_number StepsKeptFunctions) number s t old new before written →
+    HandsOutList (Numbered directory_number (StepsDelayedFunctions (map_of v) v.bytes.now v.image.now)) number s.walk t.walk old new before written
+lists_functions v number s t old new before written k h =
+    near_lists directory_number (λ (s : KeptWalk DelayedFunctions). s.names.view.now) (λ (s : KeptWalk DelayedFunctions). s.walk) (λ (v : View). StepsDelayedFunctions (map_of v) v.bytes.now v.image.now) v number s t old new before written k h
+
+pub lists_leaves : (v : View) (number : ℕ) (s t : KeptWalk ResourceLeaves) (old new : List ResourceLeaf) (before written : ℕ) → s.names.view.now ≡ v →
+    HandsOutList (Numbered tree_number StepsKeptLeaves) number s t old new before written →
+    HandsOutList (Numbered tree_number (StepsLeaves v.bytes.now (map_of v))) number s.walk t.walk old new before written
+lists_leaves v number s t old new before written k h =
+    near_lists tree_number (λ (s : KeptWalk ResourceLeaves). s.names.view.now) (λ (s : KeptWalk ResourceLeaves). s.walk) (λ (v : View). StepsLeaves v.bytes.now (map_of v)) v number s t old new before written k h
 
 pub lists_library_imports : (v : View) (number : ℕ) (s t : NearLibraryImports) (old new : List LibraryImport) (before written : ℕ) → s.names.view.now ≡ v →
     HandsOutList (Numbered result_number StepsNearLibraryImports) number s t old new before written →

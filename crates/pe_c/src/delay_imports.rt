@@ -277,6 +277,36 @@ fn kept_after_library(view: &View, kept: KeptSections, entry: &DelayImport) -> K
     kept_after_address(view, kept, entry.attributes, table)
 }
 
+/// What a walk keeps after a step that returns this.
+pub fn kept_after_library_step(
+    view: &View,
+    kept: KeptSections,
+    given: &Result<Option<DelayLibrary>>,
+) -> KeptSections
+    ensures { ChangeNothing view.now kept → ChangeNothing view.now result }
+{
+    match given {
+        Ok(Some(library)) => kept_after_library(view, kept, &library.descriptor),
+        _ => kept,
+    }
+}
+
+/// One step of a walk that keeps sections which change no offset.
+pub fn next_library_kept(
+    names: &NamedView<'_>,
+    kept: KeptSections,
+    walk: &mut Range,
+) -> Result<Option<DelayLibrary>>
+    requires { ChangeNothing names.now.view.now kept }
+    ensures library { directory_answer (λ x. x) result ≡ step_of (λ x. x)
+        (first_library_in (map_of names.now.view.now)
+        names.now.view.now.bytes.now names.now.view.now.image.now walk.old) }
+    ensures walk { walk.new ≡ left_after walk.old (first_library_in (map_of names.now.view.now)
+        names.now.view.now.bytes.now names.now.view.now.image.now walk.old) }
+{
+    next_library(names, kept, walk)
+}
+
 /// Steps through the DLLs of the delay import directory: returns the next one, and moves `walk` past it. `NOTHING` where no
 /// bytes are left, or where the next entry has no name: then `walk` stays. Strict and permissive mode make no difference.
 ///
@@ -448,12 +478,62 @@ pub fn put_function_names(
 }
 
 /// The number that a walk is at, 0 where it has none.
-fn lookup_of(view: &View, left: &Range) -> u64 {
+pub fn lookup_of(view: &View, left: &Range) -> u64 {
     let is_64 = view.image.width == 64;
     match slice_of(view.bytes, left) {
         Ok(table) if lookup_size(is_64) <= table.len() => lookup_number(table, 0, is_64),
         _ => 0,
     }
+}
+
+/// What a walk keeps after a function of a DLL with these attributes that a number of the table is: the section of its name.
+fn kept_after_function(
+    view: &View,
+    kept: KeptSections,
+    number: (u32, u64),
+    function: &DelayedFunction,
+) -> KeptSections
+    ensures { ChangeNothing view.now kept → ChangeNothing view.now result }
+{
+    let (attributes, lookup) = number;
+    if function.has_name == 0 {
+        return kept;
+    }
+    let address = address_in(view.image.width == 64, attributes, lookup);
+    kept_after_address(view, kept, attributes, address)
+}
+
+/// The same after a step that returns this.
+pub fn kept_after_function_step(
+    view: &View,
+    kept: KeptSections,
+    number: (u32, u64),
+    given: &Result<Option<DelayedFunction>>,
+) -> KeptSections
+    ensures { ChangeNothing view.now kept → ChangeNothing view.now result }
+{
+    match given {
+        Ok(Some(function)) => kept_after_function(view, kept, number, function),
+        _ => kept,
+    }
+}
+
+/// One step of a walk that keeps sections which change no offset.
+pub fn next_function_kept(
+    names: &NamedView<'_>,
+    kept: KeptSections,
+    attributes: u32,
+    left: &mut Range,
+) -> Result<Option<DelayedFunction>>
+    requires { ChangeNothing names.now.view.now kept }
+    ensures function { directory_answer (λ x. x) result ≡ step_of (λ x. x)
+        (first_function_in (map_of names.now.view.now)
+        names.now.view.now.bytes.now names.now.view.now.image.now attributes left.old) }
+    ensures left { left.new ≡ left_after left.old
+        (first_function_in (map_of names.now.view.now)
+        names.now.view.now.bytes.now names.now.view.now.image.now attributes left.old) }
+{
+    next_function(names, kept, attributes, left)
 }
 
 /// Steps through what is imported of a DLL: returns the next function, and moves `walk` past it. `NOTHING` where the table
@@ -485,10 +565,8 @@ pub extern "C" fn pe_c_next_delayed_function(
     let given = next_function(&NamedView::alone(view), walk.kept, attributes, &mut left);
     walk.functions.left = left;
     if let Ok(Some(function)) = &given {
-        if function.has_name != 0 {
-            let address = address_in(view.image.width == 64, attributes, lookup);
-            walk.kept = kept_after_address(view, walk.kept, attributes, address);
-        }
+        let number = (attributes, lookup);
+        walk.kept = kept_after_function(view, walk.kept, number, function);
     }
     hand_out_found(given, out)
 }

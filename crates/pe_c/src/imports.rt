@@ -240,7 +240,21 @@ fn kept_after_library(view: &View, kept: KeptSections, library: &Library) -> Kep
     kept_after(view, kept, list)
 }
 
-/// The same of a walk that keeps no sections.
+/// What a walk keeps after a step that returns this.
+pub fn kept_after_library_step(
+    view: &View,
+    kept: KeptSections,
+    given: &Result<Option<Library>>,
+) -> KeptSections
+    ensures { ChangeNothing view.now kept → ChangeNothing view.now result }
+{
+    match given {
+        Ok(Some(library)) => kept_after_library(view, kept, library),
+        _ => kept,
+    }
+}
+
+/// One step of a walk that keeps no sections.
 pub fn library_by_view(
     names: &NamedView<'_>,
     walk: Libraries,
@@ -353,7 +367,7 @@ pub fn import_step(
     }
 }
 
-/// The same of a walk that keeps no sections.
+/// One step of a walk that keeps no sections.
 pub fn import_by_view(names: &NamedView<'_>, walk: &mut Imports) -> Result<Option<Import>>
     ensures { (answer_of result, walk.new) ≡ import_step (map_of names.now.view.now)
         (entry_size (names.now.view.now.image.now.width == 64)) names.now.view.now.bytes.now walk.old }

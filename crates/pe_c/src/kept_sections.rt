@@ -3,7 +3,7 @@
 //! shares an RVA with an earlier one.
 //! https://learn.microsoft.com/windows/win32/debug/pe-format#section-table-section-headers
 
-ghost use Rattle.std.specs.Prelude.{◌≡◌, ◌<◌, length, true, IfSome};
+ghost use Rattle.std.specs.Prelude.{◌≡◌, ◌<◌, length, true, ⊤, IfSome};
 ghost use Rattle.pe_core.specs.Refusals.{Returns};
 ghost use Rattle.pe_core.specs.SectionMap.{mapped};
 ghost use Rattle.pe_frame.specs.SectionIndexes as indexes;
@@ -12,6 +12,7 @@ ghost use Rattle.pe_c.specs.SectionIndexes.{is_searched};
 ghost use Rattle.pe_c.specs.KeptSections.{ChangeNothing, HasAll, IsAlone, map_kept};
 
 use crate::image::Image;
+use crate::named_view::NamedView;
 use crate::near_map::{Window, window_in};
 use crate::results::options;
 use crate::section_index::is_searched;
@@ -19,6 +20,7 @@ use crate::view::{View, map_u64, sections_of};
 use pe_core::{Error, Reason, Result, SectionTable, find_offset};
 use pe_directories::{raw_start, reach};
 use pe_frame::numbered;
+use std::alloc::AllocError;
 
 /// The sections of the last RVAs of a walk. Only steps read and write it: where it is not as a step left it, and sections overlap, a
 /// step may return another offset, and no other harm is done.
@@ -36,6 +38,31 @@ pub const NO_SECTIONS: KeptSections = KeptSections {
     first: 0,
     second: 0,
 };
+
+/// A walk in a list, and the sections that it keeps. They change no offset, whatever the walk of the caller kept.
+pub struct KeptWalk<'a, W> {
+    pub names: NamedView<'a>,
+    pub walk: W,
+    pub kept: KeptSections,
+    ghost right: { ChangeNothing names.view.now kept },
+}
+
+// By hand, as a derive would not know of the ghost field.
+impl<'a, W: Copy> Copy for KeptWalk<'a, W> {}
+
+impl<'a, W: Copy> Clone for KeptWalk<'a, W> {
+    ghost is_clone = { λ x y. (y.names ≡ x.names) × (y.walk ≡ x.walk) × (y.kept ≡ x.kept) };
+
+    ghost is_infallible = { λ _. ⊤ };
+
+    fn clone(&self) -> std::result::Result<Self, AllocError> {
+        Ok(KeptWalk {
+            names: self.names,
+            walk: self.walk,
+            kept: self.kept,
+        })
+    }
+}
 
 /// The offset of an RVA by the section with an index plus 1.
 #[inline(always)]

@@ -11,7 +11,7 @@ ghost use Rattle.pe_resource.specs.LeafPositions.{leaf_start, tree_at, tree_view
 ghost use Rattle.pe_resource.specs.Leaves.{tree_answer};
 ghost use Rattle.pe_c.specs.HandsOut.{HandsOutIf};
 ghost use Rattle.pe_c.specs.Modes.{options_of};
-ghost use Rattle.pe_c.specs.KeptSections.{KeepsOn, map_kept};
+ghost use Rattle.pe_c.specs.KeptSections.{ChangeNothing, KeepsOn, map_kept};
 ghost use Rattle.pe_c.specs.Views.{directory_sections, map_of, may_map};
 ghost use Rattle.pe_c.specs.ResourceLeaves.{StartsLeaves, TreeHandsOut, after_item, content_of, first_item, image_tree, items_left, leaf_reported, leaves_start, leaves_walk, name_in, position_of, walk_at};
 
@@ -274,6 +274,36 @@ pub fn next_leaf(
     let leaf = leaf_reported(view, kept, tree.offset, data, &item?)?;
     *walk = walk_at(tree, &position);
     Ok(Some(leaf))
+}
+
+/// What a walk keeps after a step that returns this: the section of the content.
+pub fn kept_after_leaf(
+    view: &View,
+    kept: KeptSections,
+    given: &std::result::Result<Option<ResourceLeaf>, ResourceTreeError>,
+) -> KeptSections
+    ensures { ChangeNothing view.now kept → ChangeNothing view.now result }
+{
+    match given {
+        Ok(Some(leaf)) => kept_after(view, kept, leaf.rva),
+        _ => kept,
+    }
+}
+
+/// The next leaf of a walk that keeps sections which change no offset.
+pub fn next_leaf_kept(
+    view: &View,
+    kept: KeptSections,
+    walk: &mut ResourceLeaves,
+) -> std::result::Result<Option<ResourceLeaf>, ResourceTreeError>
+    requires { ChangeNothing view.now kept }
+    ensures leaf { tree_answer result
+        ≡ first_item (items_left view.now.bytes.now (map_of view.now) walk.old) }
+    ensures left { items_left view.now.bytes.now (map_of view.now) walk.new
+        ≡ after_item (items_left view.now.bytes.now (map_of view.now) walk.old) }
+    ensures walk { walk.new ≡ leaves_walk view.now.bytes.now (map_of view.now) walk.old }
+{
+    next_leaf(view, kept, walk)
 }
 
 /// Steps through the leaves of a resource tree: returns the next one, and moves `walk` past it. `NOTHING` at the end.

@@ -4,12 +4,14 @@ ghost use Rattle.std.specs.Prelude.{◌≡◌};
 ghost use Rattle.pe_c.specs.Directories.{directory_number};
 ghost use Rattle.pe_c.specs.DirectoryRuns.{StepsDelayLibraries, StepsDelayedFunctions};
 ghost use Rattle.pe_c.specs.Lists.{HandsOutList, Numbered};
+ghost use Rattle.pe_c.specs.NearLists.{StepsKeptDelayLibraries, StepsKeptFunctions};
 ghost use Rattle.pe_c.specs.Views.{map_of};
 
 use crate::delay_imports::{
-    DelayLibrary, DelayedFunction, DelayedFunctions, function_by_view, library_by_view, put_dll_names,
-    put_function_names,
+    DelayLibrary, DelayedFunction, DelayedFunctions, kept_after_function_step,
+    kept_after_library_step, lookup_of, next_function_kept, next_library_kept, put_dll_names, put_function_names,
 };
+use crate::kept_sections::{KeptWalk, NO_SECTIONS};
 use crate::lists::{Steps, hand_out_list};
 use crate::named_view::NamedView;
 use crate::near_map::NO_WINDOW;
@@ -18,16 +20,49 @@ use crate::results::number_of_directory;
 use crate::text_runs::{Run, first_runs};
 use crate::view::View;
 
-impl<'a> Steps<Range, DelayLibrary> for NamedView<'a> {
-    ghost steps = { λ s. Numbered directory_number (StepsDelayLibraries
-        (map_of s.view.now) s.view.now.bytes.now s.view.now.image.now) };
+/// Steps over DLLs in a list.
+#[derive(Clone, Copy)]
+struct InDirectory;
 
-    fn step(&self, walk: &mut Range) -> Result<Option<DelayLibrary>, u32> {
-        match library_by_view(self, walk) {
+impl<'a> Steps<KeptWalk<'a, Range>, DelayLibrary> for InDirectory {
+    ghost steps = { λ s. Numbered directory_number StepsKeptDelayLibraries };
+
+    fn step(&self, list: &mut KeptWalk<'a, Range>) -> Result<Option<DelayLibrary>, u32> {
+        let KeptWalk {
+            names,
+            mut walk,
+            kept,
+            ..
+        } = *list;
+        let given = next_library_kept(&names, kept, &mut walk);
+        let kept = kept_after_library_step(names.view, kept, &given);
+        *list = KeptWalk { names, walk, kept };
+        match given {
             Ok(library) => Ok(library),
             Err(error) => Err(number_of_directory(&error)),
         }
     }
+}
+
+/// Lists the DLLs of a walk.
+fn list_libraries(
+    names: &NamedView<'_>,
+    walk: &mut Range,
+    entries: &mut [DelayLibrary],
+    written: &mut u64,
+) -> u32
+    ensures { HandsOutList (Numbered directory_number (StepsDelayLibraries (map_of names.now.view.now)
+        names.now.view.now.bytes.now names.now.view.now.image.now))
+        result walk.old walk.new entries.old entries.new written.old written.new }
+{
+    let mut list = KeptWalk {
+        names: *names,
+        walk: *walk,
+        kept: NO_SECTIONS,
+    };
+    let number = hand_out_list(&InDirectory, &mut list, entries, written);
+    *walk = list.walk;
+    number
 }
 
 /// Lists the DLLs of a walk, as `pe_c_next_delay_import` returns them, and moves the walk past them.
@@ -44,8 +79,7 @@ pub extern "C" fn pe_c_list_delay_imports(
         (map_of view.now) view.now.bytes.now view.now.image.now))
         result walk.old walk.new entries.old entries.new written.old written.new }
 {
-    let libraries = NamedView::alone(view);
-    hand_out_list(&libraries, walk, entries, written)
+    list_libraries(&NamedView::alone(view), walk, entries, written)
 }
 
 /// Lists what `pe_c_list_delay_imports` does, and reads the names together: with one of `runs` for each of `entries`, or more, a
@@ -67,20 +101,57 @@ pub extern "C" fn pe_c_list_delay_imports_together(
 {
     let room = first_runs(runs, entries.len());
     let count = put_dll_names(view, walk, room);
-    let named_libraries = NamedView::together(view, &mut room[..count]);
-    hand_out_list(&named_libraries, walk, entries, written)
+    let names = NamedView::together(view, &mut room[..count]);
+    list_libraries(&names, walk, entries, written)
 }
 
-impl<'a> Steps<DelayedFunctions, DelayedFunction> for NamedView<'a> {
-    ghost steps = { λ s. Numbered directory_number (StepsDelayedFunctions
-        (map_of s.view.now) s.view.now.bytes.now s.view.now.image.now) };
+/// Steps over the functions of a DLL in a list.
+#[derive(Clone, Copy)]
+struct InTable;
 
-    fn step(&self, walk: &mut DelayedFunctions) -> Result<Option<DelayedFunction>, u32> {
-        match function_by_view(self, walk.attributes, &mut walk.left) {
+impl<'a> Steps<KeptWalk<'a, DelayedFunctions>, DelayedFunction> for InTable {
+    ghost steps = { λ s. Numbered directory_number StepsKeptFunctions };
+
+    fn step(
+        &self,
+        list: &mut KeptWalk<'a, DelayedFunctions>,
+    ) -> Result<Option<DelayedFunction>, u32> {
+        let KeptWalk {
+            names,
+            mut walk,
+            kept,
+            ..
+        } = *list;
+        let number = (walk.attributes, lookup_of(names.view, &walk.left));
+        let given = next_function_kept(&names, kept, walk.attributes, &mut walk.left);
+        let kept = kept_after_function_step(names.view, kept, number, &given);
+        *list = KeptWalk { names, walk, kept };
+        match given {
             Ok(function) => Ok(function),
             Err(error) => Err(number_of_directory(&error)),
         }
     }
+}
+
+/// Lists the functions of a walk.
+fn list_functions(
+    names: &NamedView<'_>,
+    walk: &mut DelayedFunctions,
+    entries: &mut [DelayedFunction],
+    written: &mut u64,
+) -> u32
+    ensures { HandsOutList (Numbered directory_number (StepsDelayedFunctions (map_of names.now.view.now)
+        names.now.view.now.bytes.now names.now.view.now.image.now))
+        result walk.old walk.new entries.old entries.new written.old written.new }
+{
+    let mut list = KeptWalk {
+        names: *names,
+        walk: *walk,
+        kept: NO_SECTIONS,
+    };
+    let number = hand_out_list(&InTable, &mut list, entries, written);
+    *walk = list.walk;
+    number
 }
 
 /// Lists what is imported of a DLL, as `pe_c_next_delayed_function` returns it, and moves the walk past it.
@@ -97,8 +168,7 @@ pub extern "C" fn pe_c_list_delayed_functions(
         (map_of view.now) view.now.bytes.now view.now.image.now))
         result walk.old walk.new entries.old entries.new written.old written.new }
 {
-    let functions = NamedView::alone(view);
-    hand_out_list(&functions, walk, entries, written)
+    list_functions(&NamedView::alone(view), walk, entries, written)
 }
 
 /// Lists what `pe_c_list_delayed_functions` does, and reads the names together: with one of `runs` for each of `entries`, or more, a
@@ -122,6 +192,6 @@ pub extern "C" fn pe_c_list_delayed_functions_together(
     let room = first_runs(runs, entries.len());
     let mut near = NO_WINDOW;
     let count = put_function_names(view, walk, &mut near, room);
-    let named_functions = NamedView::together(view, &mut room[..count]);
-    hand_out_list(&named_functions, walk, entries, written)
+    let names = NamedView::together(view, &mut room[..count]);
+    list_functions(&names, walk, entries, written)
 }

@@ -5,13 +5,14 @@ ghost use Rattle.pe_core.specs.Imports.{entry_size};
 ghost use Rattle.pe_c.specs.HandsOut.{result_number};
 ghost use Rattle.pe_c.specs.Imports.{StepsImports, StepsLibraries};
 ghost use Rattle.pe_c.specs.Lists.{HandsOutList, Numbered};
-ghost use Rattle.pe_c.specs.NearLists.{StepsNearImports};
+ghost use Rattle.pe_c.specs.NearLists.{StepsKeptLibraries, StepsNearImports};
 ghost use Rattle.pe_c.specs.Views.{map_of};
 
 use crate::imports::{
-    Import, Imports, Libraries, Library, entries_left, library_by_view, put_entry_names,
+    Import, Imports, Libraries, Library, entries_left, kept_after_library_step, library_step, put_entry_names,
     put_library_lists, put_library_names,
 };
+use crate::kept_sections::{KeptWalk, NO_SECTIONS};
 use crate::lists::{Steps, hand_out_list, numbered};
 use crate::named_view::NamedView;
 use crate::near_imports::{NearImports, step_near};
@@ -19,16 +20,44 @@ use crate::near_map::NO_WINDOW;
 use crate::text_runs::Run;
 use crate::view::View;
 
-impl<'a> Steps<Libraries, Library> for NamedView<'a> {
-    ghost steps = { λ s. Numbered result_number (StepsLibraries
-        (map_of s.view.now)
-        (entry_size (s.view.now.image.now.width == 64)) s.view.now.bytes.now) };
+/// Steps over libraries in a list.
+#[derive(Clone, Copy)]
+struct InDirectory;
 
-    fn step(&self, walk: &mut Libraries) -> Result<Option<Library>, u32> {
-        let (given, after) = library_by_view(self, *walk);
-        *walk = after;
+impl<'a> Steps<KeptWalk<'a, Libraries>, Library> for InDirectory {
+    ghost steps = { λ s. Numbered result_number StepsKeptLibraries };
+
+    fn step(&self, list: &mut KeptWalk<'a, Libraries>) -> Result<Option<Library>, u32> {
+        let KeptWalk {
+            names, walk, kept, ..
+        } = *list;
+        let (given, walk) = library_step(&names, kept, walk);
+        let kept = kept_after_library_step(names.view, kept, &given);
+        *list = KeptWalk { names, walk, kept };
         numbered(given)
     }
+}
+
+/// Lists the libraries of a walk.
+fn list_libraries(
+    names: &NamedView<'_>,
+    walk: &mut Libraries,
+    entries: &mut [Library],
+    written: &mut u64,
+) -> u32
+    ensures { HandsOutList (Numbered result_number
+        (StepsLibraries (map_of names.now.view.now)
+        (entry_size (names.now.view.now.image.now.width == 64)) names.now.view.now.bytes.now))
+        result walk.old walk.new entries.old entries.new written.old written.new }
+{
+    let mut list = KeptWalk {
+        names: *names,
+        walk: *walk,
+        kept: NO_SECTIONS,
+    };
+    let number = hand_out_list(&InDirectory, &mut list, entries, written);
+    *walk = list.walk;
+    number
 }
 
 /// Lists the libraries of a walk, as `pe_c_next_library` returns them, and moves the walk past them.
@@ -46,8 +75,7 @@ pub extern "C" fn pe_c_list_libraries(
         (entry_size (view.now.image.now.width == 64)) view.now.bytes.now))
         result walk.old walk.new entries.old entries.new written.old written.new }
 {
-    let libraries = NamedView::alone(view);
-    hand_out_list(&libraries, walk, entries, written)
+    list_libraries(&NamedView::alone(view), walk, entries, written)
 }
 
 /// An image of which the names and lists of the next libraries are read together: a half of the room is for each.
@@ -80,7 +108,7 @@ pub extern "C" fn pe_c_list_libraries_together(
         (entry_size (view.now.image.now.width == 64)) view.now.bytes.now))
         result walk.old walk.new entries.old entries.new written.old written.new }
 {
-    hand_out_list(&named_libraries(view, walk, runs), walk, entries, written)
+    list_libraries(&named_libraries(view, walk, runs), walk, entries, written)
 }
 
 /// Steps over imports in a list.

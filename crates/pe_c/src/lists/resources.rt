@@ -3,33 +3,62 @@
 ghost use Rattle.std.specs.Prelude.{◌≡◌};
 ghost use Rattle.pe_c.specs.HandsOut.{result_number};
 ghost use Rattle.pe_c.specs.Lists.{HandsOutList, Numbered, StepsVersionBlocks};
+ghost use Rattle.pe_c.specs.NearLists.{StepsKeptLeaves};
 ghost use Rattle.pe_c.specs.ResourceLeaves.{StepsLeaves, tree_number};
 ghost use Rattle.pe_c.specs.Views.{map_of};
 
-use crate::kept_sections::NO_SECTIONS;
+use crate::kept_sections::{KeptWalk, NO_SECTIONS};
 use crate::lists::{Steps, hand_out_list, numbered};
+use crate::named_view::NamedView;
 use crate::ranges::Range;
-use crate::resource_leaves::{ResourceLeaf, ResourceLeaves, next_leaf};
+use crate::resource_leaves::{ResourceLeaf, ResourceLeaves, kept_after_leaf, next_leaf_kept};
 use crate::results::number_of_tree;
 use crate::version_blocks::{VersionBlock, next_block};
 use crate::view::View;
 
-/// Steps over the leaves of a resource tree.
+/// Steps over the leaves of a resource tree in a list.
 #[derive(Clone, Copy)]
-struct Leaves<'a> {
-    view: &'a View<'a>,
-}
+struct InTree;
 
-impl<'a> Steps<ResourceLeaves, ResourceLeaf> for Leaves<'a> {
-    ghost steps = { λ s. Numbered tree_number
-        (StepsLeaves s.view.now.bytes.now (map_of s.view.now)) };
+impl<'a> Steps<KeptWalk<'a, ResourceLeaves>, ResourceLeaf> for InTree {
+    ghost steps = { λ s. Numbered tree_number StepsKeptLeaves };
 
-    fn step(&self, walk: &mut ResourceLeaves) -> Result<Option<ResourceLeaf>, u32> {
-        match next_leaf(self.view, NO_SECTIONS, walk) {
+    fn step(&self, list: &mut KeptWalk<'a, ResourceLeaves>) -> Result<Option<ResourceLeaf>, u32> {
+        let KeptWalk {
+            names,
+            mut walk,
+            kept,
+            ..
+        } = *list;
+        let given = next_leaf_kept(names.view, kept, &mut walk);
+        let kept = kept_after_leaf(names.view, kept, &given);
+        *list = KeptWalk { names, walk, kept };
+        match given {
             Ok(leaf) => Ok(leaf),
             Err(error) => Err(number_of_tree(&error)),
         }
     }
+}
+
+/// Lists the leaves of a walk.
+fn list_leaves(
+    names: &NamedView<'_>,
+    walk: &mut ResourceLeaves,
+    entries: &mut [ResourceLeaf],
+    written: &mut u64,
+) -> u32
+    ensures { HandsOutList (Numbered tree_number
+        (StepsLeaves names.now.view.now.bytes.now (map_of names.now.view.now)))
+        result walk.old walk.new entries.old entries.new written.old written.new }
+{
+    let mut list = KeptWalk {
+        names: *names,
+        walk: *walk,
+        kept: NO_SECTIONS,
+    };
+    let number = hand_out_list(&InTree, &mut list, entries, written);
+    *walk = list.walk;
+    number
 }
 
 /// Lists the leaves of a resource tree, as `pe_c_next_resource_leaf` returns them, and moves the walk past them.
@@ -46,7 +75,7 @@ pub extern "C" fn pe_c_list_resource_leaves(
         (StepsLeaves view.now.bytes.now (map_of view.now)))
         result walk.old walk.new entries.old entries.new written.old written.new }
 {
-    hand_out_list(&Leaves { view }, walk, entries, written)
+    list_leaves(&NamedView::alone(view), walk, entries, written)
 }
 
 /// Steps over blocks of version information.
