@@ -434,11 +434,10 @@ uint32_t pe_c_headers(const uint8_t *bytes, size_t length, uint32_t mode, pe_c_h
  * The array has to have four for each, of which the second half is left open; what follows is unchanged. Calls that take
  * a view with these entries return what they return without them, and map each RVA by it: in steps that grow with the
  * logarithm of the number of sections, not with that number itself: 65,535 in a hostile file. So do steps and walks of
- * stacks, but that a scan asks all sections whether they are executable. What maps no RVA still looks at all of them:
- * pe_c_rva, which maps an offset, pe_c_overlay and the lists of their names. Few calls, and images with few sections, as
- * most, gain nothing by it. No entries, and PE_C_DONE, where no section is searched: in an image as loaded, and where the
- * file alignment is not a power of two. An index in the view that is passed makes no difference. An index of other
- * sections gives wrong offsets, and no other harm.
+ * stacks, with scans. What maps no RVA still looks at all of them: pe_c_rva, which maps an offset, pe_c_overlay and the
+ * lists of their names. Few calls, and images with few sections, as most, gain nothing by it. No entries, and PE_C_DONE,
+ * where no section is searched: in an image as loaded, and where the file alignment is not a power of two. An index in
+ * the view that is passed makes no difference. An index of other sections gives wrong offsets, and no other harm.
  * Errors: PE_C_ROOM where the array has too few entries; then `written` is how many it has to have. */
 uint32_t pe_c_index(const pe_c_view *view, pe_c_index_entry *room, size_t entries, uint64_t *written) PE_C_RESULT(1, 4);
 

@@ -421,10 +421,7 @@ fn expect_frames_over<M: Memory>(
 ) -> Result<(), Fail> {
     let program = program(alloc)?;
     let data = exceptions(&program, 3)?;
-    let sections = [
-        section(0x40, 0x80, 0x6000_0020),
-        section(0xC0, 0x40, 0xC000_0040),
-    ];
+    let sections = [section(0x40, 0x80, CODE), section(0xC0, 0x40, DATA)];
     let modules = [Module {
         size: 0x100,
         sections: &sections,
@@ -657,6 +654,108 @@ fn a_scan_finds_executable_code_alone(rt: HostRuntime) -> Result<(), Fail> {
         at_the_call(0x1018, Way::Scanned),
     ];
     expect_frames(&rt, alloc, (0, 0x1000), &words, &frames, BOTTOM)
+}
+
+const CODE: u32 = 0x6000_0020;
+
+const DATA: u32 = 0xC000_0040;
+
+/// These RVAs, each of which is one after a call, are return addresses into executable code of an image with these sections, or
+/// not. Every two bytes of the image are `call rax`.
+fn expect_code_returns(
+    rt: &impl Abort,
+    alloc: Global,
+    sections: &[SectionTable],
+    rvas: &[(u64, bool)],
+) -> Result<(), Fail> {
+    let bytes = bytes_of(alloc, &[0xD0FF_D0FF_D0FF_D0FF; 32])?;
+    let data = exceptions(&bytes, 0)?;
+    let module = Module {
+        size: 0x100,
+        sections,
+        ..module(APP, &bytes, &data)
+    };
+    for (rva, is) in rvas {
+        assert!(rt; module.is_after_call(APP + rva));
+        assert_eq!(rt; module.is_code_return(APP + rva), *is);
+    }
+    Ok(())
+}
+
+/// Where the sections are in ascending order, it is the section that has the last byte of the call that has to be executable.
+#[test]
+fn code_returns_are_of_executable_sections(rt: HostRuntime) -> Result<(), Fail> {
+    let alloc = rt.alloc();
+    let sections = [
+        section(0x20, 0x20, CODE),
+        section(0x40, 0x20, DATA),
+        section(0x80, 0x20, CODE),
+        section(0xA0, 0x20, DATA),
+        // Without a size in memory it has there what it has in the file.
+        SectionTable {
+            virtual_size: 0,
+            ..section(0xD0, 0x10, CODE)
+        },
+    ];
+    let rvas = [
+        (0x10, false), // before the first section
+        (0x20, false),
+        (0x22, true),
+        (0x40, true),
+        (0x42, false), // in data
+        (0x60, false),
+        (0x62, false), // in the gap after them
+        (0x80, false),
+        (0x82, true),
+        (0xA0, true),
+        (0xA2, false),
+        (0xC2, false),
+        (0xD0, false),
+        (0xD2, true),
+        (0xE0, true),
+        (0xE2, false), // past the last section
+        (0x100, false),
+    ];
+    expect_code_returns(&rt, alloc, &sections, &rvas)?;
+    expect_code_returns(
+        &rt,
+        alloc,
+        &sections[..1],
+        &[(0x20, false), (0x22, true), (0x42, false)],
+    )?;
+    expect_code_returns(&rt, alloc, &[], &[(0x22, false)])
+}
+
+/// No valid image has such sections. By the definition the search asks the section with the number 2 first, counted from 1:
+/// where it starts at or before the last byte of the call, the one with the number 3 next, and else the one with the number 1.
+/// The last of those that start so is asked, and no other.
+#[test]
+fn code_returns_have_one_answer_in_any_order(rt: HostRuntime) -> Result<(), Fail> {
+    let alloc = rt.alloc();
+    let unordered = [
+        section(0x80, 0x20, CODE),
+        section(0x20, 0x20, CODE),
+        section(0x40, 0x20, CODE),
+    ];
+    let rvas = [
+        (0x10, false), // 2 starts after it, and 1 too
+        (0x22, true), // 2 does not, but 3
+        (0x42, true), // neither 2 nor 3
+        (0x82, false), // the same: 3 is asked, and 1 not, which has it
+    ];
+    expect_code_returns(&rt, alloc, &unordered, &rvas)?;
+    let overlapping = [
+        section(0x20, 0x40, CODE),
+        section(0x40, 0x10, DATA),
+        section(0x80, 0x20, CODE),
+    ];
+    let rvas = [
+        (0x22, true), // 2 starts after it, and 1 not
+        (0x42, false), // 3 starts after it, and 2 not: data, though 1 has it too
+        (0x52, false), // the same, though 1 alone has it
+        (0x82, true),
+    ];
+    expect_code_returns(&rt, alloc, &overlapping, &rvas)
 }
 
 /// Whether an address is one after a call, where these bytes end at it, at the end of a module.

@@ -134,3 +134,10 @@ module _ {X : Type 0} (start : X → ℕ) (a : ℕ) where
       (λ (lt : a < start x). (0, count_none x xs lt rises))
       (λ (ge : start x ≤ a). (suc rest.0, count_more x xs rest.0 ge rest.1))
       (cases_lt a (start x))
+
+-- the search of sorted ranges counts those that start at or before an address
+pub counted : {X : Type 0} (start : X → ℕ) (d : X) (xs : List X) (a : ℕ) → IsNonDecreasingBy start xs → IsCountUpTo start a xs (started start d xs a (length xs) 0)
+counted start d xs a rises =
+    let count : (c : ℕ) × IsCountUpTo start a xs c = count_of start a xs rises in
+    let is : started start d xs a (length xs) 0 ≡ count.0 = searched start d xs a count.0 (length xs) 0 count.1 (omega arith) (omega (arith, count.1.within, bits_enough (length xs))) in
+    subst (λ (c : ℕ). IsCountUpTo start a xs c) (sym is) count.1

@@ -15,6 +15,7 @@ pub mod OnePiece
 pub mod Halving
 pub mod IndexSearches
 pub mod Searches
+pub mod SectionsAsked
 pub mod NoCode
 pub mod FrameSteps
 pub mod OneShortPlan

@@ -17,7 +17,7 @@ use Rattle.pe_frame.specs.MemoryLists.{AreListed, are_inside, ascend, has_word, 
 use Rattle.pe_frame.specs.MemoryPieces.{known_bytes, known_word}
 use Rattle.pe_frame.specs.SearchedMemory.{no_piece, piece_found, piece_shown, pieces_started, searched_byte, searched_word, shows_byte, word_by}
 use Rattle.pe_frame.specs.declared.memory_list.MemoryPiece.{MemoryPiece}
-use Rattle.pe_frame.proofs.Halving.{bits_enough, count_of, searched}
+use Rattle.pe_frame.proofs.Halving.{counted}
 use Rattle.pe_frame.proofs.Begun.{number_shown}
 use Rattle.pe_frame.proofs.ListsShow.{byte_here, same_word}
 use Rattle.pe_frame.proofs.Lookups.{ends_before, found_of_all, has_it, is_within, none_starts, range_found, range_missed, starts_rise, test_ascends}
@@ -30,13 +30,6 @@ abbrev size_of : MemoryPiece → ℕ
 size_of p = p.length
 
 -- ---- the piece that is found
-
--- the search of ascending pieces counts those that start at or before an address
-counted : (pieces : List MemoryPiece) (a : ℕ) → AreAscending start_of size_of pieces → IsCountUpTo start_of a pieces (pieces_started pieces a)
-counted pieces a up =
-    let count : (c : ℕ) × IsCountUpTo start_of a pieces c = count_of start_of a pieces (starts_rise start_of size_of pieces up) in
-    let is : pieces_started pieces a ≡ count.0 = searched start_of no_piece pieces a count.0 (length pieces) 0 count.1 (omega arith) (omega (arith, count.1.within, bits_enough (length pieces))) in
-    subst (λ (c : ℕ). IsCountUpTo start_of a pieces c) (sym is) count.1
 
 not_shown : (bytes : List ℕ) (pieces : List MemoryPiece) (a : ℕ) → lists_byte a (piece_found pieces a) ≡ false → piece_shown bytes pieces a ≡ None
 unfolding piece_shown
@@ -74,7 +67,7 @@ by_count bytes pieces a (suc n) up inside count is =
     ]
 
 pub piece_listed : (bytes : List ℕ) (pieces : List MemoryPiece) (a : ℕ) → AreAscending start_of size_of pieces → are_inside bytes pieces ≡ true → piece_shown bytes pieces a ≡ find (lists_byte a) pieces
-piece_listed bytes pieces a up inside = by_count bytes pieces a (pieces_started pieces a) up inside (counted pieces a up) refl
+piece_listed bytes pieces a up inside = by_count bytes pieces a (pieces_started pieces a) up inside (counted start_of no_piece pieces a (starts_rise start_of size_of pieces up)) refl
 
 -- what is shown shows the byte
 by_test : (bytes : List ℕ) (a : ℕ) (p q : MemoryPiece) (t : Bool) → shows_byte bytes a q ≡ t → cond t (Some q) None ≡ Some p → shows_byte bytes a p ≡ true

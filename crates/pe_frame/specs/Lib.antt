@@ -4,6 +4,7 @@ pub mod MemoryPieces
 pub mod MemoryLists
 pub mod SearchedMemory
 pub mod SectionIndexes
+pub mod SectionSearch
 pub mod Undoing
 pub mod Steps
 pub mod InPlace

@@ -1,5 +1,5 @@
 -- The modules of a process: images, each with the addresses where it is loaded.
-use Rattle.std.specs.Prelude.{ℕ, ◌+◌, ◌-◌, ◌/◌, ◌%◌, ◌^◌, ◌==◌, ◌&&◌, nat_le, nat_lt, Bool, false, List, [], Option, Some, None, if◌then◌else◌}
+use Rattle.std.specs.Prelude.{ℕ, ◌-◌, ◌/◌, ◌%◌, ◌^◌, ◌==◌, ◌&&◌, nat_le, Bool, false, List, [], Option, Some, None, if◌then◌else◌}
 use Rattle.std.specs.List.{find, list_any}
 use Rattle.std.specs.Option.{option_map}
 use Rattle.pe_core.specs.Bytes.{holds, range}
@@ -10,6 +10,7 @@ use Rattle.pe_frame.specs.AddressRanges.{has_address}
 use Rattle.pe_frame.specs.Arm64CallForms.{is_call_arm64}
 use Rattle.pe_frame.specs.CallForms.{is_call, call_sizes}
 use Rattle.pe_frame.specs.SectionIndexes.{sections_by}
+use Rattle.pe_frame.specs.SectionSearch.{memory_size, section_start, section_started}
 use Rattle.pe_frame.specs.declared.modules.Module.{Module}
 
 -- the first address, and how many bytes follow from it on
@@ -61,12 +62,15 @@ is_after_call modules a = is_after_call_of (module_at modules (a - 1)) a
 -- a section is executable (IMAGE_SCN_MEM_EXECUTE, bit 29 of its characteristics), and has an RVA
 abbrev pub executes : ℕ → SectionTable → Bool
 executes rva s =
-    s.characteristics / 2 ^ 29 % 2 == 1 && nat_le s.virtual_address rva
-    && nat_lt rva (s.virtual_address + (if s.virtual_size == 0 then s.size_of_raw_data else s.virtual_size))
+    s.characteristics / 2 ^ 29 % 2 == 1 && has_address section_start memory_size rva s
+
+-- the section that halving finds of an RVA is executable, and has it: one section is asked, however many there are
+unfoldable pub is_executable : List SectionTable → ℕ → Bool
+is_executable sections rva = list_any (executes rva) (section_started sections rva)
 
 abbrev pub is_code_return_of : Option Module → ℕ → Bool
 is_code_return_of None a = false
-is_code_return_of (Some m) a = list_any (executes (a - m.base - 1)) m.sections.now && is_after_call_in m a
+is_code_return_of (Some m) a = is_executable m.sections.now (a - m.base - 1) && is_after_call_in m a
 
 -- an address is one after a call in an executable section
 abbrev pub is_code_return : List Module → ℕ → Bool
@@ -93,7 +97,7 @@ is_after_call_arm64 modules a = is_after_call_arm64_of (module_at modules (a - 1
 -- the same in an executable section
 abbrev pub is_code_return_arm64_of : Option Module → ℕ → Bool
 is_code_return_arm64_of None a = false
-is_code_return_arm64_of (Some m) a = list_any (executes (a - m.base - 1)) m.sections.now && is_after_call_arm64_in m a
+is_code_return_arm64_of (Some m) a = is_executable m.sections.now (a - m.base - 1) && is_after_call_arm64_in m a
 
 abbrev pub is_code_return_arm64 : List Module → ℕ → Bool
 is_code_return_arm64 modules a = is_code_return_arm64_of (module_at modules (a - 1)) a

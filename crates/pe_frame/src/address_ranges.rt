@@ -1,9 +1,12 @@
-//! Tables of address ranges, as of the modules of a process or of pieces of memory, and lookup of an address in them.
+//! Tables of address ranges, as of the modules of a process, of pieces of memory or of the sections of an image, and lookup of an
+//! address in them.
 
-ghost use Rattle.std.specs.Prelude.{◌≡◌, ℕ, IsTrue};
+ghost use Rattle.std.specs.Prelude.{◌≡◌, ◌<◌, ◌≤◌, ℕ, IsTrue, length};
 ghost use Rattle.std.specs.List.{find};
 ghost use Rattle.std.specs.Option.{option_map};
-ghost use Rattle.pe_frame.specs.AddressRanges.{AreAscending, IsCountUpTo, Overlaps, has_address};
+ghost use Rattle.pe_frame.specs.AddressRanges.{AreAscending, IsCountUpTo, Overlaps, has_address, start_by, started};
+
+use crate::bits::{bits_of, power_of_two};
 
 /// What lies at a range of addresses.
 pub trait AddressRange {
@@ -61,6 +64,34 @@ pub(crate) fn range_with<R: AddressRange>(ranges: &[R], address: u64) -> Option<
     } else {
         None
     }
+}
+
+/// Whether there are so many ranges, and the last of them starts at or before an address.
+fn start_by<R: AddressRange>(ranges: &[R], address: u64, count: usize) -> bool
+    requires { 0 < count }
+    ensures is { (d : R) → result ≡ start_by R.start_of d ranges.now address count }
+    ensures most { IsTrue result → count ≤ length ranges.now }
+{
+    count <= ranges.len() && ranges[count - 1].start() <= address
+}
+
+/// How many ranges start at or before an address, where they are sorted: by halving, bit by bit. Of ranges in no order it is some
+/// number of them, and 0 or one whose last range does.
+pub(crate) fn started<R: AddressRange>(ranges: &[R], address: u64) -> usize
+    ensures count { (d : R) →
+        result ≡ started R.start_of d ranges.now address (length ranges.now) 0 }
+    ensures most { result ≤ length ranges.now }
+{
+    let mut count = 0;
+    let mut bits = bits_of(ranges.len());
+    while bits > 0 {
+        bits -= 1;
+        let more = count + power_of_two(bits);
+        if start_by(ranges, address, more) {
+            count = more;
+        }
+    }
+    count
 }
 
 /// Whether a range has an address.

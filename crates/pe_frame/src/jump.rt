@@ -35,7 +35,7 @@ pub struct ImageFunctions<'a, R> {
     pub map: &'a R,
 }
 
-// By hand, as the derives would ask it of the map too, which is behind a reference.
+// By hand: the derives would ask that the map can be copied too, of which this has a reference alone.
 impl<'a, R> Copy for ImageFunctions<'a, R> {}
 
 impl<'a, R> Clone for ImageFunctions<'a, R> {

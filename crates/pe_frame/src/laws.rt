@@ -4,6 +4,7 @@ pub mod arm64;
 pub mod arm64_walks;
 pub mod constants;
 pub mod jumps;
+pub mod modules;
 pub mod walks;
 
 ghost use Rattle.std.specs.Prelude.{◌≡◌, ◌↔◌, ℕ, ◌+◌, ◌-◌, ◌^◌, ◌<◌, ◌≤◌, length, slice_index, true, List, Option, None, Some, Result, Ok, [], ◌∷◌};

@@ -35,6 +35,7 @@ mod registers;
 mod scan;
 mod searched_memory;
 mod section_index;
+mod section_search;
 mod undo;
 mod walk;
 

@@ -5,12 +5,13 @@ ghost use Rattle.std.specs.List.{list_any};
 ghost use Rattle.std.specs.Option.{option_map};
 ghost use Rattle.pe_frame.specs.AddressRanges.{AreAscending, IsOverlap};
 ghost use Rattle.pe_frame.specs.SectionIndexes.{sections_by};
-ghost use Rattle.pe_frame.specs.Modules.{module_base, module_size, module_at, map_of_module, code_in, follows_call, is_after_call_in, is_after_call, is_after_call_arm64_in, is_after_call_arm64, executes, is_code_return, is_code_return_of, is_code_return_arm64, is_code_return_arm64_of};
+ghost use Rattle.pe_frame.specs.Modules.{module_base, module_size, module_at, map_of_module, code_in, follows_call, is_after_call_in, is_after_call, is_after_call_arm64_in, is_after_call_arm64, executes, is_executable, is_code_return, is_code_return_of, is_code_return_arm64, is_code_return_arm64_of};
 
-use crate::address_ranges::{AddressRange, first_overlap, range_with};
+use crate::address_ranges::{AddressRange, first_overlap, has_address, range_with};
 use crate::arm64::is_call_arm64;
 use crate::call::is_call;
 use crate::section_index::{IndexEntry, sections_by};
+use crate::section_search::section_started;
 use pe_core::{ParseOptions, RvaMap, SectionTable, slice_at};
 use pe_unwind::ExceptionData;
 
@@ -34,7 +35,8 @@ pub struct Module<'a> {
     pub bytes: &'a [u8],
     /// Its section headers.
     pub sections: &'a [SectionTable],
-    /// An index of the sections, by which its RVAs are mapped; no entries without one. No scan goes by it.
+    /// An index of the sections, by which its RVAs are mapped; no entries without one. A scan asks `sections` itself whether an RVA
+    /// is executable.
     pub index: &'a [IndexEntry],
     /// Its exception data, parsed from `bytes`; without any it has leaf functions alone.
     pub exceptions: Option<&'a ExceptionData<'a>>,
@@ -155,14 +157,18 @@ impl<'a> Module<'a> {
         size <= rva && is_call_arm64(self.code(exceptions, rva - size, rva))
     }
 
-    /// Whether an executable section has an RVA.
+    /// Whether the section that halving finds of an RVA is executable, and has it.
+    #[tactic(auto, unfolding(crate::specs::Modules::is_executable))]
     fn is_executable(&self, rva: u32) -> bool
-        ensures { result ≡ list_any (executes rva) self.now.sections.now }
+        ensures { result ≡ is_executable self.now.sections.now rva }
     {
-        self.sections.iter().any(|section| executes(section, rva))
+        section_started(self.sections, rva)
+            .iter()
+            .any(|section| executes(section, rva))
     }
 
-    /// Whether an address, which may be the end of the module, is one after a call in an executable section.
+    /// Whether an address, which may be the end of the module, is one after a call in an executable section. Asked is the last section
+    /// that starts at or before the last byte of the call, found by halving: in a valid image no other has it.
     pub fn is_code_return(&self, address: u64) -> bool
         requires { address ≤ self.now.base + self.now.size }
         ensures { result ≡ is_code_return_of (Some self.now) address }
@@ -185,14 +191,7 @@ impl<'a> Module<'a> {
 fn executes(section: &SectionTable, rva: u32) -> bool
     ensures { result ≡ executes rva section.now }
 {
-    let size = if section.virtual_size == 0 {
-        section.size_of_raw_data
-    } else {
-        section.virtual_size
-    };
-    section.characteristics / MEM_EXECUTE % 2 == 1
-        && section.virtual_address <= rva
-        && rva - section.virtual_address < size
+    section.characteristics / MEM_EXECUTE % 2 == 1 && has_address(section, u64::from(rva))
 }
 
 /// The modules of a process, by the address where each is loaded.

@@ -6,14 +6,12 @@
 //! Nothing has to be believed of the list. In ascending pieces that lie in the bytes the memory is that of `MemoryList`. In any
 //! others a byte is one of some piece that has its address and lies in the bytes, or it is unknown.
 
-ghost use Rattle.std.specs.Prelude.{◌≡◌, ◌+◌, ◌-◌, ◌<◌, ◌≤◌, length};
+ghost use Rattle.std.specs.Prelude.{◌≡◌, ◌+◌, ◌-◌, ◌≤◌, length};
 ghost use Rattle.std.specs.Option.{option_map};
 ghost use Rattle.pe_core.specs.Bytes.{holds};
-ghost use Rattle.pe_frame.specs.AddressRanges.{start_by, started};
-ghost use Rattle.pe_frame.specs.SearchedMemory.{no_piece, piece_shown, pieces_started, searched_byte, shows_byte};
+ghost use Rattle.pe_frame.specs.SearchedMemory.{piece_shown, pieces_started, searched_byte, shows_byte};
 
-use crate::address_ranges::has_address;
-use crate::bits::{bits_of, power_of_two};
+use crate::address_ranges::{has_address, started};
 use crate::memory::{KnownBytes, Memory, known_word};
 use crate::memory_list::{MemoryPiece, byte_of, has_word, word_of};
 
@@ -25,29 +23,12 @@ pub struct SearchedMemory<'a> {
     pieces: &'a [MemoryPiece],
 }
 
-/// Whether there are so many pieces, and the last of them starts at or before an address.
-fn start_by(pieces: &[MemoryPiece], address: u64, count: usize) -> bool
-    requires { 0 < count }
-    ensures { result ≡ start_by (λ p. p.start) no_piece pieces.now address count }
-{
-    count <= pieces.len() && pieces[count - 1].start <= address
-}
-
 /// How many pieces start at or before an address, where they are sorted.
 fn pieces_started(pieces: &[MemoryPiece], address: u64) -> usize
     ensures count { result ≡ pieces_started pieces.now address }
     ensures most { result ≤ length pieces.now }
 {
-    let mut count = 0;
-    let mut bits = bits_of(pieces.len());
-    while bits > 0 {
-        bits -= 1;
-        let more = count + power_of_two(bits);
-        if start_by(pieces, address, more) {
-            count = more;
-        }
-    }
-    count
+    started(pieces, address)
 }
 
 /// Whether a piece lies in the bytes.
