@@ -17,9 +17,10 @@ use Rattle.pe_c.specs.ExportAddresses.{addresses_in, exported_at, exported_in}
 use Rattle.pe_c.specs.Exports.{StepsExports}
 use Rattle.pe_c.specs.HandsOut.{result_number}
 use Rattle.pe_c.specs.Imports.{StepsImports, StepsLibraries}
+use Rattle.pe_c.specs.LibraryFunctions.{StepsLibraryFunctions}
 use Rattle.pe_c.specs.LibraryImports.{StepsLibraryImports}
 use Rattle.pe_c.specs.Lists.{HandsOutList, Numbered, StepsByIndex}
-use Rattle.pe_c.specs.NearLists.{StepsKeptDelayLibraries, StepsKeptFunctions, StepsKeptLeaves, StepsKeptLibraries, StepsNear, StepsNearExports, StepsNearImports, StepsNearLibraryImports}
+use Rattle.pe_c.specs.NearLists.{StepsKeptDelayLibraries, StepsKeptFunctions, StepsKeptLeaves, StepsKeptLibraries, StepsKeptLibraryFunctions, StepsNear, StepsNearExports, StepsNearImports, StepsNearLibraryImports}
 use Rattle.pe_c.specs.Ranges.{bytes_at}
 use Rattle.pe_c.specs.Views.{map_of}
 use Rattle.pe_c.specs.declared.export_addresses.AddressTable.{AddressTable}
@@ -29,6 +30,8 @@ use Rattle.pe_c.specs.declared.imports.Import.{Import}
 use Rattle.pe_c.specs.declared.imports.Libraries.{Libraries}
 use Rattle.pe_c.specs.declared.imports.Library.{Library}
 use Rattle.pe_c.specs.declared.kept_sections.KeptWalk.{KeptWalk}
+use Rattle.pe_c.specs.declared.library_functions.LibraryFunction.{LibraryFunction}
+use Rattle.pe_c.specs.declared.library_functions.LibraryFunctions.{LibraryFunctions}
 use Rattle.pe_c.specs.declared.library_imports.LibraryImport.{LibraryImport}
 use Rattle.pe_c.specs.declared.near_exports.NearExports.{NearExports}
 use Rattle.pe_c.specs.declared.near_imports.NearImports.{NearImports}
@@ -92,6 +95,12 @@ pub lists_leaves : (v : View) (number : ℕ) (s t : KeptWalk ResourceLeaves) (ol
     HandsOutList (Numbered tree_number (StepsLeaves v.bytes.now (map_of v))) number s.walk t.walk old new before written
 lists_leaves v number s t old new before written k h =
     near_lists tree_number (λ (s : KeptWalk ResourceLeaves). s.names.view.now) (λ (s : KeptWalk ResourceLeaves). s.walk) (λ (v : View). StepsLeaves v.bytes.now (map_of v)) v number s t old new before written k h
+
+pub lists_library_functions : (v : View) (number : ℕ) (s t : KeptWalk LibraryFunctions) (old new : List LibraryFunction) (before written : ℕ) → s.names.view.now ≡ v →
+    HandsOutList (Numbered directory_number StepsKeptLibraryFunctions) number s t old new before written →
+    HandsOutList (Numbered directory_number (StepsLibraryFunctions (map_of v) v.bytes.now v.image.now)) number s.walk t.walk old new before written
+lists_library_functions v number s t old new before written k h =
+    near_lists directory_number (λ (s : KeptWalk LibraryFunctions). s.names.view.now) (λ (s : KeptWalk LibraryFunctions). s.walk) (λ (v : View). StepsLibraryFunctions (map_of v) v.bytes.now v.image.now) v number s t old new before written k h
 
 pub lists_library_imports : (v : View) (number : ℕ) (s t : NearLibraryImports) (old new : List LibraryImport) (before written : ℕ) → s.names.view.now ≡ v →
     HandsOutList (Numbered result_number StepsNearLibraryImports) number s t old new before written →

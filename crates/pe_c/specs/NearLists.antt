@@ -14,6 +14,7 @@ use Rattle.pe_c.specs.declared.resource_leaves.ResourceLeaf.{ResourceLeaf}
 use Rattle.pe_c.specs.declared.resource_leaves.ResourceLeaves.{ResourceLeaves}
 use Rattle.pe_c.specs.Exports.{StepsExports}
 use Rattle.pe_c.specs.Imports.{StepsImports, StepsLibraries}
+use Rattle.pe_c.specs.LibraryFunctions.{StepsLibraryFunctions}
 use Rattle.pe_c.specs.LibraryImports.{StepsLibraryImports}
 use Rattle.pe_c.specs.Views.{map_of}
 use Rattle.pe_c.specs.declared.exports.Export.{Export}
@@ -21,6 +22,8 @@ use Rattle.pe_c.specs.declared.imports.Import.{Import}
 use Rattle.pe_c.specs.declared.imports.Libraries.{Libraries}
 use Rattle.pe_c.specs.declared.imports.Library.{Library}
 use Rattle.pe_c.specs.declared.kept_sections.KeptWalk.{KeptWalk}
+use Rattle.pe_c.specs.declared.library_functions.LibraryFunction.{LibraryFunction}
+use Rattle.pe_c.specs.declared.library_functions.LibraryFunctions.{LibraryFunctions}
 use Rattle.pe_c.specs.declared.library_imports.LibraryImport.{LibraryImport}
 use Rattle.pe_c.specs.declared.near_exports.NearExports.{NearExports}
 use Rattle.pe_c.specs.declared.near_imports.NearImports.{NearImports}
@@ -54,6 +57,10 @@ StepsKeptFunctions = StepsNear (λ s. s.names.view.now) (λ s. s.walk) (λ v. St
 -- over the leaves of a resource tree
 abbrev pub StepsKeptLeaves : KeptWalk ResourceLeaves → Result (Option ResourceLeaf) TreeRefusal → KeptWalk ResourceLeaves → Type 0
 StepsKeptLeaves = StepsNear (λ s. s.names.view.now) (λ s. s.walk) (λ v. StepsLeaves v.bytes.now (map_of v))
+
+-- over what is imported of all DLLs
+abbrev pub StepsKeptLibraryFunctions : KeptWalk LibraryFunctions → Result (Option LibraryFunction) DirectoryRefusal → KeptWalk LibraryFunctions → Type 0
+StepsKeptLibraryFunctions = StepsNear (λ s. s.names.view.now) (λ s. s.walk) (λ v. StepsLibraryFunctions (map_of v) v.bytes.now v.image.now)
 
 -- over the imports of all libraries
 abbrev pub StepsNearLibraryImports : NearLibraryImports → Result (Option LibraryImport) Refusal → NearLibraryImports → Type 0

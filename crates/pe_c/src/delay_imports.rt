@@ -269,7 +269,7 @@ fn kept_after_address(
 }
 
 /// What a walk keeps after a DLL: the sections of its name and of its table.
-fn kept_after_library(view: &View, kept: KeptSections, entry: &DelayImport) -> KeptSections
+pub fn kept_after_library(view: &View, kept: KeptSections, entry: &DelayImport) -> KeptSections
     ensures { ChangeNothing view.now kept → ChangeNothing view.now result }
 {
     let kept = kept_after_address(view, kept, entry.attributes, u64::from(entry.name));

@@ -254,6 +254,20 @@ pub fn kept_after_library_step(
     }
 }
 
+/// One step of a walk that keeps sections which change no offset.
+pub fn library_step_kept(
+    names: &NamedView<'_>,
+    kept: KeptSections,
+    walk: Libraries,
+) -> (Result<Option<Library>>, Libraries)
+    requires { ChangeNothing names.now.view.now kept }
+    ensures returned { (answer_of result.0, result.1) ≡ library_step (map_of names.now.view.now)
+        (entry_size (names.now.view.now.image.now.width == 64)) names.now.view.now.bytes.now walk }
+    ensures onward { IfOk result.0 (λ l. IfSome l (λ _. walk.next < result.1.next)) }
+{
+    library_step(names, kept, walk)
+}
+
 /// One step of a walk that keeps no sections.
 pub fn library_by_view(
     names: &NamedView<'_>,

@@ -6,16 +6,18 @@ ghost use Rattle.std.specs.Prelude.{◌≡◌, ◌<◌, ◌≤◌, IfNone, lengt
 ghost use Rattle.std.specs.Option.{option_map};
 ghost use Rattle.pe_directories.specs.DirectoryRefusals.{directory_answer};
 ghost use Rattle.pe_c.specs.Directories.{DirectoryHandsOut};
+ghost use Rattle.pe_c.specs.KeptSections.{ChangeNothing};
 ghost use Rattle.pe_c.specs.LibraryFunctions.{StepsLibraryFunctions, all_over, at_library, before_first, library_functions_at, next_library, turn, with_library};
 ghost use Rattle.pe_c.specs.NearMaps.{IsWindow};
 ghost use Rattle.pe_c.specs.Views.{directory_sections, map_of};
 
 use crate::delay_imports::{
-    DelayLibrary, DelayedFunction, DelayedFunctions, function_by_view,
-    library_by_view as next_dll, offset_near, put_function_names,
+    DelayLibrary, DelayedFunction, DelayedFunctions, kept_after_function_step,
+    kept_after_library, lookup_of, next_function_kept, next_library_kept, offset_near, put_function_names,
 };
 use crate::directories::{Result, table_at};
 use crate::image::DELAY_IMPORT_DESCRIPTOR;
+use crate::kept_sections::KeptSections;
 use crate::named_view::NamedView;
 use crate::near_map::{NO_WINDOW, Window};
 use crate::ranges::{NO_BYTES, Range, slice_of};
@@ -131,14 +133,21 @@ fn at_library(walk: &LibraryFunctions, rest: Range, library: &DelayLibrary) -> L
 #[tactic(auto, unfolding(crate::specs::LibraryFunctions::turn))]
 fn turn(
     names: &NamedView<'_>,
+    kept: &mut KeptSections,
     walk: LibraryFunctions,
 ) -> (Option<Result<Option<LibraryFunction>>>, LibraryFunctions)
+    requires { ChangeNothing names.now.view.now kept.old }
     ensures turn { (option_map (directory_answer (λ x. x)) result.0, result.1) ≡ turn
         (map_of names.now.view.now) names.now.view.now.bytes.now names.now.view.now.image.now walk }
     ensures onward { IfNone result.0 (result.1.libraries.length < walk.libraries.length) }
+    ensures kept { ChangeNothing names.now.view.now kept.new }
 {
     let mut left = walk.functions.left;
-    match function_by_view(names, walk.functions.attributes, &mut left) {
+    let attributes = walk.functions.attributes;
+    let number = (attributes, lookup_of(names.view, &left));
+    let given = next_function_kept(names, *kept, attributes, &mut left);
+    *kept = kept_after_function_step(names.view, *kept, number, &given);
+    match given {
         Ok(Some(function)) => {
             let found = with_library(&walk, function);
             let functions = DelayedFunctions {
@@ -150,7 +159,7 @@ fn turn(
                 LibraryFunctions { functions, ..walk },
             )
         }
-        Ok(None) => next_library(names, walk),
+        Ok(None) => next_library(names, kept, walk),
         Err(error) => (Some(Err(error)), all_over(&walk)),
     }
 }
@@ -158,15 +167,21 @@ fn turn(
 /// The same of a DLL without a function.
 fn next_library(
     names: &NamedView<'_>,
+    kept: &mut KeptSections,
     walk: LibraryFunctions,
 ) -> (Option<Result<Option<LibraryFunction>>>, LibraryFunctions)
+    requires { ChangeNothing names.now.view.now kept.old }
     ensures turn { (option_map (directory_answer (λ x. x)) result.0, result.1) ≡ next_library
         (map_of names.now.view.now) names.now.view.now.bytes.now names.now.view.now.image.now walk }
     ensures onward { IfNone result.0 (result.1.libraries.length < walk.libraries.length) }
+    ensures kept { ChangeNothing names.now.view.now kept.new }
 {
     let mut rest = walk.libraries;
-    match next_dll(names, &mut rest) {
-        Ok(Some(library)) => (None, at_library(&walk, rest, &library)),
+    match next_library_kept(names, *kept, &mut rest) {
+        Ok(Some(library)) => {
+            *kept = kept_after_library(names.view, *kept, &library.descriptor);
+            (None, at_library(&walk, rest, &library))
+        }
         Ok(None) => (
             Some(Ok(None)),
             LibraryFunctions {
@@ -179,12 +194,18 @@ fn next_library(
 }
 
 /// One step: the next function, of whichever DLL.
-pub fn step(names: &NamedView<'_>, walk: &mut LibraryFunctions) -> Result<Option<LibraryFunction>>
-    ensures { StepsLibraryFunctions (map_of names.now.view.now)
+pub fn step(
+    names: &NamedView<'_>,
+    kept: &mut KeptSections,
+    walk: &mut LibraryFunctions,
+) -> Result<Option<LibraryFunction>>
+    requires { ChangeNothing names.now.view.now kept.old }
+    ensures step { StepsLibraryFunctions (map_of names.now.view.now)
         names.now.view.now.bytes.now names.now.view.now.image.now walk.old (directory_answer (λ x. x) result) walk.new }
+    ensures kept { ChangeNothing names.now.view.now kept.new }
 {
     loop {
-        let (given, after) = turn(names, *walk);
+        let (given, after) = turn(names, kept, *walk);
         *walk = after;
         match given {
             Some(given) => return given,

@@ -8,13 +8,16 @@ ghost use Rattle.pe_core.specs.Imports.{entry_size};
 ghost use Rattle.pe_core.specs.Refusals.{answer_of};
 ghost use Rattle.pe_c.specs.HandsOut.{HandsOutIf};
 ghost use Rattle.pe_c.specs.LibraryImports.{StepsLibraryImports, all_over, at_library, library_imports_at, next_library, turn, with_library};
+ghost use Rattle.pe_c.specs.KeptSections.{ChangeNothing};
 ghost use Rattle.pe_c.specs.NearMaps.{IsWindow};
 ghost use Rattle.pe_c.specs.Views.{map_of};
 
 use crate::imports::{
-    Import, Imports, Libraries, Library, NO_LIBRARIES, entries_left, libraries_at, library_by_view,
+    Import, Imports, Libraries, Library, NO_LIBRARIES, entries_left, kept_after_library_step,
+    libraries_at, library_step_kept,
     put_entry_names, record_left,
 };
+use crate::kept_sections::KeptSections;
 use crate::named_view::NamedView;
 use crate::near_imports::step_near;
 use crate::near_map::Window;
@@ -140,12 +143,15 @@ fn turn(
     names: &NamedView<'_>,
     walk: LibraryImports,
     hints: &mut Window,
+    kept: &mut KeptSections,
 ) -> (Option<Result<Option<LibraryImport>>>, LibraryImports)
-    requires { IsWindow (map_of names.now.view.now) hints.old }
+    requires near { IsWindow (map_of names.now.view.now) hints.old }
+    requires kept { ChangeNothing names.now.view.now kept.old }
     ensures turn { (option_map answer_of result.0, result.1) ≡ turn (map_of names.now.view.now)
         (entry_size (names.now.view.now.image.now.width == 64)) names.now.view.now.bytes.now walk }
     ensures onward { IfNone result.0 (walk.libraries.next < result.1.libraries.next) }
     ensures near { IsWindow (map_of names.now.view.now) hints.new }
+    ensures kept { ChangeNothing names.now.view.now kept.new }
 {
     let mut imports = walk.imports;
     match step_near(names, &mut imports, hints) {
@@ -153,7 +159,7 @@ fn turn(
             let found = with_library(names.view, &walk, import);
             (Some(Ok(Some(found))), LibraryImports { imports, ..walk })
         }
-        Ok(None) => next_library(names, walk),
+        Ok(None) => next_library(names, walk, kept),
         Err(error) => (Some(Err(error)), all_over(&walk)),
     }
 }
@@ -162,12 +168,16 @@ fn turn(
 fn next_library(
     names: &NamedView<'_>,
     walk: LibraryImports,
+    kept: &mut KeptSections,
 ) -> (Option<Result<Option<LibraryImport>>>, LibraryImports)
+    requires { ChangeNothing names.now.view.now kept.old }
     ensures turn { (option_map answer_of result.0, result.1) ≡ next_library (map_of names.now.view.now)
         (entry_size (names.now.view.now.image.now.width == 64)) names.now.view.now.bytes.now walk }
     ensures onward { IfNone result.0 (walk.libraries.next < result.1.libraries.next) }
+    ensures kept { ChangeNothing names.now.view.now kept.new }
 {
-    let (given, rest) = library_by_view(names, walk.libraries);
+    let (given, rest) = library_step_kept(names, *kept, walk.libraries);
+    *kept = kept_after_library_step(names.view, *kept, &given);
     match given {
         Ok(Some(library)) => (None, at_library(&walk, rest, &library)),
         Ok(None) => (
@@ -186,15 +196,18 @@ pub fn step(
     names: &NamedView<'_>,
     walk: &mut LibraryImports,
     hints: &mut Window,
+    kept: &mut KeptSections,
 ) -> Result<Option<LibraryImport>>
-    requires { IsWindow (map_of names.now.view.now) hints.old }
+    requires near { IsWindow (map_of names.now.view.now) hints.old }
+    requires kept { ChangeNothing names.now.view.now kept.old }
     ensures step { StepsLibraryImports (map_of names.now.view.now)
         (entry_size (names.now.view.now.image.now.width == 64)) names.now.view.now.bytes.now
         walk.old (answer_of result) walk.new }
     ensures near { IsWindow (map_of names.now.view.now) hints.new }
+    ensures kept { ChangeNothing names.now.view.now kept.new }
 {
     loop {
-        let (given, after) = turn(names, *walk, hints);
+        let (given, after) = turn(names, *walk, hints, kept);
         *walk = after;
         match given {
             Some(given) => return given,

@@ -5,10 +5,12 @@ ghost use Rattle.pe_core.specs.Imports.{entry_size};
 ghost use Rattle.pe_core.specs.Refusals.{Returns, answer_of};
 ghost use Rattle.pe_core.specs.SectionMap.{mapped};
 ghost use Rattle.pe_c.specs.Imports.{import_at, import_step, named_reported};
+ghost use Rattle.pe_c.specs.KeptSections.{ChangeNothing};
 ghost use Rattle.pe_c.specs.NearMaps.{IsWindow};
 ghost use Rattle.pe_c.specs.Views.{map_of};
 
 use crate::imports::{Import, Imports, SIZE_OF_HINT};
+use crate::kept_sections::KeptSections;
 use crate::library_imports::LibraryImports;
 use crate::named_view::NamedView;
 use crate::near_map::{Window, map_near};
@@ -34,7 +36,10 @@ pub struct NearLibraryImports<'a> {
     pub walk: LibraryImports,
     /// The RVAs near the last hint.
     pub hints: Window,
+    /// The sections of the last libraries.
+    pub kept: KeptSections,
     ghost near: { IsWindow (map_of names.view.now) hints },
+    ghost right: { ChangeNothing names.view.now kept },
 }
 
 /// The file offset of an RVA, or `Unmapped`.

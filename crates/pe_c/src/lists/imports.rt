@@ -9,7 +9,7 @@ ghost use Rattle.pe_c.specs.NearLists.{StepsKeptLibraries, StepsNearImports};
 ghost use Rattle.pe_c.specs.Views.{map_of};
 
 use crate::imports::{
-    Import, Imports, Libraries, Library, entries_left, kept_after_library_step, library_step, put_entry_names,
+    Import, Imports, Libraries, Library, entries_left, kept_after_library_step, library_step_kept, put_entry_names,
     put_library_lists, put_library_names,
 };
 use crate::kept_sections::{KeptWalk, NO_SECTIONS};
@@ -31,7 +31,7 @@ impl<'a> Steps<KeptWalk<'a, Libraries>, Library> for InDirectory {
         let KeptWalk {
             names, walk, kept, ..
         } = *list;
-        let (given, walk) = library_step(&names, kept, walk);
+        let (given, walk) = library_step_kept(&names, kept, walk);
         let kept = kept_after_library_step(names.view, kept, &given);
         *list = KeptWalk { names, walk, kept };
         numbered(given)

@@ -4,8 +4,10 @@ ghost use Rattle.std.specs.Prelude.{◌≡◌};
 ghost use Rattle.pe_c.specs.Directories.{directory_number};
 ghost use Rattle.pe_c.specs.LibraryFunctions.{StepsLibraryFunctions};
 ghost use Rattle.pe_c.specs.Lists.{HandsOutList, Numbered};
+ghost use Rattle.pe_c.specs.NearLists.{StepsKeptLibraryFunctions};
 ghost use Rattle.pe_c.specs.Views.{map_of};
 
+use crate::kept_sections::{KeptWalk, NO_SECTIONS};
 use crate::library_functions::{LibraryFunction, LibraryFunctions, put_names, step};
 use crate::lists::{Steps, hand_out_list};
 use crate::named_view::NamedView;
@@ -13,16 +15,51 @@ use crate::results::number_of_directory;
 use crate::text_runs::Run;
 use crate::view::View;
 
-impl<'a> Steps<LibraryFunctions, LibraryFunction> for NamedView<'a> {
-    ghost steps = { λ s. Numbered directory_number (StepsLibraryFunctions
-        (map_of s.view.now) s.view.now.bytes.now s.view.now.image.now) };
+/// Steps over the functions of all DLLs in a list.
+#[derive(Clone, Copy)]
+struct InLibraries;
 
-    fn step(&self, walk: &mut LibraryFunctions) -> Result<Option<LibraryFunction>, u32> {
-        match step(self, walk) {
+impl<'a> Steps<KeptWalk<'a, LibraryFunctions>, LibraryFunction> for InLibraries {
+    ghost steps = { λ s. Numbered directory_number StepsKeptLibraryFunctions };
+
+    fn step(
+        &self,
+        list: &mut KeptWalk<'a, LibraryFunctions>,
+    ) -> Result<Option<LibraryFunction>, u32> {
+        let KeptWalk {
+            names,
+            mut walk,
+            mut kept,
+            ..
+        } = *list;
+        let given = step(&names, &mut kept, &mut walk);
+        *list = KeptWalk { names, walk, kept };
+        match given {
             Ok(function) => Ok(function),
             Err(error) => Err(number_of_directory(&error)),
         }
     }
+}
+
+/// Lists the functions of a walk.
+fn list_library_functions(
+    names: &NamedView<'_>,
+    walk: &mut LibraryFunctions,
+    entries: &mut [LibraryFunction],
+    written: &mut u64,
+) -> u32
+    ensures { HandsOutList (Numbered directory_number (StepsLibraryFunctions (map_of names.now.view.now)
+        names.now.view.now.bytes.now names.now.view.now.image.now))
+        result walk.old walk.new entries.old entries.new written.old written.new }
+{
+    let mut list = KeptWalk {
+        names: *names,
+        walk: *walk,
+        kept: NO_SECTIONS,
+    };
+    let number = hand_out_list(&InLibraries, &mut list, entries, written);
+    *walk = list.walk;
+    number
 }
 
 /// Lists the functions of all delay-loaded DLLs, as `pe_c_next_delay_import` returns these and `pe_c_next_delayed_function` the
@@ -49,5 +86,5 @@ pub extern "C" fn pe_c_list_all_delayed_functions_together(
 {
     let count = put_names(view, walk, entries.len(), runs);
     let names = NamedView::together(view, &mut runs[..count]);
-    hand_out_list(&names, walk, entries, written)
+    list_library_functions(&names, walk, entries, written)
 }

@@ -8,6 +8,7 @@ ghost use Rattle.pe_c.specs.Lists.{HandsOutList, Numbered};
 ghost use Rattle.pe_c.specs.NearLists.{StepsNearLibraryImports};
 ghost use Rattle.pe_c.specs.Views.{map_of};
 
+use crate::kept_sections::NO_SECTIONS;
 use crate::library_imports::{LibraryImport, LibraryImports, put_names, step};
 use crate::lists::{Steps, hand_out_list, numbered};
 use crate::named_view::NamedView;
@@ -28,10 +29,16 @@ impl<'a> Steps<NearLibraryImports<'a>, LibraryImport> for InLibraries {
             names,
             mut walk,
             mut hints,
+            mut kept,
             ..
         } = *near;
-        let given = step(&names, &mut walk, &mut hints);
-        *near = NearLibraryImports { names, walk, hints };
+        let given = step(&names, &mut walk, &mut hints, &mut kept);
+        *near = NearLibraryImports {
+            names,
+            walk,
+            hints,
+            kept,
+        };
         numbered(given)
     }
 }
@@ -53,6 +60,7 @@ fn list_library_imports(
         names: *names,
         walk: *walk,
         hints: NO_WINDOW,
+        kept: NO_SECTIONS,
     };
     let number = hand_out_list(&InLibraries, &mut near, entries, written);
     *walk = near.walk;

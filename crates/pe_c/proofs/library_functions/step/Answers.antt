@@ -11,4 +11,7 @@ loop-given-preserved c =
     let view = c.args.names.now.view.now in
     let next = c.turn-given.result.1 in
     let begun = subst (λ o. (option_map (directory_answer (λ x. x)) o, next) ≡ turn (map_of view) view.bytes.now view.image.now c.loop-given.walk) c.in-None.is c.turn-given.ensures.turn in
-    λ answer v s. c.loop-given.invariant answer v (one_more_turn (map_of view) view.bytes.now view.image.now c.loop-given.walk next answer v begun s)
+    record {
+      onward = λ answer v s. c.loop-given.invariant.onward answer v (one_more_turn (map_of view) view.bytes.now view.image.now c.loop-given.walk next answer v begun s);
+      kept = c.turn-given.ensures.kept;
+    }

@@ -1,5 +1,6 @@
 use Rattle.std.proofs.Common.{Option, Result}
 use Rattle.pe_directories.specs.DirectoryRefusals.{DirectoryRefusal}
+use Rattle.pe_c.specs.KeptSections.{ChangeNothing}
 use Rattle.pe_c.specs.LibraryFunctions.{StepsLibraryFunctions}
 use Rattle.pe_c.specs.Views.{map_of}
 use Rattle.pe_c.specs.declared.library_functions.LibraryFunction.{LibraryFunction}
@@ -8,9 +9,12 @@ use Rattle.pe_c.proofs.library_functions.step.Given as goal
 
 -- a step from here is one from the start
 abbrev pub invariant-loop-given : goal.invariant-loop-given
-invariant-loop-given l = (answer : Result (Option LibraryFunction) DirectoryRefusal) (v : LibraryFunctions) →
-    StepsLibraryFunctions (map_of l.names.view.now) l.names.view.now.bytes.now l.names.view.now.image.now l.walk answer v →
-    StepsLibraryFunctions (map_of l.names.view.now) l.names.view.now.bytes.now l.names.view.now.image.now l.initial.walk answer v
+invariant-loop-given l = record {
+  onward : (answer : Result (Option LibraryFunction) DirectoryRefusal) (v : LibraryFunctions) →
+      StepsLibraryFunctions (map_of l.names.view.now) l.names.view.now.bytes.now l.names.view.now.image.now l.walk answer v →
+      StepsLibraryFunctions (map_of l.names.view.now) l.names.view.now.bytes.now l.names.view.now.image.now l.initial.walk answer v;
+  kept : ChangeNothing l.names.view.now l.kept;
+}
 
 -- each DLL takes bytes of the directory
 abbrev pub decreases-loop-given : goal.decreases-loop-given

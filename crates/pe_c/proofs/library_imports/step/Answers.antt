@@ -18,4 +18,5 @@ loop-given-preserved c =
     record {
       onward = λ answer v s. c.loop-given.invariant.onward answer v (one_more_turn offset w b c.loop-given.walk next answer v begun s);
       near = c.turn-given.ensures.near;
+      kept = c.turn-given.ensures.kept;
     }

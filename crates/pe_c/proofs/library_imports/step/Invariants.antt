@@ -3,6 +3,7 @@ use Rattle.std.specs.Prelude.{◌==◌}
 use Rattle.pe_core.specs.Imports.{entry_size}
 use Rattle.pe_core.specs.Refusals.{Refusal}
 use Rattle.pe_c.specs.LibraryImports.{StepsLibraryImports}
+use Rattle.pe_c.specs.KeptSections.{ChangeNothing}
 use Rattle.pe_c.specs.NearMaps.{IsWindow}
 use Rattle.pe_c.specs.Views.{map_of}
 use Rattle.pe_c.specs.declared.library_imports.LibraryImport.{LibraryImport}
@@ -16,6 +17,7 @@ invariant-loop-given l = record {
       StepsLibraryImports (map_of l.names.view.now) (entry_size (l.names.view.now.image.now.width == 64)) l.names.view.now.bytes.now l.walk answer v →
       StepsLibraryImports (map_of l.names.view.now) (entry_size (l.names.view.now.image.now.width == 64)) l.names.view.now.bytes.now l.initial.walk answer v;
   near : IsWindow (map_of l.names.view.now) l.hints;
+  kept : ChangeNothing l.names.view.now l.kept;
 }
 
 -- each library has its record after that of the one before
