@@ -10,12 +10,14 @@ ghost use Rattle.pe_core.specs.Refusals.{answer_of};
 ghost use Rattle.pe_c.specs.ExportAddresses.{address_table, address_table_at, addresses_in, dll_name, exported_with, exported_at, exported_in, text_from, text_range};
 ghost use Rattle.pe_c.specs.Ranges.{or_no_bytes};
 ghost use Rattle.pe_c.specs.HandsOut.{HandsOutIf};
+ghost use Rattle.pe_c.specs.NearMaps.{IsWindow};
 ghost use Rattle.pe_c.specs.Views.{map_of};
 ghost use Rattle.pe_c.specs.Images.{export_directory};
 
 use crate::exports::{export_data, export_table};
 use crate::image::{EXPORT_TABLE, directory, is_absent};
 use crate::named_view::NamedView;
+use crate::near_map::{NO_WINDOW, Window, map_in};
 use crate::ranges::{NO_BYTES, Range, slice_of};
 use crate::results::hand_out_some;
 use crate::view::{View, map_by};
@@ -118,21 +120,23 @@ pub extern "C" fn pe_c_export_addresses(view: &View, out: &mut AddressTable) -> 
 /// The range of a forwarder's text, empty where no text is there. Out of line, since few exports are forwarders.
 #[cold]
 #[inline(never)]
-fn forwarder_of(names: &NamedView<'_>, rva: u32) -> Range
+fn forwarder_of(names: &NamedView<'_>, near: &Window, rva: u32) -> Range
+    requires { IsWindow (map_of names.now.view.now) near.now }
     ensures { result ≡ or_no_bytes (text_range
         (map_of names.now.view.now) names.now.view.now.bytes.now rva) }
 {
-    text_from(names, map_by(names.view, rva)).unwrap_or(NO_BYTES)
+    text_from(names, map_in(names.view, rva, near)).unwrap_or(NO_BYTES)
 }
 
 /// The entry of an export, with the range of a forwarder's text.
 #[inline(always)]
-fn exported_with(names: &NamedView<'_>, address: ExportAddress) -> Exported
+fn exported_with(names: &NamedView<'_>, near: &Window, address: ExportAddress) -> Exported
+    requires { IsWindow (map_of names.now.view.now) near.now }
     ensures { result ≡ exported_with
         (map_of names.now.view.now) names.now.view.now.bytes.now address }
 {
     let (forwarder, is_forwarder) = if address.is_forwarder {
-        (forwarder_of(names, address.rva), 1)
+        (forwarder_of(names, near, address.rva), 1)
     } else {
         (NO_BYTES, 0)
     };
@@ -158,24 +162,27 @@ pub fn addresses_in<'a>(table: &AddressTable, addresses: &'a [u8]) -> ExportAddr
     }
 }
 
-/// The entry of such a table with an index, if it has one.
+/// The entry of such a table with an index, if it has one. Forwarders are mapped by the window, if they lie in it.
 #[inline(always)]
 pub fn exported_in(
     names: &NamedView<'_>,
+    near: &Window,
     addresses: &ExportAddresses<'_>,
     index: u64,
 ) -> Option<Exported>
+    requires { IsWindow (map_of names.now.view.now) near.now }
     ensures entry { result ≡ exported_in (map_of names.now.view.now)
         names.now.view.now.bytes.now (addresses_view addresses.now) index }
     ensures small { IfSome result (λ _. index < 2 ^ 64 - 1) }
 {
     match addresses.at(index as usize) {
-        Some(address) => Some(exported_with(names, address)),
+        Some(address) => Some(exported_with(names, near, address)),
         None => None,
     }
 }
 
 /// The entry of a table with an index, if the table has it.
+#[tactic(auto, using(crate::proofs::NearMaps::no_window))]
 pub fn exported_at(
     names: &NamedView<'_>,
     table: &AddressTable,
@@ -185,7 +192,8 @@ pub fn exported_at(
         (map_of names.now.view.now) names.now.view.now.bytes.now table.now index }
 {
     let addresses = slice_of(names.view.bytes, &table.addresses)?;
-    Ok(exported_in(names, &addresses_in(table, addresses), index))
+    let addresses = addresses_in(table, addresses);
+    Ok(exported_in(names, &NO_WINDOW, &addresses, index))
 }
 
 /// Reads the entry with an index, from 0: `NOTHING` where the table has no such entry. Strict and permissive mode make no

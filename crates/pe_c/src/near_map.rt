@@ -124,6 +124,31 @@ fn window_of(view: &View, rva: u32) -> Option<Window>
     })
 }
 
+/// The window of an RVA, which has no RVA where the RVA is not mapped.
+#[tactic(auto, using(crate::proofs::NearMaps::no_window))]
+pub fn window_at(view: &View, rva: u32) -> Window
+    ensures { IsWindow (map_of view.now) result }
+{
+    match window_of(view, rva) {
+        Some(window) => window,
+        None => NO_WINDOW,
+    }
+}
+
+/// The offset of an RVA, as `map_by` returns it: by the window, if the RVA lies in it.
+#[tactic(auto, using(crate::proofs::NearMaps::inside))]
+pub fn map_in(view: &View, rva: u32, window: &Window) -> Option<usize>
+    requires { IsWindow (map_of view.now) window.now }
+    ensures { result ≡ map_of view.now rva }
+{
+    let rva_64 = u64::from(rva);
+    let Window { start, end, offset } = *window;
+    if start <= rva_64 && rva_64 < end {
+        return Some((offset + (rva_64 - start)) as usize);
+    }
+    map_by(view, rva)
+}
+
 /// The offset of an RVA, as `map_by` returns it: by the window, if the RVA lies in it. Otherwise the window becomes that of the RVA,
 /// if there is one.
 #[inline(always)]

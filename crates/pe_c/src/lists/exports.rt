@@ -7,6 +7,7 @@ ghost use Rattle.pe_c.specs.Exports.{StepsExports, tables_or_short, view_of};
 ghost use Rattle.pe_c.specs.HandsOut.{result_number};
 ghost use Rattle.pe_c.specs.Lists.{HandsOutList, Numbered, StepsByIndex};
 ghost use Rattle.pe_c.specs.NearLists.{StepsNearExports};
+ghost use Rattle.pe_c.specs.NearMaps.{IsWindow};
 ghost use Rattle.pe_c.specs.Views.{map_of};
 
 use crate::export_addresses::{AddressTable, Exported, addresses_in, exported_at, exported_in};
@@ -15,7 +16,7 @@ use crate::kept_sections::NO_SECTIONS;
 use crate::lists::{Steps, hand_out_list, next_index, numbered};
 use crate::named_view::NamedView;
 use crate::near_exports::{ExportWindows, NearExports, find_near};
-use crate::near_map::NO_WINDOW;
+use crate::near_map::{NO_WINDOW, Window, window_at};
 use crate::ranges::slice_of;
 use crate::text_runs::Run;
 use crate::view::View;
@@ -202,6 +203,9 @@ impl<'a, 'b> Steps<u64, Exported> for Addresses<'a, 'b> {
 struct InAddresses<'a> {
     names: NamedView<'a>,
     table: ExportAddresses<'a>,
+    /// The RVAs near the start of the export directory, in which the texts of forwarders lie.
+    near: Window,
+    ghost is_near: { IsWindow (map_of names.view.now) near },
 }
 
 impl<'a> Steps<u64, Exported> for InAddresses<'a> {
@@ -210,7 +214,7 @@ impl<'a> Steps<u64, Exported> for InAddresses<'a> {
 
     #[inline(always)]
     fn step(&self, index: &mut u64) -> Result<Option<Exported>, u32> {
-        match exported_in(&self.names, &self.table, *index) {
+        match exported_in(&self.names, &self.near, &self.table, *index) {
             Some(exported) => {
                 *index += 1;
                 Ok(Some(exported))
@@ -271,8 +275,10 @@ pub fn list_addresses(
     let names = *names;
     match slice_of(names.view.bytes, &table.addresses) {
         Ok(addresses) => {
+            let near = window_at(names.view, table.directory.virtual_address);
             let table = addresses_in(table, addresses);
-            list_inside(&InAddresses { names, table }, next, entries, written)
+            let addresses = InAddresses { names, table, near };
+            list_inside(&addresses, next, entries, written)
         }
         Err(_) => list_addresses_outside(&Addresses { names, table }, next, entries, written),
     }

@@ -10,9 +10,10 @@ ghost use Rattle.pe_c.specs.Views.{map_of};
 use crate::export_addresses::{AddressTable, Exported};
 use crate::lists::exports::list_addresses;
 use crate::named_view::NamedView;
+use crate::near_map::{map_in, window_at};
 use crate::ranges::slice_of;
 use crate::text_runs::{Run, end_of_next};
-use crate::view::{View, map_by};
+use crate::view::View;
 use pe_core::{lies_in, read_u32};
 
 /// Writes the offsets of the texts of the forwarders among the next entries, of so many at most, to a room, as starts, as far as it
@@ -30,6 +31,7 @@ fn put_forwarders(
     let Ok(addresses) = slice_of(view.bytes, &table.addresses) else {
         return count;
     };
+    let near = window_at(view, table.directory.virtual_address);
     for i in next as usize..end_of_next(next, most, addresses.len() / 4) {
         if count == room.len() {
             break;
@@ -38,7 +40,7 @@ fn put_forwarders(
         if !lies_in(table.directory, rva) {
             continue;
         }
-        if let Some(offset) = map_by(view, rva) {
+        if let Some(offset) = map_in(view, rva, &near) {
             room[count] = Run::at(offset);
             count += 1;
         }
