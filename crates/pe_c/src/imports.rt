@@ -10,17 +10,18 @@ ghost use Rattle.pe_core.specs.SectionMap.{mapped};
 ghost use Rattle.pe_core.specs.Text.{text_at};
 ghost use Rattle.pe_c.specs.HandsOut.{HandsOutIf};
 ghost use Rattle.pe_c.specs.KeptSections.{ChangeNothing, KeepsOn, map_kept};
+ghost use Rattle.pe_c.specs.NearMaps.{IsWindow};
 ghost use Rattle.pe_c.specs.Views.{map_of};
 ghost use Rattle.pe_c.specs.Imports.{import_at, import_step, libraries_at, library_at, library_of, library_step, named_reported};
 
 use crate::image::{IMPORT_TABLE, directory, is_absent};
 use crate::kept_sections::{KeptSections, NO_SECTIONS, kept_after, map_kept, require_kept};
 use crate::named_view::NamedView;
-use crate::near_map::{NO_WINDOW, map_near};
+use crate::near_map::{NO_WINDOW, Window, map_near};
 use crate::ranges::{NO_BYTES, Range, range_from, slice_of};
 use crate::results::hand_out_some;
 use crate::text_runs::Run;
-use crate::view::{View, map_by};
+use crate::view::View;
 use crate::walks::next_entry;
 use pe_core::{
     Error, ImportDirectoryEntry, Reason, Result, RvaMap, lookup_number, lookup_size, u16_at,
@@ -398,15 +399,17 @@ pub fn record_left(view: &View, walk: &Libraries, index: usize) -> Option<Import
 }
 
 /// Writes the offsets of the names of the next libraries to a room, as starts, as far as it has room, and returns how many they are.
+#[tactic(auto, using(crate::proofs::NearMaps::no_window))]
 pub fn put_library_names(view: &View, walk: &Libraries, room: &mut [Run]) -> usize
     ensures { result ≤ length room.new }
 {
     let mut count = 0;
+    let mut near = NO_WINDOW;
     for i in 0..room.len() {
         let Some(entry) = record_left(view, walk, i) else {
             break;
         };
-        if let Some(offset) = map_by(view, entry.name_rva) {
+        if let Some(offset) = map_near(view, entry.name_rva, &mut near) {
             room[count] = Run::at(offset);
             count += 1;
         }
@@ -415,15 +418,17 @@ pub fn put_library_names(view: &View, walk: &Libraries, room: &mut [Run]) -> usi
 }
 
 /// The same of the offsets of their lists.
+#[tactic(auto, using(crate::proofs::NearMaps::no_window))]
 pub fn put_library_lists(view: &View, walk: &Libraries, room: &mut [Run]) -> usize
     ensures { result ≤ length room.new }
 {
     let mut count = 0;
+    let mut near = NO_WINDOW;
     for i in 0..room.len() {
         let Some(entry) = record_left(view, walk, i) else {
             break;
         };
-        if let Some(offset) = map_by(view, entry.lookups_rva()) {
+        if let Some(offset) = map_near(view, entry.lookups_rva(), &mut near) {
             room[count] = Run::at(offset);
             count += 1;
         }
@@ -433,20 +438,25 @@ pub fn put_library_lists(view: &View, walk: &Libraries, room: &mut [Run]) -> usi
 
 /// The same of the offsets of the names of imports, of which these are the entries. An ordinal counts as the RVA of a name, which
 /// costs a run that is not asked for.
-#[tactic(auto, using(crate::proofs::NearMaps::no_window))]
-pub fn put_entry_names(view: &View, entries: &[u8], room: &mut [Run]) -> usize
-    ensures { result ≤ length room.new }
+pub fn put_entry_names(
+    view: &View,
+    entries: &[u8],
+    near: &mut Window,
+    room: &mut [Run],
+) -> usize
+    requires { IsWindow (map_of view.now) near.old }
+    ensures count { result ≤ length room.new }
+    ensures near { IsWindow (map_of view.now) near.new }
 {
     let mut count = 0;
     let is_64 = view.image.width == 64;
     let size = lookup_size(is_64);
-    let mut near = NO_WINDOW;
     for i in 0..entries.len() / size {
         if count == room.len() {
             break;
         }
         let rva = (lookup_number(entries, size * i, is_64) % 0x8000_0000) as u32;
-        if let Some(offset) = map_near(view, rva, &mut near) {
+        if let Some(offset) = map_near(view, rva, near) {
             room[count] = Run::at(offset.saturating_add(SIZE_OF_HINT));
             count += 1;
         }

@@ -20,11 +20,11 @@ use crate::imports::{
 use crate::kept_sections::KeptSections;
 use crate::named_view::NamedView;
 use crate::near_imports::step_near;
-use crate::near_map::Window;
+use crate::near_map::{NO_WINDOW, Window, map_near};
 use crate::ranges::{NO_BYTES, Range};
 use crate::results::hand_out_some;
 use crate::text_runs::Run;
-use crate::view::{View, map_by};
+use crate::view::View;
 use pe_core::{ImportDirectoryEntry, Result, lookup_number, lookup_size};
 
 /// A walk over the imports of all libraries of an import directory.
@@ -230,8 +230,16 @@ fn first_entries(bytes: &[u8], is_64: bool, most: usize) -> &[u8] {
 }
 
 /// The entries at the start of a library's list, so many at most.
-fn entries_of<'a>(view: &View<'a>, entry: &ImportDirectoryEntry, most: usize) -> &'a [u8] {
-    match map_by(view, entry.lookups_rva()) {
+fn entries_of<'a>(
+    view: &View<'a>,
+    entry: &ImportDirectoryEntry,
+    near: &mut Window,
+    most: usize,
+) -> &'a [u8]
+    requires { IsWindow (map_of view.now) near.old }
+    ensures { IsWindow (map_of view.now) near.new }
+{
+    match map_near(view, entry.lookups_rva(), near) {
         Some(offset) if offset <= view.bytes.len() => {
             first_entries(&view.bytes[offset..], view.image.width == 64, most)
         }
@@ -241,13 +249,16 @@ fn entries_of<'a>(view: &View<'a>, entry: &ImportDirectoryEntry, most: usize) ->
 
 /// Writes the offsets of the names that a walk reads to return so many imports, those of the libraries too, to a room, as starts,
 /// as far as it has room, and returns how many they are. A walk ends at a library whose name is unmapped.
+#[tactic(auto, using(crate::proofs::NearMaps::no_window))]
 pub fn put_names(view: &View, walk: &LibraryImports, most: usize, room: &mut [Run]) -> usize
     ensures { result ≤ length room.new }
 {
     let size = lookup_size(view.image.width == 64);
     let own = entries_left(view, &walk.imports);
     let taken = most.min(own.len() / size);
-    let mut count = put_entry_names(view, &own[..size * taken], room);
+    let mut hints = NO_WINDOW;
+    let mut count = put_entry_names(view, &own[..size * taken], &mut hints, room);
+    let mut near = NO_WINDOW;
     let mut left = most - taken;
     for i in 0..room.len() {
         if left == 0 || count == room.len() {
@@ -256,13 +267,13 @@ pub fn put_names(view: &View, walk: &LibraryImports, most: usize, room: &mut [Ru
         let Some(entry) = record_left(view, &walk.libraries, i) else {
             break;
         };
-        let Some(offset) = map_by(view, entry.name_rva) else {
+        let Some(offset) = map_near(view, entry.name_rva, &mut near) else {
             break;
         };
         room[count] = Run::at(offset);
         count += 1;
-        let entries = entries_of(view, &entry, left);
-        count += put_entry_names(view, entries, &mut room[count..]);
+        let entries = entries_of(view, &entry, &mut near, left);
+        count += put_entry_names(view, entries, &mut hints, &mut room[count..]);
         left = left.saturating_sub(entries.len() / size);
     }
     count

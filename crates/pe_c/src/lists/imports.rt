@@ -178,6 +178,7 @@ pub extern "C" fn pe_c_list_imports(
 /// less room further names are read to their end each. What is in `runs` after the call is left open.
 ///
 /// Errors: as `pe_c_list_imports`.
+#[tactic(auto, using(crate::proofs::NearMaps::no_window))]
 #[unsafe(no_mangle)]
 pub extern "C" fn pe_c_list_imports_together(
     view: &View,
@@ -191,7 +192,8 @@ pub extern "C" fn pe_c_list_imports_together(
         (entry_size (view.now.image.now.width == 64)) view.now.bytes.now))
         result walk.old walk.new entries.old entries.new written.old written.new }
 {
-    let count = put_entry_names(view, entries_left(view, walk), runs);
+    let mut hints = NO_WINDOW;
+    let count = put_entry_names(view, entries_left(view, walk), &mut hints, runs);
     let names = NamedView::together(view, &mut runs[..count]);
     list_imports(&names, walk, entries, written)
 }
