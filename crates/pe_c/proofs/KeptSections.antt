@@ -94,8 +94,10 @@ unfolding offset_of
 covered alignment x p s aligned e = by_cover (covers alignment x s) refl where
   maps : Bool → Option ℕ
   maps b = option_map (λ t. x - t.virtual_address + raw_start t) (first (cond b (s ∷ []) []))
+
   at_once : maps (covers alignment x s) ≡ Some p
   at_once = sym (ap (λ (t : Bool). cond t (maps (covers alignment x s)) None) aligned) ∙ e
+
   by_cover : (b : Bool) → covers alignment x s ≡ b → (covers alignment x s ≡ true) × (p ≡ x - s.virtual_address + raw_start s)
   by_cover true c = let m : maps true ≡ Some p = sym (ap maps c) ∙ at_once in (c, cc)
   by_cover false c = let m : maps false ≡ Some p = sym (ap maps c) ∙ at_once in absurd cc
@@ -138,9 +140,11 @@ pub one_more : (v : View) (old : KeptSections) (n : ℕ) → true ≡ (length v.
 one_more v old n none is_alone h x = by_number (map_of_image v.image.now (numbered v.sections.now n) x) refl where
   new : KeptSections
   new = record { first = n; second = old.first }
+
   by_old : (o : Option ℕ) → map_of_image v.image.now (numbered v.sections.now n) x ≡ None → map_of_image v.image.now (numbered v.sections.now old.first) x ≡ o → map_kept v new x ≡ map_of v x
   by_old (Some q) none_n e = by_second v new x q none_n e ∙ sym (by_first v old x q e) ∙ h x
   by_old None none_n e = by_others v new x none_n e
+
   by_number : (o : Option ℕ) → map_of_image v.image.now (numbered v.sections.now n) x ≡ o → map_kept v new x ≡ map_of v x
   by_number (Some p) e = by_first v new x p e ∙ sym (ap (λ (s : List SectionTable). map_of_image v.image.now s x) (all_sections v.sections.now v.index.now x none) ∙ is_alone.maps x p e)
   by_number None e = by_old (map_of_image v.image.now (numbered v.sections.now old.first) x) e refl
@@ -152,3 +156,14 @@ none_kept v = refl
 -- what changes no offset is the map of the view
 pub same_map : (v : View) (k : KeptSections) → ChangeNothing v k → map_kept v k ≡ map_of v
 same_map v k h = fun_ext h
+
+-- sections past the last are none
+none_numbered : (sections : List SectionTable) (n : ℕ) → length sections < n → numbered sections n ≡ []
+none_numbered sections n h =
+    let outside : (nat_lt 0 n && nat_le n (length sections)) ≡ false = grind (arith, nat_tests, h) in
+    ap (λ (t : Bool). cond t (take 1 (drop (n - 1) sections)) []) outside
+
+pub none_past_the_last : (v : View) (k : KeptSections) → length v.sections.now < k.first → length v.sections.now < k.second → ChangeNothing v k
+none_past_the_last v k past past_too x =
+    ap (λ (s : List SectionTable). map_of_image v.image.now ((s ++ numbered v.sections.now k.second) ++ may_map v x) x) (none_numbered v.sections.now k.first past)
+    ∙ ap (λ (s : List SectionTable). map_of_image v.image.now (s ++ may_map v x) x) (none_numbered v.sections.now k.second past_too)

@@ -174,11 +174,7 @@ fn functions_of(view: &View, kept: KeptSections, entry: &DelayImport) -> Result<
 }
 
 /// An entry as callers get it.
-fn library_of(
-    names: &NamedView<'_>,
-    kept: KeptSections,
-    entry: DelayImport,
-) -> Result<DelayLibrary>
+fn library_of(names: &NamedView<'_>, kept: KeptSections, entry: DelayImport) -> Result<DelayLibrary>
     ensures { directory_answer (λ x. x) result ≡ library_of (map_kept names.now.view.now kept)
         names.now.view.now.bytes.now names.now.view.now.image.now entry }
 {

@@ -232,11 +232,7 @@ pub fn put_name_offsets(view: &View, walk: &Exports, room: &mut [Run]) -> usize
 }
 
 /// One step of a walk.
-pub fn step(
-    names: &NamedView<'_>,
-    kept: KeptSections,
-    walk: &mut Exports,
-) -> Result<Option<Export>>
+pub fn step(names: &NamedView<'_>, kept: KeptSections, walk: &mut Exports) -> Result<Option<Export>>
     ensures { StepsExports (map_kept names.now.view.now kept)
         names.now.view.now.bytes.now walk.old (answer_of result) walk.new }
 {

@@ -184,11 +184,7 @@ fn library_of(
 
 /// The library whose record is at a file offset, or none where the record ends the directory.
 #[tactic(auto, unfolding(pe_core::specs::Imports::import_record_at))]
-fn library_at(
-    names: &NamedView<'_>,
-    kept: KeptSections,
-    offset: usize,
-) -> Result<Option<Library>>
+fn library_at(names: &NamedView<'_>, kept: KeptSections, offset: usize) -> Result<Option<Library>>
     ensures returned { Returns result (library_at (map_kept names.now.view.now kept)
         (entry_size (names.now.view.now.image.now.width == 64)) names.now.view.now.bytes.now offset) }
     ensures small { IfOk result (λ l. IfSome l (λ _. offset + 20 < 2 ^ 64)) }
@@ -306,12 +302,7 @@ pub extern "C" fn pe_c_next_library(view: &View, walk: &mut LibraryWalk, out: &m
 }
 
 /// The import by name of an entry. Errors: `Unmapped` of the entry's RVA, `Short` of the hint, `ImportName`.
-fn named_import(
-    names: &NamedView<'_>,
-    kept: KeptSections,
-    entry: u64,
-    rva: u64,
-) -> Result<Import>
+fn named_import(names: &NamedView<'_>, kept: KeptSections, entry: u64, rva: u64) -> Result<Import>
     ensures { Returns result (named_reported
         (map_kept names.now.view.now kept) names.now.view.now.bytes.now entry rva) }
 {
@@ -438,12 +429,7 @@ pub fn put_library_lists(view: &View, walk: &Libraries, room: &mut [Run]) -> usi
 
 /// The same of the offsets of the names of imports, of which these are the entries. An ordinal counts as the RVA of a name, which
 /// costs a run that is not asked for.
-pub fn put_entry_names(
-    view: &View,
-    entries: &[u8],
-    near: &mut Window,
-    room: &mut [Run],
-) -> usize
+pub fn put_entry_names(view: &View, entries: &[u8], near: &mut Window, room: &mut [Run]) -> usize
     requires { IsWindow (map_of view.now) near.old }
     ensures count { result ≤ length room.new }
     ensures near { IsWindow (map_of view.now) near.new }

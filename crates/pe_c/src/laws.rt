@@ -11,6 +11,7 @@ pub mod frames;
 pub mod guard_tables;
 pub mod image_writes;
 pub mod indexes;
+pub mod kept_sections;
 pub mod lists;
 pub mod results;
 pub mod signatures;

@@ -12,8 +12,8 @@ ghost use Rattle.pe_c.specs.NearMaps.{IsWindow};
 ghost use Rattle.pe_c.specs.Views.{directory_sections, map_of};
 
 use crate::delay_imports::{
-    DelayLibrary, DelayedFunction, DelayedFunctions, kept_after_function_step,
-    kept_after_library, lookup_of, next_function_kept, next_library_kept, offset_near, put_function_names,
+    DelayLibrary, DelayedFunction, DelayedFunctions, kept_after_function_step, kept_after_library,
+    lookup_of, next_function_kept, next_library_kept, offset_near, put_function_names,
 };
 use crate::directories::{Result, table_at};
 use crate::image::DELAY_IMPORT_DESCRIPTOR;

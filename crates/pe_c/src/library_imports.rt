@@ -14,8 +14,7 @@ ghost use Rattle.pe_c.specs.Views.{map_of};
 
 use crate::imports::{
     Import, Imports, Libraries, Library, NO_LIBRARIES, entries_left, kept_after_library_step,
-    libraries_at, library_step_kept,
-    put_entry_names, record_left,
+    libraries_at, library_step_kept, put_entry_names, record_left,
 };
 use crate::kept_sections::KeptSections;
 use crate::named_view::NamedView;

@@ -146,11 +146,7 @@ pub fn name_in(start: u64, data: &[u8], entry: ResourceEntry) -> Result<Resource
 }
 
 /// Where the content of a leaf is: its range and 0, or the empty range and why there is none.
-fn content_of(
-    view: &View,
-    kept: KeptSections,
-    leaf: &pe_resource::ResourceLeaf,
-) -> (Range, u32)
+fn content_of(view: &View, kept: KeptSections, leaf: &pe_resource::ResourceLeaf) -> (Range, u32)
     ensures { result ≡ content_of view.now.bytes.now (map_kept view.now kept) leaf.now.data_entry }
 {
     let sections = sections_for(view, kept, leaf.data_entry.offset_to_data);

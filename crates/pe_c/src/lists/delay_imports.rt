@@ -9,7 +9,8 @@ ghost use Rattle.pe_c.specs.Views.{map_of};
 
 use crate::delay_imports::{
     DelayLibrary, DelayedFunction, DelayedFunctions, kept_after_function_step,
-    kept_after_library_step, lookup_of, next_function_kept, next_library_kept, put_dll_names, put_function_names,
+    kept_after_library_step, lookup_of, next_function_kept, next_library_kept, put_dll_names,
+    put_function_names,
 };
 use crate::kept_sections::{KeptWalk, NO_SECTIONS};
 use crate::lists::{Steps, hand_out_list};

@@ -9,8 +9,8 @@ ghost use Rattle.pe_c.specs.NearLists.{StepsKeptLibraries, StepsNearImports};
 ghost use Rattle.pe_c.specs.Views.{map_of};
 
 use crate::imports::{
-    Import, Imports, Libraries, Library, entries_left, kept_after_library_step, library_step_kept, put_entry_names,
-    put_library_lists, put_library_names,
+    Import, Imports, Libraries, Library, entries_left, kept_after_library_step, library_step_kept,
+    put_entry_names, put_library_lists, put_library_names,
 };
 use crate::kept_sections::{KeptWalk, NO_SECTIONS};
 use crate::lists::{Steps, hand_out_list, numbered};
@@ -29,7 +29,10 @@ impl<'a> Steps<KeptWalk<'a, Libraries>, Library> for InDirectory {
 
     fn step(&self, list: &mut KeptWalk<'a, Libraries>) -> Result<Option<Library>, u32> {
         let KeptWalk {
-            names, walk, kept, ..
+            names,
+            walk,
+            kept,
+            ..
         } = *list;
         let (given, walk) = library_step_kept(&names, kept, walk);
         let kept = kept_after_library_step(names.view, kept, &given);

@@ -1,0 +1,17 @@
+//! The law of the sections that a walk keeps: steps that test them first return what they return without them.
+
+ghost use Rattle.std.specs.Prelude.{◌≡◌, ◌<◌, ℕ, length};
+ghost use Rattle.pe_c.specs.KeptSections.{ChangeNothing, map_kept, no_sections};
+ghost use Rattle.pe_c.specs.Views.{map_of};
+ghost use Rattle.pe_c.specs.declared.kept_sections.KeptSections.{KeptSections};
+ghost use Rattle.pe_c.specs.declared.view.View.{View};
+
+/// A walk keeps no section at its start, and what changes no offset after each step (`KeepsOn`), whatever the sections are. Such a
+/// walk maps RVAs as its view does: so each step returns what the laws of walks, of lists and of failures say of the view's map.
+/// A number past the last section is as none.
+pub fn kept_sections_change_nothing()
+    ensures none { (v : View) → ChangeNothing v no_sections }
+    ensures maps { (v : View) (k : KeptSections) → ChangeNothing v k → map_kept v k ≡ map_of v }
+    ensures past_the_last { (v : View) (k : KeptSections) → length v.sections.now < k.first →
+        length v.sections.now < k.second → ChangeNothing v k }
+{}
