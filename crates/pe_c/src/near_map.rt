@@ -143,7 +143,8 @@ pub fn map_in(view: &View, rva: u32, window: &Window) -> Option<usize>
 {
     let rva_64 = u64::from(rva);
     let Window { start, end, offset } = *window;
-    if start <= rva_64 && rva_64 < end {
+    let is_inside = start <= rva_64 && rva_64 < end;
+    if is_inside {
         return Some((offset + (rva_64 - start)) as usize);
     }
     map_by(view, rva)
