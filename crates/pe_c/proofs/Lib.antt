@@ -25,6 +25,7 @@ pub mod LibraryImportRuns
 pub mod LibraryFunctionRuns
 pub mod Indices
 pub mod KeptSections
+pub mod KeptWalks
 pub mod LastText
 pub mod LeftBytes
 pub mod Listings

@@ -1,9 +1,10 @@
 -- The sections that a walk keeps: those of its last RVAs, which a step tests before the others.
-use Rattle.std.specs.Prelude.{◌≡◌, ℕ, ◌+◌, ◌<◌, ◌≤◌, ◌++◌, List, Option, Some}
+use Rattle.std.specs.Prelude.{◌≡◌, ℕ, ◌+◌, ◌<◌, ◌≤◌, ◌++◌, List, Option, Some, None, Result, Ok}
 use Rattle.pe_core.specs.SectionMap.{raw_start, reach}
 use Rattle.pe_core.specs.declared.section_table.SectionTable.{SectionTable}
 use Rattle.pe_frame.specs.SectionIndexes.{numbered}
 use Rattle.pe_c.specs.Images.{map_of_image}
+use Rattle.pe_c.specs.Runs.{ReturnsItems}
 use Rattle.pe_c.specs.Views.{map_of, may_map}
 use Rattle.pe_c.specs.declared.image.Image.{Image}
 use Rattle.pe_c.specs.declared.kept_sections.KeptSections.{KeptSections}
@@ -30,6 +31,19 @@ ChangeNothing v k = (x : ℕ) → map_kept v k x ≡ map_of v x
 pub record KeepsOn (v : View) (number : ℕ) (old new : KeptSections) : Type 0 where
   pub right : ChangeNothing v old → ChangeNothing v new
   pub same : 0 < number → new ≡ old
+
+-- a step of a walk by the sections that it keeps: `place` is where it stands, of which `Steps` are the steps by a map of RVAs
+pub record StepsKept {W P X R : Type 0} (place : W → P) (kept : W → KeptSections) (Steps : (ℕ → Option ℕ) → P → Result (Option X) R → P → Type 0)
+    (v : View) (old : W) (answer : Result (Option X) R) (new : W) : Type 0 where
+  pub steps : Steps (map_kept v (kept old)) (place old) answer (place new)
+  pub right : ChangeNothing v (kept old) → ChangeNothing v (kept new)
+  pub same : answer ≡ Ok None → kept new ≡ kept old
+
+-- a walk that keeps what changes no offset returns the items that one returns which searches all sections
+abbrev pub ReturnsAsItKeeps : {W P X R : Type 0} → (W → P) → (W → KeptSections) → (View → (ℕ → Option ℕ) → P → Result (Option X) R → P → Type 0) → Type 0
+ReturnsAsItKeeps {W} {P} {X} {R} place kept Steps =
+    (v : View) (walk : W) (items : List (Result X R)) → ChangeNothing v (kept walk) → ReturnsItems (Steps v (map_of v)) (place walk) items →
+    ReturnsItems (StepsKept place kept (Steps v) v) walk items
 
 -- ---- how one is found that changes nothing. Only private contracts cite these
 
