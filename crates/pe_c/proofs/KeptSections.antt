@@ -167,3 +167,18 @@ pub none_past_the_last : (v : View) (k : KeptSections) → length v.sections.now
 none_past_the_last v k past past_too x =
     ap (λ (s : List SectionTable). map_of_image v.image.now ((s ++ numbered v.sections.now k.second) ++ may_map v x) x) (none_numbered v.sections.now k.first past)
     ∙ ap (λ (s : List SectionTable). map_of_image v.image.now (s ++ may_map v x) x) (none_numbered v.sections.now k.second past_too)
+
+resolved_none : (resolve : Bool) (alignment x : ℕ) → resolve ≡ true → is_power_of_two alignment ≡ true → offset_of resolve alignment [] x ≡ None
+unfolding offset_of
+resolved_none true alignment x on e = rw e refl
+resolved_none false alignment x on e = absurd cc
+
+-- none maps no RVA
+pub none_alone : (image : Image) (sections : List SectionTable) (n : ℕ) → is_searched image ≡ true → length sections < n → IsAlone image sections n
+none_alone image sections n searched past = record {
+  maps = λ x p maps.
+      let tests = both_tests (resolves image.mode) (is_power_of_two image.file_alignment) searched in
+      let nothing : map_of_image image (numbered sections n) x ≡ None =
+      ap (λ (l : List SectionTable). map_of_image image l x) (none_numbered sections n past) ∙ resolved_none (resolves image.mode) image.file_alignment x tests.0 tests.1 in
+      absurd cc;
+}

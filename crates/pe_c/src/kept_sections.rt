@@ -27,7 +27,7 @@ use std::alloc::AllocError;
 #[repr(C)]
 #[derive(Clone, Copy)]
 pub struct KeptSections {
-    /// The index of a section plus 1; 0 for none, as at the start of a walk.
+    /// The index of a section plus 1; 0 for none, as at the start of a walk; 0xFFFFFFFF for none where sections overlap.
     pub first: u32,
     /// The same of the one that was kept before it.
     pub second: u32,
@@ -118,20 +118,6 @@ pub fn require_kept(view: &View, kept: KeptSections, rva: u32) -> Result<usize>
     }
 }
 
-/// The index of the first section that covers an RVA.
-fn index_covering(sections: &[SectionTable], alignment: u32, rva: u64) -> Option<usize>
-    requires { 0 < alignment }
-    ensures { IfSome result (λ i. i < length sections.now) }
-{
-    for i in 0..sections.len() {
-        let start = u64::from(sections[i].virtual_address);
-        if start <= rva && rva < start + reach(&sections[i], alignment) {
-            return Some(i);
-        }
-    }
-    None
-}
-
 /// Whether a window has all RVAs that a section covers, and maps them as the section does: no earlier section covers one.
 fn has_all(window: &Window, section: &SectionTable, alignment: u32) -> bool
     requires { 0 < alignment }
@@ -143,16 +129,39 @@ fn has_all(window: &Window, section: &SectionTable, alignment: u32) -> bool
         && window.offset == raw_start(section)
 }
 
-/// The index plus 1 of the section that maps an RVA, if it shares none with an earlier one.
+/// The index of the first section of which a window has all.
+fn index_with(window: &Window, sections: &[SectionTable], alignment: u32) -> Option<usize>
+    requires { 0 < alignment }
+    ensures { IfSome result (λ i. i < length sections.now) }
+{
+    for i in 0..sections.len() {
+        if has_all(window, &sections[i], alignment) {
+            return Some(i);
+        }
+    }
+    None
+}
+
+/// The number past all sections, which is kept where an RVA lies in sections that overlap: then a walk looks for no more of them, as each
+/// look passes over all sections.
+const OVERLAPS: u32 = 0xffff_ffff;
+
+/// The index plus 1 of the section that maps an RVA. `OVERLAPS` if it shares one with an earlier one, none if the RVA is not mapped.
+#[tactic(auto, using(crate::proofs::KeptSections::none_alone))]
 fn number_alone(image: &Image, sections: &[SectionTable], rva: u32) -> Option<u32>
     requires searched { is_searched image.now ≡ true }
     requires aligned { 0 < image.now.file_alignment }
     ensures { IfSome result (IsAlone image.now sections.now) }
 {
+    if sections.len() >= OVERLAPS as usize {
+        return None;
+    }
     let alignment = image.file_alignment;
     let window = window_in(image, sections, rva)?;
-    let index = index_covering(sections, alignment, u64::from(rva))?;
-    if index < 0xffff_ffff && has_all(&window, &sections[index], alignment) {
+    let Some(index) = index_with(&window, sections, alignment) else {
+        return Some(OVERLAPS);
+    };
+    if has_all(&window, &sections[index], alignment) {
         Some((index + 1) as u32)
     } else {
         None
@@ -166,6 +175,9 @@ fn number_alone(image: &Image, sections: &[SectionTable], rva: u32) -> Option<u3
 fn kept_anew(view: &View, kept: KeptSections, rva: u32) -> KeptSections
     ensures { ChangeNothing view.now kept → ChangeNothing view.now result }
 {
+    if kept.first == OVERLAPS {
+        return kept;
+    }
     if view.index.is_empty() && is_searched(view.image) {
         return match number_alone(view.image, view.sections, rva) {
             Some(number) => KeptSections {

@@ -73,18 +73,18 @@ fn window_by_sections(sections: &[SectionTable], alignment: u32, rva: u64) -> Op
     let mut left = sections;
     while let Some((section, rest)) = left.split_first() {
         let first = u64::from(section.virtual_address);
-        let after = end_by(section, alignment, rva);
-        if first <= rva && rva < after {
-            let from = first.max(start);
-            return Some(Window {
-                start: from,
-                end: end.min(after),
-                offset: from - first + raw_start(section),
-            });
-        }
         if rva < first {
             end = end.min(first);
         } else {
+            let after = end_by(section, alignment, rva);
+            if rva < after {
+                let from = first.max(start);
+                return Some(Window {
+                    start: from,
+                    end: end.min(after),
+                    offset: from - first + raw_start(section),
+                });
+            }
             start = start.max(after);
         }
         left = rest;
