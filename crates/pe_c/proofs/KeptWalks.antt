@@ -1,7 +1,7 @@
 -- Whole walks by the sections that they keep.
-use Rattle.std.proofs.Common.{◌≡◌, ℕ, List, [], ◌∷◌, Option, Some, None, Result, Ok, Err, subst}
+use Rattle.std.proofs.Common.{◌≡◌, ℕ, List, [], ◌∷◌, Option, Result, Ok, Err, subst}
 use Rattle.pe_c.proofs.KeptSections.{same_map}
-use Rattle.pe_c.specs.KeptSections.{ChangeNothing, StepsKept, map_kept}
+use Rattle.pe_c.specs.KeptSections.{ChangeNothing, StepsKept}
 use Rattle.pe_c.specs.Runs.{IsOver, ReturnsItems}
 use Rattle.pe_c.specs.Views.{map_of}
 use Rattle.pe_c.specs.declared.kept_sections.KeptSections.{KeptSections}
