@@ -129,13 +129,15 @@ fn has_all(window: &Window, section: &SectionTable, alignment: u32) -> bool
         && window.offset == raw_start(section)
 }
 
-/// The index of the first section of which a window has all.
-fn index_with(window: &Window, sections: &[SectionTable], alignment: u32) -> Option<usize>
+/// The index of the first section of which a window has all, and which ends after an RVA of the window: many may be empty.
+fn index_with(window: &Window, sections: &[SectionTable], alignment: u32, rva: u64) -> Option<usize>
     requires { 0 < alignment }
     ensures { IfSome result (λ i. i < length sections.now) }
 {
     for i in 0..sections.len() {
-        if has_all(window, &sections[i], alignment) {
+        if has_all(window, &sections[i], alignment)
+            && rva < window.start + reach(&sections[i], alignment)
+        {
             return Some(i);
         }
     }
@@ -158,7 +160,7 @@ fn number_alone(image: &Image, sections: &[SectionTable], rva: u32) -> Option<u3
     }
     let alignment = image.file_alignment;
     let window = window_in(image, sections, rva)?;
-    let Some(index) = index_with(&window, sections, alignment) else {
+    let Some(index) = index_with(&window, sections, alignment, u64::from(rva)) else {
         return Some(OVERLAPS);
     };
     if has_all(&window, &sections[index], alignment) {
