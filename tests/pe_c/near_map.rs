@@ -1,6 +1,8 @@
 //! Windows of the section map, by which lists map most RVAs: what they map is what `pe_c_offset` returns of each RVA alone, by
 //! whatever sections, and what lists return by them is what the steps return.
 
+use super::exports::from as from_export;
+use super::imports::from_import;
 use super::made::{self, MAPPED, STRICT, X64, image, in_mode, of_range, range};
 use crate::exports::{Export, Exports, pe_c_next_export};
 use crate::image::{Image, pe_c_offset};
@@ -261,7 +263,7 @@ fn exports_in_overlapping_sections(rt: HostRuntime) -> Result<(), Fail> {
             addresses: range(0x70, 16),
             next: 0,
         };
-        let (mut walk, mut steps) = (start, start);
+        let (mut walk, mut steps) = (start, from_export(start));
         let (mut entries, mut step, mut written) = ([NO_EXPORT; 4], NO_EXPORT, 0);
         let mut count = 0;
         while count < 4 {
@@ -273,7 +275,7 @@ fn exports_in_overlapping_sections(rt: HostRuntime) -> Result<(), Fail> {
                 assert_eq!(rt; of_export(&step), wanted[count]);
                 count += 1;
             }
-            assert_eq!(rt; walk.next, steps.next);
+            assert_eq!(rt; walk.next, steps.exports.next);
         }
         assert_eq!(rt; pe_c_next_export(&view, &mut steps, &mut step), NOTHING);
     }
@@ -301,7 +303,7 @@ fn imports_in_overlapping_sections(rt: HostRuntime) -> Result<(), Fail> {
             left: range(0x90, 32),
             rva: 0x5000,
         };
-        let (mut walk, mut steps) = (start, start);
+        let (mut walk, mut steps) = (start, from_import(start));
         let (mut entries, mut step, mut written) = ([NO_IMPORT; 4], NO_IMPORT, 0);
         let mut count = 0;
         while count < 4 {
@@ -313,7 +315,7 @@ fn imports_in_overlapping_sections(rt: HostRuntime) -> Result<(), Fail> {
                 assert_eq!(rt; of_import(&step), wanted[count]);
                 count += 1;
             }
-            assert_eq!(rt; of_range(walk.left), of_range(steps.left));
+            assert_eq!(rt; of_range(walk.left), of_range(steps.imports.left));
         }
         assert_eq!(rt; pe_c_next_import(&view, &mut steps, &mut step), NOTHING);
     }
