@@ -41,7 +41,7 @@ pub(crate) const NO_FUNCTIONS: DelayedFunctions = DelayedFunctions {
     spare: 0,
 };
 
-const NO_LIBRARY: DelayLibrary = DelayLibrary {
+pub(crate) const NO_LIBRARY: DelayLibrary = DelayLibrary {
     name: NO_NAME,
     functions: NO_FUNCTIONS,
     descriptor: DelayImport {
@@ -56,7 +56,7 @@ const NO_LIBRARY: DelayLibrary = DelayLibrary {
     },
 };
 
-const NO_FUNCTION: DelayedFunction = DelayedFunction {
+pub(crate) const NO_FUNCTION: DelayedFunction = DelayedFunction {
     name: NO_NAME,
     ordinal: 5,
     has_name: 6,

@@ -243,6 +243,7 @@ fn libraries_in_their_order(rt: HostRuntime) -> Result<(), Fail> {
 fn refused_libraries(rt: HostRuntime) -> Result<(), Fail> {
     let image = with_directory(0x1010, 60);
     let damages: [(usize, &[u8], u64, u32); 8] = [
+        // shows: pe_c/src/kept_sections.rt require_kept Unmapped
         // The name's address is unmapped, its first byte is not UTF-8, or it has no end.
         (0x1D, &[0x30], 0x10, UNMAPPED),
         (0xA0, &[0xFF], 0x10, IMPORT_NAME),

@@ -109,7 +109,7 @@ fn windows_without_sections(rt: HostRuntime) {
 }
 
 /// The next number of a sequence that looks like chance.
-fn next(seed: &mut u64) -> u32 {
+pub(crate) fn next(seed: &mut u64) -> u32 {
     *seed = seed
         .wrapping_mul(6364136223846793005)
         .wrapping_add(1442695040888963407);
@@ -117,7 +117,7 @@ fn next(seed: &mut u64) -> u32 {
 }
 
 /// A section of any size in a few pages, or at the end of all RVAs.
-fn any_section(seed: &mut u64) -> SectionTable {
+pub(crate) fn any_section(seed: &mut u64) -> SectionTable {
     let base = if next(seed) % 8 == 0 { 0xFFFF_A000 } else { 0 };
     let rva = base + next(seed) % 24 * 0x400;
     let virtual_size = next(seed) % 4 * (next(seed) % 0x1800);
@@ -130,7 +130,7 @@ fn any_section(seed: &mut u64) -> SectionTable {
 }
 
 /// An RVA at a border of a section or near one, or any.
-fn any_rva(seed: &mut u64, sections: &[SectionTable]) -> u32 {
+pub(crate) fn any_rva(seed: &mut u64, sections: &[SectionTable]) -> u32 {
     let near = sections[next(seed) as usize % sections.len()];
     let size = [0, 0x1000, 0x2000, near.virtual_size, near.size_of_raw_data][next(seed) as usize
         % 5];
@@ -223,7 +223,7 @@ fn of_export(export: &Export) -> ([u64; 2], u32, u64, u32) {
     (of_range(name), rva, offset, has_offset)
 }
 
-const NO_EXPORT: Export = Export {
+pub(crate) const NO_EXPORT: Export = Export {
     name: Range {
         offset: 0,
         length: 0,
