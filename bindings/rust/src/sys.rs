@@ -152,7 +152,7 @@ record!(
 /// The sections of the last RVAs of a walk, which the steps over exports, imports, delay imports and resources test before the others.
 /// All 0 at the start of a walk; only these calls read and write it.
 KeptSections, 8 {
-    /// The index of a section plus 1; 0 for none.
+    /// The index of a section plus 1; 0 for none; `u32::MAX` for none, and the walk keeps no more, where sections may overlap.
     first: u32,
     /// The same of the one that was kept before it.
     second: u32,
