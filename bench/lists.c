@@ -114,12 +114,13 @@ static uint64_t read_lookups(void)
     return count;
 }
 
-/* A function that reads all of a walk. */
-#define READS(name, walk_type, item_type, step, list, together) \
+/* A function that reads all of a walk from where it stands: `place` of the walk by steps. */
+#define READS(name, walk_type, steps_type, place, item_type, step, list, together) \
     static uint64_t name(walk_type *walk, item_type *items, size_t room) \
     { \
         uint64_t count = 0, written = 1; \
-        while (way == STEPS && step(&view, walk, &items[count]) == PE_C_DONE) \
+        steps_type steps = {.place = *walk}; \
+        while (way == STEPS && step(&view, &steps, &items[count]) == PE_C_DONE) \
             count++; \
         while (way != STEPS && written > 0 && \
                (way == LISTS ? list(&view, walk, items + count, room - count < ROOM ? room - count : ROOM, &written) \
@@ -129,9 +130,12 @@ static uint64_t read_lookups(void)
         return count; \
     }
 
-READS(exports_of, pe_c_exports, pe_c_export, pe_c_next_export, pe_c_list_exports, pe_c_list_exports_together)
-READS(libraries_of, pe_c_libraries, pe_c_library, pe_c_next_library, pe_c_list_libraries, pe_c_list_libraries_together)
-READS(imports_of, pe_c_imports, pe_c_import, pe_c_next_import, pe_c_list_imports, pe_c_list_imports_together)
+READS(exports_of, pe_c_exports, pe_c_export_walk, exports, pe_c_export, pe_c_next_export, pe_c_list_exports,
+      pe_c_list_exports_together)
+READS(libraries_of, pe_c_libraries, pe_c_library_walk, libraries, pe_c_library, pe_c_next_library, pe_c_list_libraries,
+      pe_c_list_libraries_together)
+READS(imports_of, pe_c_imports, pe_c_import_walk, imports, pe_c_import, pe_c_next_import, pe_c_list_imports,
+      pe_c_list_imports_together)
 
 static uint64_t read_exports(void)
 {

@@ -311,8 +311,19 @@ typedef struct {
     size_t entries;                 /* of the index; 0 for no index, and then calls test the sections in turn */
 } pe_c_view;
 
+/* The sections of the last RVAs of a walk, which the steps over exports, imports, delay imports and resources test before the
+ * others: the RVAs of a table mostly lie in one section or two. `kept` of such a walk is all 0 at the start, and only the
+ * step calls read and write it. Where a caller changes it and sections overlap, a step may return an offset by another
+ * section, and no other harm is done; a number past the last section maps nothing. */
+typedef struct {
+    uint32_t first;                 /* index of a section plus 1; 0 for none, as at the start of a walk; 0xFFFFFFFF for none,
+                                       and the walk keeps no more, where that of an RVA may share some with an earlier one */
+    uint32_t second;                /* the same of the one that was kept before it */
+} pe_c_kept_sections;
+
 PE_C_SIZE(pe_c_index_entry, 16);
 PE_C_SIZE(pe_c_view, 56);
+PE_C_SIZE(pe_c_kept_sections, 8);
 
 /* Reads the headers of an image, which are at the same offsets in a file and in memory.
  * Errors: PE_C_SHORT, PE_C_BAD_MAGIC of the DOS header; PE_C_HEADER_POINTER in strict mode; PE_C_SHORT, PE_C_BAD_MAGIC of
@@ -438,6 +449,8 @@ uint32_t pe_c_headers(const uint8_t *bytes, size_t length, uint32_t mode, pe_c_h
  * lists of their names. Few calls, and images with few sections, as most, gain nothing by it. No entries, and PE_C_DONE,
  * where no section is searched: in an image as loaded, and where the file alignment is not a power of two. An index in
  * the view that is passed makes no difference. An index of other sections gives wrong offsets, and no other harm.
+ * With an index a walk keeps no sections, and needs none. Without one a step tests the section or two that its walk keeps,
+ * and searches all of them only for an RVA elsewhere. A section that may share an RVA with an earlier one is not kept.
  * Errors: PE_C_ROOM where the array has too few entries; then `written` is how many it has to have. */
 uint32_t pe_c_index(const pe_c_view *view, pe_c_index_entry *room, size_t entries, uint64_t *written) PE_C_RESULT(1, 4);
 
@@ -1936,13 +1949,19 @@ uint32_t pe_c_next_arm64_frames(const pe_c_module *modules, size_t module_count,
  * directory is a forwarder: that of a text such as "NTDLL.RtlAllocateHeap".
  * https://learn.microsoft.com/windows/win32/debug/pe-format#the-edata-section-image-only */
 
-/* A walk over exports. */
+/* Where a walk over exports stands. */
 typedef struct {
     pe_c_range names;               /* RVAs of names, 4 bytes each */
     pe_c_range ordinals;            /* for each name the index of its RVA in `addresses`, 2 bytes each */
     pe_c_range addresses;           /* RVAs of what is exported, 4 bytes each */
     uint64_t next;                  /* index of the next name */
 } pe_c_exports;
+
+/* A walk over exports, step by step. It starts as PE_C_EMPTY with what pe_c_export_tables returns. */
+typedef struct {
+    pe_c_exports exports;
+    pe_c_kept_sections kept;
+} pe_c_export_walk;
 
 typedef struct {
     pe_c_range name;                /* UTF-8, without its final zero */
@@ -1987,6 +2006,7 @@ typedef struct {
 } pe_c_export_fields;
 
 PE_C_SIZE(pe_c_exports, 56);
+PE_C_SIZE(pe_c_export_walk, 64);
 PE_C_SIZE(pe_c_export, 40);
 PE_C_SIZE(pe_c_address_table, 48);
 PE_C_SIZE(pe_c_exported, 32);
@@ -1996,14 +2016,14 @@ PE_C_SIZE(pe_c_export_fields, 40);
  * Errors: PE_C_UNMAPPED, PE_C_SHORT of its 40 bytes. */
 uint32_t pe_c_export_directory(const pe_c_view *view, pe_c_export_fields *out) PE_C_RESULT(1, 2);
 
-/* Returns the tables of the export directory as a walk for pe_c_next_export. PE_C_NOTHING without a directory.
+/* Returns the tables of the export directory, where a walk starts. PE_C_NOTHING without a directory.
  * Errors: PE_C_UNMAPPED, PE_C_SHORT of the directory, then of the table of RVAs, of names and of indices. */
 uint32_t pe_c_export_tables(const pe_c_view *view, pe_c_exports *out) PE_C_RESULT(1, 2);
 
 /* Returns the next export. Entries are skipped whose name is unmapped, not NUL-terminated or not UTF-8, or whose index is
  * past the table of RVAs. Each name is read to its end, so names that overlap are read once each.
  * Errors: PE_C_SHORT where the tables are not inside the bytes. */
-uint32_t pe_c_next_export(const pe_c_view *view, pe_c_exports *walk, pe_c_export *out) PE_C_RESULT(1, 2, 3);
+uint32_t pe_c_next_export(const pe_c_view *view, pe_c_export_walk *walk, pe_c_export *out) PE_C_RESULT(1, 2, 3);
 
 /* Returns the table of RVAs of the export directory, the ordinal base and the DLL's name. PE_C_NOTHING without a directory.
  * Errors: those of pe_c_export_tables. */
@@ -2020,27 +2040,48 @@ uint32_t pe_c_export_at(const pe_c_view *view, const pe_c_address_table *table, 
  * by name or by ordinal. The loader writes the virtual address of each import to a slot of the DLL's address table.
  * https://learn.microsoft.com/windows/win32/debug/pe-format#the-idata-section
  *
- * There are two walks: one over the DLLs (here "libraries"), and for each one over its imports, which starts as
+ * There are two walks: one over the DLLs (here "libraries"), and for each one over its imports, which starts at
  * library.imports. A program that reads all libraries before the first import meets errors in the order of
- * `peinfo list`. A third walk goes through both, for pe_c_list_all_imports_together. */
+ * `peinfo list`. A third walk goes through both, for pe_c_list_all_imports_together.
+ *
+ *     pe_c_library_walk libraries = PE_C_EMPTY;
+ *     pe_c_import_libraries(&view, &libraries.libraries);
+ *     while (pe_c_next_library(&view, &libraries, &library) == PE_C_DONE) {
+ *         pe_c_import_walk imports = PE_C_EMPTY;
+ *         imports.imports = library.imports;
+ *         while (pe_c_next_import(&view, &imports, &entry) == PE_C_DONE)
+ *             use(&entry);
+ *     } */
 
-/* A walk over libraries. */
+/* Where a walk over libraries stands. */
 typedef struct {
     uint64_t next;                  /* file offset of the next record of the import directory */
     uint32_t is_over;               /* 1 after the last library or an error, else 0 */
     uint32_t spare;                 /* 0 */
 } pe_c_libraries;
 
-/* A walk over the imports of a library. */
+/* Where a walk over the imports of a library stands. */
 typedef struct {
     pe_c_range left;                /* the entries of the list that are left: 8 bytes each in PE32+, else 4 */
     uint64_t rva;                   /* RVA of the next import's slot in the address table */
 } pe_c_imports;
 
+/* A walk over libraries, step by step. */
+typedef struct {
+    pe_c_libraries libraries;
+    pe_c_kept_sections kept;
+} pe_c_library_walk;
+
+/* A walk over the imports of a library, step by step. */
+typedef struct {
+    pe_c_imports imports;
+    pe_c_kept_sections kept;
+} pe_c_import_walk;
+
 /* IMAGE_IMPORT_DESCRIPTOR. */
 typedef struct {
     pe_c_range name;                /* of the DLL: UTF-8, without its final zero */
-    pe_c_imports imports;           /* a walk for pe_c_next_import, at its start */
+    pe_c_imports imports;           /* where a walk over its imports starts */
     uint32_t lookup_table_rva;      /* RVA of the list; where it is 0, the list is the address table */
     uint32_t time_date_stamp;       /* 0, or not 0 where the imports are bound */
     uint32_t forwarder_chain;       /* index of the first forwarder, or -1 */
@@ -2075,12 +2116,14 @@ typedef struct {
 
 PE_C_SIZE(pe_c_libraries, 16);
 PE_C_SIZE(pe_c_imports, 24);
+PE_C_SIZE(pe_c_library_walk, 24);
+PE_C_SIZE(pe_c_import_walk, 32);
 PE_C_SIZE(pe_c_library, 64);
 PE_C_SIZE(pe_c_import, 32);
 PE_C_SIZE(pe_c_library_imports, 64);
 PE_C_SIZE(pe_c_library_import, 64);
 
-/* Returns the import directory as a walk for pe_c_next_library. PE_C_NOTHING without a directory.
+/* Returns where a walk over libraries starts. PE_C_NOTHING without a directory.
  * Errors: PE_C_UNMAPPED. */
 uint32_t pe_c_import_libraries(const pe_c_view *view, pe_c_libraries *out) PE_C_RESULT(1, 2);
 
@@ -2088,12 +2131,12 @@ uint32_t pe_c_import_libraries(const pe_c_view *view, pe_c_libraries *out) PE_C_
  * unmapped is empty. Names and lists that overlap are read once each.
  * Errors: PE_C_SHORT where the record is truncated; PE_C_UNMAPPED, PE_C_IMPORT_NAME of the name; PE_C_SHORT where no zero
  * entry ends the list. */
-uint32_t pe_c_next_library(const pe_c_view *view, pe_c_libraries *walk, pe_c_library *out) PE_C_RESULT(1, 2, 3);
+uint32_t pe_c_next_library(const pe_c_view *view, pe_c_library_walk *walk, pe_c_library *out) PE_C_RESULT(1, 2, 3);
 
 /* Returns the next import of a library.
  * Errors: PE_C_SHORT where the walk is not inside the bytes, or its last entry is truncated; PE_C_UNMAPPED of the RVA in
  * the entry; PE_C_SHORT of the hint there; PE_C_IMPORT_NAME of the name. */
-uint32_t pe_c_next_import(const pe_c_view *view, pe_c_imports *walk, pe_c_import *out) PE_C_RESULT(1, 2, 3);
+uint32_t pe_c_next_import(const pe_c_view *view, pe_c_import_walk *walk, pe_c_import *out) PE_C_RESULT(1, 2, 3);
 
 /* Returns the import directory as a walk for pe_c_list_all_imports_together. PE_C_NOTHING without a directory.
  * Errors: PE_C_UNMAPPED. */
@@ -2105,7 +2148,7 @@ uint32_t pe_c_all_imports(const pe_c_view *view, pe_c_library_imports *out) PE_C
  * which leads to the DLL's name and to a table of what is imported of it, by name or by ordinal.
  * https://learn.microsoft.com/windows/win32/debug/pe-format#delay-load-import-tables-image-only
  *
- * There are two walks: one over the DLLs, and for each one over its functions, which starts as import.functions. A third
+ * There are two walks: one over the DLLs, and for each one over its functions, which starts at import.functions. A third
  * walk goes through both, for pe_c_list_all_delayed_functions_together. */
 
 /* IMAGE_DELAYLOAD_DESCRIPTOR. Addresses are RVAs where bit 0 of the attributes is set, else virtual addresses, as linkers
@@ -2121,16 +2164,28 @@ typedef struct {
     uint32_t time_date_stamp;       /* of the DLL to which the image is bound; 0 where it is not bound */
 } pe_c_delay_descriptor;
 
-/* A walk over what is imported of a DLL. */
+/* Where a walk over what is imported of a DLL stands. */
 typedef struct {
     pe_c_range left;                /* its table from the next number on: 8 bytes each in PE32+, else 4 */
     uint32_t attributes;            /* those of the DLL's entry */
     uint32_t spare;                 /* 0 */
 } pe_c_delayed_functions;
 
+/* A walk over the DLLs, step by step. */
+typedef struct {
+    pe_c_range entries;             /* those of the directory that are left */
+    pe_c_kept_sections kept;
+} pe_c_delay_import_walk;
+
+/* A walk over what is imported of a DLL, step by step. */
+typedef struct {
+    pe_c_delayed_functions functions;
+    pe_c_kept_sections kept;
+} pe_c_delayed_function_walk;
+
 typedef struct {
     pe_c_range name;                /* of the DLL: UTF-8, without its final zero */
-    pe_c_delayed_functions functions;   /* a walk for pe_c_next_delayed_function, at its start */
+    pe_c_delayed_functions functions;   /* where a walk over its functions starts */
     pe_c_delay_descriptor descriptor;
 } pe_c_delay_import;
 
@@ -2157,25 +2212,28 @@ typedef struct {
 
 PE_C_SIZE(pe_c_delay_descriptor, 32);
 PE_C_SIZE(pe_c_delayed_functions, 24);
+PE_C_SIZE(pe_c_delay_import_walk, 24);
+PE_C_SIZE(pe_c_delayed_function_walk, 32);
 PE_C_SIZE(pe_c_delay_import, 72);
 PE_C_SIZE(pe_c_delayed_function, 24);
 PE_C_SIZE(pe_c_library_functions, 64);
 PE_C_SIZE(pe_c_library_function, 48);
 
-/* Returns the entries of the delay import directory as a walk. PE_C_NOTHING where the directory is absent.
+/* Returns the entries of the delay import directory, where a walk starts. PE_C_NOTHING where the directory is absent.
  * Errors: PE_C_UNMAPPED, PE_C_SHORT. */
 uint32_t pe_c_delay_imports(const pe_c_view *view, pe_c_range *out) PE_C_RESULT(1, 2);
 
 /* Returns the next DLL. The directory ends with its bytes, or at an entry without the address of a name.
  * Errors: PE_C_SHORT of the entry; PE_C_DIRECTORY_VA_BELOW_BASE, PE_C_UNMAPPED, PE_C_DIRECTORY_DELAY_IMPORT_NAME of the
  * name; PE_C_DIRECTORY_VA_BELOW_BASE, PE_C_UNMAPPED of the table of functions. */
-uint32_t pe_c_next_delay_import(const pe_c_view *view, pe_c_range *walk, pe_c_delay_import *out) PE_C_RESULT(1, 2, 3);
+uint32_t pe_c_next_delay_import(const pe_c_view *view, pe_c_delay_import_walk *walk, pe_c_delay_import *out)
+    PE_C_RESULT(1, 2, 3);
 
 /* Returns the next function of a DLL.
  * Errors: PE_C_SHORT where the bytes end before the table does; of an import by name PE_C_DIRECTORY_VA_BELOW_BASE,
  * PE_C_UNMAPPED of its address, PE_C_SHORT of the hint there, PE_C_DIRECTORY_DELAY_IMPORT_NAME. */
-uint32_t pe_c_next_delayed_function(const pe_c_view *view, pe_c_delayed_functions *walk, pe_c_delayed_function *out)
-    PE_C_RESULT(1, 2, 3);
+uint32_t pe_c_next_delayed_function(const pe_c_view *view, pe_c_delayed_function_walk *walk,
+                                    pe_c_delayed_function *out) PE_C_RESULT(1, 2, 3);
 
 /* Returns the delay import directory as a walk for pe_c_list_all_delayed_functions_together. PE_C_NOTHING where the
  * directory is absent. Errors: PE_C_UNMAPPED, PE_C_SHORT. */
@@ -2336,7 +2394,7 @@ typedef struct {
     uint32_t offset_to_data_or_directory;   /* with bit 31 the offset of a directory, else that of a data entry */
 } pe_c_resource_entry;
 
-/* A walk over leaves. The ranges of entries, 8 bytes each, count from the start of the tree. */
+/* Where a walk over leaves stands. The ranges of entries, 8 bytes each, count from the start of the tree. */
 typedef struct {
     pe_c_range tree;                /* the data of the resource directory */
     pe_c_range types;               /* the types that are left */
@@ -2345,6 +2403,12 @@ typedef struct {
     pe_c_resource_entry resource_type;  /* the entry of this type */
     pe_c_resource_entry name;       /* the entry of this name */
 } pe_c_resource_walk;
+
+/* A walk over leaves, step by step. */
+typedef struct {
+    pe_c_resource_walk leaves;
+    pe_c_kept_sections kept;
+} pe_c_leaf_walk;
 
 /* A directory of the tree, IMAGE_RESOURCE_DIRECTORY. */
 typedef struct {
@@ -2369,11 +2433,12 @@ PE_C_SIZE(pe_c_resource_name, 24);
 PE_C_SIZE(pe_c_resource_leaf, 104);
 PE_C_SIZE(pe_c_resource_entry, 8);
 PE_C_SIZE(pe_c_resource_walk, 80);
+PE_C_SIZE(pe_c_leaf_walk, 88);
 PE_C_SIZE(pe_c_resource_directory, 32);
 PE_C_SIZE(pe_c_resource_item, 32);
 
-/* Returns the leaves as a walk, in the order of the entries of directories. PE_C_NOTHING where the directory is absent, and
- * in permissive mode where its data is too short for a directory.
+/* Returns where a walk over leaves starts; they come in the order of the entries of directories. PE_C_NOTHING where the
+ * directory is absent, and in permissive mode where its data is too short for a directory.
  * Errors: PE_C_UNMAPPED, PE_C_SHORT of the root directory; PE_C_RESOURCE_BOUNDS where the data that the data directory names
  * ends past the end of the file, and in strict mode where the root or its entries are not all inside the data. */
 uint32_t pe_c_resource_leaves(const pe_c_view *view, pe_c_resource_walk *out) PE_C_RESULT(1, 2);
@@ -2382,8 +2447,7 @@ uint32_t pe_c_resource_leaves(const pe_c_view *view, pe_c_resource_walk *out) PE
  * Errors: PE_C_SHORT where the walk is not inside the bytes, or its entries are not inside its tree; of the entry of a type
  * or a name PE_C_TREE_NOT_DIRECTORY, PE_C_SHORT of its directory and of the entries there, PE_C_TREE_NO_ENTRIES; of the
  * entry of a language PE_C_TREE_NOT_DATA, PE_C_SHORT of its data entry; PE_C_SHORT of a name. */
-uint32_t pe_c_next_resource_leaf(const pe_c_view *view, pe_c_resource_walk *walk, pe_c_resource_leaf *out)
-    PE_C_RESULT(1, 2, 3);
+uint32_t pe_c_next_resource_leaf(const pe_c_view *view, pe_c_leaf_walk *walk, pe_c_resource_leaf *out) PE_C_RESULT(1, 2, 3);
 
 /* Returns the directory at an offset of a tree, which is that of a walk over leaves: at 0 the root, whose entries are types,
  * else one to which an entry leads. A hostile tree may lead to a directory again, or many times: bound what you follow.
@@ -2845,7 +2909,7 @@ uint32_t pe_c_text_in(const uint8_t *bytes, size_t length, const pe_c_range *ran
  *
  * Each of these calls fills an array with what the calls of one walk return, one after the other, and leaves the walk after
  * them: the next call goes on there. `written` gets the number of entries; it is 0 at the end of the walk alone. The rest of
- * the array is unchanged.
+ * the array is unchanged. Of a walk with `kept` a list takes where it stands, as &walk.exports, and goes on from there.
  *
  *     uint64_t written;
  *     uint32_t result;
@@ -3070,11 +3134,11 @@ uint32_t pe_c_list_guard_entries(const pe_c_view *view, pe_c_guard_entries *walk
 
 /* ---- why a step is refused
  *
- * A walk is over after an error. Keep a copy of it from before each step: these calls read the same item again, by the copy,
- * which does not move, and return the result of the step and the numbers of its error. PE_C_NOTHING where the step returns
- * no error. They never return an error.
+ * A walk is over after an error. Keep a copy of it from before each step, or of where it stands: these calls read the same
+ * item again, by the copy, which does not move, and return the result of the step and the numbers of its error. PE_C_NOTHING
+ * where the step returns no error. They never return an error.
  *
- *     pe_c_libraries before = walk;
+ *     pe_c_libraries before = walk.libraries;
  *     if (pe_c_next_library(&view, &walk, &library) == PE_C_UNMAPPED
  *         && pe_c_library_failure(&view, &before, &failure) == PE_C_DONE)
  *         printf("no section maps the RVA %#llx\n", (unsigned long long)failure.value);

@@ -7,14 +7,15 @@ import { symbolsOf } from './symbols.mjs';
 
 const ARM64 = 0xAA64;
 
-// The lists of an image: the call that starts each, and the one that returns its next item.
+// The lists of an image: the call that starts each, and the one that returns its next item; and of a walk that keeps sections the field
+// where it stands.
 const LISTS = {
   debugEntries: ['pe_c_debug_entries', 'pe_c_next_debug_entry'],
-  exports: ['pe_c_export_tables', 'pe_c_next_export'],
-  libraries: ['pe_c_import_libraries', 'pe_c_next_library'],
-  delayImports: ['pe_c_delay_imports', 'pe_c_next_delay_import'],
+  exports: ['pe_c_export_tables', 'pe_c_next_export', 'exports'],
+  libraries: ['pe_c_import_libraries', 'pe_c_next_library', 'libraries'],
+  delayImports: ['pe_c_delay_imports', 'pe_c_next_delay_import', 'entries'],
   versionBlocks: ['pe_c_version_blocks', 'pe_c_next_version_block'],
-  resourceLeaves: ['pe_c_resource_leaves', 'pe_c_next_resource_leaf'],
+  resourceLeaves: ['pe_c_resource_leaves', 'pe_c_next_resource_leaf', 'leaves'],
   relocationBlocks: ['pe_c_relocation_blocks', 'pe_c_next_relocation_block'],
 };
 
@@ -43,8 +44,8 @@ export class Image extends File {
 
   /** The items of a list of the image, none where it is absent: see index.d.ts for the names. */
   *list(name) {
-    const [start, next] = LISTS[name], walk = this.call(start);
-    if (walk) yield* this.items(next, walk);
+    const [start, next, place] = LISTS[name], walk = this.call(start);
+    if (walk) yield* this.items(next, place ? { [place]: walk } : walk);
   }
 
   /** Makes an index of the sections, by which calls find one among many from then on: pe_c_index. */
@@ -74,12 +75,12 @@ export class Image extends File {
 
   /** The imports of a library. */
   imports(library) {
-    return this.items('pe_c_next_import', structuredClone(library.imports));
+    return this.items('pe_c_next_import', { imports: structuredClone(library.imports) });
   }
 
   /** The functions of a DLL that is loaded when it is needed. */
   delayedFunctions(delayImport) {
-    return this.items('pe_c_next_delayed_function', structuredClone(delayImport.functions));
+    return this.items('pe_c_next_delayed_function', { functions: structuredClone(delayImport.functions) });
   }
 
   /** All exports by their index, with those that have no name. */

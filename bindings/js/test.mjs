@@ -72,7 +72,7 @@ test('imports, by name and by ordinal', () => {
 });
 
 test('a walk that is given is moved, and is over in the end', () => {
-  const image = opened('imports'), walk = image.call('pe_c_import_libraries');
+  const image = opened('imports'), walk = { libraries: image.call('pe_c_import_libraries') };
   assert.notEqual(image.call('pe_c_next_library', { walk }), null);
   assert.notEqual(image.call('pe_c_next_library', { walk }), null);
   assert.equal(image.call('pe_c_next_library', { walk }), null);

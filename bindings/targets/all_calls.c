@@ -51,6 +51,12 @@ struct file {
          of_##call < (most) && (CALL(why, failure, arguments, &(walk), &failure), IS_DONE(call, out, arguments, &(walk), &(out))); \
          of_##call++)
 
+/* The same of a walk that keeps sections; `place` is where it stands. */
+#define WALK_KEPT(most, call, why, out, walk, place) \
+    for (int of_##call = 0; \
+         of_##call < (most) && (CALL(why, failure, VIEW, &(walk).place, &failure), IS_DONE(call, out, VIEW, &(walk), &(out))); \
+         of_##call++)
+
 /* Makes a call that fills an array, until it writes no entry, LISTS times at most. */
 #define LIST(call, type, ...) \
     do { \
@@ -483,13 +489,13 @@ static void certificates(const struct file *file)
 
 static void exports(const struct file *file)
 {
-    pe_c_exports tables = PE_C_EMPTY;
+    pe_c_export_walk walk = PE_C_EMPTY;
     pe_c_export entry = PE_C_EMPTY;
     pe_c_address_table table = PE_C_EMPTY;
     pe_c_exported exported = PE_C_EMPTY;
     uint64_t index = 0;
-    if (IS_DONE(pe_c_export_tables, tables, VIEW, &tables))
-        WALK(ITEMS, pe_c_next_export, entry, VIEW, &tables, &entry) {}
+    if (IS_DONE(pe_c_export_tables, walk.exports, VIEW, &walk.exports))
+        WALK(ITEMS, pe_c_next_export, entry, VIEW, &walk, &entry) {}
     pe_c_export_fields fields = PE_C_EMPTY;
     CALL(pe_c_export_directory, fields, VIEW, &fields);
     if (IS_DONE(pe_c_export_addresses, table, VIEW, &table))
@@ -499,7 +505,10 @@ static void exports(const struct file *file)
 
 static void imports(const struct file *file)
 {
-    pe_c_libraries libraries = PE_C_EMPTY;
+    pe_c_library_walk libraries = PE_C_EMPTY;
+    pe_c_import_walk imports_of = PE_C_EMPTY;
+    pe_c_delay_import_walk delay_imports = PE_C_EMPTY;
+    pe_c_delayed_function_walk functions_of = PE_C_EMPTY;
     pe_c_library library = PE_C_EMPTY;
     pe_c_import import = PE_C_EMPTY;
     pe_c_range walk = PE_C_EMPTY, table = PE_C_EMPTY;
@@ -510,20 +519,24 @@ static void imports(const struct file *file)
     pe_c_bound_forwarder forwarder = PE_C_EMPTY;
     pe_c_run runs[ROWS] = PE_C_EMPTY;
     pe_c_failure failure = PE_C_EMPTY;
-    if (IS_DONE(pe_c_import_libraries, libraries, VIEW, &libraries))
-        WALK_WHY(LISTS, pe_c_next_library, pe_c_library_failure, library, VIEW, libraries)
-            WALK_WHY(ITEMS, pe_c_next_import, pe_c_import_failure, import, VIEW, library.imports) {}
+    if (IS_DONE(pe_c_import_libraries, libraries.libraries, VIEW, &libraries.libraries))
+        WALK_KEPT(LISTS, pe_c_next_library, pe_c_library_failure, library, libraries, libraries) {
+            imports_of.imports = library.imports;
+            WALK_KEPT(ITEMS, pe_c_next_import, pe_c_import_failure, import, imports_of, imports) {}
+        }
     if (IS_DONE(pe_c_delay_imports, walk, VIEW, &walk)) {
         pe_c_range dlls = walk;
         LIST(pe_c_list_delay_imports, pe_c_delay_import, VIEW, &dlls);
         dlls = walk;
         LIST(pe_c_list_delay_imports_together, pe_c_delay_import, VIEW, &dlls, runs, ROWS);
-        WALK_WHY(LISTS, pe_c_next_delay_import, pe_c_delay_import_failure, delayed, VIEW, walk) {
+        delay_imports.entries = walk;
+        WALK_KEPT(LISTS, pe_c_next_delay_import, pe_c_delay_import_failure, delayed, delay_imports, entries) {
             pe_c_delayed_functions functions = delayed.functions;
             LIST(pe_c_list_delayed_functions, pe_c_delayed_function, VIEW, &functions);
             functions = delayed.functions;
             LIST(pe_c_list_delayed_functions_together, pe_c_delayed_function, VIEW, &functions, runs, ROWS);
-            WALK_WHY(ITEMS, pe_c_next_delayed_function, pe_c_delayed_function_failure, function, VIEW, delayed.functions) {}
+            functions_of.functions = delayed.functions;
+            WALK_KEPT(ITEMS, pe_c_next_delayed_function, pe_c_delayed_function_failure, function, functions_of, functions) {}
         }
     }
     if (IS_DONE(pe_c_all_delayed_functions, all, VIEW, &all))
@@ -607,7 +620,7 @@ static void resources(const struct file *file)
 {
     pe_c_range range = PE_C_EMPTY;
     pe_c_version version = PE_C_EMPTY;
-    pe_c_resource_walk walk = PE_C_EMPTY;
+    pe_c_leaf_walk walk = PE_C_EMPTY;
     pe_c_resource_leaf leaf = PE_C_EMPTY;
     pe_c_failure failure = PE_C_EMPTY;
     CALL(pe_c_fixed_version, version, VIEW, &version);
@@ -616,10 +629,10 @@ static void resources(const struct file *file)
     CALL(pe_c_manifest, range, VIEW, &range);
     version_blocks(file);
     edits(file);
-    if (!IS_DONE(pe_c_resource_leaves, walk, VIEW, &walk))
+    if (!IS_DONE(pe_c_resource_leaves, walk.leaves, VIEW, &walk.leaves))
         return;
-    resource_directories(file, &walk.tree);
-    WALK_WHY(ITEMS, pe_c_next_resource_leaf, pe_c_resource_leaf_failure, leaf, VIEW, walk)
+    resource_directories(file, &walk.leaves.tree);
+    WALK_KEPT(ITEMS, pe_c_next_resource_leaf, pe_c_resource_leaf_failure, leaf, walk, leaves)
         if (leaf.resource_type.id == 16) {
             CALL(pe_c_fixed_version_in, version, BYTES, &leaf.content, &version);
             for (uint32_t name = 0; name <= PE_C_SPECIAL_BUILD + 1; name++)
@@ -710,10 +723,11 @@ static void lists_of_names(const struct file *file)
     if (pe_c_import_libraries(VIEW, &libraries) != PE_C_DONE)
         return;
     pe_c_libraries walk = libraries;
+    pe_c_library_walk steps = {.libraries = libraries};
     LIST(pe_c_list_libraries, pe_c_library, VIEW, &walk);
     walk = libraries;
     LIST(pe_c_list_libraries_together, pe_c_library, VIEW, &walk, runs, ROWS);
-    if (pe_c_next_library(VIEW, &libraries, &library) == PE_C_DONE) {
+    if (pe_c_next_library(VIEW, &steps, &library) == PE_C_DONE) {
         pe_c_imports together = library.imports;
         LIST(pe_c_list_imports, pe_c_import, VIEW, &library.imports);
         LIST(pe_c_list_imports_together, pe_c_import, VIEW, &together, runs, ROWS);

@@ -5,11 +5,13 @@ use super::made::{
     directory, having, image, in_mode, lies, of_range, range, sections, untouched, view, words,
 };
 use crate::delay_imports::{
-    DelayLibrary, DelayedFunction, DelayedFunctions, pe_c_delay_imports, pe_c_next_delay_import,
-    pe_c_next_delayed_function,
+    DelayLibrary, DelayWalk, DelayedFunction, DelayedFunctionWalk, DelayedFunctions,
+    pe_c_delay_imports, pe_c_next_delay_import, pe_c_next_delayed_function,
 };
 use crate::image::Image;
+use crate::kept_sections::NO_SECTIONS;
 use crate::lists::delay_imports::{pe_c_list_delay_imports, pe_c_list_delayed_functions};
+use crate::ranges::Range;
 use crate::results::{DONE, NOTHING, ROOM};
 use pe_directories::DelayImport;
 use std::alloc::{AllocError, Global};
@@ -98,13 +100,29 @@ fn tables_of_entries(rt: HostRuntime) -> Result<(), Fail> {
     Ok(())
 }
 
+/// A walk by steps, which starts here.
+pub(crate) fn from(entries: Range) -> DelayWalk {
+    DelayWalk {
+        entries,
+        kept: NO_SECTIONS,
+    }
+}
+
+/// The same over what is imported of a DLL.
+pub(crate) fn from_function(functions: DelayedFunctions) -> DelayedFunctionWalk {
+    DelayedFunctionWalk {
+        functions,
+        kept: NO_SECTIONS,
+    }
+}
+
 /// The result of a step, the name, the table and the attributes of its walk, the entry, and what is left.
 fn next(
     bytes: &[u8],
     image: &Image,
     walk: [u64; 2],
 ) -> (u32, [[u64; 2]; 2], u32, DelayImport, [u64; 2]) {
-    let mut walk = range(walk[0], walk[1]);
+    let mut walk = from(range(walk[0], walk[1]));
     let mut out = DelayLibrary {
         name: untouched(),
         functions: functions(UNTOUCHED, 7),
@@ -116,7 +134,7 @@ fn next(
         [of_range(out.name), of_range(out.functions.left)],
         out.functions.attributes,
         out.descriptor,
-        of_range(walk),
+        of_range(walk.entries),
     )
 }
 
@@ -208,7 +226,7 @@ fn step(
     left: [u64; 2],
     attributes: u32,
 ) -> (u32, [u64; 2], [u32; 2], [u64; 2]) {
-    let mut walk = functions(left, attributes);
+    let mut walk = from_function(functions(left, attributes));
     let mut out = DelayedFunction {
         name: untouched(),
         ordinal: 7,
@@ -216,7 +234,8 @@ fn step(
     };
     let answer = pe_c_next_delayed_function(&view(bytes, image, &sections()), &mut walk, &mut out);
     let numbers = [out.ordinal, out.has_name];
-    (answer, of_range(out.name), numbers, of_range(walk.left))
+    let left = of_range(walk.functions.left);
+    (answer, of_range(out.name), numbers, left)
 }
 
 #[test]

@@ -1,5 +1,6 @@
 //! Steps and lists over delay imports by an index of the sections.
 
+use super::delay_imports::{from, from_function};
 use super::made::{
     LEFT_ENTRY, MAPPED, OVER, SHORT, UNMAPPED, X64, from_start, image, in_mode, of_range, range,
     section, view,
@@ -40,7 +41,7 @@ pub(crate) const NO_FUNCTIONS: DelayedFunctions = DelayedFunctions {
     spare: 0,
 };
 
-const NO_LIBRARY: DelayLibrary = DelayLibrary {
+pub(crate) const NO_LIBRARY: DelayLibrary = DelayLibrary {
     name: NO_NAME,
     functions: NO_FUNCTIONS,
     descriptor: DelayImport {
@@ -55,7 +56,7 @@ const NO_LIBRARY: DelayLibrary = DelayLibrary {
     },
 };
 
-const NO_FUNCTION: DelayedFunction = DelayedFunction {
+pub(crate) const NO_FUNCTION: DelayedFunction = DelayedFunction {
     name: NO_NAME,
     ordinal: 5,
     has_name: 6,
@@ -85,10 +86,10 @@ fn found_of(answer: u32, dll: DelayLibrary, other: u32, function: DelayedFunctio
 
 /// The first DLL of a range of a directory, by steps.
 fn stepped(view: &View, directory: [u64; 2]) -> Found {
-    let mut walk = range(directory[0], directory[1]);
+    let mut walk = from(range(directory[0], directory[1]));
     let (mut dll, mut function) = (NO_LIBRARY, NO_FUNCTION);
     let answer = pe_c_next_delay_import(view, &mut walk, &mut dll);
-    let mut left = dll.functions;
+    let mut left = from_function(dll.functions);
     let other = pe_c_next_delayed_function(view, &mut left, &mut function);
     found_of(answer, dll, other, function)
 }
@@ -268,10 +269,10 @@ fn indices_that_lead_elsewhere(rt: HostRuntime) -> Result<(), Fail> {
 
 /// What a step over functions of virtual addresses returns: its result, the range of the name, the hint.
 fn of_virtual(view: &View, table: [u64; 2]) -> (u32, [u64; 2], u32) {
-    let mut left = DelayedFunctions {
+    let mut left = from_function(DelayedFunctions {
         left: range(table[0], table[1]),
         ..NO_FUNCTIONS
-    };
+    });
     let mut function = NO_FUNCTION;
     let answer = pe_c_next_delayed_function(view, &mut left, &mut function);
     (answer, of_range(function.name), function.ordinal)

@@ -325,7 +325,7 @@ fn trees(rt: HostRuntime) -> Result<(), Fail> {
     let bytes = in_both(rt.alloc(), &[(0, &tree)])?;
     let image = having(image(X64), 2, directory(0x1020, 142));
     let trees = answers(&bytes, &image, |view| {
-        let mut out = walk(untouched(), range(1, 2), range(3, 4), range(5, 6));
+        let mut out = walk(untouched(), range(1, 2), range(3, 4), range(5, 6)).leaves;
         let answer = pe_c_resource_leaves(view, &mut out);
         (answer, of_range(out.tree))
     });

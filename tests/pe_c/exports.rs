@@ -5,8 +5,9 @@ use super::made::{
     lies, of_range, range, sections, view,
 };
 use crate::export_addresses::{AddressTable, Exported, pe_c_export_addresses, pe_c_export_at};
-use crate::exports::{Export, Exports, pe_c_export_tables, pe_c_next_export};
+use crate::exports::{Export, ExportWalk, Exports, pe_c_export_tables, pe_c_next_export};
 use crate::image::Image;
+use crate::kept_sections::NO_SECTIONS;
 use crate::results::{DONE, NOTHING};
 use pe_images::{image as bytes_of, put};
 use std::alloc::Global;
@@ -149,7 +150,15 @@ type Fields = ([u64; 2], u64, u32, u32);
 
 const NO_EXPORT: Fields = ([1, 2], 3, 4, 5);
 
-fn step(bytes: &[u8], mode: u32, walk: &mut Exports) -> (u32, Fields, Walk) {
+/// A walk by steps, which starts here.
+pub(crate) fn from(exports: Exports) -> ExportWalk {
+    ExportWalk {
+        exports,
+        kept: NO_SECTIONS,
+    }
+}
+
+fn step(bytes: &[u8], mode: u32, walk: &mut ExportWalk) -> (u32, Fields, Walk) {
     let mut out = Export {
         name: range(1, 2),
         offset: 3,
@@ -173,7 +182,7 @@ fn step(bytes: &[u8], mode: u32, walk: &mut Exports) -> (u32, Fields, Walk) {
     (
         answer,
         (of_range(name), offset, rva, has_offset),
-        of_walk(*walk),
+        of_walk(walk.exports),
     )
 }
 
@@ -182,7 +191,7 @@ fn step(bytes: &[u8], mode: u32, walk: &mut Exports) -> (u32, Fields, Walk) {
 fn exports_in_turn(rt: HostRuntime) -> Result<(), Fail> {
     let bytes = with_exports(rt.alloc())?;
     for mode in [STRICT, PERMISSIVE] {
-        let mut walk = walk_over(0);
+        let mut walk = from(walk_over(0));
         for (answer, export, next) in [
             (DONE, ([0x90, 5], 0, 0x9000, 0), 1),
             (DONE, ([0xA0, 1], 8, 0x1008, 1), 5),
@@ -200,25 +209,25 @@ fn exports_in_turn(rt: HostRuntime) -> Result<(), Fail> {
 #[test]
 fn exports_of_cut_tables(rt: HostRuntime) -> Result<(), Fail> {
     let bytes = with_exports(rt.alloc())?;
-    let mut names = Exports {
+    let mut names = from(Exports {
         names: range(0x60, 19),
         ..walk_over(1)
-    };
+    });
     let want = (NOTHING, NO_EXPORT, ([0x60, 19], [0x80, 12], [0x50, 12], 4));
     assert_eq!(rt; step(&bytes, STRICT, &mut names), want);
-    let mut ordinals = Exports {
+    let mut ordinals = from(Exports {
         ordinals: range(0x80, 9),
         ..walk_over(0)
-    };
+    });
     assert_eq!(rt;
         step(&bytes, STRICT, &mut ordinals).1,
         ([0x90, 5], 0, 0x9000, 0)
     );
     assert_eq!(rt; step(&bytes, STRICT, &mut ordinals).0, NOTHING);
-    let mut addresses = Exports {
+    let mut addresses = from(Exports {
         addresses: range(0x50, 7),
         ..walk_over(0)
-    };
+    });
     let want = (
         DONE,
         ([0xA0, 1], 8, 0x1008, 1),
@@ -234,10 +243,10 @@ fn walks_that_lie(rt: HostRuntime) -> Result<(), Fail> {
     let bytes = with_exports(rt.alloc())?;
     let (_, ordinals, addresses, _) = of_walk(walk_over(0));
     for lie in lies(0xB0) {
-        let mut walk = Exports {
+        let mut walk = from(Exports {
             names: lie,
             ..walk_over(0)
-        };
+        });
         let (number, names) = if lie.length < 4 {
             (NOTHING, of_range(lie))
         } else {
@@ -246,22 +255,22 @@ fn walks_that_lie(rt: HostRuntime) -> Result<(), Fail> {
         let want = (number, NO_EXPORT, (names, ordinals, addresses, 0));
         assert_eq!(rt; step(&bytes, STRICT, &mut walk), want);
         assert_eq!(rt; step(&bytes, STRICT, &mut walk).0, NOTHING);
-        let mut walk = Exports {
+        let mut walk = from(Exports {
             ordinals: lie,
             ..walk_over(5)
-        };
+        });
         let want = (SHORT, NO_EXPORT, (OVER, of_range(lie), addresses, 5));
         assert_eq!(rt; step(&bytes, STRICT, &mut walk), want);
-        let mut walk = Exports {
+        let mut walk = from(Exports {
             addresses: lie,
             ..walk_over(5)
-        };
+        });
         let want = (SHORT, NO_EXPORT, (OVER, ordinals, of_range(lie), 5));
         assert_eq!(rt; step(&bytes, STRICT, &mut walk), want);
         assert_eq!(rt; step(&bytes, STRICT, &mut walk).0, NOTHING);
     }
     for next in [6, 7, u64::MAX] {
-        let mut walk = walk_over(next);
+        let mut walk = from(walk_over(next));
         let want = (NOTHING, NO_EXPORT, of_walk(walk_over(next)));
         assert_eq!(rt; step(&bytes, STRICT, &mut walk), want);
     }

@@ -6,8 +6,10 @@ use super::made::{
 };
 use crate::image::Image;
 use crate::imports::{
-    Import, Imports, Libraries, Library, pe_c_import_libraries, pe_c_next_import, pe_c_next_library,
+    Import, ImportWalk, Imports, Libraries, Library, LibraryWalk, pe_c_import_libraries,
+    pe_c_next_import, pe_c_next_library,
 };
+use crate::kept_sections::NO_SECTIONS;
 use crate::ranges::Range;
 use crate::results::{DONE, NOTHING};
 use pe_images::{image as bytes_of, put};
@@ -47,6 +49,22 @@ fn libraries(next: u64, is_over: u32) -> Libraries {
         next,
         is_over,
         spare: 0,
+    }
+}
+
+/// A walk by steps, which starts here.
+pub(crate) fn from_library(libraries: Libraries) -> LibraryWalk {
+    LibraryWalk {
+        libraries,
+        kept: NO_SECTIONS,
+    }
+}
+
+/// The same over the imports of a library.
+pub(crate) fn from_import(imports: Imports) -> ImportWalk {
+    ImportWalk {
+        imports,
+        kept: NO_SECTIONS,
     }
 }
 
@@ -139,7 +157,7 @@ fn next_library(
     bytes: &[u8],
     image: &Image,
     mode: u32,
-    walk: &mut Libraries,
+    walk: &mut LibraryWalk,
 ) -> (u32, Fields, (u64, u32, u32)) {
     let mut out = NO_LIBRARY;
     let answer = pe_c_next_library(
@@ -147,20 +165,25 @@ fn next_library(
         walk,
         &mut out,
     );
-    (answer, of_library(out), of_libraries(*walk))
+    (answer, of_library(out), of_libraries(walk.libraries))
 }
 
 /// The answer, what went out, and the entries that are left and the next slot after it.
 type Step = (u32, ([u64; 2], u64, u32, u32), [u64; 2], u64);
 
-fn next_import(bytes: &[u8], image: &Image, mode: u32, walk: &mut Imports) -> Step {
+fn next_import(bytes: &[u8], image: &Image, mode: u32, walk: &mut ImportWalk) -> Step {
     let mut out = NO_IMPORT;
     let answer = pe_c_next_import(
         &view(bytes, &in_mode(image, mode), &sections()),
         walk,
         &mut out,
     );
-    (answer, of_import(out), of_range(walk.left), walk.rva)
+    (
+        answer,
+        of_import(out),
+        of_range(walk.imports.left),
+        walk.imports.rva,
+    )
 }
 
 #[test]
@@ -191,7 +214,7 @@ fn libraries_in_their_order(rt: HostRuntime) -> Result<(), Fail> {
     let first = [0x1060, 0x0403_0201, 0x0807_0605, 0x10A0, 0x2000, 0];
     let second = [0, 0, 0, 0x10A2, 0x1088, 0];
     for mode in [STRICT, PERMISSIVE] {
-        let mut walk = libraries(0x10, 0);
+        let mut walk = from_library(libraries(0x10, 0));
         assert_eq!(rt;
             next_library(&bytes, &image, mode, &mut walk),
             (DONE, ([0xA0, 1], [0x60, 16], 0x2000, first), (0x24, 0, 0))
@@ -208,7 +231,7 @@ fn libraries_in_their_order(rt: HostRuntime) -> Result<(), Fail> {
         }
     }
     // A walk that a caller says is over stays as it is.
-    let mut walk = libraries(0x10, 7);
+    let mut walk = from_library(libraries(0x10, 7));
     assert_eq!(rt;
         next_library(&bytes, &image, STRICT, &mut walk),
         (NOTHING, UNTOUCHED_LIBRARY, (0x10, 7, 0))
@@ -220,6 +243,7 @@ fn libraries_in_their_order(rt: HostRuntime) -> Result<(), Fail> {
 fn refused_libraries(rt: HostRuntime) -> Result<(), Fail> {
     let image = with_directory(0x1010, 60);
     let damages: [(usize, &[u8], u64, u32); 8] = [
+        // shows: pe_c/src/kept_sections.rt require_kept Unmapped
         // The name's address is unmapped, its first byte is not UTF-8, or it has no end.
         (0x1D, &[0x30], 0x10, UNMAPPED),
         (0xA0, &[0xFF], 0x10, IMPORT_NAME),
@@ -235,7 +259,7 @@ fn refused_libraries(rt: HostRuntime) -> Result<(), Fail> {
     for (offset, part, next, number) in damages {
         let mut bytes = with_imports(rt.alloc())?;
         put(&mut bytes, &[(0xB8, &[b'x'; 8]), (offset, part)]);
-        let mut walk = libraries(next, 0);
+        let mut walk = from_library(libraries(next, 0));
         assert_eq!(rt;
             next_library(&bytes, &image, STRICT, &mut walk),
             (number, UNTOUCHED_LIBRARY, (0, 1, 0)),
@@ -251,7 +275,7 @@ fn refused_libraries(rt: HostRuntime) -> Result<(), Fail> {
         &bytes,
         &image,
         STRICT,
-        &mut libraries(0x10, 0),
+        &mut from_library(libraries(0x10, 0)),
     );
     assert_eq!(rt; (answer, list, walk), (DONE, OVER, (0x24, 0, 0)));
     Ok(())
@@ -262,10 +286,10 @@ fn imports_of_a_library(rt: HostRuntime) -> Result<(), Fail> {
     let bytes = with_imports(rt.alloc())?;
     let pe32_plus = with_directory(0x1010, 60);
     for mode in [STRICT, PERMISSIVE] {
-        let mut walk = Imports {
+        let mut walk = from_import(Imports {
             left: range(0x60, 16),
             rva: 0x2000,
-        };
+        });
         assert_eq!(rt;
             next_import(&bytes, &pe32_plus, mode, &mut walk),
             (DONE, ([0xB2, 1], 0x2000, 7, 1), [0x68, 8], 0x2008)
@@ -282,10 +306,10 @@ fn imports_of_a_library(rt: HostRuntime) -> Result<(), Fail> {
         }
     }
     // The slot after the last address is the first: a caller may say where slots start.
-    let mut walk = Imports {
+    let mut walk = from_import(Imports {
         left: range(0x68, 8),
         rva: u64::MAX,
-    };
+    });
     assert_eq!(rt;
         next_import(&bytes, &pe32_plus, STRICT, &mut walk),
         (DONE, (OVER, u64::MAX, 17, 0), [0x70, 0], 7)
@@ -303,10 +327,10 @@ fn pe32_imports(rt: HostRuntime) -> Result<(), Fail> {
         ..with_directory(0x1010, 60)
     };
     let mut out = NO_LIBRARY;
-    let mut walk = libraries(0x10, 0);
+    let mut walk = from_library(libraries(0x10, 0));
     let answer = pe_c_next_library(&view(&bytes, &pe32, &sections()), &mut walk, &mut out);
-    let mut walk = out.imports;
-    assert_eq!(rt; (answer, of_range(walk.left)), (DONE, [0x60, 8]));
+    let mut walk = from_import(out.imports);
+    assert_eq!(rt; (answer, of_range(walk.imports.left)), (DONE, [0x60, 8]));
     assert_eq!(rt;
         next_import(&bytes, &pe32, STRICT, &mut walk),
         (DONE, ([0xB2, 1], 0x2000, 7, 1), [0x64, 4], 0x2004)
@@ -332,10 +356,10 @@ fn refused_imports(rt: HostRuntime) -> Result<(), Fail> {
     for (offset, part, number) in damages {
         let mut bytes = with_imports(rt.alloc())?;
         put(&mut bytes, &[(0xB8, &[b'x'; 8]), (offset, part)]);
-        let mut walk = Imports {
+        let mut walk = from_import(Imports {
             left: range(0x60, 16),
             rva: 0x2000,
-        };
+        });
         for number in [number, NOTHING] {
             assert_eq!(rt;
                 next_import(&bytes, &image, STRICT, &mut walk),
@@ -347,10 +371,10 @@ fn refused_imports(rt: HostRuntime) -> Result<(), Fail> {
     let bytes = with_imports(rt.alloc())?;
     let cut = range(0x60, 7);
     for left in lies(LENGTH).iter().chain([cut].iter()) {
-        let mut walk = Imports {
+        let mut walk = from_import(Imports {
             left: *left,
             rva: 5,
-        };
+        });
         for number in [SHORT, NOTHING] {
             assert_eq!(rt;
                 next_import(&bytes, &image, STRICT, &mut walk),

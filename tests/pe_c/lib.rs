@@ -27,6 +27,7 @@ mod headers;
 mod image;
 mod image_write;
 mod imports;
+mod kept_sections;
 mod library_functions;
 mod library_imports;
 mod lists;

@@ -1,6 +1,8 @@
 //! Windows of the section map, by which lists map most RVAs: what they map is what `pe_c_offset` returns of each RVA alone, by
 //! whatever sections, and what lists return by them is what the steps return.
 
+use super::exports::from as from_export;
+use super::imports::from_import;
 use super::made::{self, MAPPED, STRICT, X64, image, in_mode, of_range, range};
 use crate::exports::{Export, Exports, pe_c_next_export};
 use crate::image::{Image, pe_c_offset};
@@ -107,7 +109,7 @@ fn windows_without_sections(rt: HostRuntime) {
 }
 
 /// The next number of a sequence that looks like chance.
-fn next(seed: &mut u64) -> u32 {
+pub(crate) fn next(seed: &mut u64) -> u32 {
     *seed = seed
         .wrapping_mul(6364136223846793005)
         .wrapping_add(1442695040888963407);
@@ -115,7 +117,7 @@ fn next(seed: &mut u64) -> u32 {
 }
 
 /// A section of any size in a few pages, or at the end of all RVAs.
-fn any_section(seed: &mut u64) -> SectionTable {
+pub(crate) fn any_section(seed: &mut u64) -> SectionTable {
     let base = if next(seed) % 8 == 0 { 0xFFFF_A000 } else { 0 };
     let rva = base + next(seed) % 24 * 0x400;
     let virtual_size = next(seed) % 4 * (next(seed) % 0x1800);
@@ -128,7 +130,7 @@ fn any_section(seed: &mut u64) -> SectionTable {
 }
 
 /// An RVA at a border of a section or near one, or any.
-fn any_rva(seed: &mut u64, sections: &[SectionTable]) -> u32 {
+pub(crate) fn any_rva(seed: &mut u64, sections: &[SectionTable]) -> u32 {
     let near = sections[next(seed) as usize % sections.len()];
     let size = [0, 0x1000, 0x2000, near.virtual_size, near.size_of_raw_data][next(seed) as usize
         % 5];
@@ -221,7 +223,7 @@ fn of_export(export: &Export) -> ([u64; 2], u32, u64, u32) {
     (of_range(name), rva, offset, has_offset)
 }
 
-const NO_EXPORT: Export = Export {
+pub(crate) const NO_EXPORT: Export = Export {
     name: Range {
         offset: 0,
         length: 0,
@@ -261,7 +263,7 @@ fn exports_in_overlapping_sections(rt: HostRuntime) -> Result<(), Fail> {
             addresses: range(0x70, 16),
             next: 0,
         };
-        let (mut walk, mut steps) = (start, start);
+        let (mut walk, mut steps) = (start, from_export(start));
         let (mut entries, mut step, mut written) = ([NO_EXPORT; 4], NO_EXPORT, 0);
         let mut count = 0;
         while count < 4 {
@@ -273,7 +275,7 @@ fn exports_in_overlapping_sections(rt: HostRuntime) -> Result<(), Fail> {
                 assert_eq!(rt; of_export(&step), wanted[count]);
                 count += 1;
             }
-            assert_eq!(rt; walk.next, steps.next);
+            assert_eq!(rt; walk.next, steps.exports.next);
         }
         assert_eq!(rt; pe_c_next_export(&view, &mut steps, &mut step), NOTHING);
     }
@@ -301,7 +303,7 @@ fn imports_in_overlapping_sections(rt: HostRuntime) -> Result<(), Fail> {
             left: range(0x90, 32),
             rva: 0x5000,
         };
-        let (mut walk, mut steps) = (start, start);
+        let (mut walk, mut steps) = (start, from_import(start));
         let (mut entries, mut step, mut written) = ([NO_IMPORT; 4], NO_IMPORT, 0);
         let mut count = 0;
         while count < 4 {
@@ -313,7 +315,7 @@ fn imports_in_overlapping_sections(rt: HostRuntime) -> Result<(), Fail> {
                 assert_eq!(rt; of_import(&step), wanted[count]);
                 count += 1;
             }
-            assert_eq!(rt; of_range(walk.left), of_range(steps.left));
+            assert_eq!(rt; of_range(walk.left), of_range(steps.imports.left));
         }
         assert_eq!(rt; pe_c_next_import(&view, &mut steps, &mut step), NOTHING);
     }

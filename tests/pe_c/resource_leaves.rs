@@ -6,9 +6,11 @@ use super::made::{
     sections, view,
 };
 use crate::image::Image;
+use crate::kept_sections::NO_SECTIONS;
 use crate::ranges::Range;
 use crate::resource_leaves::{
-    ResourceLeaf, ResourceLeaves, ResourceName, pe_c_next_resource_leaf, pe_c_resource_leaves,
+    LeafWalk, ResourceLeaf, ResourceLeaves, ResourceName, pe_c_next_resource_leaf,
+    pe_c_resource_leaves,
 };
 use crate::results::{DONE, NOTHING};
 use pe_images::{image as bytes_of, put};
@@ -75,14 +77,17 @@ const NO_ENTRY: ResourceEntry = ResourceEntry {
 };
 
 /// A walk from these ranges.
-pub(crate) fn walk(tree: Range, types: Range, names: Range, languages: Range) -> ResourceLeaves {
-    ResourceLeaves {
-        tree,
-        types,
-        names,
-        languages,
-        resource_type: NO_ENTRY,
-        name: NO_ENTRY,
+pub(crate) fn walk(tree: Range, types: Range, names: Range, languages: Range) -> LeafWalk {
+    LeafWalk {
+        leaves: ResourceLeaves {
+            tree,
+            types,
+            names,
+            languages,
+            resource_type: NO_ENTRY,
+            name: NO_ENTRY,
+        },
+        kept: NO_SECTIONS,
     }
 }
 
@@ -103,7 +108,8 @@ fn flat(leaf: ResourceLeaf) -> ([[u64; 4]; 3], [u64; 2], [u32; 4]) {
 }
 
 /// The four ranges of a walk, and its two entries.
-fn flat_walk(walk: ResourceLeaves) -> ([[u64; 2]; 4], [ResourceEntry; 2]) {
+fn flat_walk(walk: LeafWalk) -> ([[u64; 2]; 4], [ResourceEntry; 2]) {
+    let walk = walk.leaves;
     let ranges = [
         of_range(walk.tree),
         of_range(walk.types),
@@ -113,13 +119,13 @@ fn flat_walk(walk: ResourceLeaves) -> ([[u64; 2]; 4], [ResourceEntry; 2]) {
     (ranges, [walk.resource_type, walk.name])
 }
 
-pub(crate) fn start(bytes: &[u8], image: &Image) -> (u32, ResourceLeaves) {
+pub(crate) fn start(bytes: &[u8], image: &Image) -> (u32, LeafWalk) {
     let mut out = walk(range(1, 2), range(3, 4), range(5, 6), range(7, 8));
-    let answer = pe_c_resource_leaves(&view(bytes, image, &sections()), &mut out);
+    let answer = pe_c_resource_leaves(&view(bytes, image, &sections()), &mut out.leaves);
     (answer, out)
 }
 
-fn step(bytes: &[u8], image: &Image, walk: &mut ResourceLeaves) -> (u32, ResourceLeaf) {
+fn step(bytes: &[u8], image: &Image, walk: &mut LeafWalk) -> (u32, ResourceLeaf) {
     let mut out = NO_LEAF;
     let answer = pe_c_next_resource_leaf(&view(bytes, image, &sections()), walk, &mut out);
     (answer, out)
@@ -261,12 +267,12 @@ fn walks_that_lie(rt: HostRuntime) -> Result<(), Fail> {
     let (tree, types, none) = (range(0x20, 0x8E), range(16, 16), range(0, 0));
     let mut walks = [walk(tree, types, none, none); 28];
     for (i, lie) in lies(0xAE).into_iter().enumerate() {
-        walks[i].tree = lie;
+        walks[i].leaves.tree = lie;
     }
     for (i, lie) in lies(0x8E).into_iter().enumerate() {
-        walks[7 + i].types = lie;
-        walks[14 + i].names = lie;
-        walks[21 + i].languages = lie;
+        walks[7 + i].leaves.types = lie;
+        walks[14 + i].leaves.names = lie;
+        walks[21 + i].leaves.languages = lie;
     }
     for mut walk in walks {
         let (answer, leaf) = step(&bytes, &image, &mut walk);

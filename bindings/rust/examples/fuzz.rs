@@ -193,6 +193,122 @@ fn show(number: u32, room: usize) {
     assert!((room == 0 || text[written] == 0) && text[room..].iter().all(|it| *it == 0xFF), "{number}");
 }
 
+/// Any number of sections that a walk keeps: each is legal.
+fn any_kept(random: &mut Random) -> sys::KeptSections {
+    sys::KeptSections { first: random.edge(4) as u32, second: random.edge(4) as u32 }
+}
+
+/// Steps a walk while it returns items, but not forever, and returns these. The sections that it keeps make no difference; where its
+/// steps have a call that says why they return an error, that does so exactly where they do, and by the same error. A second walk
+/// keeps any numbers.
+macro_rules! steps {
+    ($view:expr, $random:expr, $most:expr, $name:ident($walk:ident { $place:ident: $start:expr }), $out:ident $(, $why:ident)?) => {{
+        let (view, start, mut items): (&sys::View, _, _) = (&$view, $start, vec![]);
+        let none = sys::KeptSections::default();
+        let mut walk = sys::$walk { $place: start, kept: none };
+        for _ in 0..$most {
+            let mut alone = sys::$walk { kept: none, ..walk };
+            let (mut out, mut same) = (sys::$out::default(), sys::$out::default());
+            $(
+                let mut failure = sys::Failure::default();
+                // SAFETY: the view is of slices, and each record is lent for its call.
+                let said = unsafe { sys::$why(view, &walk.$place, &mut failure) };
+            )?
+            // SAFETY: the view is of slices, and each record is lent for its call.
+            let answer = unsafe { sys::$name(view, &mut walk, &mut out) };
+            // SAFETY: as above.
+            let other = unsafe { sys::$name(view, &mut alone, &mut same) };
+            assert_eq!((answer, out, walk.$place), (other, same, alone.$place));
+            $(
+                let is_refused = answer != sys::DONE && answer != sys::NOTHING;
+                let expected = if is_refused { (sys::DONE, answer) } else { (sys::NOTHING, 0) };
+                assert_eq!((said, failure.result), expected, "{}", stringify!($why));
+            )?
+            if answer != sys::DONE {
+                break;
+            }
+            items.push(out);
+        }
+        let mut walk = sys::$walk { $place: start, kept: any_kept($random) };
+        for _ in 0..$most {
+            let mut out = sys::$out::default();
+            // SAFETY: as above.
+            if unsafe { sys::$name(view, &mut walk, &mut out) } != sys::DONE {
+                break;
+            }
+            if $random.below(4) == 0 {
+                walk.kept = any_kept($random);
+            }
+        }
+        items
+    }};
+}
+
+/// Steps through the walks of an image that keep sections, without an index of these.
+fn read_by_steps(bytes: &[u8], mode: Mode, layout: Layout, random: &mut Random, seen: &mut Seen) {
+    let Ok(image) = Image::parse_as(bytes, mode, layout) else {
+        return;
+    };
+    let view = sys::View::of(bytes, image.info(), image.sections(), &[]);
+    macro_rules! started {
+        ($name:ident, $out:ident) => {{
+            let mut out = sys::$out::default();
+            // SAFETY: the view is of slices, and the record is lent for the call.
+            unsafe { sys::$name(&view, &mut out) };
+            out
+        }};
+    }
+    let tables = started!(pe_c_export_tables, Exports);
+    let mut count = steps!(view, random, 4 * MOST, pe_c_next_export(ExportWalk { exports: tables }), Export).len();
+    let mut libraries = started!(pe_c_import_libraries, Libraries);
+    // without a directory no walk was started: one at 0 would read the headers
+    libraries.is_over |= u32::from(libraries.next == 0);
+    for library in steps!(
+        view,
+        random,
+        MOST,
+        pe_c_next_library(LibraryWalk { libraries: libraries }),
+        Library,
+        pe_c_library_failure
+    ) {
+        let walk = library.imports;
+        count +=
+            steps!(view, random, MOST, pe_c_next_import(ImportWalk { imports: walk }), Import, pe_c_import_failure)
+                .len();
+    }
+    let delayed = started!(pe_c_delay_imports, Range);
+    for dll in steps!(
+        view,
+        random,
+        MOST,
+        pe_c_next_delay_import(DelayImportWalk { entries: delayed }),
+        DelayImport,
+        pe_c_delay_import_failure
+    ) {
+        let walk = dll.functions;
+        count += steps!(
+            view,
+            random,
+            MOST,
+            pe_c_next_delayed_function(DelayedFunctionWalk { functions: walk }),
+            DelayedFunction,
+            pe_c_delayed_function_failure
+        )
+        .len();
+    }
+    let leaves = started!(pe_c_resource_leaves, ResourceWalk);
+    count += steps!(
+        view,
+        random,
+        MOST,
+        pe_c_next_resource_leaf(LeafWalk { leaves: leaves }),
+        ResourceLeaf,
+        pe_c_resource_leaf_failure
+    )
+    .len();
+    seen.records += count as u64;
+}
+
 /// Makes calls with wrong records: none may touch anything but the bytes and its arguments.
 fn read_by_lies(bytes: &[u8], random: &mut Random, seen: &mut Seen) {
     let (start, length) = (bytes.as_ptr(), bytes.len());
@@ -211,7 +327,7 @@ fn read_by_lies(bytes: &[u8], random: &mut Random, seen: &mut Seen) {
         number_of_sections: (few >> 2) as u16 % 4,
         ..sys::ImageInfo::default()
     };
-    let section = sys::Section {
+    let mut any_section = || sys::Section {
         name: *b"/4\0\0\0\0\0\0",
         virtual_address: random.edge(number) as u32,
         virtual_size: random.edge(number) as u32,
@@ -219,7 +335,8 @@ fn read_by_lies(bytes: &[u8], random: &mut Random, seen: &mut Seen) {
         pointer_to_raw_data: random.edge(number) as u32,
         ..sys::Section::default()
     };
-    let sections = [sys::Section::default(), section];
+    let (section, other) = (any_section(), any_section());
+    let sections = [if few & 64 == 0 { sys::Section::default() } else { other }, section];
     let mut room = sections;
     let index = random.edge(64);
     let lies = [few % 96, few, few.rotate_left(9)]
@@ -300,18 +417,6 @@ fn read_by_lies(bytes: &[u8], random: &mut Random, seen: &mut Seen) {
                 if explained!(sys::$name(start, length, $($more,)? &mut walk, &mut out), |failure| sys::$why(
                     start, length, $($more,)? &before, failure
                 )) != 0
-                {
-                    break;
-                }
-            }
-        }};
-    }
-    macro_rules! explained_walk_of_image {
-        ($name:ident, $why:ident($walk:expr), $out:ident) => {{
-            let mut walk = $walk;
-            for _ in 0..MOST {
-                let (before, mut out) = (walk, sys::$out::default());
-                if explained!(sys::$name(&view, &mut walk, &mut out), |failure| sys::$why(&view, &before, failure)) != 0
                 {
                     break;
                 }
@@ -619,8 +724,9 @@ fn read_by_lies(bytes: &[u8], random: &mut Random, seen: &mut Seen) {
         assert!(written == 0 || written == needed && written <= size as u64);
     }
     let tables = call_of_image!(pe_c_export_tables(), Exports);
-    walk_of_image!(pe_c_next_export(tables), Export);
-    walk_of_image!(pe_c_next_export(sys::Exports { names: range, next: index, ..tables }), Export);
+    for walk in [tables, sys::Exports { names: range, next: index, ..tables }] {
+        steps!(view, random, MOST, pe_c_next_export(ExportWalk { exports: walk }), Export);
+    }
     call_of_image!(pe_c_export_directory(), ExportFields);
     let table = call_of_image!(pe_c_export_addresses(), AddressTable);
     call_of_image!(pe_c_export_at(&table, index), Exported);
@@ -628,9 +734,10 @@ fn read_by_lies(bytes: &[u8], random: &mut Random, seen: &mut Seen) {
     call_of_image!(pe_c_export_at(&lie, index), Exported);
     let libraries = call_of_image!(pe_c_import_libraries(), Libraries);
     for walk in [libraries, sys::Libraries { next: range.offset, ..libraries }] {
-        explained_walk_of_image!(pe_c_next_library, pe_c_library_failure(walk), Library);
+        steps!(view, random, MOST, pe_c_next_library(LibraryWalk { libraries: walk }), Library, pe_c_library_failure);
     }
-    explained_walk_of_image!(pe_c_next_import, pe_c_import_failure(sys::Imports { left: range, rva: index }), Import);
+    let lie = sys::Imports { left: range, rva: index };
+    steps!(view, random, MOST, pe_c_next_import(ImportWalk { imports: lie }), Import, pe_c_import_failure);
     call_of_image!(pe_c_all_imports(), LibraryImports);
     let tls = call_of_image!(pe_c_tls(), TlsDirectory);
     call_of_image!(pe_c_tls_callbacks(&sys::TlsDirectory { address_of_callbacks: random.edge(number), ..tls }), Range);
@@ -667,21 +774,42 @@ fn read_by_lies(bytes: &[u8], random: &mut Random, seen: &mut Seen) {
     call_of_image!(pe_c_all_delayed_functions(), LibraryFunctions);
     let delayed = call_of_image!(pe_c_delay_imports(), Range);
     for walk in [delayed, range] {
-        explained_walk_of_image!(pe_c_next_delay_import, pe_c_delay_import_failure(walk), DelayImport);
+        steps!(
+            view,
+            random,
+            MOST,
+            pe_c_next_delay_import(DelayImportWalk { entries: walk }),
+            DelayImport,
+            pe_c_delay_import_failure
+        );
     }
     let lie = sys::DelayedFunctions { left: range, attributes: few, spare: 1 };
-    explained_walk_of_image!(pe_c_next_delayed_function, pe_c_delayed_function_failure(lie), DelayedFunction);
+    steps!(
+        view,
+        random,
+        MOST,
+        pe_c_next_delayed_function(DelayedFunctionWalk { functions: lie }),
+        DelayedFunction,
+        pe_c_delayed_function_failure
+    );
     let leaves = call_of_image!(pe_c_resource_leaves(), ResourceWalk);
-    explained_walk_of_image!(pe_c_next_resource_leaf, pe_c_resource_leaf_failure(leaves), ResourceLeaf);
     let entry = sys::ResourceEntry { name_or_id: few, offset_to_data_or_directory: few.rotate_left(5) };
     let part = sys::Range { offset: index, length: u64::from(few % 64) };
-    for lie in [
+    for walk in [
+        leaves,
         sys::ResourceWalk { tree: range, ..leaves },
         sys::ResourceWalk { types: part, ..leaves },
         sys::ResourceWalk { names: part, resource_type: entry, ..leaves },
         sys::ResourceWalk { languages: part, name: entry, ..leaves },
     ] {
-        explained_walk_of_image!(pe_c_next_resource_leaf, pe_c_resource_leaf_failure(lie), ResourceLeaf);
+        steps!(
+            view,
+            random,
+            MOST,
+            pe_c_next_resource_leaf(LeafWalk { leaves: walk }),
+            ResourceLeaf,
+            pe_c_resource_leaf_failure
+        );
     }
     for tree in [leaves.tree, range] {
         let directory = call!(pe_c_resource_directory_at(&tree, few % 64), ResourceDirectory);
@@ -951,6 +1079,7 @@ fn main() {
                 read_dump(input, &mut others);
                 seen.add(others);
                 read_by_lies(input, &mut random, &mut seen);
+                read_by_steps(input, mode, layout, &mut random, &mut seen);
             }
             inputs += 1;
             for (at, byte) in before.into_iter().rev() {

@@ -149,6 +149,15 @@ IndexEntry, 16 {
     section: u64,
 });
 record!(
+/// The sections of the last RVAs of a walk, which the steps over exports, imports, delay imports and resources test before the others.
+/// All 0 at the start of a walk; only these calls read and write it.
+KeptSections, 8 {
+    /// The index of a section plus 1; 0 for none; `u32::MAX` for none, and the walk keeps no more, where sections may overlap.
+    first: u32,
+    /// The same of the one that was kept before it.
+    second: u32,
+});
+record!(
 /// Room for what the calls that read names together find out; what is in it has no meaning to callers.
 Run, 24 {
     /// The offset of a name.
@@ -786,7 +795,7 @@ Arm64StackWalk, 368 {
     is_searched: u32,
 });
 record!(
-/// A walk over exports.
+/// Where a walk over exports stands.
 Exports, 56 {
     /// RVAs of names, 4 bytes each.
     names: Range,
@@ -796,6 +805,14 @@ Exports, 56 {
     addresses: Range,
     /// Index of the next name.
     next: u64,
+});
+record!(
+/// A walk over exports, step by step.
+ExportWalk, 64 {
+    /// Where it stands.
+    exports: Exports,
+    /// The sections of its last RVAs.
+    kept: KeptSections,
 });
 record!(
 /// An export. See [`Export`](crate::Export).
@@ -866,7 +883,7 @@ Exported, 32 {
     is_forwarder: u32,
 });
 record!(
-/// A walk over the libraries of an import directory.
+/// Where a walk over the libraries of an import directory stands.
 Libraries, 16 {
     /// File offset of the next record.
     next: u64,
@@ -876,7 +893,7 @@ Libraries, 16 {
     spare: u32,
 });
 record!(
-/// A walk over the imports of a library.
+/// Where a walk over the imports of a library stands.
 Imports, 24 {
     /// The entries of the list that are left: 8 bytes each in PE32+, else 4.
     left: Range,
@@ -884,11 +901,27 @@ Imports, 24 {
     rva: u64,
 });
 record!(
+/// A walk over libraries, step by step.
+LibraryWalk, 24 {
+    /// Where it stands.
+    libraries: Libraries,
+    /// The sections of its last RVAs.
+    kept: KeptSections,
+});
+record!(
+/// A walk over the imports of a library, step by step.
+ImportWalk, 32 {
+    /// Where it stands.
+    imports: Imports,
+    /// The sections of its last RVAs.
+    kept: KeptSections,
+});
+record!(
 /// A DLL that an image imports from, `IMAGE_IMPORT_DESCRIPTOR`. See [`Library`](crate::Library).
 Library, 64 {
     /// UTF-8, without its final zero.
     name: Range,
-    /// A walk for [`pe_c_next_import`], at its start.
+    /// Where a walk over its imports starts, for [`pe_c_next_import`].
     imports: Imports,
     /// RVA of the list of imports. Where it is 0, the list is the address table.
     lookup_table_rva: u32,
@@ -1232,7 +1265,7 @@ DelayDescriptor, 32 {
     time_date_stamp: u32,
 });
 record!(
-/// A walk over what is imported of a DLL that is loaded later.
+/// Where a walk over what is imported of a DLL that is loaded later stands.
 DelayedFunctions, 24 {
     /// The table from its next number on: 8 bytes each in PE32+, else 4.
     left: Range,
@@ -1242,11 +1275,27 @@ DelayedFunctions, 24 {
     spare: u32,
 });
 record!(
+/// A walk over the DLLs that are loaded later, step by step.
+DelayImportWalk, 24 {
+    /// The entries that are left.
+    entries: Range,
+    /// The sections of its last RVAs.
+    kept: KeptSections,
+});
+record!(
+/// A walk over what is imported of a DLL that is loaded later, step by step.
+DelayedFunctionWalk, 32 {
+    /// Where it stands.
+    functions: DelayedFunctions,
+    /// The sections of its last RVAs.
+    kept: KeptSections,
+});
+record!(
 /// A DLL that is loaded later. See [`DelayImport`](crate::DelayImport).
 DelayImport, 72 {
     /// UTF-8, without its final zero.
     name: Range,
-    /// A walk over what is imported of the DLL, at its start.
+    /// Where a walk over what is imported of the DLL starts.
     functions: DelayedFunctions,
     /// The entry.
     descriptor: DelayDescriptor,
@@ -1391,7 +1440,7 @@ ResourceItem, 32 {
     is_directory: u32,
 });
 record!(
-/// A walk over leaves. The ranges of entries, 8 bytes each, count from the start of the tree.
+/// Where a walk over leaves stands. The ranges of entries, 8 bytes each, count from the start of the tree.
 ResourceWalk, 80 {
     /// The data of the resource directory.
     tree: Range,
@@ -1405,6 +1454,14 @@ ResourceWalk, 80 {
     resource_type: ResourceEntry,
     /// The entry of this name.
     name: ResourceEntry,
+});
+record!(
+/// A walk over leaves, step by step.
+LeafWalk, 88 {
+    /// Where it stands.
+    leaves: ResourceWalk,
+    /// The sections of its last RVAs.
+    kept: KeptSections,
 });
 record!(
 /// The Rich header. See [`RichHeader`](crate::RichHeader).
@@ -2921,7 +2978,7 @@ calls_of_an_image! {
     /// Returns the tables of the export directory, as a walk.
     pe_c_export_tables() -> Exports;
     /// Returns the next export.
-    pe_c_next_export(walk: *mut Exports) -> Export;
+    pe_c_next_export(walk: *mut ExportWalk) -> Export;
     /// Returns the fields of the export directory.
     pe_c_export_directory() -> ExportFields;
     /// Returns the export directory's table of RVAs.
@@ -2931,9 +2988,9 @@ calls_of_an_image! {
     /// Returns the import directory, as a walk.
     pe_c_import_libraries() -> Libraries;
     /// Returns the next library.
-    pe_c_next_library(walk: *mut Libraries) -> Library;
+    pe_c_next_library(walk: *mut LibraryWalk) -> Library;
     /// Returns the next import of a library.
-    pe_c_next_import(walk: *mut Imports) -> Import;
+    pe_c_next_import(walk: *mut ImportWalk) -> Import;
     /// Returns the import directory, as a walk over the imports of all libraries.
     pe_c_all_imports() -> LibraryImports;
     /// Returns the directory of bound imports.
@@ -2941,9 +2998,9 @@ calls_of_an_image! {
     /// Returns the entries of the delay import directory, as a walk.
     pe_c_delay_imports() -> Range;
     /// Returns the next DLL of the delay import directory.
-    pe_c_next_delay_import(walk: *mut Range) -> DelayImport;
+    pe_c_next_delay_import(walk: *mut DelayImportWalk) -> DelayImport;
     /// Returns the next function of a DLL of the delay import directory.
-    pe_c_next_delayed_function(walk: *mut DelayedFunctions) -> DelayedFunction;
+    pe_c_next_delayed_function(walk: *mut DelayedFunctionWalk) -> DelayedFunction;
     /// Returns the delay import directory, as a walk over the functions of all its DLLs.
     pe_c_all_delayed_functions() -> LibraryFunctions;
     /// Returns the fixed file information.
@@ -2957,7 +3014,7 @@ calls_of_an_image! {
     /// Returns the leaves of the resource tree, as a walk.
     pe_c_resource_leaves() -> ResourceWalk;
     /// Returns the next leaf.
-    pe_c_next_resource_leaf(walk: *mut ResourceWalk) -> ResourceLeaf;
+    pe_c_next_resource_leaf(walk: *mut LeafWalk) -> ResourceLeaf;
     /// Returns the TLS directory.
     pe_c_tls() -> TlsDirectory;
     /// Returns the callbacks of a TLS directory, as a walk.

@@ -63,6 +63,13 @@ fn lies(length: u64) -> Vec<u64> {
     vec![0, 1, 4, length - 1, length, length + 1, 1 << 31, u32::MAX.into(), 1 << 32, 1 << 63, u64::MAX - 3, u64::MAX]
 }
 
+/// Numbers of sections that a walk may keep: none, those of an image, and some that it does not have.
+const KEPT: [sys::KeptSections; 3] = [
+    sys::KeptSections { first: 0, second: 0 },
+    sys::KeptSections { first: 2, second: 1 },
+    sys::KeptSections { first: u32::MAX, second: 65_536 },
+];
+
 /// Steps a walk to its end, which must come within so many more steps; returns the result of the first step.
 fn first_of_all<W, T: Default + PartialEq + std::fmt::Debug>(
     most: usize,
@@ -167,18 +174,21 @@ fn walks_over_imports_that_lie_end() {
     let length = bytes.len();
     let image = Image::parse(&bytes, Mode::Strict).unwrap();
     let view = view_of(&image);
-    for offset in lies(length as u64) {
+    for (offset, kept) in lies(length as u64).into_iter().flat_map(|it| KEPT.map(|kept| (it, kept))) {
         for is_over in [0, 1, u32::MAX] {
             let start = sys::Libraries { next: offset, is_over, spare: 9 };
             // SAFETY: the pointers and lengths are those of slices, and the records are lent for the call.
-            let first = first_of_all(length, start, |walk, out| unsafe { sys::pe_c_next_library(&view, walk, out) });
+            let first = first_of_all(length, sys::LibraryWalk { libraries: start, kept }, |walk, out| unsafe {
+                sys::pe_c_next_library(&view, walk, out)
+            });
             assert!(is_over == 0 || first == 100);
             assert!(is_over != 0 || offset < length as u64 || first == 2);
         }
         for (size, rva) in lies(length as u64).into_iter().flat_map(|it| [(it, 0), (it, u64::MAX)]) {
             let left = sys::Range { offset, length: size };
+            let start = sys::Imports { left, rva };
             // SAFETY: as above.
-            let first = first_of_all(length, sys::Imports { left, rva }, |walk, out| unsafe {
+            let first = first_of_all(length, sys::ImportWalk { imports: start, kept }, |walk, out| unsafe {
                 sys::pe_c_next_import(&view, walk, out)
             });
             assert!(left.of(&bytes).is_some() || first == 2);
@@ -192,18 +202,20 @@ fn walks_over_delay_imports_and_streams_that_lie_end() {
     let length = bytes.len();
     let image = Image::parse(&bytes, Mode::Strict).unwrap();
     let view = view_of(&image);
-    for offset in lies(length as u64) {
+    for (offset, kept) in lies(length as u64).into_iter().flat_map(|it| KEPT.map(|kept| (it, kept))) {
         for size in lies(length as u64) {
             let range = sys::Range { offset, length: size };
             let there = range.of(&bytes).is_some();
             // SAFETY: the pointers and lengths are those of slices, and the records are lent for the call.
-            let first =
-                first_of_all(length, range, |walk, out| unsafe { sys::pe_c_next_delay_import(&view, walk, out) });
+            let first = first_of_all(length, sys::DelayImportWalk { entries: range, kept }, |walk, out| unsafe {
+                sys::pe_c_next_delay_import(&view, walk, out)
+            });
             assert!(there || first == 2);
             let start = sys::DelayedFunctions { left: range, attributes: size as u32, spare: 9 };
             // SAFETY: as above.
-            let first =
-                first_of_all(length, start, |walk, out| unsafe { sys::pe_c_next_delayed_function(&view, walk, out) });
+            let first = first_of_all(length, sys::DelayedFunctionWalk { functions: start, kept }, |walk, out| unsafe {
+                sys::pe_c_next_delayed_function(&view, walk, out)
+            });
             assert!(there || first == 2);
             let whole = sys::Range { offset: 0, length: length as u64 };
             for (metadata, headers) in [(range, whole), (whole, range), (range, range)] {
@@ -234,11 +246,14 @@ fn walks_over_leaves_that_lie_end() {
             (sys::ResourceWalk { names: lie, resource_type: entry, ..whole }, is_in_tree),
             (sys::ResourceWalk { languages: lie, name: entry, ..whole }, is_in_tree),
         ] {
-            // SAFETY: the pointers and lengths are those of slices, and the records are lent for the call.
-            let first = first_of_all(length * length, walk, |walk, out| unsafe {
-                sys::pe_c_next_resource_leaf(&view, walk, out)
-            });
-            assert!(there || first == 2);
+            for kept in KEPT {
+                let start = sys::LeafWalk { leaves: walk, kept };
+                // SAFETY: the pointers and lengths are those of slices, and the records are lent for the call.
+                let first = first_of_all(length * length, start, |walk, out| unsafe {
+                    sys::pe_c_next_resource_leaf(&view, walk, out)
+                });
+                assert!(there || first == 2);
+            }
         }
     }
 }

@@ -2,7 +2,8 @@
 
 mod made;
 
-use pe_c::{Image, Mode};
+use pe_c::{sys, Image, Mode};
+use std::time::{Duration, Instant};
 
 /// The image with its one section after 39 that are empty: all section headers stand at the end of the file, where the size of the
 /// optional header leads to.
@@ -85,4 +86,98 @@ fn directories_of_many_sections() {
         }
     }
     assert_eq!(there, [true; 13]);
+}
+
+/// What the steps of a walk return.
+fn items<W, T: Default>(mut walk: W, step: impl Fn(&mut W, &mut T) -> u32) -> Vec<T> {
+    let mut found = Vec::new();
+    loop {
+        let mut out = T::default();
+        if step(&mut walk, &mut out) != sys::DONE {
+            return found;
+        }
+        found.push(out);
+    }
+}
+
+/// Where a walk starts.
+fn started<T: Default>(start: unsafe extern "C" fn(*const sys::View, *mut T) -> u32, view: &sys::View) -> Option<T> {
+    let mut out = T::default();
+    // SAFETY: the view is of slices, and the record is lent for the call.
+    (unsafe { start(view, &mut out) } == sys::DONE).then_some(out)
+}
+
+/// What the steps of the six walks that keep sections return: exports, libraries and imports, DLLs and functions, leaves.
+type Items = (
+    Vec<sys::Export>,
+    Vec<sys::Library>,
+    Vec<sys::Import>,
+    Vec<sys::DelayImport>,
+    Vec<sys::DelayedFunction>,
+    Vec<sys::ResourceLeaf>,
+);
+
+/// The items of an image by these sections, without an index of them.
+fn items_by_steps(image: &Image, sections: &[sys::Section]) -> Items {
+    let view = sys::View::of(image.bytes(), image.info(), sections, &[]);
+    let kept = sys::KeptSections::default();
+    let mut all = Items::default();
+    if let Some(exports) = started(sys::pe_c_export_tables, &view) {
+        // SAFETY: the view is of slices, and both records are lent for the call; so are those below.
+        all.0 =
+            items(sys::ExportWalk { exports, kept }, |walk, out| unsafe { sys::pe_c_next_export(&view, walk, out) });
+    }
+    if let Some(libraries) = started(sys::pe_c_import_libraries, &view) {
+        let walk = sys::LibraryWalk { libraries, kept };
+        // SAFETY: as above.
+        all.1 = items(walk, |walk, out| unsafe { sys::pe_c_next_library(&view, walk, out) });
+    }
+    for library in &all.1 {
+        let walk = sys::ImportWalk { imports: library.imports, kept };
+        // SAFETY: as above.
+        all.2.extend(items(walk, |walk, out| unsafe { sys::pe_c_next_import(&view, walk, out) }));
+    }
+    if let Some(entries) = started(sys::pe_c_delay_imports, &view) {
+        let walk = sys::DelayImportWalk { entries, kept };
+        // SAFETY: as above.
+        all.3 = items(walk, |walk, out| unsafe { sys::pe_c_next_delay_import(&view, walk, out) });
+    }
+    for dll in &all.3 {
+        let walk = sys::DelayedFunctionWalk { functions: dll.functions, kept };
+        // SAFETY: as above.
+        all.4.extend(items(walk, |walk, out| unsafe { sys::pe_c_next_delayed_function(&view, walk, out) }));
+    }
+    if let Some(leaves) = started(sys::pe_c_resource_leaves, &view) {
+        let walk = sys::LeafWalk { leaves, kept };
+        // SAFETY: as above.
+        all.5 = items(walk, |walk, out| unsafe { sys::pe_c_next_resource_leaf(&view, walk, out) });
+    }
+    all
+}
+
+/// A step whose walk keeps the section of the RVA takes no search: with one for each RVA these would take a minute.
+#[test]
+fn steps_under_many_sections_take_no_longer_than_under_one() {
+    let start = Instant::now();
+    let mut counts = [0; 6];
+    for bytes in [
+        made::with_exports(),
+        made::with_imports(),
+        made::with_delay_imports(),
+        made::with_named_resources(),
+        made::with_names_in_one_text(),
+        made::with_late_names_in_one_text(),
+    ] {
+        let image = Image::parse(&bytes, Mode::Strict).unwrap();
+        assert_eq!(image.sections().len(), 1);
+        let sections = [&vec![sys::Section::default(); 65_534], image.sections()].concat();
+        let found = items_by_steps(&image, &sections);
+        assert!(found == items_by_steps(&image, image.sections()));
+        let own = [found.0.len(), found.1.len(), found.2.len(), found.3.len(), found.4.len(), found.5.len()];
+        for (count, more) in counts.iter_mut().zip(own) {
+            *count += more;
+        }
+    }
+    assert!(counts.iter().all(|it| *it > 1) && counts[2] > 90_000 && counts[4] > 90_000, "{counts:?}");
+    assert!(start.elapsed() < Duration::from_secs(20), "{:?}", start.elapsed());
 }

@@ -553,13 +553,14 @@ static int export_at(Image *self, Rows *rows, const pe_c_address_table *table, u
 }
 
 /* The exports with a name, in the order of the names. The walk skips names that are no texts, as often as it has names: so
- * each name is a walk of its own, after which what was read of it is paid for. */
+ * each name is a walk of its own, after which what was read of it is paid for. They share the sections that the walk keeps. */
 static void add_named(Image *self, Rows *rows, const pe_c_exports *all, const pe_c_address_table *table, uint8_t *is_named)
 {
+    pe_c_export_walk walk = PE_C_EMPTY;
     pe_c_export named = PE_C_EMPTY;
     pe_c_exported item = PE_C_EMPTY;
     for (uint64_t i = 0; goes_on(rows) && i < all->names.length / 4; i++) {
-        pe_c_exports walk = {{all->names.offset + 4 * i, 4}, {all->ordinals.offset + 2 * i, 2}, all->addresses, 0};
+        walk.exports = (pe_c_exports){{all->names.offset + 4 * i, 4}, {all->ordinals.offset + 2 * i, 2}, all->addresses, 0};
         uint32_t result = pe_c_next_export(VIEW, &walk, &named);
         if (result != PE_C_DONE && result != PE_C_NOTHING)
             rows->result = result;

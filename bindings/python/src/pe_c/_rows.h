@@ -1366,7 +1366,7 @@ static PyObject *row_export_fields(Image *self, Rows *rows, const pe_c_export_fi
 
 static PyStructSequence_Field row_library_fields[] = {
     {"name", "of the DLL: UTF-8, without its final zero"},
-    {"imports", "a walk for pe_c_next_import, at its start"},
+    {"imports", "where a walk over its imports starts"},
     {"lookup_table_rva", "RVA of the list; where it is 0, the list is the address table"},
     {"time_date_stamp", "0, or not 0 where the imports are bound"},
     {"forwarder_chain", "index of the first forwarder, or -1"},
@@ -1440,7 +1440,7 @@ static PyObject *row_delay_descriptor(Image *self, Rows *rows, const pe_c_delay_
 
 static PyStructSequence_Field row_delay_import_fields[] = {
     {"name", "of the DLL: UTF-8, without its final zero"},
-    {"imports", "a walk for pe_c_next_delayed_function, at its start"},
+    {"imports", "where a walk over its functions starts"},
     {"descriptor", NULL},
     {NULL, NULL}};
 
