@@ -86,6 +86,11 @@ by_others v k x none no_other =
     ∙ ap (λ (o : Option ℕ). or_else (or_else o (map_of_image v.image.now (numbered v.sections.now k.second) x)) (map_of v x)) none
     ∙ ap (λ (o : Option ℕ). or_else o (map_of v x)) no_other
 
+pub by_none : (v : View) (k : KeptSections) (x : ℕ) → k.first ≡ 0 → k.second ≡ 0 → map_kept v k x ≡ map_of v x
+by_none v k x none no_other =
+    ap (λ (n : ℕ). map_of_image v.image.now ((numbered v.sections.now n ++ numbered v.sections.now k.second) ++ may_map v x) x) none
+    ∙ ap (λ (n : ℕ). map_of_image v.image.now ((numbered v.sections.now 0 ++ numbered v.sections.now n) ++ may_map v x) x) no_other
+
 -- ---- a section that changes nothing
 
 -- what one section maps it covers

@@ -13,11 +13,11 @@ ghost use Rattle.pe_c.specs.KeptSections.{ChangeNothing, HasAll, IsAlone, map_ke
 
 use crate::image::Image;
 use crate::named_view::NamedView;
-use crate::near_map::{Window, window_in};
+use crate::near_map::{PAGE, Window, window_in};
 use crate::results::options;
 use crate::section_index::is_searched;
 use crate::view::{View, map_u64, sections_of};
-use pe_core::{Error, Reason, Result, SectionTable, find_offset};
+use pe_core::{Error, Reason, Result, SectionTable, find_offset, rounded_up};
 use pe_directories::{raw_start, reach};
 use pe_frame::numbered;
 use std::alloc::AllocError;
@@ -80,10 +80,13 @@ fn offset_in(view: &View, number: u32, rva: u64) -> Option<usize>
 }
 
 /// The offset of an RVA, of which these sections are tested first.
-#[tactic(auto, using(crate::proofs::KeptSections::by_first, crate::proofs::KeptSections::by_second, crate::proofs::KeptSections::by_others))]
+#[tactic(auto, using(crate::proofs::KeptSections::by_none, crate::proofs::KeptSections::by_first, crate::proofs::KeptSections::by_second, crate::proofs::KeptSections::by_others))]
 pub fn map_kept(view: &View, kept: KeptSections, rva: u64) -> Option<usize>
     ensures { result ≡ map_kept view.now kept rva }
 {
+    if kept.first == 0 && kept.second == 0 {
+        return map_u64(view, rva);
+    }
     match offset_in(view, kept.first, rva) {
         Some(offset) => Some(offset),
         None => match offset_in(view, kept.second, rva) {
@@ -192,13 +195,25 @@ fn kept_anew(view: &View, kept: KeptSections, rva: u32) -> KeptSections
     kept
 }
 
+/// Whether the section with an index plus 1 may cover an RVA: it has data of the RVA's page. A test of few steps, as each step makes it.
+#[inline(always)]
+fn may_cover(sections: &[SectionTable], number: u32, rva: u32) -> bool {
+    if number == 0 || number as usize > sections.len() {
+        return false;
+    }
+    let section = &sections[number as usize - 1];
+    let start = section.virtual_address;
+    let end = rounded_up(section.size_of_raw_data as usize, PAGE);
+    start <= rva && ((rva - start) as usize) < end
+}
+
 /// What a walk keeps after an RVA.
 pub fn kept_after(view: &View, kept: KeptSections, rva: u32) -> KeptSections
     ensures { ChangeNothing view.now kept → ChangeNothing view.now result }
 {
-    let rva_64 = u64::from(rva);
-    if offset_in(view, kept.first, rva_64).is_some()
-        || offset_in(view, kept.second, rva_64).is_some()
+    if may_cover(view.sections, kept.first, rva)
+        || may_cover(view.sections, kept.second, rva)
+        || !view.index.is_empty()
     {
         return kept;
     }

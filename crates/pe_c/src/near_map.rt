@@ -16,7 +16,7 @@ use pe_core::{SectionTable, rounded_up};
 use pe_directories::{raw_start, reach};
 
 /// Raw sizes are rounded up to a multiple of this, as the section map does.
-const PAGE: usize = 4096;
+pub const PAGE: usize = 4096;
 
 /// RVAs that follow one another, mapped to file offsets that follow one another.
 #[derive(Clone, Copy)]
