@@ -466,6 +466,19 @@ fn sections_that_are_covered(rt: HostRuntime) -> Result<(), Fail> {
     Ok(())
 }
 
+/// An empty section before one with the same RVA and the same data covers nothing: the other is kept.
+#[test]
+fn empty_sections(rt: HostRuntime) -> Result<(), Fail> {
+    let bytes = bytes_of_all(rt.alloc())?;
+    let (image, empty) = (fine_image(), section(0x2000, 0x1000, 0x400, 0));
+    let [first, second, third] = apart();
+    let sections = [first, empty, second, third];
+    let view = view(&bytes, &image, &sections);
+    let kept = imports(&view, NONE).map(|step| step.3);
+    assert_eq!(rt; kept, [[3, 0], [3, 0], [4, 3], [4, 3], [4, 3], [4, 3]]);
+    Ok(())
+}
+
 /// Where sections share no RVA any numbers change nothing; those past the last section are as 0 everywhere.
 #[test]
 fn numbers_that_no_step_left(rt: HostRuntime) -> Result<(), Fail> {
