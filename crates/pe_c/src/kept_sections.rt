@@ -27,7 +27,7 @@ use std::alloc::AllocError;
 #[repr(C)]
 #[derive(Clone, Copy)]
 pub struct KeptSections {
-    /// The index of a section plus 1; 0 for none, as at the start of a walk; 0xFFFFFFFF for none where sections overlap.
+    /// The index of a section plus 1; 0 for none, as at the start of a walk; 0xFFFFFFFF for none where sections may overlap.
     pub first: u32,
     /// The same of the one that was kept before it.
     pub second: u32,
@@ -147,11 +147,11 @@ fn index_with(window: &Window, sections: &[SectionTable], alignment: u32, rva: u
     None
 }
 
-/// The number past all sections, which is kept where an RVA lies in sections that overlap: then a walk looks for no more of them, as each
-/// look passes over all sections.
+/// The number past all sections, which is kept where the section of an RVA may share one with an earlier section, whose end is told to a
+/// page: then a walk looks for no more of them, as each look passes over all sections.
 const OVERLAPS: u32 = 0xffff_ffff;
 
-/// The index plus 1 of the section that maps an RVA. `OVERLAPS` if it shares one with an earlier one, none if the RVA is not mapped.
+/// The index plus 1 of the section that maps an RVA. `OVERLAPS` if it may share one with an earlier one, none if the RVA is not mapped.
 #[tactic(auto, using(crate::proofs::KeptSections::none_alone))]
 fn number_alone(image: &Image, sections: &[SectionTable], rva: u32) -> Option<u32>
     requires searched { is_searched image.now ≡ true }
