@@ -13,15 +13,17 @@ ghost use Rattle.pe_c.specs.KeptSections.{ChangeNothing, KeepsOn, map_kept};
 ghost use Rattle.pe_c.specs.Views.{directory_sections, map_of};
 
 use crate::directories::{Result, range_left, table_at};
+use crate::failure_numbers::bytes_there;
 use crate::image::{DELAY_IMPORT_DESCRIPTOR, Image};
 use crate::kept_sections::{KeptSections, NO_SECTIONS, kept_after, map_kept};
 use crate::named_view::NamedView;
 use crate::near_map::{NO_WINDOW, Window, map_near};
 use crate::ranges::{NO_BYTES, Range, slice_of};
 use crate::results::hand_out_found;
+use crate::step_failures::delay_imports::lookup_there;
 use crate::text_runs::Run;
 use crate::view::View;
-use pe_core::{Error, Reason, lookup_number, lookup_size, u16_at};
+use pe_core::{Error, Reason, u16_at};
 use pe_directories::{DelayImport, DelayImports, DirectoryError, VaTable};
 
 /// The size of the hint before a function's name in bytes.
@@ -45,6 +47,7 @@ pub struct DelayedFunctions {
 pub struct DelayWalk {
     /// The entries that are left.
     pub entries: Range,
+    /// The sections of its last RVAs.
     pub kept: KeptSections,
 }
 
@@ -52,7 +55,9 @@ pub struct DelayWalk {
 #[repr(C)]
 #[derive(Clone, Copy)]
 pub struct DelayedFunctionWalk {
+    /// Where it stands.
     pub functions: DelayedFunctions,
+    /// The sections of its last RVAs.
     pub kept: KeptSections,
 }
 
@@ -473,15 +478,6 @@ pub fn put_function_names(
     count
 }
 
-/// The number that a walk is at, 0 where it has none.
-pub fn lookup_of(view: &View, left: &Range) -> u64 {
-    let is_64 = view.image.width == 64;
-    match slice_of(view.bytes, left) {
-        Ok(table) if lookup_size(is_64) <= table.len() => lookup_number(table, 0, is_64),
-        _ => 0,
-    }
-}
-
 /// What a walk keeps after a function of a DLL with these attributes that a number of the table is: the section of its name.
 fn kept_after_function(
     view: &View,
@@ -557,7 +553,8 @@ pub extern "C" fn pe_c_next_delayed_function(
         attributes,
         ..
     } = walk.functions;
-    let lookup = lookup_of(view, &left);
+    let is_64 = view.image.width == 64;
+    let lookup = lookup_there(bytes_there(view.bytes, &left), is_64);
     let given = next_function(&NamedView::alone(view), walk.kept, attributes, &mut left);
     walk.functions.left = left;
     if let Ok(Some(function)) = &given {

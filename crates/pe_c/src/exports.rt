@@ -39,7 +39,9 @@ pub struct Exports {
 #[repr(C)]
 #[derive(Clone, Copy)]
 pub struct ExportWalk {
+    /// Where it stands.
     pub exports: Exports,
+    /// The sections of its last RVAs.
     pub kept: KeptSections,
 }
 

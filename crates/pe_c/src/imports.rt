@@ -20,6 +20,7 @@ use crate::named_view::NamedView;
 use crate::near_map::{NO_WINDOW, Window, map_near};
 use crate::ranges::{NO_BYTES, Range, range_from, slice_of};
 use crate::results::hand_out_some;
+use crate::step_failures::hint_rva;
 use crate::text_runs::Run;
 use crate::view::View;
 use crate::walks::next_entry;
@@ -59,7 +60,9 @@ pub struct Imports {
 #[repr(C)]
 #[derive(Clone, Copy)]
 pub struct LibraryWalk {
+    /// Where it stands.
     pub libraries: Libraries,
+    /// The sections of its last RVAs.
     pub kept: KeptSections,
 }
 
@@ -67,7 +70,9 @@ pub struct LibraryWalk {
 #[repr(C)]
 #[derive(Clone, Copy)]
 pub struct ImportWalk {
+    /// Where it stands.
     pub imports: Imports,
+    /// The sections of its last RVAs.
     pub kept: KeptSections,
 }
 
@@ -458,16 +463,6 @@ pub fn entries_left<'a>(view: &View<'a>, walk: &Imports) -> &'a [u8] {
     }
 }
 
-/// The entry that a walk is at, 0 where it has none.
-fn entry_of(view: &View, walk: &Imports) -> u64 {
-    let is_64 = view.image.width == 64;
-    let left = entries_left(view, walk);
-    if left.len() < lookup_size(is_64) {
-        return 0;
-    }
-    lookup_number(left, 0, is_64)
-}
-
 /// Reads the next import of a library: `NOTHING` after the last. Each name is read to its end, so names that overlap
 /// are read once each. Strict and permissive mode make no difference.
 ///
@@ -483,11 +478,11 @@ pub extern "C" fn pe_c_next_import(view: &View, walk: &mut ImportWalk, out: &mut
         view.now.bytes.now walk.old.imports).1 }
     ensures kept { KeepsOn view.now result walk.old.kept walk.new.kept }
 {
-    let entry = entry_of(view, &walk.imports);
+    let rva = hint_rva(view, &walk.imports);
     let given = import_step(&NamedView::alone(view), walk.kept, &mut walk.imports);
     if let Ok(Some(import)) = &given {
         if import.has_name != 0 {
-            walk.kept = kept_after(view, walk.kept, (entry % 0x8000_0000) as u32);
+            walk.kept = kept_after(view, walk.kept, rva);
         }
     }
     hand_out_some(given, out)

@@ -41,8 +41,11 @@ pub const NO_SECTIONS: KeptSections = KeptSections {
 
 /// A walk in a list, and the sections that it keeps. They change no offset, whatever the walk of the caller kept.
 pub struct KeptWalk<'a, W> {
+    /// The image.
     pub names: NamedView<'a>,
+    /// Where the walk stands.
     pub walk: W,
+    /// The sections of its last RVAs.
     pub kept: KeptSections,
     ghost right: { ChangeNothing names.view.now kept },
 }
@@ -197,7 +200,7 @@ fn kept_anew(view: &View, kept: KeptSections, rva: u32) -> KeptSections
 
 /// Whether the section with an index plus 1 may cover an RVA: it has data of the RVA's page. A test of few steps, as each step makes it.
 #[inline(always)]
-fn may_cover(sections: &[SectionTable], number: u32, rva: u32) -> bool {
+fn has_page_of(sections: &[SectionTable], number: u32, rva: u32) -> bool {
     if number == 0 || number as usize > sections.len() {
         return false;
     }
@@ -211,8 +214,8 @@ fn may_cover(sections: &[SectionTable], number: u32, rva: u32) -> bool {
 pub fn kept_after(view: &View, kept: KeptSections, rva: u32) -> KeptSections
     ensures { ChangeNothing view.now kept → ChangeNothing view.now result }
 {
-    if may_cover(view.sections, kept.first, rva)
-        || may_cover(view.sections, kept.second, rva)
+    if has_page_of(view.sections, kept.first, rva)
+        || has_page_of(view.sections, kept.second, rva)
         || !view.index.is_empty()
     {
         return kept;

@@ -80,7 +80,9 @@ pub struct ResourceLeaves {
 #[repr(C)]
 #[derive(Clone, Copy)]
 pub struct LeafWalk {
+    /// Where it stands.
     pub leaves: ResourceLeaves,
+    /// The sections of its last RVAs.
     pub kept: KeptSections,
 }
 

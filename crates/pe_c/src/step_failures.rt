@@ -115,7 +115,7 @@ pub extern "C" fn pe_c_library_failure(view: &View, walk: &Libraries, out: &mut 
 }
 
 /// The RVA of the hint to which the entry leads that a walk over imports is at.
-fn hint_rva(view: &View, walk: &Imports) -> u32
+pub fn hint_rva(view: &View, walk: &Imports) -> u32
     ensures { result ≡ hint_rva
         (entry_size (view.now.image.now.width == 64)) view.now.bytes.now walk.now }
 {

@@ -112,7 +112,7 @@ pub extern "C" fn pe_c_delay_import_failure(view: &View, walk: &Range, out: &mut
 }
 
 /// The number at the start of a table of what is imported, 0 where it is truncated.
-fn lookup_there(table: &[u8], is_64: bool) -> u64
+pub fn lookup_there(table: &[u8], is_64: bool) -> u64
     ensures { result ≡ number_there table.now 0 (size_of_va is_64) }
 {
     match require_bytes(table, 0, lookup_size(is_64)) {
