@@ -1,5 +1,5 @@
 -- The sections that a walk keeps: those of its last RVAs, which a step tests before the others.
-use Rattle.std.specs.Prelude.{◌≡◌, ℕ, ◌+◌, ◌<◌, ◌≤◌, ◌++◌, List, Option, Some, None, Result, Ok}
+use Rattle.std.specs.Prelude.{◌≡◌, ℕ, ◌+◌, ◌<◌, ◌≤◌, ◌++◌, List, Option, Some, None, Result, Ok, Err}
 use Rattle.pe_core.specs.SectionMap.{raw_start, reach}
 use Rattle.pe_core.specs.declared.section_table.SectionTable.{SectionTable}
 use Rattle.pe_frame.specs.SectionIndexes.{numbered}
@@ -38,6 +38,7 @@ pub record StepsKept {W P X R : Type 0} (place : W → P) (kept : W → KeptSect
   pub steps : Steps (map_kept v (kept old)) (place old) answer (place new)
   pub right : ChangeNothing v (kept old) → ChangeNothing v (kept new)
   pub same : answer ≡ Ok None → kept new ≡ kept old
+  pub refused : (e : R) → answer ≡ Err e → kept new ≡ kept old
 
 -- a walk that keeps what changes no offset returns the items that one returns which searches all sections
 abbrev pub ReturnsAsItKeeps : {W P X R : Type 0} → (W → P) → (W → KeptSections) → (View → (ℕ → Option ℕ) → P → Result (Option X) R → P → Type 0) → Type 0

@@ -15,7 +15,7 @@ ghost use Rattle.pe_c.specs.Views.{directory_sections, map_of};
 use crate::directories::{Result, range_left, table_at};
 use crate::failure_numbers::bytes_there;
 use crate::image::{DELAY_IMPORT_DESCRIPTOR, Image};
-use crate::kept_sections::{KeptSections, NO_SECTIONS, kept_after, map_kept};
+use crate::kept_sections::{KeptSections, kept_after, map_kept};
 use crate::named_view::NamedView;
 use crate::near_map::{NO_WINDOW, Window, map_near};
 use crate::ranges::{NO_BYTES, Range, slice_of};
@@ -161,7 +161,7 @@ fn dll_range(names: &NamedView<'_>, kept: KeptSections, entry: &DelayImport) -> 
     name_range(names, offset)
 }
 
-/// A walk over what is imported of an entry's DLL.
+/// Where a walk over what is imported of an entry's DLL starts.
 fn functions_of(view: &View, kept: KeptSections, entry: &DelayImport) -> Result<DelayedFunctions>
     ensures { directory_answer (λ w. w) result ≡ functions_of (map_kept view.now kept)
         view.now.bytes.now view.now.image.now entry.now }
@@ -212,17 +212,6 @@ pub fn next_library(
     let library = library_of(names, kept, entry?)?;
     *walk = range_left(range, entries.rest());
     Ok(Some(library))
-}
-
-/// The same of a walk that keeps no sections.
-pub fn library_by_view(names: &NamedView<'_>, walk: &mut Range) -> Result<Option<DelayLibrary>>
-    ensures library { directory_answer (λ x. x) result ≡ step_of (λ x. x)
-        (first_library_in (map_of names.now.view.now)
-        names.now.view.now.bytes.now names.now.view.now.image.now walk.old) }
-    ensures walk { walk.new ≡ left_after walk.old (first_library_in (map_of names.now.view.now)
-        names.now.view.now.bytes.now names.now.view.now.image.now walk.old) }
-{
-    next_library(names, NO_SECTIONS, walk)
 }
 
 /// Writes the offsets of the names of the next DLLs to a room, as starts, of as many as it has room for, and returns how many they
@@ -429,22 +418,6 @@ pub fn next_function(
     let function = function_of(names, kept, attributes, lookup?)?;
     *left = range_left(range, table.rest());
     Ok(Some(function))
-}
-
-/// The same of a walk that keeps no sections.
-pub fn function_by_view(
-    names: &NamedView<'_>,
-    attributes: u32,
-    left: &mut Range,
-) -> Result<Option<DelayedFunction>>
-    ensures function { directory_answer (λ x. x) result ≡ step_of (λ x. x)
-        (first_function_in (map_of names.now.view.now)
-        names.now.view.now.bytes.now names.now.view.now.image.now attributes left.old) }
-    ensures left { left.new ≡ left_after left.old
-        (first_function_in (map_of names.now.view.now)
-        names.now.view.now.bytes.now names.now.view.now.image.now attributes left.old) }
-{
-    next_function(names, NO_SECTIONS, attributes, left)
 }
 
 /// Writes the offsets of the names of what is imported next of a DLL to a room, as starts, of as many numbers of its table as the

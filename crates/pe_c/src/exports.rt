@@ -98,7 +98,7 @@ pub fn export_data<'a>(view: &View<'a>, directory: DataDirectory) -> Result<Expo
     ExportData::parse_with_map(view.bytes, directory, view)
 }
 
-/// The tables of exports as a walk at its start, if the export directory is not absent.
+/// The tables of exports, where a walk starts, if the export directory is not absent.
 #[tactic(auto, unfolding(crate::specs::Exports::tables_at))]
 pub fn tables_at(view: &View) -> Result<Option<Exports>>
     ensures { answer_of result ≡ tables_at view.now.bytes.now view.now.image.now
@@ -112,7 +112,7 @@ pub fn tables_at(view: &View) -> Result<Option<Exports>>
     Ok(Some(walk_over(view, &export_data)))
 }
 
-/// Returns the tables of an image's export directory as a walk at its start: `NOTHING` where the directory is absent.
+/// Returns the tables of an image's export directory, where a walk starts: `NOTHING` where the directory is absent.
 /// Strict and permissive mode make no difference.
 ///
 /// Errors: `UNMAPPED`, `SHORT` of the directory; `UNMAPPED`, `SHORT` of each table: of RVAs, of names, of ordinals.

@@ -112,7 +112,7 @@ pub struct Import {
     pub has_name: u32,
 }
 
-/// A walk over libraries that is over.
+/// Where a walk over libraries is over.
 pub const NO_LIBRARIES: Libraries = Libraries {
     next: 0,
     is_over: 1,
@@ -130,7 +130,7 @@ fn name_at<'a>(names: &NamedView<'a>, offset: usize, rva: u32) -> Result<&'a str
     }
 }
 
-/// The import directory of an image as a walk over its libraries.
+/// Where a walk over the libraries of an image starts.
 pub fn libraries_at(view: &View) -> Result<Option<Libraries>>
     ensures { answer_of result ≡ libraries_at view.now.image.now (map_of view.now) }
 {
@@ -146,7 +146,7 @@ pub fn libraries_at(view: &View) -> Result<Option<Libraries>>
     }))
 }
 
-/// Returns the import directory of an image as a walk over its libraries, at its start: `NOTHING` where the directory
+/// Returns where a walk over the libraries of an image starts: `NOTHING` where the directory
 /// is absent. Strict and permissive mode make no difference.
 ///
 /// Errors: `UNMAPPED`.
@@ -268,18 +268,6 @@ pub fn library_step_kept(
     ensures onward { IfOk result.0 (λ l. IfSome l (λ _. walk.next < result.1.next)) }
 {
     library_step(names, kept, walk)
-}
-
-/// One step of a walk that keeps no sections.
-pub fn library_by_view(
-    names: &NamedView<'_>,
-    walk: Libraries,
-) -> (Result<Option<Library>>, Libraries)
-    ensures returned { (answer_of result.0, result.1) ≡ library_step (map_of names.now.view.now)
-        (entry_size (names.now.view.now.image.now.width == 64)) names.now.view.now.bytes.now walk }
-    ensures onward { IfOk result.0 (λ l. IfSome l (λ _. walk.next < result.1.next)) }
-{
-    library_step(names, NO_SECTIONS, walk)
 }
 
 /// Reads the next library of an import directory: `NOTHING` after the last. The directory ends at a record whose name

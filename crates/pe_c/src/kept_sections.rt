@@ -127,7 +127,8 @@ pub fn require_kept(view: &View, kept: KeptSections, rva: u32) -> Result<usize>
 /// Whether a window has all RVAs that a section covers, and maps them as the section does: no earlier section covers one.
 fn has_all(window: &Window, section: &SectionTable, alignment: u32) -> bool
     requires { 0 < alignment }
-    ensures { result ≡ true → HasAll alignment section.now window.now }
+    ensures yes { result ≡ true → HasAll alignment section.now window.now }
+    ensures no { HasAll alignment section.now window.now → result ≡ true }
 {
     let start = u64::from(section.virtual_address);
     window.start == start
@@ -135,15 +136,14 @@ fn has_all(window: &Window, section: &SectionTable, alignment: u32) -> bool
         && window.offset == raw_start(section)
 }
 
-/// The index of the first section of which a window has all, and which ends after an RVA of the window: many may be empty.
-fn index_with(window: &Window, sections: &[SectionTable], alignment: u32, rva: u64) -> Option<usize>
+/// The index of the first section that starts where a window does, and ends after an RVA of it.
+fn index_from(window: &Window, sections: &[SectionTable], alignment: u32, rva: u64) -> Option<usize>
     requires { 0 < alignment }
     ensures { IfSome result (λ i. i < length sections.now) }
 {
     for i in 0..sections.len() {
-        if has_all(window, &sections[i], alignment)
-            && rva < window.start + reach(&sections[i], alignment)
-        {
+        let start = u64::from(sections[i].virtual_address);
+        if start == window.start && rva < start + reach(&sections[i], alignment) {
             return Some(i);
         }
     }
@@ -154,7 +154,8 @@ fn index_with(window: &Window, sections: &[SectionTable], alignment: u32, rva: u
 /// page: then a walk looks for no more of them, as each look passes over all sections.
 const OVERLAPS: u32 = 0xffff_ffff;
 
-/// The index plus 1 of the section that maps an RVA. `OVERLAPS` if it may share one with an earlier one, none if the RVA is not mapped.
+/// The index plus 1 of the section that maps an RVA. `OVERLAPS` if it may share one with an earlier one, none if the RVA is not
+/// mapped, or if there are so many sections that an index plus 1 is no number below `OVERLAPS`.
 #[tactic(auto, using(crate::proofs::KeptSections::none_alone))]
 fn number_alone(image: &Image, sections: &[SectionTable], rva: u32) -> Option<u32>
     requires searched { is_searched image.now ≡ true }
@@ -166,13 +167,13 @@ fn number_alone(image: &Image, sections: &[SectionTable], rva: u32) -> Option<u3
     }
     let alignment = image.file_alignment;
     let window = window_in(image, sections, rva)?;
-    let Some(index) = index_with(&window, sections, alignment, u64::from(rva)) else {
+    let Some(index) = index_from(&window, sections, alignment, u64::from(rva)) else {
         return Some(OVERLAPS);
     };
     if has_all(&window, &sections[index], alignment) {
         Some((index + 1) as u32)
     } else {
-        None
+        Some(OVERLAPS)
     }
 }
 
@@ -198,7 +199,8 @@ fn kept_anew(view: &View, kept: KeptSections, rva: u32) -> KeptSections
     kept
 }
 
-/// Whether the section with an index plus 1 may cover an RVA: it has data of the RVA's page. A test of few steps, as each step makes it.
+/// Whether the section with an index plus 1 may cover an RVA: its raw size, rounded up to a page, reaches it. It need not map it, and then
+/// the walk keeps no other for it: a test of few instructions, as each step makes it.
 #[inline(always)]
 fn has_page_of(sections: &[SectionTable], number: u32, rva: u32) -> bool {
     if number == 0 || number as usize > sections.len() {

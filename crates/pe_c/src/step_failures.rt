@@ -28,7 +28,8 @@ use crate::failure_numbers::{
     directory_refused, failure_with, needed_at, needed_in, no_numbers, numbers, refused,
     refused_value, u16_there, u32_there,
 };
-use crate::imports::{Imports, Libraries, import_by_view, library_by_view};
+use crate::imports::{Imports, Libraries, import_by_view, library_step_kept};
+use crate::kept_sections::NO_SECTIONS;
 use crate::named_view::NamedView;
 use crate::ranges::Range;
 use crate::view::{View, map_by};
@@ -93,7 +94,7 @@ fn library_failure(view: &View, walk: &Libraries) -> Option<Failure>
         (refused (library_step (map_of view.now)
         (entry_size (view.now.image.now.width == 64)) view.now.bytes.now walk.now).0) }
 {
-    match refused(library_by_view(&NamedView::alone(view), *walk).0) {
+    match refused(library_step_kept(&NamedView::alone(view), NO_SECTIONS, *walk).0) {
         Some(number) => Some(failure_with(number, library_numbers(view, walk, number))),
         None => None,
     }

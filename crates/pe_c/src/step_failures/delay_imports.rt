@@ -10,7 +10,7 @@ ghost use Rattle.pe_c.specs.HandsOut.{HandsOutIf};
 ghost use Rattle.pe_c.specs.Views.{map_of};
 
 use crate::delay_imports::{
-    DelayedFunctions, address_in, address_offset, function_by_view, library_by_view,
+    DelayedFunctions, address_in, address_offset, next_function_kept, next_library_kept,
 };
 use crate::failure::{Failure, hand_out_failure};
 use crate::failure_numbers::{
@@ -94,7 +94,7 @@ fn delay_import_failure(view: &View, walk: &Range) -> Option<Failure>
         view.now.bytes.now view.now.image.now walk.now))) }
 {
     let mut after = *walk;
-    match directory_refused(library_by_view(&NamedView::alone(view), &mut after)) {
+    match directory_refused(next_library_kept(&NamedView::alone(view), NO_SECTIONS, &mut after)) {
         Some(number) => Some(failure_with(number, delay_import_numbers(view, walk, number))),
         None => None,
     }
@@ -169,7 +169,12 @@ fn delayed_function_failure(view: &View, walk: &DelayedFunctions) -> Option<Fail
         view.now.image.now walk.now))) }
 {
     let mut left = walk.left;
-    let found = function_by_view(&NamedView::alone(view), walk.attributes, &mut left);
+    let found = next_function_kept(
+        &NamedView::alone(view),
+        NO_SECTIONS,
+        walk.attributes,
+        &mut left,
+    );
     match directory_refused(found) {
         Some(number) => Some(failure_with(number, delayed_function_numbers(view, walk, number))),
         None => None,
