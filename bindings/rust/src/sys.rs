@@ -2975,7 +2975,7 @@ calls_of_an_image! {
     pe_c_find_arm64_function(table: *const Range, rva: u32) -> Arm64Function;
     /// Returns the unwind record of an ARM64 function, unless its unwind data is packed.
     pe_c_arm64_unwind_record(function: *const Arm64Function) -> Arm64Record;
-    /// Returns the tables of the export directory, as a walk.
+    /// Returns the tables of the export directory, where a walk starts.
     pe_c_export_tables() -> Exports;
     /// Returns the next export.
     pe_c_next_export(walk: *mut ExportWalk) -> Export;
@@ -2985,7 +2985,7 @@ calls_of_an_image! {
     pe_c_export_addresses() -> AddressTable;
     /// Returns the export with an index.
     pe_c_export_at(table: *const AddressTable, index: u64) -> Exported;
-    /// Returns the import directory, as a walk.
+    /// Returns where a walk over libraries starts.
     pe_c_import_libraries() -> Libraries;
     /// Returns the next library.
     pe_c_next_library(walk: *mut LibraryWalk) -> Library;
@@ -2995,7 +2995,7 @@ calls_of_an_image! {
     pe_c_all_imports() -> LibraryImports;
     /// Returns the directory of bound imports.
     pe_c_bound_imports() -> Range;
-    /// Returns the entries of the delay import directory, as a walk.
+    /// Returns the entries of the delay import directory, where a walk starts.
     pe_c_delay_imports() -> Range;
     /// Returns the next DLL of the delay import directory.
     pe_c_next_delay_import(walk: *mut DelayImportWalk) -> DelayImport;
@@ -3011,7 +3011,7 @@ calls_of_an_image! {
     pe_c_version_blocks() -> Range;
     /// Returns the range of the manifest.
     pe_c_manifest() -> Range;
-    /// Returns the leaves of the resource tree, as a walk.
+    /// Returns where a walk over the leaves of the resource tree starts.
     pe_c_resource_leaves() -> ResourceWalk;
     /// Returns the next leaf.
     pe_c_next_resource_leaf(walk: *mut LeafWalk) -> ResourceLeaf;
