@@ -1699,7 +1699,9 @@ uint32_t pe_c_step(const pe_c_view *view, const pe_c_range *table, const uint8_t
  * In each frame the function is looked up by rip, or by the byte before it where the function has called. Its epilogs are
  * known by their code in the image, and a jump out of it is followed. In the top frame, and in one that was interrupted, the
  * caller may have no records: then it is found by the return address at rsp, if a call ends there, else by the first of 128
- * words from rsp on that is after a call in an executable section. Only past an interrupt may the stack pointer not rise.
+ * words from rsp on that is after a call in an executable section: the last section of its module that starts at or before
+ * the call's last byte is asked, so sections have to be in ascending order. Only past an interrupt may the stack pointer not
+ * rise.
  * Errors, which change nothing: PE_C_SHORT where the table of a module is not inside its bytes, or, where walk->is_searched
  * is 0, a piece not inside the memory. */
 uint32_t pe_c_next_frame(const pe_c_module *modules, size_t module_count, const uint8_t *memory, size_t memory_length,

@@ -150,8 +150,8 @@ fn index_from(window: &Window, sections: &[SectionTable], alignment: u32, rva: u
     None
 }
 
-/// The number past all sections, which is kept where the section of an RVA may share one with an earlier section, whose end is told to a
-/// page: then a walk looks for no more of them, as each look passes over all sections.
+/// A number past the last section. A walk keeps it where the section of an RVA may overlap an earlier one, whose size is rounded up to a
+/// page for that test, and then looks for no other section: each such search passes over all sections.
 const OVERLAPS: u32 = 0xffff_ffff;
 
 /// The index plus 1 of the section that maps an RVA. `OVERLAPS` if it may share one with an earlier one, none if the RVA is not
