@@ -17,7 +17,7 @@ use crate::near_map::{PAGE, Window, window_in};
 use crate::results::options;
 use crate::section_index::is_searched;
 use crate::view::{View, map_u64, sections_of};
-use pe_core::{Error, Reason, Result, SectionTable, find_offset, rounded_up};
+use pe_core::{Error, Reason, Result, RvaMap, SectionTable, find_offset, rounded_up};
 use pe_directories::{raw_start, reach};
 use pe_frame::numbered;
 use std::alloc::AllocError;
@@ -121,6 +121,23 @@ pub fn require_kept(view: &View, kept: KeptSections, rva: u32) -> Result<usize>
     match map_kept(view, kept, u64::from(rva)) {
         Some(offset) => Ok(offset),
         None => Err(Error::Malformed(Reason::Unmapped(u64::from(rva)))),
+    }
+}
+
+/// An image whose RVAs are mapped by these sections first.
+#[derive(Clone, Copy)]
+pub struct KeptView<'a> {
+    /// The image.
+    pub view: &'a View<'a>,
+    /// What a walk keeps.
+    pub kept: KeptSections,
+}
+
+impl<'a> RvaMap for KeptView<'a> {
+    ghost offset = { λ m. map_kept m.view.now m.kept };
+
+    fn file_offset(&self, rva: u32) -> Result<usize> {
+        require_kept(self.view, self.kept, rva)
     }
 }
 

@@ -6,14 +6,15 @@
 ghost use Rattle.std.specs.Prelude.{◌≡◌};
 ghost use Rattle.pe_core.specs.Refusals.{answer_of};
 ghost use Rattle.pe_c.specs.Plans.{goes_on, ended, plan_from, returned_record, after_record, StepsPlan, HandsOutPlan};
+ghost use Rattle.pe_c.specs.KeptSections.{KeepsOn, map_kept};
 ghost use Rattle.pe_c.specs.Unwinding.{links_at};
-ghost use Rattle.pe_c.specs.Views.{map_of};
 
+use crate::kept_sections::{KeptSections, KeptView, kept_after};
 use crate::ranges::Range;
 use crate::results::{DONE, hand_out_some};
 use crate::unwinding::{UnwindRecord, read_record};
 use crate::view::View;
-use pe_core::{Error, Reason, Result};
+use pe_core::{Error, Reason, Result, RvaMap};
 
 /// The records that are left from a function to the root of its chain. `pe_c_plan_from` starts it.
 #[repr(C)]
@@ -31,6 +32,16 @@ pub struct Plan {
     pub steps: u64,
     /// After how many records another RVA is saved.
     pub limit: u64,
+}
+
+/// A walk over the records of a plan, and the sections that it keeps.
+#[repr(C)]
+#[derive(Clone, Copy)]
+pub struct PlanWalk {
+    /// The records that are left.
+    pub plan: Plan,
+    /// The sections of its last RVAs. A caller who keeps them for the plan of another function spares its first search.
+    pub kept: KeptSections,
 }
 
 /// Starts the plan of a function, by its unwind RVA. Always returns `DONE`.
@@ -91,14 +102,19 @@ fn advance(plan: &mut Plan, next: UnwindRecord) -> Result<Option<UnwindRecord>>
     }
 }
 
-fn next_record(view: &View, table: &Range, plan: &mut Plan) -> Result<Option<UnwindRecord>>
-    ensures { StepsPlan view.now.bytes.now (links_at (map_of view.now) view.now.bytes.now table.now) plan.old
+fn next_record<M: RvaMap>(
+    bytes: &[u8],
+    table: &Range,
+    map: &M,
+    plan: &mut Plan,
+) -> Result<Option<UnwindRecord>>
+    ensures { StepsPlan bytes.now (links_at (M.offset map.now) bytes.now table.now) plan.old
         (answer_of result) plan.new }
 {
     if plan.is_over != 0 {
         return Ok(None);
     }
-    match read_record(view, table, plan.unwind) {
+    match read_record(bytes, table, map, plan.unwind) {
         Ok(record) => advance(plan, record),
         Err(error) => {
             plan.is_over = 1;
@@ -115,11 +131,19 @@ fn next_record(view: &View, table: &Range, plan: &mut Plan) -> Result<Option<Unw
 pub extern "C" fn pe_c_next_record(
     view: &View,
     table: &Range,
-    plan: &mut Plan,
+    walk: &mut PlanWalk,
     out: &mut UnwindRecord,
 ) -> u32
-    ensures { HandsOutPlan view.now.bytes.now (links_at (map_of view.now) view.now.bytes.now table.now)
-        plan.old plan.new result out.old out.new }
+    ensures plan { HandsOutPlan view.now.bytes.now
+        (links_at (map_kept view.now walk.old.kept) view.now.bytes.now table.now)
+        walk.old.plan walk.new.plan result out.old out.new }
+    ensures kept { KeepsOn view.now result walk.old.kept walk.new.kept }
 {
-    hand_out_some(next_record(view, table, plan), out)
+    let (unwind, kept) = (walk.plan.unwind, walk.kept);
+    let map = KeptView { view, kept };
+    let given = next_record(view.bytes, table, &map, &mut walk.plan);
+    if let Ok(Some(_)) = &given {
+        walk.kept = kept_after(view, kept, unwind);
+    }
+    hand_out_some(given, out)
 }

@@ -284,35 +284,48 @@ fn record_at(bytes: &[u8], offset: usize) -> Result<UnwindRecord>
 /// compilers write no links.
 #[cold]
 #[inline(never)]
-pub fn linked_offset(view: &View, table: &Range, unwind: u32) -> Result<usize>
-    ensures { FindsOffset (links_at (map_of view.now) view.now.bytes.now table.now) unwind
-        (answer_of result) }
+pub fn linked_offset<M: RvaMap>(
+    bytes: &[u8],
+    table: &Range,
+    map: &M,
+    unwind: u32,
+) -> Result<usize>
+    ensures { FindsOffset (links_at (M.offset map.now) bytes.now table.now) unwind (answer_of result) }
 {
-    let entries = slice_of(view.bytes, table)?;
-    linked_record_offset(entries, table.offset as usize, view, unwind)
+    let entries = slice_of(bytes, table)?;
+    linked_record_offset(entries, table.offset as usize, map, unwind)
 }
 
 /// The same, where an even RVA, which is no link, needs none of the table.
 #[inline(always)]
-fn find_record_offset(view: &View, table: &Range, unwind: u32) -> Result<usize>
-    ensures { FindsOffset (links_at (map_of view.now) view.now.bytes.now table.now) unwind
-        (answer_of result) }
+fn find_record_offset<M: RvaMap>(
+    bytes: &[u8],
+    table: &Range,
+    map: &M,
+    unwind: u32,
+) -> Result<usize>
+    ensures { FindsOffset (links_at (M.offset map.now) bytes.now table.now) unwind (answer_of result) }
 {
     if unwind % 2 == 1 {
-        return linked_offset(view, table, unwind);
+        return linked_offset(bytes, table, map, unwind);
     }
-    let _entries = slice_of(view.bytes, table)?;
-    view.file_offset(unwind)
+    let _entries = slice_of(bytes, table)?;
+    map.file_offset(unwind)
 }
 
-/// The unwind record of an unwind RVA, as `pe_c_unwind_record` returns it.
+/// The unwind record of an unwind RVA, as `pe_c_unwind_record` returns it where the map is the image's.
 #[inline(always)]
-pub fn read_record(view: &View, table: &Range, unwind: u32) -> Result<UnwindRecord>
-    ensures { FollowsToRecord view.now.bytes.now (links_at (map_of view.now) view.now.bytes.now table.now) unwind
+pub fn read_record<M: RvaMap>(
+    bytes: &[u8],
+    table: &Range,
+    map: &M,
+    unwind: u32,
+) -> Result<UnwindRecord>
+    ensures { FollowsToRecord bytes.now (links_at (M.offset map.now) bytes.now table.now) unwind
         (answer_of result) }
 {
-    let offset = find_record_offset(view, table, unwind)?;
-    record_at(view.bytes, offset)
+    let offset = find_record_offset(bytes, table, map, unwind)?;
+    record_at(bytes, offset)
 }
 
 /// The file offset of an RVA by the first section, where that covers it, by the tests of `find_offset`. That is out of line; a caller
@@ -463,7 +476,7 @@ fn hand_out_linked(view: &View, table: &Range, unwind: u32, out: &mut UnwindReco
     ensures { HandsOutRecord view.now.bytes.now (links_at (map_of view.now) view.now.bytes.now table.now) unwind
         result out.old out.new }
 {
-    hand_out(read_record(view, table, unwind), out)
+    hand_out(read_record(view.bytes, table, view, unwind), out)
 }
 
 /// A record of an unwind RVA, by all sections or by the index.

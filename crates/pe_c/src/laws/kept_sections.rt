@@ -6,7 +6,9 @@ ghost use Rattle.pe_c.specs.DirectoryRuns.{StepsDelayLibraries, StepsDelayedFunc
 ghost use Rattle.pe_c.specs.Exports.{StepsExports};
 ghost use Rattle.pe_c.specs.Imports.{StepsImports, StepsLibraries};
 ghost use Rattle.pe_c.specs.KeptSections.{ChangeNothing, ReturnsAsItKeeps, map_kept, no_sections};
+ghost use Rattle.pe_c.specs.Plans.{StepsPlan};
 ghost use Rattle.pe_c.specs.ResourceLeaves.{StepsLeaves};
+ghost use Rattle.pe_c.specs.Unwinding.{links_at};
 ghost use Rattle.pe_c.specs.Views.{map_of};
 ghost use Rattle.pe_c.specs.declared.delay_imports.DelayWalk.{DelayWalk};
 ghost use Rattle.pe_c.specs.declared.delay_imports.DelayedFunctionWalk.{DelayedFunctionWalk};
@@ -14,6 +16,8 @@ ghost use Rattle.pe_c.specs.declared.exports.ExportWalk.{ExportWalk};
 ghost use Rattle.pe_c.specs.declared.imports.ImportWalk.{ImportWalk};
 ghost use Rattle.pe_c.specs.declared.imports.LibraryWalk.{LibraryWalk};
 ghost use Rattle.pe_c.specs.declared.kept_sections.KeptSections.{KeptSections};
+ghost use Rattle.pe_c.specs.declared.plan.PlanWalk.{PlanWalk};
+ghost use Rattle.pe_c.specs.declared.ranges.Range.{Range};
 ghost use Rattle.pe_c.specs.declared.resource_leaves.LeafWalk.{LeafWalk};
 ghost use Rattle.pe_c.specs.declared.view.View.{View};
 
@@ -41,4 +45,6 @@ pub fn walks_return_as_they_keep()
         (λ v m. StepsDelayedFunctions m v.bytes.now v.image.now) }
     ensures leaves { ReturnsAsItKeeps (λ (w : LeafWalk). w.leaves) (λ w. w.kept)
         (λ v m. StepsLeaves v.bytes.now m) }
+    ensures plans { (table : Range) → ReturnsAsItKeeps (λ (w : PlanWalk). w.plan) (λ w. w.kept)
+        (λ v m. StepsPlan v.bytes.now (links_at m v.bytes.now table)) }
 {}

@@ -385,7 +385,7 @@ pub extern "C" fn pe_c_record_codes(
     if let Some(record) = near_record(view, table, unwind) {
         return hand_out_codes(view.bytes, &record, out, codes, written);
     }
-    match read_record(view, table, unwind) {
+    match read_record(view.bytes, table, view, unwind) {
         Ok(record) => hand_out_codes(view.bytes, &record, out, codes, written),
         Err(error) => number_of(&error),
     }

@@ -97,7 +97,7 @@ fn last_link(view: &View, table: &Range, unwind: u32) -> Option<u32>
 fn links_end(view: &View, table: &Range, unwind: u32) -> Option<u32>
     ensures { LinksEnd (table_there (map_of view.now) view.now.bytes.now table.now) unwind result }
 {
-    match linked_offset(view, table, unwind) {
+    match linked_offset(view.bytes, table, view, unwind) {
         Err(Error::Malformed(Reason::FunctionCycle(_))) => None,
         _ => last_link(view, table, unwind),
     }
@@ -193,7 +193,7 @@ fn failure_of_record(
 fn record_failure(view: &View, table: &Range, unwind: u32) -> Option<Failure>
     ensures { IsWhyOfRecord (map_of view.now) view.now.bytes.now table.now unwind result }
 {
-    let number = refused(read_record(view, table, unwind));
+    let number = refused(read_record(view.bytes, table, view, unwind));
     let last = links_end(view, table, unwind);
     failure_of_record(view, table, unwind, last, number)
 }

@@ -5,7 +5,9 @@ use Rattle.pe_c.proofs.KeptWalks.{returns_too}
 use Rattle.pe_c.specs.DirectoryRuns.{StepsDelayLibraries, StepsDelayedFunctions}
 use Rattle.pe_c.specs.Exports.{StepsExports}
 use Rattle.pe_c.specs.Imports.{StepsImports, StepsLibraries}
+use Rattle.pe_c.specs.Plans.{StepsPlan}
 use Rattle.pe_c.specs.ResourceLeaves.{StepsLeaves}
+use Rattle.pe_c.specs.Unwinding.{links_at}
 use Rattle.pe_c.specs.declared.delay_imports.DelayWalk.{DelayWalk}
 use Rattle.pe_c.specs.declared.delay_imports.DelayedFunctionWalk.{DelayedFunctionWalk}
 use Rattle.pe_c.specs.declared.delay_imports.DelayedFunctions.{DelayedFunctions}
@@ -16,6 +18,8 @@ use Rattle.pe_c.specs.declared.imports.Imports.{Imports}
 use Rattle.pe_c.specs.declared.imports.Libraries.{Libraries}
 use Rattle.pe_c.specs.declared.imports.LibraryWalk.{LibraryWalk}
 use Rattle.pe_c.specs.declared.kept_sections.KeptSections.{KeptSections}
+use Rattle.pe_c.specs.declared.plan.Plan.{Plan}
+use Rattle.pe_c.specs.declared.plan.PlanWalk.{PlanWalk}
 use Rattle.pe_c.specs.declared.ranges.Range.{Range}
 use Rattle.pe_c.specs.declared.resource_leaves.LeafWalk.{LeafWalk}
 use Rattle.pe_c.specs.declared.resource_leaves.ResourceLeaves.{ResourceLeaves}
@@ -74,3 +78,12 @@ alike_leaves a b same same_too = ap (λ (p : ResourceLeaves). with_leaves p a.ke
 
 pub returns-clause-leaves : goal.returns-clause-leaves
 returns-clause-leaves c v = returns_too (λ (w : LeafWalk). w.leaves) (λ (w : LeafWalk). w.kept) (λ (m : ℕ → Option ℕ). StepsLeaves v.bytes.now m) alike_leaves v
+
+abbrev with_plan : Plan → KeptSections → PlanWalk
+with_plan place kept = record { plan = place; kept = kept }
+
+alike_plans : (a b : PlanWalk) → a.plan ≡ b.plan → a.kept ≡ b.kept → a ≡ b
+alike_plans a b same same_too = ap (λ (p : Plan). with_plan p a.kept) same ∙ ap (λ (k : KeptSections). with_plan b.plan k) same_too
+
+pub returns-clause-plans : goal.returns-clause-plans
+returns-clause-plans c table v = returns_too (λ (w : PlanWalk). w.plan) (λ (w : PlanWalk). w.kept) (λ (m : ℕ → Option ℕ). StepsPlan v.bytes.now (links_at m v.bytes.now table)) alike_plans v
