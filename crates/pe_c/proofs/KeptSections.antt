@@ -11,7 +11,7 @@ use Rattle.pe_frame.specs.SectionIndexes.{numbered}
 use Rattle.pe_c.proofs.IndexMaps.{both_tests}
 use Rattle.pe_c.proofs.NearMaps.{all_sections}
 use Rattle.pe_c.specs.Images.{map_of_image}
-use Rattle.pe_c.specs.KeptSections.{ChangeNothing, HasAll, IsAlone, map_kept, sections_kept}
+use Rattle.pe_c.specs.KeptSections.{ChangeNothing, HasAll, IsAlone, keeps_sections, map_kept, sections_kept}
 use Rattle.pe_c.specs.Modes.{resolves}
 use Rattle.pe_c.specs.NearMaps.{IsWindowOf}
 use Rattle.pe_c.specs.SectionIndexes.{is_searched}
@@ -141,17 +141,20 @@ alone image sections i rva none w searched h all inside = record {
 
 -- ---- one more is kept
 
-pub one_more : (v : View) (old : KeptSections) (n : ℕ) → true ≡ (length v.index.now == 0) → IsAlone v.image.now v.sections.now n → ChangeNothing v old → ChangeNothing v record { first = n; second = old.first }
-one_more v old n none is_alone h x = by_number (map_of_image v.image.now (numbered v.sections.now n) x) refl where
+pub one_more : (v : View) (old : KeptSections) (n : ℕ) → keeps_sections v ≡ true → IsAlone v.image.now v.sections.now n → ChangeNothing v old → ChangeNothing v record { first = n; second = old.first }
+one_more v old n keeps is_alone h x = by_number (map_of_image v.image.now (numbered v.sections.now n) x) refl where
   new : KeptSections
   new = record { first = n; second = old.first }
+
+  no_index : (length v.index.now == 0) ≡ true
+  no_index = (both_tests (nat_lt 16 (length v.sections.now)) (length v.index.now == 0) keeps).1
 
   by_old : (o : Option ℕ) → map_of_image v.image.now (numbered v.sections.now n) x ≡ None → map_of_image v.image.now (numbered v.sections.now old.first) x ≡ o → map_kept v new x ≡ map_of v x
   by_old (Some q) none_n e = by_second v new x q none_n e ∙ sym (by_first v old x q e) ∙ h x
   by_old None none_n e = by_others v new x none_n e
 
   by_number : (o : Option ℕ) → map_of_image v.image.now (numbered v.sections.now n) x ≡ o → map_kept v new x ≡ map_of v x
-  by_number (Some p) e = by_first v new x p e ∙ sym (ap (λ (s : List SectionTable). map_of_image v.image.now s x) (all_sections v.sections.now v.index.now x none) ∙ is_alone.maps x p e)
+  by_number (Some p) e = by_first v new x p e ∙ sym (ap (λ (s : List SectionTable). map_of_image v.image.now s x) (all_sections v.sections.now v.index.now x (sym no_index)) ∙ is_alone.maps x p e)
   by_number None e = by_old (map_of_image v.image.now (numbered v.sections.now old.first) x) e refl
 
 -- a walk that keeps none maps as its view does

@@ -14,8 +14,8 @@ use Rattle.pe_unwind.specs.Unwinding.{FindsRecord}
 use Rattle.pe_unwind.specs.declared.unwind_code.UnwindCode.{UnwindCode}
 use Rattle.pe_c.specs.Arm64.{StepsArm64Codes}
 use Rattle.pe_c.specs.Arm64Failures.{IsWhyOfArm64Code, arm64_code_numbers}
-use Rattle.pe_c.specs.FailureNumbers.{failure_by, or_no_bytes, refused}
-use Rattle.pe_c.specs.Ranges.{bytes_at}
+use Rattle.pe_c.specs.FailureNumbers.{failure_by, refused}
+use Rattle.pe_c.specs.Ranges.{bytes_at, or_nothing}
 use Rattle.pe_c.specs.UnwindFailures.{IsWhyOfCode, IsWhyOfRecord, LinksEnd, code_numbers, record_numbers, table_there}
 use Rattle.pe_c.specs.Unwinding.{FindsOffset, FollowsToRecord, WalksIn, flat_answer, links_at}
 use Rattle.pe_c.specs.declared.arm64.codes.Arm64Code.{Arm64Code}
@@ -65,7 +65,7 @@ short_alone true bytes h = cc
 short_alone false bytes h = cc
 
 by_entries : (r : Result (List ℕ) Refusal) (start : ℕ) (offset : ℕ → Option ℕ) (u : ℕ) (answer : Result ℕ Refusal) → (r ≡ Err FunctionCycle → ⊥) → FindsOffset (r >>= λ entries. Ok (linked_table entries start offset)) u answer → answer ≡ Err FunctionCycle →
-    IsEndless (linked_table (or_no_bytes r) start offset) u
+    IsEndless (linked_table (or_nothing r) start offset) u
 by_entries (Ok entries) start offset u answer other f h = found_endless (linked_table entries start offset) u answer f h
 by_entries (Err k) start offset u answer other f h = absurd (other (other_value k FunctionCycle (sym f ∙ h)))
 

@@ -4,8 +4,9 @@ use Rattle.pe_core.specs.Bytes.{holds}
 use Rattle.pe_core.specs.Refusals.{Short}
 use Rattle.pe_directories.specs.DirectoryRefusals.{BoundImportName}
 use Rattle.pe_c.specs.Directories.{directory_number}
-use Rattle.pe_c.specs.FailureNumbers.{bytes_there, needed_at, needed_in, no_numbers, number_there, numbers}
+use Rattle.pe_c.specs.FailureNumbers.{needed_at, needed_in, no_numbers, number_there, numbers}
 use Rattle.pe_c.specs.HandsOut.{result_number}
+use Rattle.pe_c.specs.Ranges.{bytes_there}
 use Rattle.pe_c.specs.declared.failure_numbers.ErrorNumbers.{ErrorNumbers}
 use Rattle.pe_c.specs.declared.ranges.Range.{Range}
 

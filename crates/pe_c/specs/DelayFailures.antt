@@ -9,8 +9,9 @@ use Rattle.pe_directories.specs.ImageParts.{size_of_va}
 use Rattle.pe_c.specs.DelayImports.{address_in, address_offset}
 use Rattle.pe_c.specs.Directories.{directory_number}
 use Rattle.pe_c.specs.Exports.{or_zero}
-use Rattle.pe_c.specs.FailureNumbers.{bytes_there, needed_at, needed_in, no_numbers, number_there, numbers, refused_value}
+use Rattle.pe_c.specs.FailureNumbers.{needed_at, needed_in, no_numbers, number_there, numbers, refused_value}
 use Rattle.pe_c.specs.HandsOut.{result_number}
+use Rattle.pe_c.specs.Ranges.{bytes_there}
 use Rattle.pe_c.specs.declared.delay_imports.DelayedFunctions.{DelayedFunctions}
 use Rattle.pe_c.specs.declared.failure_numbers.ErrorNumbers.{ErrorNumbers}
 use Rattle.pe_c.specs.declared.image.Image.{Image}

@@ -8,7 +8,6 @@ use Rattle.pe_directories.specs.DirectoryRefusals.{DirectoryRefusal}
 use Rattle.pe_resource.specs.Leaves.{TreeRefusal}
 use Rattle.pe_c.specs.Directories.{DirectoryHandsOut, directory_number}
 use Rattle.pe_c.specs.HandsOut.{HandsOutIf, result_number}
-use Rattle.pe_c.specs.Ranges.{bytes_at}
 use Rattle.pe_c.specs.ResourceLeaves.{TreeHandsOut, tree_number}
 use Rattle.pe_c.specs.declared.failure.Failure.{Failure}
 use Rattle.pe_c.specs.declared.failure_numbers.ErrorNumbers.{ErrorNumbers}
@@ -38,14 +37,6 @@ refused_value value = numbers 0 0 value
 -- the number in the n bytes at an offset, 0 where they are not there
 abbrev pub number_there : List ℕ → ℕ → ℕ → ℕ
 number_there b p n = if holds b p n then le b p n else 0
-
--- the bytes of a range, none where they are not all there
-abbrev pub or_no_bytes : Result (List ℕ) Refusal → List ℕ
-or_no_bytes (Ok bytes) = bytes
-or_no_bytes (Err refusal) = []
-
-abbrev pub bytes_there : List ℕ → Range → List ℕ
-bytes_there b r = or_no_bytes (bytes_at b r)
 
 -- ---- what refuses a call, as a number, if something does
 

@@ -1,5 +1,5 @@
 -- The sections that a walk keeps: those of its last RVAs, which a step tests before the others.
-use Rattle.std.specs.Prelude.{◌≡◌, ℕ, ◌+◌, ◌<◌, ◌≤◌, ◌++◌, List, Option, Some, None, Result, Ok, Err}
+use Rattle.std.specs.Prelude.{◌≡◌, ℕ, ◌+◌, ◌<◌, ◌≤◌, ◌==◌, ◌&&◌, ◌++◌, nat_lt, length, Bool, List, Option, Some, None, Result, Ok, Err}
 use Rattle.pe_core.specs.SectionMap.{raw_start, reach}
 use Rattle.pe_core.specs.declared.section_table.SectionTable.{SectionTable}
 use Rattle.pe_frame.specs.SectionIndexes.{numbered}
@@ -47,6 +47,10 @@ ReturnsAsItKeeps {W} {P} {X} {R} place kept Steps =
     ReturnsItems (StepsKept place kept (Steps v) v) walk items
 
 -- ---- how one is found that changes nothing. Only private contracts cite these
+
+-- walks over an image keep sections where there are many of them, and no index
+abbrev pub keeps_sections : View → Bool
+keeps_sections v = nat_lt 16 (length v.sections.now) && length v.index.now == 0
 
 -- the section with this index plus 1 maps RVAs as all sections do
 pub record IsAlone (image : Image) (sections : List SectionTable) (number : ℕ) : Type 0 where

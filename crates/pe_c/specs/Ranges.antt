@@ -1,5 +1,5 @@
 -- Ranges of the bytes.
-use Rattle.std.specs.Prelude.{◌≡◌, ℕ, ◌+◌, ◌-◌, ◌≤◌, List, length, Option, Some, None, Result}
+use Rattle.std.specs.Prelude.{◌≡◌, ℕ, ◌+◌, ◌-◌, ◌≤◌, List, [], length, Option, Some, None, Result, Ok, Err}
 use Rattle.pe_core.specs.Bytes.{range, record_at}
 use Rattle.pe_core.specs.Refusals.{Refusal}
 use Rattle.pe_core.specs.declared.byte_range.ByteRange.{ByteRange}
@@ -34,6 +34,15 @@ last_range b part = record { offset = length b - length part; length = length pa
 -- the bytes of a range, or `Short` where it is not inside the bytes
 abbrev pub bytes_at : List ℕ → Range → Result (List ℕ) Refusal
 bytes_at b r = record_at b r.offset r.length (range b r.offset r.length)
+
+-- what is read, nothing where it is refused
+abbrev pub or_nothing : Result (List ℕ) Refusal → List ℕ
+or_nothing (Ok bytes) = bytes
+or_nothing (Err refusal) = []
+
+-- the bytes of a range, none where they are not all there
+abbrev pub bytes_there : List ℕ → Range → List ℕ
+bytes_there b r = or_nothing (bytes_at b r)
 
 -- the range lies in the bytes, and these are its bytes
 pub record IsRange (b : List ℕ) (r : Range) (bytes : List ℕ) : Type 0 where

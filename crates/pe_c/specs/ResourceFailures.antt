@@ -9,7 +9,8 @@ use Rattle.pe_resource.specs.LeafPositions.{first_below, first_in, has_range}
 use Rattle.pe_resource.specs.ResourceEntries.{directory_offset, has_name, is_directory, name_offset}
 use Rattle.pe_resource.specs.declared.entry.ResourceEntry.{ResourceEntry}
 use Rattle.pe_resource.specs.declared.leaf_position.LeafPosition.{LeafPosition}
-use Rattle.pe_c.specs.FailureNumbers.{bytes_there, needed_at, no_numbers, numbers}
+use Rattle.pe_c.specs.FailureNumbers.{needed_at, no_numbers, numbers}
+use Rattle.pe_c.specs.Ranges.{bytes_there}
 use Rattle.pe_c.specs.ResourceLeaves.{position_of}
 use Rattle.pe_c.specs.declared.failure_numbers.ErrorNumbers.{ErrorNumbers}
 use Rattle.pe_c.specs.declared.resource_leaves.ResourceLeaves.{ResourceLeaves}

@@ -7,8 +7,9 @@ use Rattle.pe_core.specs.Refusals.{Short, ImportName, CertificateRevision, Certi
 use Rattle.pe_directories.specs.DirectoryRefusals.{BlockSize, BlockTruncated, NoArgument}
 use Rattle.pe_c.specs.Directories.{directory_number}
 use Rattle.pe_c.specs.Exports.{or_zero}
-use Rattle.pe_c.specs.FailureNumbers.{bytes_there, needed_at, needed_in, no_numbers, number_there, numbers, refused_value}
+use Rattle.pe_c.specs.FailureNumbers.{needed_at, needed_in, no_numbers, number_there, numbers, refused_value}
 use Rattle.pe_c.specs.HandsOut.{result_number}
+use Rattle.pe_c.specs.Ranges.{bytes_there}
 use Rattle.pe_c.specs.declared.failure_numbers.ErrorNumbers.{ErrorNumbers}
 use Rattle.pe_c.specs.declared.imports.Imports.{Imports}
 use Rattle.pe_c.specs.declared.imports.Libraries.{Libraries}

@@ -1,8 +1,9 @@
 -- Why the name of a symbol is refused: the numbers of the failure.
 use Rattle.std.specs.Prelude.{ℕ, ◌+◌, ◌*◌, ◌==◌, List, if◌then◌else◌}
 use Rattle.pe_core.specs.Refusals.{Short, StringTable}
-use Rattle.pe_c.specs.FailureNumbers.{bytes_there, needed_in, no_numbers, number_there, numbers}
+use Rattle.pe_c.specs.FailureNumbers.{needed_in, no_numbers, number_there, numbers}
 use Rattle.pe_c.specs.HandsOut.{result_number}
+use Rattle.pe_c.specs.Ranges.{bytes_there}
 use Rattle.pe_c.specs.declared.failure_numbers.ErrorNumbers.{ErrorNumbers}
 use Rattle.pe_c.specs.declared.ranges.Range.{Range}
 

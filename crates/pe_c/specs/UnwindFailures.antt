@@ -5,8 +5,9 @@ use Rattle.pe_core.specs.Refusals.{Refusal, FunctionCycle, FunctionLink, Short, 
 use Rattle.pe_unwind.specs.Links.{IsEndless, Reaches, Table, linked_table, next}
 use Rattle.pe_unwind.specs.UnwindRecord.{after_codes, count_at, flags_at, handles_exceptions, handles_termination, is_chained}
 use Rattle.pe_c.specs.Exports.{or_zero}
-use Rattle.pe_c.specs.FailureNumbers.{bytes_there, failure_by, needed_at, needed_in, no_numbers, number_there, refused, refused_value}
+use Rattle.pe_c.specs.FailureNumbers.{failure_by, needed_at, needed_in, no_numbers, number_there, refused, refused_value}
 use Rattle.pe_c.specs.HandsOut.{HandsOutIf, result_number}
+use Rattle.pe_c.specs.Ranges.{bytes_there}
 use Rattle.pe_c.specs.Unwinding.{FollowsToRecord, StepsCodes, links_at}
 use Rattle.pe_c.specs.declared.failure.Failure.{Failure}
 use Rattle.pe_c.specs.declared.failure_numbers.ErrorNumbers.{ErrorNumbers}

@@ -13,12 +13,11 @@ ghost use Rattle.pe_c.specs.KeptSections.{ChangeNothing, KeepsOn, map_kept};
 ghost use Rattle.pe_c.specs.Views.{directory_sections, map_of};
 
 use crate::directories::{Result, range_left, table_at};
-use crate::failure_numbers::bytes_there;
 use crate::image::{DELAY_IMPORT_DESCRIPTOR, Image};
-use crate::kept_sections::{KeptSections, kept_after, map_kept};
+use crate::kept_sections::{KeptSections, keeps_sections, kept_after, map_kept};
 use crate::named_view::NamedView;
 use crate::near_map::{NO_WINDOW, Window, map_near};
-use crate::ranges::{NO_BYTES, Range, slice_of};
+use crate::ranges::{NO_BYTES, Range, bytes_there, slice_of};
 use crate::results::hand_out_found;
 use crate::step_failures::delay_imports::lookup_there;
 use crate::text_runs::Run;
@@ -262,6 +261,9 @@ fn kept_after_address(
 pub fn kept_after_library(view: &View, kept: KeptSections, entry: &DelayImport) -> KeptSections
     ensures { ChangeNothing view.now kept → ChangeNothing view.now result }
 {
+    if !keeps_sections(view) {
+        return kept;
+    }
     let kept = kept_after_address(view, kept, entry.attributes, u64::from(entry.name));
     let table = u64::from(entry.import_name_table);
     kept_after_address(view, kept, entry.attributes, table)
@@ -451,34 +453,35 @@ pub fn put_function_names(
     count
 }
 
-/// What a walk keeps after a function of a DLL with these attributes that a number of the table is: the section of its name.
+/// What a walk keeps after the function that it was at: the section of its name.
 fn kept_after_function(
     view: &View,
     kept: KeptSections,
-    number: (u32, u64),
+    before: &DelayedFunctions,
     function: &DelayedFunction,
 ) -> KeptSections
     ensures { ChangeNothing view.now kept → ChangeNothing view.now result }
 {
-    let (attributes, lookup) = number;
-    if function.has_name == 0 {
+    if function.has_name == 0 || !keeps_sections(view) {
         return kept;
     }
-    let address = address_in(view.image.width == 64, attributes, lookup);
-    kept_after_address(view, kept, attributes, address)
+    let is_64 = view.image.width == 64;
+    let lookup = lookup_there(bytes_there(view.bytes, &before.left), is_64);
+    let address = address_in(is_64, before.attributes, lookup);
+    kept_after_address(view, kept, before.attributes, address)
 }
 
 /// The same after a step that returns this.
 pub fn kept_after_function_step(
     view: &View,
     kept: KeptSections,
-    number: (u32, u64),
+    before: &DelayedFunctions,
     given: &Result<Option<DelayedFunction>>,
 ) -> KeptSections
     ensures { ChangeNothing view.now kept → ChangeNothing view.now result }
 {
     match given {
-        Ok(Some(function)) => kept_after_function(view, kept, number, function),
+        Ok(Some(function)) => kept_after_function(view, kept, before, function),
         _ => kept,
     }
 }
@@ -521,18 +524,16 @@ pub extern "C" fn pe_c_next_delayed_function(
         view.now.bytes.now view.now.image.now walk.old.functions) }
     ensures kept { KeepsOn view.now result walk.old.kept walk.new.kept }
 {
-    let DelayedFunctions {
-        mut left,
-        attributes,
-        ..
-    } = walk.functions;
-    let is_64 = view.image.width == 64;
-    let lookup = lookup_there(bytes_there(view.bytes, &left), is_64);
-    let given = next_function(&NamedView::alone(view), walk.kept, attributes, &mut left);
-    walk.functions.left = left;
+    let before = walk.functions;
+    let names = NamedView::alone(view);
+    let given = next_function(
+        &names,
+        walk.kept,
+        before.attributes,
+        &mut walk.functions.left,
+    );
     if let Ok(Some(function)) = &given {
-        let number = (attributes, lookup);
-        walk.kept = kept_after_function(view, walk.kept, number, function);
+        walk.kept = kept_after_function(view, walk.kept, &before, function);
     }
     hand_out_found(given, out)
 }

@@ -12,7 +12,7 @@ ghost use Rattle.pe_c.specs.KeptSections.{ChangeNothing, KeepsOn, map_kept};
 ghost use Rattle.pe_c.specs.Views.{map_of};
 
 use crate::image::{EXPORT_TABLE, directory, is_absent};
-use crate::kept_sections::{KeptSections, kept_after, map_kept};
+use crate::kept_sections::{KeptSections, keeps_sections, kept_after, map_kept};
 use crate::named_view::NamedView;
 use crate::near_map::{NO_WINDOW, map_near};
 use crate::ranges::{NO_BYTES, Range, range_from, slice_of};
@@ -278,6 +278,9 @@ fn kept_after_export(
 ) -> KeptSections
     ensures { ChangeNothing view.now kept → ChangeNothing view.now result }
 {
+    if !keeps_sections(view) {
+        return kept;
+    }
     let exported = kept_after(view, kept, export.rva);
     match name_rva_before(view, walk) {
         Some(name_rva) => kept_after(view, exported, name_rva),

@@ -5,10 +5,10 @@ ghost use Rattle.std.specs.Prelude.{◌≡◌, ◌+◌};
 ghost use Rattle.pe_core.specs.Refusals.{answer_of};
 ghost use Rattle.pe_directories.specs.DirectoryRefusals.{directory_answer};
 ghost use Rattle.pe_resource.specs.Leaves.{tree_answer};
-ghost use Rattle.pe_c.specs.FailureNumbers.{bytes_there, directory_refused, failure_with, needed_at, needed_in, no_numbers, number_there, numbers, refused, refused_value, tree_refused};
+ghost use Rattle.pe_c.specs.FailureNumbers.{directory_refused, failure_with, needed_at, needed_in, no_numbers, number_there, numbers, refused, refused_value, tree_refused};
 
 use crate::failure::Failure;
-use crate::ranges::{Range, slice_of};
+use crate::ranges::Range;
 use crate::results::{number_of, number_of_directory, number_of_tree};
 use pe_core::{Result, read_u8, read_u16, read_u32, require_bytes};
 use pe_directories::DirectoryError;
@@ -157,16 +157,6 @@ pub fn u32_there(bytes: &[u8], offset: usize) -> u32
     match require_bytes(bytes, offset, 4) {
         Ok(()) => read_u32(bytes, offset),
         Err(_) => 0,
-    }
-}
-
-/// The bytes of a range, none where they are not all there.
-pub fn bytes_there<'a>(bytes: &'a [u8], range: &Range) -> &'a [u8]
-    ensures { result.now ≡ bytes_there bytes.entry.now range.now }
-{
-    match slice_of(bytes, range) {
-        Ok(bytes) => bytes,
-        Err(_) => &[],
     }
 }
 

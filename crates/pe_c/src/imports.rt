@@ -15,7 +15,9 @@ ghost use Rattle.pe_c.specs.Views.{map_of};
 ghost use Rattle.pe_c.specs.Imports.{import_at, import_step, libraries_at, library_at, library_of, library_step, named_reported};
 
 use crate::image::{IMPORT_TABLE, directory, is_absent};
-use crate::kept_sections::{KeptSections, NO_SECTIONS, kept_after, map_kept, require_kept};
+use crate::kept_sections::{
+    KeptSections, NO_SECTIONS, keeps_sections, kept_after, map_kept, require_kept,
+};
 use crate::named_view::NamedView;
 use crate::near_map::{NO_WINDOW, Window, map_near};
 use crate::ranges::{NO_BYTES, Range, range_from, slice_of};
@@ -233,6 +235,9 @@ pub fn library_step(
 fn kept_after_library(view: &View, kept: KeptSections, library: &Library) -> KeptSections
     ensures { ChangeNothing view.now kept → ChangeNothing view.now result }
 {
+    if !keeps_sections(view) {
+        return kept;
+    }
     let kept = kept_after(view, kept, library.name_rva);
     let list = if library.lookup_table_rva == 0 {
         library.address_table_rva
@@ -443,12 +448,19 @@ pub fn put_entry_names(view: &View, entries: &[u8], near: &mut Window, room: &mu
     count
 }
 
-/// The entries that a walk has left. None where they are not inside the bytes.
-pub fn entries_left<'a>(view: &View<'a>, walk: &Imports) -> &'a [u8] {
-    match slice_of(view.bytes, &walk.left) {
-        Ok(entries) => entries,
-        Err(_) => &[],
+/// What a walk keeps after the import that it was at: the section of its hint.
+fn kept_after_import(
+    view: &View,
+    kept: KeptSections,
+    before: &Imports,
+    import: &Import,
+) -> KeptSections
+    ensures { ChangeNothing view.now kept → ChangeNothing view.now result }
+{
+    if import.has_name == 0 || !keeps_sections(view) {
+        return kept;
     }
+    kept_after(view, kept, hint_rva(view, before))
 }
 
 /// Reads the next import of a library: `NOTHING` after the last. Each name is read to its end, so names that overlap
@@ -466,12 +478,10 @@ pub extern "C" fn pe_c_next_import(view: &View, walk: &mut ImportWalk, out: &mut
         view.now.bytes.now walk.old.imports).1 }
     ensures kept { KeepsOn view.now result walk.old.kept walk.new.kept }
 {
-    let rva = hint_rva(view, &walk.imports);
+    let before = walk.imports;
     let given = import_step(&NamedView::alone(view), walk.kept, &mut walk.imports);
     if let Ok(Some(import)) = &given {
-        if import.has_name != 0 {
-            walk.kept = kept_after(view, walk.kept, rva);
-        }
+        walk.kept = kept_after_import(view, walk.kept, &before, import);
     }
     hand_out_some(given, out)
 }

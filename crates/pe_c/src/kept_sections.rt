@@ -9,7 +9,7 @@ ghost use Rattle.pe_core.specs.SectionMap.{mapped};
 ghost use Rattle.pe_frame.specs.SectionIndexes as indexes;
 ghost use Rattle.pe_c.specs.Images.{map_of_image};
 ghost use Rattle.pe_c.specs.SectionIndexes.{is_searched};
-ghost use Rattle.pe_c.specs.KeptSections.{ChangeNothing, HasAll, IsAlone, map_kept};
+ghost use Rattle.pe_c.specs.KeptSections.{ChangeNothing, HasAll, IsAlone, keeps_sections, map_kept};
 
 use crate::image::Image;
 use crate::named_view::NamedView;
@@ -38,6 +38,17 @@ pub const NO_SECTIONS: KeptSections = KeptSections {
     first: 0,
     second: 0,
 };
+
+/// Walks over an image of so many sections keep none: to search them takes less than to test those that a walk keeps.
+const FEW: usize = 16;
+
+/// Whether walks over an image keep sections.
+#[inline(always)]
+pub fn keeps_sections(view: &View) -> bool
+    ensures { result ≡ keeps_sections view.now }
+{
+    view.sections.len() > FEW && view.index.is_empty()
+}
 
 /// A walk in a list, and the sections that it keeps. They change no offset, whatever the walk of the caller kept.
 pub struct KeptWalk<'a, W> {
@@ -194,26 +205,24 @@ fn number_alone(image: &Image, sections: &[SectionTable], rva: u32) -> Option<u3
     }
 }
 
-/// What a walk keeps after an RVA that none of its sections maps. With an index of the sections it keeps none. Out of line, as it is rare.
+/// What a walk keeps after an RVA that none of its sections maps. Out of line, as it is rare.
 #[cold]
 #[inline(never)]
 #[tactic(auto, using(crate::proofs::KeptSections::one_more))]
 fn kept_anew(view: &View, kept: KeptSections, rva: u32) -> KeptSections
+    requires { keeps_sections view.now ≡ true }
     ensures { ChangeNothing view.now kept → ChangeNothing view.now result }
 {
-    if kept.first == OVERLAPS {
+    if kept.first == OVERLAPS || !is_searched(view.image) {
         return kept;
     }
-    if view.index.is_empty() && is_searched(view.image) {
-        return match number_alone(view.image, view.sections, rva) {
-            Some(number) => KeptSections {
-                first: number,
-                second: kept.first,
-            },
-            None => kept,
-        };
+    match number_alone(view.image, view.sections, rva) {
+        Some(number) => KeptSections {
+            first: number,
+            second: kept.first,
+        },
+        None => kept,
     }
-    kept
 }
 
 /// Whether the section with an index plus 1 may cover an RVA: its raw size, rounded up to a page, reaches it. It need not map it, and then
@@ -233,9 +242,9 @@ fn has_page_of(sections: &[SectionTable], number: u32, rva: u32) -> bool {
 pub fn kept_after(view: &View, kept: KeptSections, rva: u32) -> KeptSections
     ensures { ChangeNothing view.now kept → ChangeNothing view.now result }
 {
-    if has_page_of(view.sections, kept.first, rva)
+    if !keeps_sections(view)
+        || has_page_of(view.sections, kept.first, rva)
         || has_page_of(view.sections, kept.second, rva)
-        || !view.index.is_empty()
     {
         return kept;
     }

@@ -16,14 +16,12 @@ use crate::delay_imports::{
     next_function_kept, next_library_kept, offset_near, put_function_names,
 };
 use crate::directories::{Result, table_at};
-use crate::failure_numbers::bytes_there;
 use crate::image::DELAY_IMPORT_DESCRIPTOR;
 use crate::kept_sections::KeptSections;
 use crate::named_view::NamedView;
 use crate::near_map::{NO_WINDOW, Window};
 use crate::ranges::{NO_BYTES, Range, slice_of};
 use crate::results::hand_out_found;
-use crate::step_failures::delay_imports::lookup_there;
 use crate::text_runs::Run;
 use crate::view::View;
 use pe_directories::{DelayImport, DelayImports};
@@ -145,14 +143,8 @@ fn turn(
     ensures kept { ChangeNothing names.now.view.now kept.new }
 {
     let mut left = walk.functions.left;
-    let attributes = walk.functions.attributes;
-    let is_64 = names.view.image.width == 64;
-    let number = (
-        attributes,
-        lookup_there(bytes_there(names.view.bytes, &left), is_64),
-    );
-    let given = next_function_kept(names, *kept, attributes, &mut left);
-    *kept = kept_after_function_step(names.view, *kept, number, &given);
+    let given = next_function_kept(names, *kept, walk.functions.attributes, &mut left);
+    *kept = kept_after_function_step(names.view, *kept, &walk.functions, &given);
     match given {
         Ok(Some(function)) => {
             let found = with_library(&walk, function);

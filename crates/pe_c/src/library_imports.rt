@@ -13,14 +13,14 @@ ghost use Rattle.pe_c.specs.NearMaps.{IsWindow};
 ghost use Rattle.pe_c.specs.Views.{map_of};
 
 use crate::imports::{
-    Import, Imports, Libraries, Library, NO_LIBRARIES, entries_left, kept_after_library_step,
-    libraries_at, library_step_kept, put_entry_names, record_left,
+    Import, Imports, Libraries, Library, NO_LIBRARIES, kept_after_library_step, libraries_at,
+    library_step_kept, put_entry_names, record_left,
 };
 use crate::kept_sections::KeptSections;
 use crate::named_view::NamedView;
 use crate::near_imports::step_near;
 use crate::near_map::{NO_WINDOW, Window, map_near};
-use crate::ranges::{NO_BYTES, Range};
+use crate::ranges::{NO_BYTES, Range, bytes_there};
 use crate::results::hand_out_some;
 use crate::text_runs::Run;
 use crate::view::View;
@@ -253,7 +253,7 @@ pub fn put_names(view: &View, walk: &LibraryImports, most: usize, room: &mut [Ru
     ensures { result ≤ length room.new }
 {
     let size = lookup_size(view.image.width == 64);
-    let own = entries_left(view, &walk.imports);
+    let own = bytes_there(view.bytes, &walk.imports.left);
     let taken = most.min(own.len() / size);
     let mut hints = NO_WINDOW;
     let mut count = put_entry_names(view, &own[..size * taken], &mut hints, room);

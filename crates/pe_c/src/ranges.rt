@@ -3,7 +3,7 @@
 ghost use Rattle.std.specs.Prelude.{◌≡◌, ◌+◌, ◌≤◌};
 ghost use Rattle.std.specs.Option.{option_map};
 ghost use Rattle.pe_core.specs.Refusals.{ReturnsAs};
-ghost use Rattle.pe_c.specs.Ranges.{bytes_at, range_of, range_from};
+ghost use Rattle.pe_c.specs.Ranges.{bytes_at, bytes_there, range_of, range_from};
 
 use pe_core::{ByteRange, Result, slice_at};
 
@@ -28,6 +28,16 @@ pub fn slice_of<'a>(bytes: &'a [u8], range: &Range) -> Result<&'a [u8]>
     ensures { ReturnsAs (λ s. s.now) result (bytes_at bytes.entry.now range.now) }
 {
     slice_at(bytes, range.offset as usize, range.length as usize)
+}
+
+/// The bytes of a range, none where they are not all there.
+pub fn bytes_there<'a>(bytes: &'a [u8], range: &Range) -> &'a [u8]
+    ensures { result.now ≡ bytes_there bytes.entry.now range.now }
+{
+    match slice_of(bytes, range) {
+        Ok(bytes) => bytes,
+        Err(_) => &[],
+    }
 }
 
 /// A range as callers get it.

@@ -24,14 +24,14 @@ use crate::certificates::step as certificate_step;
 use crate::failure::{Failure, hand_out_failure};
 use crate::failure_numbers::{
     BLOCK_SIZE, BLOCK_TRUNCATED, CERTIFICATE_REVISION, CERTIFICATE_SIZE, CERTIFICATE_TABLE,
-    CERTIFICATE_TYPE, ErrorNumbers, IMPORT_NAME, NO_ARGUMENT, SHORT, UNMAPPED, bytes_there,
-    directory_refused, failure_with, needed_at, needed_in, no_numbers, numbers, refused,
-    refused_value, u16_there, u32_there,
+    CERTIFICATE_TYPE, ErrorNumbers, IMPORT_NAME, NO_ARGUMENT, SHORT, UNMAPPED, directory_refused,
+    failure_with, needed_at, needed_in, no_numbers, numbers, refused, refused_value, u16_there,
+    u32_there,
 };
 use crate::imports::{Imports, Libraries, import_by_view, library_step_kept};
 use crate::kept_sections::NO_SECTIONS;
 use crate::named_view::NamedView;
-use crate::ranges::Range;
+use crate::ranges::{Range, bytes_there};
 use crate::view::{View, map_by};
 use pe_core::{ImportDirectoryEntry, lookup_number, lookup_size, require_bytes};
 

@@ -284,12 +284,7 @@ fn record_at(bytes: &[u8], offset: usize) -> Result<UnwindRecord>
 /// compilers write no links.
 #[cold]
 #[inline(never)]
-pub fn linked_offset<M: RvaMap>(
-    bytes: &[u8],
-    table: &Range,
-    map: &M,
-    unwind: u32,
-) -> Result<usize>
+pub fn linked_offset<M: RvaMap>(bytes: &[u8], table: &Range, map: &M, unwind: u32) -> Result<usize>
     ensures { FindsOffset (links_at (M.offset map.now) bytes.now table.now) unwind (answer_of result) }
 {
     let entries = slice_of(bytes, table)?;
@@ -298,12 +293,7 @@ pub fn linked_offset<M: RvaMap>(
 
 /// The same, where an even RVA, which is no link, needs none of the table.
 #[inline(always)]
-fn find_record_offset<M: RvaMap>(
-    bytes: &[u8],
-    table: &Range,
-    map: &M,
-    unwind: u32,
-) -> Result<usize>
+fn find_record_offset<M: RvaMap>(bytes: &[u8], table: &Range, map: &M, unwind: u32) -> Result<usize>
     ensures { FindsOffset (links_at (M.offset map.now) bytes.now table.now) unwind (answer_of result) }
 {
     if unwind % 2 == 1 {

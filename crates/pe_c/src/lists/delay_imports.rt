@@ -12,14 +12,12 @@ use crate::delay_imports::{
     kept_after_library_step, next_function_kept, next_library_kept, put_dll_names,
     put_function_names,
 };
-use crate::failure_numbers::bytes_there;
 use crate::kept_sections::{KeptWalk, NO_SECTIONS};
 use crate::lists::{Steps, hand_out_list};
 use crate::named_view::NamedView;
 use crate::near_map::NO_WINDOW;
 use crate::ranges::Range;
 use crate::results::number_of_directory;
-use crate::step_failures::delay_imports::lookup_there;
 use crate::text_runs::{Run, first_runs};
 use crate::view::View;
 
@@ -125,13 +123,9 @@ impl<'a> Steps<KeptWalk<'a, DelayedFunctions>, DelayedFunction> for InTable {
             kept,
             ..
         } = *list;
-        let is_64 = names.view.image.width == 64;
-        let number = (
-            walk.attributes,
-            lookup_there(bytes_there(names.view.bytes, &walk.left), is_64),
-        );
+        let before = walk;
         let given = next_function_kept(&names, kept, walk.attributes, &mut walk.left);
-        let kept = kept_after_function_step(names.view, kept, number, &given);
+        let kept = kept_after_function_step(names.view, kept, &before, &given);
         *list = KeptWalk { names, walk, kept };
         match given {
             Ok(function) => Ok(function),

@@ -9,7 +9,7 @@ ghost use Rattle.pe_c.specs.NearLists.{StepsKeptLibraries, StepsNearImports};
 ghost use Rattle.pe_c.specs.Views.{map_of};
 
 use crate::imports::{
-    Import, Imports, Libraries, Library, entries_left, kept_after_library_step, library_step_kept,
+    Import, Imports, Libraries, Library, kept_after_library_step, library_step_kept,
     put_entry_names, put_library_lists, put_library_names,
 };
 use crate::kept_sections::{KeptWalk, NO_SECTIONS};
@@ -17,6 +17,7 @@ use crate::lists::{Steps, hand_out_list, numbered};
 use crate::named_view::NamedView;
 use crate::near_imports::{NearImports, step_near};
 use crate::near_map::NO_WINDOW;
+use crate::ranges::bytes_there;
 use crate::text_runs::Run;
 use crate::view::View;
 
@@ -196,7 +197,8 @@ pub extern "C" fn pe_c_list_imports_together(
         result walk.old walk.new entries.old entries.new written.old written.new }
 {
     let mut hints = NO_WINDOW;
-    let count = put_entry_names(view, entries_left(view, walk), &mut hints, runs);
+    let left = bytes_there(view.bytes, &walk.left);
+    let count = put_entry_names(view, left, &mut hints, runs);
     let names = NamedView::together(view, &mut runs[..count]);
     list_imports(&names, walk, entries, written)
 }

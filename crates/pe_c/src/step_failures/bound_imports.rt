@@ -10,10 +10,10 @@ ghost use Rattle.pe_c.specs.HandsOut.{HandsOutIf};
 use crate::bound_imports::{BoundNames, next_bound_import};
 use crate::failure::{Failure, hand_out_failure};
 use crate::failure_numbers::{
-    BOUND_IMPORT_NAME, ErrorNumbers, SHORT, bytes_there, directory_refused, failure_with,
-    needed_at, needed_in, no_numbers, numbers, u16_there,
+    BOUND_IMPORT_NAME, ErrorNumbers, SHORT, directory_refused, failure_with, needed_at, needed_in,
+    no_numbers, numbers, u16_there,
 };
-use crate::ranges::Range;
+use crate::ranges::{Range, bytes_there};
 use pe_core::require_bytes;
 
 /// The size of an entry in bytes, and of one of its forwarders.

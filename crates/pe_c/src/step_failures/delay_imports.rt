@@ -14,13 +14,12 @@ use crate::delay_imports::{
 };
 use crate::failure::{Failure, hand_out_failure};
 use crate::failure_numbers::{
-    DELAY_IMPORT_NAME, ErrorNumbers, SHORT, UNMAPPED, VA_BELOW_BASE, bytes_there,
-    directory_refused, failure_with, needed_at, needed_in, no_numbers, numbers, refused_value,
-    u32_there,
+    DELAY_IMPORT_NAME, ErrorNumbers, SHORT, UNMAPPED, VA_BELOW_BASE, directory_refused,
+    failure_with, needed_at, needed_in, no_numbers, numbers, refused_value, u32_there,
 };
 use crate::kept_sections::NO_SECTIONS;
 use crate::named_view::NamedView;
-use crate::ranges::Range;
+use crate::ranges::{Range, bytes_there};
 use crate::view::View;
 use pe_core::{lookup_number, lookup_size, require_bytes};
 

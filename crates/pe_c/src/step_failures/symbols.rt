@@ -9,10 +9,10 @@ ghost use Rattle.pe_c.specs.SymbolFailures.{string_offset_at, symbol_name_number
 use crate::coff::symbol_name_at;
 use crate::failure::{Failure, hand_out_failure};
 use crate::failure_numbers::{
-    ErrorNumbers, SHORT, STRING_TABLE, bytes_there, failure_with, needed_in, no_numbers, numbers,
-    refused, u32_there,
+    ErrorNumbers, SHORT, STRING_TABLE, failure_with, needed_in, no_numbers, numbers, refused,
+    u32_there,
 };
-use crate::ranges::Range;
+use crate::ranges::{Range, bytes_there};
 use pe_core::SIZE_OF_SYMBOL;
 
 /// Where in an entry the offset of its name in the string table is.

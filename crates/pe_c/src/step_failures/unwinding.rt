@@ -11,9 +11,9 @@ ghost use Rattle.pe_c.specs.Views.{map_of};
 use crate::failure::{Failure, hand_out_failure};
 use crate::failure_numbers::{
     ErrorNumbers, FUNCTION_CYCLE, FUNCTION_LINK, SHORT, UNMAPPED, UNWIND_CODE, UNWIND_VERSION,
-    bytes_there, failure_with, needed_at, needed_in, no_numbers, refused, refused_value, u8_there,
+    failure_with, needed_at, needed_in, no_numbers, refused, refused_value, u8_there,
 };
-use crate::ranges::Range;
+use crate::ranges::{Range, bytes_there};
 use crate::unwinding::{CodeWalk, linked_offset, next_code, read_record};
 use crate::view::{View, map_by};
 use pe_core::{Error, Reason, Result, read_u8, read_u32, require_bytes};
