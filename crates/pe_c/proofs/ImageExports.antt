@@ -2,13 +2,12 @@
 use Rattle.std.proofs.Common.{◌≡◌, ℕ, Bool, true, false, List, length, Option, Some, None, Result, Ok, Err, refl, sym, ap, subst, ◌∙◌}
 use Rattle.std.specs.Prelude.{◌*◌, ◌==◌, if◌then◌else◌}
 use Rattle.std.specs.Option.{option_and_then, option_map}
-use Rattle.pe_core.proofs.Map.{offset_is}
 use Rattle.pe_core.proofs.Steps.{given, same_inside}
 use Rattle.pe_core.specs.Bytes.{holds, record_at}
 use Rattle.pe_core.specs.Exports.{ExportDataView, export_data_at, table_at}
 use Rattle.pe_core.specs.Header.{OptionalHeaderView}
-use Rattle.pe_core.specs.Records.{export_directory as export_directory_at}
-use Rattle.pe_core.specs.Refusals.{Refusal, ◌>>=◌}
+use Rattle.pe_core.specs.Records.{export_directory as directory_table}
+use Rattle.pe_core.specs.Refusals.{Refusal, Short, ◌>>=◌}
 use Rattle.pe_core.specs.SectionMap.{mapped, section_map}
 use Rattle.pe_core.specs.Text.{text_at}
 use Rattle.pe_core.specs.declared.data_directories.DataDirectory.{DataDirectory}
@@ -22,11 +21,13 @@ use Rattle.pe_c.proofs.AddressEntries.{name_is, names_stand}
 use Rattle.pe_c.proofs.ExportParts.{tables_stand}
 use Rattle.pe_c.proofs.ExportRuns.{directory_in_turn}
 use Rattle.pe_c.proofs.ImageFields.{IsThere, Says, same_map, there}
-use Rattle.pe_c.proofs.ImportRuns.{there_by}
+use Rattle.pe_c.proofs.ImageResources.{tested}
+use Rattle.pe_c.specs.DirectoryTables.{export_directory_at, export_fields}
 use Rattle.pe_c.specs.ExportAddresses.{address_table, address_table_at, dll_name, text_range}
 use Rattle.pe_c.specs.Exports.{one_if_some, tables_at, walk_over}
 use Rattle.pe_c.specs.ImageParts.{AreExports, AreExportsBy}
 use Rattle.pe_c.specs.Images.{export_directory, is_absent, map_of_image, or_absent}
+use Rattle.pe_c.specs.declared.directory_tables.ExportFields.{ExportFields}
 use Rattle.pe_c.specs.declared.exports.Exports.{Exports}
 use Rattle.pe_c.specs.declared.image.Image.{Image}
 use Rattle.pe_c.specs.declared.ranges.Range.{Range}
@@ -51,19 +52,24 @@ has_name offset b rva d e = named_unless offset b d.directory.name_rva (d.direct
 
 -- ---- the numbers
 
-numbers_stand : (offset : ℕ → Option ℕ) (b : List ℕ) (rva : ℕ) (d : ExportDataView) → export_data_at offset b rva ≡ Ok d → (p : ℕ) × (offset rva ≡ Some p) × (d.directory ≡ export_directory_at b p)
+fields_at : (b : List ℕ) (image : Image) (offset : ℕ → Option ℕ) (p : ℕ) → is_absent (export_directory image) ≡ false → mapped (offset (export_directory image).virtual_address) ≡ Ok p → holds b p 40 ≡ true →
+    export_directory_at b image offset ≡ Ok (Some (export_fields (directory_table b p)))
+fields_at b image offset p there at inside = rw there (rw at (rw inside refl))
+
+numbers_stand : (b : List ℕ) (image : Image) (offset : ℕ → Option ℕ) (d : ExportDataView) → is_absent (export_directory image) ≡ false → export_data_at offset b (export_directory image).virtual_address ≡ Ok d →
+    (x : ExportFields) × (export_directory_at b image offset ≡ Ok (Some x)) × (x ≡ export_fields d.directory)
 unfolding export_data_at
-numbers_stand offset b rva d e =
+numbers_stand b image offset d h e =
+    let rva = (export_directory image).virtual_address in
     let p = given (mapped (offset rva)) _ d e in
-    let directory = given (record_at b p.0 40 (export_directory_at b p.0)) _ d p.2 in
+    let directory = given (record_at b p.0 40 (directory_table b p.0)) _ d p.2 in
     let t : ExportDirectoryTable = directory.0 in
     let addresses = given (table_at offset b t.address_table_rva (4 * t.address_table_entries)) _ d directory.2 in
     let names = given (table_at offset b t.name_pointer_rva (4 * t.number_of_name_pointers)) _ d addresses.2 in
-    let ordinals = given (table_at offset b t.ordinal_table_rva (2 * t.number_of_name_pointers)) _ d names.2 in (
-      p.0,
-      offset_is (offset rva) p.0 p.1,
-      subst (λ (x : ExportDataView). x.directory ≡ export_directory_at b p.0) (same_inside _ d ordinals.2) (there_by (holds b p.0 40) (export_directory_at b p.0) t directory.1),
-    )
+    let ordinals = given (table_at offset b t.ordinal_table_rva (2 * t.number_of_name_pointers)) _ d names.2 in
+    let is = tested (holds b p.0 40) Short (directory_table b p.0) t directory.1 in
+    let same : d.directory ≡ directory_table b p.0 = subst (λ (x : ExportDataView). x.directory ≡ directory_table b p.0) (same_inside _ d ordinals.2) (sym is.1) in
+    (export_fields (directory_table b p.0), fields_at b image offset p.0 h p.1 is.0, ap export_fields (sym same))
 
 -- ---- the directory and its list
 
@@ -94,7 +100,7 @@ by_data b image sections (Ok d) h e =
       record {
         tables = tables_stand offset b rva d e;
         name = (address_table offset b (export_directory image) d, table_by b image sections d h e, names_stand offset b rva (export_directory image) d e, has_name offset b rva d e);
-        numbers = numbers_stand offset b rva d e;
+        numbers = numbers_stand b image offset d h e;
       },
       directory_in_turn offset b rva d e,
     )

@@ -45,7 +45,7 @@ use Rattle.pe_c.specs.declared.resource_leaves.ResourceLeaves.{ResourceLeaves}
 
 -- ---- a content lies in the bytes
 
-tested : {X : Type 0} (t : Bool) (e : Refusal) (r s : X) → outcome ((t, e) ∷ []) r ≡ Ok s → (t ≡ true) × (r ≡ s)
+pub tested : {X : Type 0} (t : Bool) (e : Refusal) (r s : X) → outcome ((t, e) ∷ []) r ≡ Ok s → (t ≡ true) × (r ≡ s)
 tested true e r s h = (refl, same_inside r s h)
 tested false e r s h = absurd cc
 

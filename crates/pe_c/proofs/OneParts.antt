@@ -4,7 +4,6 @@ use Rattle.std.specs.Prelude.{nat_le}
 use Rattle.std.proofs.lemmas.Bool.{cases_lt}
 use Rattle.std.proofs.lemmas.Bool.Decides.{nat_tests}
 use Rattle.pe_core.specs.Exports.{ExportDataView, ExportView}
-use Rattle.pe_core.specs.Records.{export_directory as export_directory_at}
 use Rattle.pe_core.specs.Refusals.{Refusal, ◌>>=◌}
 use Rattle.pe_core.specs.declared.data_directories.DataDirectory.{DataDirectory}
 use Rattle.pe_core.specs.declared.export.ExportDirectoryTable.{ExportDirectoryTable}
@@ -22,12 +21,14 @@ use Rattle.pe_c.specs.Directories.{table_at}
 use Rattle.pe_c.specs.ExportAddresses.{address_table_at}
 use Rattle.pe_c.specs.Exports.{FindsNext, StepsExports, StepsExportsIf, StepsOverExports, count_of, exports_after, one_if_some, or_zero, reported_entry, tables_at, tables_or_short}
 use Rattle.pe_c.specs.ImageParts.{AreCertificates, AreExceptions, AreExports, AreExportsBy, AreListed, AreRelocations, HasOption, IsExportData, IsTable, function_table, is_left_out}
-use Rattle.pe_c.specs.Images.{directory, export_directory, map_of_image}
+use Rattle.pe_c.specs.DirectoryTables.{export_directory_at, export_fields}
+use Rattle.pe_c.specs.Images.{directory, map_of_image}
 use Rattle.pe_c.specs.Parts.{ReportsExport}
 use Rattle.pe_c.specs.Ranges.{IsPart, IsRange, no_bytes}
 use Rattle.pe_c.specs.declared.certificates.Certificate.{Certificate}
 use Rattle.pe_c.specs.declared.export_addresses.AddressTable.{AddressTable}
 use Rattle.pe_c.specs.declared.exports.Export.{Export}
+use Rattle.pe_c.specs.declared.directory_tables.ExportFields.{ExportFields}
 use Rattle.pe_c.specs.declared.exports.Exports.{Exports}
 use Rattle.pe_c.specs.declared.image.Image.{Image}
 use Rattle.pe_c.specs.declared.ranges.Range.{Range}
@@ -154,13 +155,27 @@ exports_move offset b w = moves_if offset b w (nat_le (count_of w) w.next) refl
 same_ok : {X : Type 0} (q : Result (Option X) Refusal) (x y : X) → q ≡ Ok (Some x) → q ≡ Ok (Some y) → x ≡ y
 same_ok q x y e f = cc
 
-same_some : (o : Option ℕ) (x y : ℕ) → o ≡ Some x → o ≡ Some y → x ≡ y
-same_some o x y e f = cc
+-- the table that has these fields
+table_with : ExportFields → ExportDirectoryTable
+table_with x = record {
+  characteristics = x.characteristics;
+  time_date_stamp = x.time_date_stamp;
+  major = x.major_version;
+  minor = x.minor_version;
+  name_rva = x.name;
+  ordinal_base = x.base;
+  address_table_entries = x.number_of_functions;
+  number_of_name_pointers = x.number_of_names;
+  address_table_rva = x.address_of_functions;
+  name_pointer_rva = x.address_of_names;
+  ordinal_table_rva = x.address_of_name_ordinals;
+}
 
 one_directory : (b : List ℕ) (image : Image) (sections : List SectionTable) (w : Exports) (d e : ExportDataView) → IsExportData b image sections w d → IsExportData b image sections w e → d ≡ e
+unfolding table_with
 one_directory b image sections w d e g h =
-    let place : g.numbers.0 ≡ h.numbers.0 = same_some (map_of_image image sections (export_directory image).virtual_address) g.numbers.0 h.numbers.0 g.numbers.1 h.numbers.1 in
-    let numbers : d.directory ≡ e.directory = g.numbers.2 ∙ ap (export_directory_at b) place ∙ sym h.numbers.2 in
+    let fields : g.numbers.0 ≡ h.numbers.0 = same_ok (export_directory_at b image (map_of_image image sections)) g.numbers.0 h.numbers.0 g.numbers.1 h.numbers.1 in
+    let numbers : d.directory ≡ e.directory = ap table_with (sym g.numbers.2 ∙ fields ∙ h.numbers.2) in
     let table : g.name.0 ≡ h.name.0 = same_ok (address_table_at b image (map_of_image image sections)) g.name.0 h.name.0 g.name.1 h.name.1 in
     let name : d.name ≡ e.name = one_part b g.name.0.name d.name e.name g.name.2 (rw table h.name.2) (sym g.name.3 ∙ ap (λ (t : AddressTable). t.has_name) table ∙ h.name.3) in
     let addresses : d.addresses ≡ e.addresses = one_range b w.addresses d.addresses e.addresses g.tables.addresses h.tables.addresses in

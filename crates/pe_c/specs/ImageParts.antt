@@ -7,7 +7,6 @@ use Rattle.pe_core.specs.Bytes.{range}
 use Rattle.pe_core.specs.Exports.{ExportDataView, ExportView}
 use Rattle.pe_core.specs.Imports.{ImportRecordView, ImportView, entry_size}
 use Rattle.pe_core.specs.Offsets.{bytes_in}
-use Rattle.pe_core.specs.Records.{export_directory as export_directory_at}
 use Rattle.pe_core.specs.Refusals.{Refusal, ◌>>=◌}
 use Rattle.pe_core.specs.declared.byte_range.ByteRange.{ByteRange}
 use Rattle.pe_core.specs.declared.data_directories.DataDirectory.{DataDirectory}
@@ -24,9 +23,10 @@ use Rattle.pe_resource.specs.declared.version.VsFixedFileInfo.{VsFixedFileInfo}
 use Rattle.pe_unwind.specs.ExceptionTable.{ExceptionView}
 use Rattle.pe_c.specs.Certificates.{ReportsCertificate, StepsCertificates}
 use Rattle.pe_c.specs.Directories.{table_at}
+use Rattle.pe_c.specs.DirectoryTables.{export_directory_at, export_fields}
 use Rattle.pe_c.specs.ExportAddresses.{address_table_at}
 use Rattle.pe_c.specs.Exports.{StepsExports, one_if_some, tables_at}
-use Rattle.pe_c.specs.Images.{directory, export_directory, is_absent, map_of_image}
+use Rattle.pe_c.specs.Images.{directory, is_absent, map_of_image}
 use Rattle.pe_c.specs.Imports.{StepsImports, StepsLibraries, libraries_at}
 use Rattle.pe_c.specs.Parts.{HasTables, ReportsExport, ReportsImport, record_of}
 use Rattle.pe_c.specs.Ranges.{IsPart, IsRange, range_of}
@@ -35,6 +35,7 @@ use Rattle.pe_c.specs.Runs.{ReturnsItems, ReturnsReported}
 use Rattle.pe_c.specs.Unwinding.{exception_table_at}
 use Rattle.pe_c.specs.Versions.{IsContentOf, fixed_in, text_in}
 use Rattle.pe_c.specs.declared.export_addresses.AddressTable.{AddressTable}
+use Rattle.pe_c.specs.declared.directory_tables.ExportFields.{ExportFields}
 use Rattle.pe_c.specs.declared.exports.Exports.{Exports}
 use Rattle.pe_c.specs.declared.image.Image.{Image}
 use Rattle.pe_c.specs.declared.imports.Libraries.{Libraries}
@@ -99,12 +100,12 @@ AreCertificates wanted b image part = AreListed (is_left_out wanted (directory i
 
 -- ---- exports
 
--- the export directory: its tables are the ranges of the walk, its name is that of `pe_c_export_addresses`; its numbers,
--- which no call returns, stand at the offset that `pe_c_offset` returns of its RVA
+-- the export directory: its tables are the ranges of the walk, its name is that of `pe_c_export_addresses`, and its numbers
+-- are those of `pe_c_export_directory`
 pub record IsExportData (b : List ℕ) (image : Image) (sections : List SectionTable) (w : Exports) (d : ExportDataView) : Type 0 where
   pub tables : HasTables b w d
   pub name : (t : AddressTable) × (address_table_at b image (map_of_image image sections) ≡ Ok (Some t)) × IsPart b t.name d.name × (t.has_name ≡ one_if_some d.name)
-  pub numbers : (p : ℕ) × (map_of_image image sections (export_directory image).virtual_address ≡ Some p) × (d.directory ≡ export_directory_at b p)
+  pub numbers : (x : ExportFields) × (export_directory_at b image (map_of_image image sections) ≡ Ok (Some x)) × (x ≡ export_fields d.directory)
 
 -- by what `pe_c_export_tables` returns: its walk returns the list; without one there is no directory, and a refused one counts
 -- as absent
@@ -173,8 +174,8 @@ IsVersionAt b (Err refusal) part = part ≡ Err refusal
 IsVersionAt b (Ok None) part = part ≡ Ok None
 IsVersionAt b (Ok (Some c)) part = IsVersionBy b (range_of c) (fixed_in b (range_of c)) part
 
--- the resources of a tree. The walk has its data and the range of its first entries; the first directory, which no call
--- returns, is the start of the data
+-- the resources of a tree. The walk has its data and the range of its first entries; the first directory is the start of the
+-- data, which `pe_c_resource_directory_at` returns where its entries lie in the tree
 abbrev pub resources_at : List ℕ → ResourceLeaves → Result (Option VersionView) Refusal → Result (Option ByteRange) Refusal → Result (Option ResourceView) Refusal
 resources_at b w version manifest = do
   v ← version

@@ -21,7 +21,7 @@ use crate::debug_records::{
 };
 use crate::image::{DEBUG_TABLE, directory, is_absent};
 use crate::ranges::{Range, range_of};
-use crate::results::{hand_out_some, options};
+use crate::results::{DONE, hand_out_some, options};
 use crate::view::{View, sections_of};
 use pe_core::{ByteRange, DataDirectory, Result};
 use pe_records::{
@@ -100,6 +100,31 @@ pub extern "C" fn pe_c_first_debug_entry(
         data_type) }
 {
     hand_out_some(first_entry(view, data_type), out)
+}
+
+/// What is read of the first entry of each type, each with its own result: `DONE`, and then the record is here; `NOTHING` or an error,
+/// and then it is as it was.
+#[repr(C)]
+#[derive(Clone, Copy)]
+pub struct DebugRecords {
+    /// That of `pe_c_symbol_key`.
+    pub key: SymbolKey,
+    /// That of `pe_c_debug_pdb20`.
+    pub pdb20: Pdb20,
+    /// That of `pe_c_debug_repro`.
+    pub repro: Repro,
+    /// That of `pe_c_debug_pogo`.
+    pub pogo: Pogo,
+    /// Those of `pe_c_debug_vc_features`.
+    pub features: VCFeatureInfo,
+    /// Those of `pe_c_debug_characteristics`.
+    pub characteristics: u32,
+    pub key_result: u32,
+    pub pdb20_result: u32,
+    pub repro_result: u32,
+    pub pogo_result: u32,
+    pub features_result: u32,
+    pub characteristics_result: u32,
 }
 
 fn first_key(view: &View) -> Result<Option<SymbolKey>>
@@ -238,4 +263,37 @@ pub extern "C" fn pe_c_debug_pogo(view: &View, out: &mut Pogo) -> u32
         (directory_sections view.now 6)) }
 {
     hand_out_some(first_pogo(view), out)
+}
+
+/// Reads the record of the first entry of each type at once, as the calls above do. Always returns `DONE`: each record has a result of
+/// its own.
+#[unsafe(no_mangle)]
+pub extern "C" fn pe_c_debug_data(view: &View, out: &mut DebugRecords) -> u32
+    ensures done { result ≡ DONE }
+    ensures key { HandsOutIf out.new.key_result out.old.key out.new.key
+        (read_first key_of IMAGE_DEBUG_TYPE_CODEVIEW view.now.bytes.now view.now.image.now
+        (directory_sections view.now 6)) }
+    ensures pdb20 { HandsOutIf out.new.pdb20_result out.old.pdb20 out.new.pdb20
+        (read_first pdb20_of IMAGE_DEBUG_TYPE_CODEVIEW view.now.bytes.now view.now.image.now
+        (directory_sections view.now 6)) }
+    ensures repro { HandsOutIf out.new.repro_result out.old.repro out.new.repro
+        (read_first repro_of IMAGE_DEBUG_TYPE_REPRO view.now.bytes.now view.now.image.now
+        (directory_sections view.now 6)) }
+    ensures pogo { HandsOutIf out.new.pogo_result out.old.pogo out.new.pogo
+        (read_first pogo_of IMAGE_DEBUG_TYPE_POGO view.now.bytes.now view.now.image.now
+        (directory_sections view.now 6)) }
+    ensures features { HandsOutIf out.new.features_result out.old.features out.new.features
+        (read_first features_of IMAGE_DEBUG_TYPE_VC_FEATURE view.now.bytes.now view.now.image.now
+        (directory_sections view.now 6)) }
+    ensures characteristics { HandsOutIf out.new.characteristics_result out.old.characteristics out.new.characteristics
+        (read_first characteristics_of IMAGE_DEBUG_TYPE_EX_DLLCHARACTERISTICS view.now.bytes.now view.now.image.now
+        (directory_sections view.now 6)) }
+{
+    out.key_result = hand_out_some(first_key(view), &mut out.key);
+    out.pdb20_result = hand_out_some(first_pdb20(view), &mut out.pdb20);
+    out.repro_result = hand_out_some(first_repro(view), &mut out.repro);
+    out.pogo_result = hand_out_some(first_pogo(view), &mut out.pogo);
+    out.features_result = hand_out_some(first_features(view), &mut out.features);
+    out.characteristics_result = hand_out_some(first_characteristics(view), &mut out.characteristics);
+    DONE
 }

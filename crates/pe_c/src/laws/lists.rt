@@ -1,19 +1,23 @@
 //! Laws of lists in one call: what list calls write, one after the other, is what the steps of the walk return.
 
 ghost use Rattle.std.specs.Prelude.{ℕ, Option, List};
-ghost use Rattle.pe_c.specs.Arm64.{StepsArm64Codes};
+ghost use Rattle.pe_core.specs.declared.section_table.SectionTable.{SectionTable};
+ghost use Rattle.pe_c.specs.Arm64.{StepsArm64Codes, arm64_function_in};
 ghost use Rattle.pe_c.specs.DebugWalks.{StepsPogoEntries};
 ghost use Rattle.pe_c.specs.Directories.{directory_number};
-ghost use Rattle.pe_c.specs.DirectoryRuns.{StepsBlocks, StepsDelayLibraries, StepsDelayedFunctions, StepsRelocations};
+ghost use Rattle.pe_c.specs.DirectoryRuns.{StepsBlocks, StepsBoundImports, StepsDelayLibraries, StepsDelayedFunctions, StepsForwarders, StepsRelocations};
+ghost use Rattle.pe_c.specs.ExportAddresses.{exported_at};
 ghost use Rattle.pe_c.specs.Exports.{StepsExports};
 ghost use Rattle.pe_c.specs.HandsOut.{result_number};
 ghost use Rattle.pe_c.specs.Imports.{StepsImports, StepsLibraries};
 ghost use Rattle.pe_c.specs.LibraryFunctions.{StepsLibraryFunctions};
 ghost use Rattle.pe_c.specs.LibraryImports.{StepsLibraryImports};
-ghost use Rattle.pe_c.specs.Lists.{GiveLists};
+ghost use Rattle.pe_c.specs.Lists.{GiveLists, StepsByIndex, StepsVersionBlocks, if_there};
 ghost use Rattle.pe_c.specs.NamedSymbols.{StepsNamedSymbols};
 ghost use Rattle.pe_c.specs.ResourceLeaves.{StepsLeaves, tree_number};
-ghost use Rattle.pe_c.specs.Unwinding.{StepsCodes};
+ghost use Rattle.pe_c.specs.SectionNames.{long_name_by_index};
+ghost use Rattle.pe_c.specs.Unwinding.{StepsCodes, function_in};
+ghost use Rattle.pe_c.specs.declared.export_addresses.AddressTable.{AddressTable};
 ghost use Rattle.pe_c.specs.declared.image.Image.{Image};
 ghost use Rattle.pe_c.specs.declared.ranges.Range.{Range};
 
@@ -46,4 +50,17 @@ pub fn lists_are_what_steps_return()
     ensures library_functions { (offset : ℕ → Option ℕ) (b : List ℕ) (image : Image) →
         GiveLists directory_number (StepsLibraryFunctions offset b image) }
     ensures pogo_entries { (b : List ℕ) → GiveLists result_number (StepsPogoEntries b) }
+    ensures bound_imports { (b : List ℕ) (table : Range) →
+        GiveLists directory_number (StepsBoundImports b table) }
+    ensures bound_forwarders { (b : List ℕ) (table : Range) →
+        GiveLists directory_number (StepsForwarders b table) }
+    ensures version_blocks { (b : List ℕ) → GiveLists result_number (StepsVersionBlocks b) }
+    ensures functions { (b : List ℕ) (table : Range) →
+        GiveLists result_number (StepsByIndex (λ i. if_there (function_in b table i))) }
+    ensures arm64_functions { (b : List ℕ) (table : Range) →
+        GiveLists result_number (StepsByIndex (λ i. if_there (arm64_function_in b table i))) }
+    ensures export_addresses { (offset : ℕ → Option ℕ) (b : List ℕ) (t : AddressTable) →
+        GiveLists result_number (StepsByIndex (exported_at offset b t)) }
+    ensures long_section_names { (b : List ℕ) (strings : Range) (sections : List SectionTable) →
+        GiveLists result_number (StepsByIndex (long_name_by_index b strings sections)) }
 {}

@@ -422,8 +422,17 @@ fn finish_codes(
     }
 }
 
-/// Lists all codes of a record in one call. `bytes` are those of its codes alone; `version` and `frame_register` are the record's, of
-/// which the lowest byte counts. A record has at most 255 codes.
+/// How codes are read: two fields of their unwind record.
+#[repr(C)]
+#[derive(Clone, Copy)]
+pub struct CodeForm {
+    /// The version of the record, 1 or 2.
+    pub version: u8,
+    /// The number of the frame register; 0 without one.
+    pub frame_register: u8,
+}
+
+/// Lists all codes of a record in one call. `bytes` are those of its codes alone. A record has at most 255 codes.
 ///
 /// `written` is how many are written, after an error too: then those before the code that is refused. The rest of `entries` is
 /// unchanged.
@@ -432,18 +441,17 @@ fn finish_codes(
 #[unsafe(no_mangle)]
 pub extern "C" fn pe_c_all_codes(
     bytes: &[u8],
-    version: u32,
-    frame_register: u32,
+    form: &CodeForm,
     entries: &mut [Code],
     written: &mut u64,
 ) -> u32
-    ensures { HandsOutAll (code_stream bytes.now (version % 256) (frame_register % 256))
+    ensures { HandsOutAll (code_stream bytes.now form.now.version form.now.frame_register)
         result entries.old entries.new written.new }
 {
     let mut codes = CodeBytes {
         left: bytes,
-        version: (version % 256) as u8,
-        frame_register: (frame_register % 256) as u8,
+        version: form.version,
+        frame_register: form.frame_register,
     };
     *written = put_frequent(&mut codes, entries) as u64;
     if codes.left.is_empty() {

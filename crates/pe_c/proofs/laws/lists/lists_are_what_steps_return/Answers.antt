@@ -1,17 +1,20 @@
 use Rattle.pe_c.proofs.ListRuns.{give_lists}
 use Rattle.pe_c.proofs.laws.lists.lists_are_what_steps_return.Goals as goal
-use Rattle.pe_c.specs.Arm64.{StepsArm64Codes}
+use Rattle.pe_c.specs.Arm64.{StepsArm64Codes, arm64_function_in}
 use Rattle.pe_c.specs.DebugWalks.{StepsPogoEntries}
 use Rattle.pe_c.specs.Directories.{directory_number}
-use Rattle.pe_c.specs.DirectoryRuns.{StepsBlocks, StepsDelayLibraries, StepsDelayedFunctions, StepsRelocations}
+use Rattle.pe_c.specs.DirectoryRuns.{StepsBlocks, StepsBoundImports, StepsDelayLibraries, StepsDelayedFunctions, StepsForwarders, StepsRelocations}
+use Rattle.pe_c.specs.ExportAddresses.{exported_at}
 use Rattle.pe_c.specs.Exports.{StepsExports}
 use Rattle.pe_c.specs.HandsOut.{result_number}
 use Rattle.pe_c.specs.Imports.{StepsImports, StepsLibraries}
 use Rattle.pe_c.specs.LibraryFunctions.{StepsLibraryFunctions}
 use Rattle.pe_c.specs.LibraryImports.{StepsLibraryImports}
+use Rattle.pe_c.specs.Lists.{StepsByIndex, StepsVersionBlocks, if_there}
 use Rattle.pe_c.specs.NamedSymbols.{StepsNamedSymbols}
 use Rattle.pe_c.specs.ResourceLeaves.{StepsLeaves, tree_number}
-use Rattle.pe_c.specs.Unwinding.{StepsCodes}
+use Rattle.pe_c.specs.SectionNames.{long_name_by_index}
+use Rattle.pe_c.specs.Unwinding.{StepsCodes, function_in}
 
 pub returns-clause-codes : goal.returns-clause-codes
 returns-clause-codes c b = give_lists result_number (StepsCodes b)
@@ -54,3 +57,24 @@ returns-clause-library_functions c offset b image = give_lists directory_number 
 
 pub returns-clause-pogo_entries : goal.returns-clause-pogo_entries
 returns-clause-pogo_entries c b = give_lists result_number (StepsPogoEntries b)
+
+pub returns-clause-bound_imports : goal.returns-clause-bound_imports
+returns-clause-bound_imports c b table = give_lists directory_number (StepsBoundImports b table)
+
+pub returns-clause-bound_forwarders : goal.returns-clause-bound_forwarders
+returns-clause-bound_forwarders c b table = give_lists directory_number (StepsForwarders b table)
+
+pub returns-clause-version_blocks : goal.returns-clause-version_blocks
+returns-clause-version_blocks c b = give_lists result_number (StepsVersionBlocks b)
+
+pub returns-clause-functions : goal.returns-clause-functions
+returns-clause-functions c b table = give_lists result_number (StepsByIndex (λ i. if_there (function_in b table i)))
+
+pub returns-clause-arm64_functions : goal.returns-clause-arm64_functions
+returns-clause-arm64_functions c b table = give_lists result_number (StepsByIndex (λ i. if_there (arm64_function_in b table i)))
+
+pub returns-clause-export_addresses : goal.returns-clause-export_addresses
+returns-clause-export_addresses c offset b t = give_lists result_number (StepsByIndex (exported_at offset b t))
+
+pub returns-clause-long_section_names : goal.returns-clause-long_section_names
+returns-clause-long_section_names c b strings sections = give_lists result_number (StepsByIndex (long_name_by_index b strings sections))
