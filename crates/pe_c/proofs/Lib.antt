@@ -29,6 +29,7 @@ pub mod KeptWalks
 pub mod LastText
 pub mod LeftBytes
 pub mod Listings
+pub mod LoadedRooms
 pub mod Parts
 pub mod PlanEnds
 pub mod PlanSteps

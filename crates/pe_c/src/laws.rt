@@ -13,6 +13,7 @@ pub mod image_writes;
 pub mod indexes;
 pub mod kept_sections;
 pub mod lists;
+pub mod loaded;
 pub mod results;
 pub mod signatures;
 pub mod te;

@@ -1,0 +1,22 @@
+//! The law of images that `pe_c_map` lays out as a loader does.
+
+ghost use Rattle.std.specs.Prelude.{◌≡◌, ◌+◌, ◌<◌, ◌≤◌, ℕ, false, length, List, Some};
+ghost use Rattle.pe_core.specs.Bytes.{range};
+ghost use Rattle.pe_c.specs.Loaded.{PutsImage};
+ghost use Rattle.pe_c.specs.Modes.{resolves};
+ghost use Rattle.pe_c.specs.Views.{map_of};
+ghost use Rattle.pe_c.specs.declared.results.TheConstants.{DONE};
+ghost use Rattle.pe_c.specs.declared.view.View.{View};
+
+/// By a view in a mode with `PE_C_MAPPED` each RVA is its own offset (`offsets`). So what calls read there of an image that `pe_c_map`
+/// wrote is what they read of the file: the bytes of each part whose RVAs the file's view maps one after the other, as those of a
+/// part in one section (`bytes`).
+#[tactic(auto, using(crate::proofs::LoadedRooms::own_offset, crate::proofs::LoadedRooms::same_bytes))]
+pub fn mapped_images_are_read_as_files()
+    ensures offsets { (v : View) (x : ℕ) → resolves v.image.now.mode ≡ false → map_of v x ≡ Some x }
+    ensures bytes { (v : View) (old new : List ℕ) (written rva p n : ℕ) →
+        PutsImage v DONE old new written →
+        ((k : ℕ) → k < n → map_of v (rva + k) ≡ Some (p + k)) →
+        p + n ≤ length v.bytes.now → rva + n ≤ v.image.now.size_of_image →
+        range new rva n ≡ range v.bytes.now p n }
+{}
