@@ -160,7 +160,9 @@ fn items_by_steps(image: &Image, sections: &[sys::Section]) -> Items {
             // SAFETY: the record is lent for the call.
             unsafe { sys::pe_c_plan_from(unwind, &mut walk.plan) };
             // SAFETY: as above. Each plan starts with the sections that the one before kept.
-            all.6.extend(items(&mut walk, |walk, out| unsafe { sys::pe_c_next_record(&view, &table, &mut **walk, out) }));
+            all.6.extend(items(&mut walk, |walk, out| unsafe {
+                sys::pe_c_next_record(&view, &table, &mut **walk, out)
+            }));
         }
     }
     all
@@ -203,19 +205,15 @@ fn steps_under_many_sections_take_no_longer_than_under_one() {
         let sections = [&vec![sys::Section::default(); 65_534], image.sections()].concat();
         let found = items_by_steps(&image, &sections);
         assert!(found == items_by_steps(&image, image.sections()));
-        let own = [
-            found.0.len(),
-            found.1.len(),
-            found.2.len(),
-            found.3.len(),
-            found.4.len(),
-            found.5.len(),
-            found.6.len(),
-        ];
+        let own =
+            [found.0.len(), found.1.len(), found.2.len(), found.3.len(), found.4.len(), found.5.len(), found.6.len()];
         for (count, more) in counts.iter_mut().zip(own) {
             *count += more;
         }
     }
-    assert!(counts.iter().all(|it| *it > 1) && counts[2] > 90_000 && counts[4] > 90_000 && counts[6] > 190_000, "{counts:?}");
+    assert!(
+        counts.iter().all(|it| *it > 1) && counts[2] > 90_000 && counts[4] > 90_000 && counts[6] > 190_000,
+        "{counts:?}"
+    );
     assert!(start.elapsed() < Duration::from_secs(20), "{:?}", start.elapsed());
 }
