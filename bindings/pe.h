@@ -312,9 +312,9 @@ typedef struct {
 } pe_c_view;
 
 /* The sections of the last RVAs of a walk, which the steps over exports, imports, delay imports, resources and the records
- * of a plan test before the others: the RVAs of a table mostly lie in one section or two. `kept` of such a walk is all 0 at
- * the start, and only the step calls read and write it. Where a caller changes it and sections overlap, a step may return an
- * offset by another section, and no other harm is done; a number past the last section maps nothing. */
+ * of a plan test before the others: the RVAs of a table mostly lie in one section or two. `kept` of such a walk is all 0
+ * at the start, and only the step calls read and write it. Where a caller changes it and sections overlap, a step may
+ * return an offset by another section, and no other harm is done; a number past the last section maps nothing. */
 typedef struct {
     uint32_t first;                 /* index of a section plus 1; 0 for none, as at the start of a walk; 0xFFFFFFFF for none,
                                        and the walk keeps no more, where that of an RVA may share some with an earlier one */
@@ -451,8 +451,8 @@ uint32_t pe_c_headers(const uint8_t *bytes, size_t length, uint32_t mode, pe_c_h
  * the view that is passed makes no difference. An index of other sections gives wrong offsets, and no other harm.
  * With an index a walk keeps no sections, and needs none. Without one a step over exports, imports, delay imports,
  * resources or the records of a plan tests the section or two that its walk keeps, and searches all of them only for an
- * RVA elsewhere; all other steps search all for each RVA. A section that may share an RVA with an earlier one, whose size is
- * rounded up to a page, is not kept.
+ * RVA elsewhere; all other steps search all for each RVA. A section that may share an RVA with an earlier one, whose size
+ * is rounded up to a page, is not kept.
  * Errors: PE_C_ROOM where the array has too few entries; then `written` is how many it has to have. */
 uint32_t pe_c_index(const pe_c_view *view, pe_c_index_entry *room, size_t entries, uint64_t *written) PE_C_RESULT(1, 4);
 
