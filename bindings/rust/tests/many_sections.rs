@@ -168,10 +168,10 @@ fn items_by_steps(image: &Image, sections: &[sys::Section]) -> Items {
     all
 }
 
-/// An image of 100,000 x64 functions, of which each but the first is chained to the first.
+/// An image of 200,000 x64 functions, of which each but the first is chained to the first.
 fn with_chained_functions() -> Vec<u8> {
     let mut made = made::Made::new(made::X64);
-    let (table, count) = (made.next(), 100_000);
+    let (table, count) = (made.next(), 200_000);
     // the records follow the table
     let root = table + 12 * count;
     let record_of = |i: u32| if i == 0 { root } else { root + 4 + 16 * (i - 1) };
@@ -212,7 +212,7 @@ fn steps_under_many_sections_take_no_longer_than_under_one() {
         }
     }
     assert!(
-        counts.iter().all(|it| *it > 1) && counts[2] > 90_000 && counts[4] > 90_000 && counts[6] > 190_000,
+        counts.iter().all(|it| *it > 1) && counts[2] > 90_000 && counts[4] > 90_000 && counts[6] > 390_000,
         "{counts:?}"
     );
     assert!(start.elapsed() < Duration::from_secs(20), "{:?}", start.elapsed());
