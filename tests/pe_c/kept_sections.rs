@@ -720,11 +720,24 @@ fn addresses_past_32_bits(rt: HostRuntime) -> Result<(), Fail> {
     Ok(())
 }
 
+/// An even RVA, and its offset, which is below 4000h. If none of twenty is mapped there, the last one, and 0.
+fn any_mapped(view: &View, seed: &mut u64) -> (u32, u64) {
+    let mut rva = 0;
+    for _ in 0..20 {
+        let mut offset = 0;
+        rva = any_rva(seed, view.sections) & !1;
+        if pe_c_offset(view, rva, &mut offset) == DONE && offset < 0x4000 {
+            return (rva, offset);
+        }
+    }
+    (rva, 0)
+}
+
 /// Any sections, which mostly lie over one another, and a chain of records at any RVAs that they map.
 #[test]
 fn any_chains_change_nothing(rt: HostRuntime) -> Result<(), Fail> {
     let (mut seed, mut kept, mut given) = (11, 0, 0);
-    for _ in 0..60 {
+    for _ in 0..200 {
         let image = Image {
             file_alignment: 0x100 << (next(&mut seed) % 6),
             ..image(X64)
@@ -734,27 +747,14 @@ fn any_chains_change_nothing(rt: HostRuntime) -> Result<(), Fail> {
             *section = any_section(&mut seed);
         }
         let mut bytes = bytes_of(rt.alloc(), 0x4010, &[])?;
-        let mut unwind = any_rva(&mut seed, &sections) & !1;
-        let mut walk = plan_from(unwind);
+        let (start, mut offset) = any_mapped(&view(&bytes, &image, &sections), &mut seed);
+        let mut walk = plan_from(start);
         for prolog in 0..12 {
-            let (mut offset, mut after) = (0, any_rva(&mut seed, &sections) & !1);
-            let view = view(&bytes, &image, &sections);
-            // An RVA that leads nowhere ends the chain: most are others.
-            for _ in 0..20 {
-                if pe_c_offset(&view, after, &mut offset) == DONE && offset < 0x4000 {
-                    break;
-                }
-                after = any_rva(&mut seed, &sections) & !1;
-            }
-            let is_there = pe_c_offset(&view, unwind, &mut offset) == DONE && offset < 0x4000;
-            if !is_there {
-                break;
-            }
-            let record = [0x21 | prolog << 8, 0, 0, after].map(u32::to_le_bytes);
-            for (word, part) in record.iter().enumerate() {
-                put(&mut bytes, &[(offset as usize + 4 * word, part)]);
-            }
-            unwind = after;
+            let (after, next_offset) = any_mapped(&view(&bytes, &image, &sections), &mut seed);
+            let record = &mut bytes[offset as usize..offset as usize + 16];
+            record[..4].copy_from_slice(&[0x21, prolog, 0, 0]);
+            record[12..].copy_from_slice(&after.to_le_bytes());
+            offset = next_offset;
         }
         let view = view(&bytes, &image, &sections);
         let table = range(0, 0);
