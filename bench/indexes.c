@@ -86,14 +86,14 @@ static uint64_t step_records(const pe_c_view *view, uint64_t most)
 {
     pe_c_range table = PE_C_EMPTY;
     pe_c_function function = PE_C_EMPTY;
-    pe_c_plan plan = PE_C_EMPTY;
+    pe_c_plan_walk walk = PE_C_EMPTY;
     pe_c_record record = PE_C_EMPTY;
     if (pe_c_function_table(view, &table) != PE_C_DONE
         || pe_c_function_at(view->bytes, view->length, &table, 0, &function) != PE_C_DONE)
         return 0;
-    pe_c_plan_from(function.unwind, &plan);
+    pe_c_plan_from(function.unwind, &walk.plan);
     uint64_t count = 0;
-    while (count < most && pe_c_next_record(view, &table, &plan, &record) == PE_C_DONE)
+    while (count < most && pe_c_next_record(view, &table, &walk, &record) == PE_C_DONE)
         count++;
     return count;
 }

@@ -41,12 +41,12 @@ static uint64_t codes(void)
     pe_c_function function = PE_C_EMPTY;
     pe_c_record record = PE_C_EMPTY;
     pe_c_code code = PE_C_EMPTY;
+    pe_c_plan_walk plan = PE_C_EMPTY;
     uint64_t count = 0;
     if (pe_c_function_table(&view, &table) != PE_C_DONE)
         return 0;
     for (uint64_t i = 0; pe_c_function_at(bytes, length, &table, i, &function) == PE_C_DONE; i++) {
-        pe_c_plan plan = PE_C_EMPTY;
-        pe_c_plan_from(function.unwind, &plan);
+        pe_c_plan_from(function.unwind, &plan.plan);
         while (pe_c_next_record(&view, &table, &plan, &record) == PE_C_DONE)
             for (pe_c_walk walk = record.codes; pe_c_next_code(bytes, length, &walk, &code) == PE_C_DONE; count++)
                 sum += code.value;

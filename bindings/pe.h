@@ -311,10 +311,10 @@ typedef struct {
     size_t entries;                 /* of the index; 0 for no index, and then calls test the sections in turn */
 } pe_c_view;
 
-/* The sections of the last RVAs of a walk, which the steps over exports, imports, delay imports and resources test before
- * the others: the RVAs of a table mostly lie in one section or two. `kept` of such a walk is all 0 at the start, and only
- * the step calls read and write it. Where a caller changes it and sections overlap, a step may return an offset by another
- * section, and no other harm is done; a number past the last section maps nothing. */
+/* The sections of the last RVAs of a walk, which the steps over exports, imports, delay imports, resources and the records
+ * of a plan test before the others: the RVAs of a table mostly lie in one section or two. `kept` of such a walk is all 0
+ * at the start, and only the step calls read and write it. Where a caller changes it and sections overlap, a step may
+ * return an offset by another section, and no other harm is done; a number past the last section maps nothing. */
 typedef struct {
     uint32_t first;                 /* index of a section plus 1; 0 for none, as at the start of a walk; 0xFFFFFFFF for none,
                                        and the walk keeps no more, where that of an RVA may share some with an earlier one */
@@ -449,10 +449,10 @@ uint32_t pe_c_headers(const uint8_t *bytes, size_t length, uint32_t mode, pe_c_h
  * lists of their names. Few calls, and images with few sections, as most, gain nothing by it. No entries, and PE_C_DONE,
  * where no section is searched: in an image as loaded, and where the file alignment is not a power of two. An index in
  * the view that is passed makes no difference. An index of other sections gives wrong offsets, and no other harm.
- * With an index a walk keeps no sections, and needs none. Without one a step over exports, imports, delay imports or
- * resources tests the section or two that its walk keeps, and searches all of them only for an RVA elsewhere; all other
- * steps search all for each RVA. A section that may share an RVA with an earlier one, whose size is rounded up to a page,
- * is not kept.
+ * With an index a walk keeps no sections, and needs none. Without one a step over exports, imports, delay imports,
+ * resources or the records of a plan tests the section or two that its walk keeps, and searches all of them only for an
+ * RVA elsewhere; all other steps search all for each RVA. A section that may share an RVA with an earlier one, whose size
+ * is rounded up to a page, is not kept.
  * Errors: PE_C_ROOM where the array has too few entries; then `written` is how many it has to have. */
 uint32_t pe_c_index(const pe_c_view *view, pe_c_index_entry *room, size_t entries, uint64_t *written) PE_C_RESULT(1, 4);
 
@@ -1510,7 +1510,7 @@ typedef struct {
     uint32_t target;                /* RVA of the __except block; 0 for __finally */
 } pe_c_scope;
 
-/* A plan: a walk over the records of a function, up to the root of its chain. pe_c_plan_from starts it. */
+/* Where a plan stands: a walk over the records of a function, up to the root of its chain. pe_c_plan_from starts it. */
 typedef struct {
     uint32_t unwind;                /* unwind RVA of the next record */
     uint32_t is_over;               /* 1 after the root or an error, else 0 */
@@ -1519,6 +1519,13 @@ typedef struct {
     uint64_t steps;                 /* records returned since that RVA was saved */
     uint64_t limit;                 /* records after which another RVA is saved */
 } pe_c_plan;
+
+/* A plan, step by step. It starts as PE_C_EMPTY with what pe_c_plan_from returns. The plan of another function of the same
+ * image may start in the same walk, at &walk.plan, with `kept` as the last steps left it: that spares its first search. */
+typedef struct {
+    pe_c_plan plan;
+    pe_c_kept_sections kept;
+} pe_c_plan_walk;
 
 /* The registers of a thread that unwinding restores. */
 typedef struct {
@@ -1603,6 +1610,7 @@ PE_C_SIZE(pe_c_record, 72);
 PE_C_SIZE(pe_c_code, 8);
 PE_C_SIZE(pe_c_scope, 16);
 PE_C_SIZE(pe_c_plan, 32);
+PE_C_SIZE(pe_c_plan_walk, 40);
 PE_C_SIZE(pe_c_registers, 392);
 PE_C_SIZE(pe_c_frame, 424);
 PE_C_SIZE(pe_c_memory_piece, 24);
@@ -1654,7 +1662,7 @@ uint32_t pe_c_plan_from(uint32_t unwind, pe_c_plan *out) PE_C_NOT_NULL(2);
  * Errors: those of pe_c_unwind_record for the next record; PE_C_FUNCTION_CYCLE if, and only if, the chain of a plan that
  * pe_c_plan_from started never ends. Records may be returned before that error. Such a plan is over after at most 3 * 2^32
  * records; a plan with other fields may never be over. */
-uint32_t pe_c_next_record(const pe_c_view *view, const pe_c_range *table, pe_c_plan *plan, pe_c_record *out)
+uint32_t pe_c_next_record(const pe_c_view *view, const pe_c_range *table, pe_c_plan_walk *walk, pe_c_record *out)
     PE_C_RESULT(1, 2, 3, 4);
 
 /* Finds the registers of a function's caller, from those inside the function, in its prolog and epilogs too, and writes them

@@ -487,10 +487,10 @@ static int show_unwinding(image *it, uint32_t rva)
     if (result != PE_C_DONE)
         return refused(it, result, "");
     show_function("function", &function);
-    pe_c_plan plan = PE_C_EMPTY;
-    pe_c_plan_from(function.unwind, &plan);
+    pe_c_plan_walk walk = PE_C_EMPTY;
+    pe_c_plan_from(function.unwind, &walk.plan);
     pe_c_record record = PE_C_EMPTY;
-    while ((result = pe_c_next_record(&it->view, &table, &plan, &record)) == PE_C_DONE) {
+    while ((result = pe_c_next_record(&it->view, &table, &walk, &record)) == PE_C_DONE) {
         result = show_record(it, &record);
         if (result != PE_C_NOTHING)
             break;

@@ -136,7 +136,7 @@ FILE, OF_IMAGE, OF_PROCESS = ("bytes", "length"), ("view",), ("modules", "module
 # Calls that it makes in ways of its own.
 OWN_WAYS = re.compile(r"pe_c_(image|sections|text|abi_\d+)")
 # What a call reads and changes, of what it does not fill alone.
-MOVED = {"walk", "plan", "frame"}
+MOVED = {"walk", "frame"}
 # What a call fills that refuses, which comes with the error.
 REFUSAL = "failure"
 # A number that a call reads and writes, and one that it writes too where it returns PE_C_NOTHING.

@@ -135,11 +135,7 @@ export class Image extends File {
   /** The unwind records of an x64 function, up to the root of its chain. */
   *records(found) {
     const table = this.call('pe_c_function_table'), plan = this.call('pe_c_plan_from', { unwind: found.unwind });
-    for (;;) {
-      const record = table && this.call('pe_c_next_record', { table, plan });
-      if (!record) return;
-      yield record;
-    }
+    if (table) yield* this.items('pe_c_next_record', { plan }, { table });
   }
 
   /** The unwind codes of an x64 record. */

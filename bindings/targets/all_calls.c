@@ -178,18 +178,18 @@ static void record_x64(const struct file *file, pe_c_record *record)
 static void walk_x64(const struct file *file)
 {
     pe_c_range table = PE_C_EMPTY;
+    pe_c_plan_walk walk = PE_C_EMPTY;
     if (!IS_DONE(pe_c_function_table, table, VIEW, &table))
         return;
     uint64_t functions = table.length / 12, stride = functions / FUNCTIONS + 1;
     for (uint64_t i = 0; i < functions; i += stride) {
         pe_c_function function = PE_C_EMPTY, found = PE_C_EMPTY;
-        pe_c_plan plan = PE_C_EMPTY;
         pe_c_record record = PE_C_EMPTY;
         if (!IS_DONE(pe_c_function_at, function, BYTES, &table, i, &function))
             continue;
         CALL(pe_c_find_function, found, BYTES, &table, function.begin + (uint32_t)(next_random() % 64), &found);
-        CALL(pe_c_plan_from, plan, function.unwind, &plan);
-        WALK(RECORDS, pe_c_next_record, record, VIEW, &table, &plan, &record)
+        CALL(pe_c_plan_from, walk.plan, function.unwind, &walk.plan);
+        WALK(RECORDS, pe_c_next_record, record, VIEW, &table, &walk, &record)
             record_x64(file, &record);
         pe_c_code codes[8] = PE_C_EMPTY;
         uint64_t coded = 0;

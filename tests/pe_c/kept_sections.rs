@@ -5,16 +5,19 @@ use super::delay_imports_by_index::{NO_FUNCTION, NO_LIBRARY as NO_DLL};
 use super::exports::from as from_exports;
 use super::imports::{NO_IMPORT, NO_LIBRARY, from_import, from_library};
 use super::made::{
-    DIRECTORY_VA_BELOW_BASE, LEFT_ENTRY, MAPPED, OVER, TREE_NOT_DIRECTORY, UNMAPPED, X64, image,
-    in_mode, of_range, range, section, view,
+    DIRECTORY_VA_BELOW_BASE, FUNCTION_CYCLE, FUNCTION_LINK, LEFT_ENTRY, MAPPED, OVER,
+    TREE_NOT_DIRECTORY, UNMAPPED, X64, image, in_mode, of_range, range, section, view,
 };
 use super::near_map::{NO_EXPORT, any_rva, any_section, next};
+use super::plan::plan_from;
 use super::resource_leaves::{NO_LEAF, walk as walk_over_leaves, with_tree};
+use super::unwinding::no_record;
 use crate::delay_imports::{pe_c_next_delay_import, pe_c_next_delayed_function};
 use crate::exports::{Exports, pe_c_next_export};
-use crate::image::Image;
+use crate::image::{Image, pe_c_offset};
 use crate::imports::{Imports, Libraries, pe_c_next_import, pe_c_next_library};
 use crate::kept_sections::KeptSections;
+use crate::plan::{PlanWalk, pe_c_next_record, pe_c_plan_from};
 use crate::resource_leaves::pe_c_next_resource_leaf;
 use crate::results::{DONE, NOTHING};
 use crate::section_index::pe_c_index;
@@ -31,7 +34,8 @@ use std::test::Fail;
 /// address. At 100h records of libraries: the second has no lookup table, the lookup table of the third is unmapped, and the name of the
 /// fourth. At 180h five lookup entries: the second is an ordinal, and the fifth is unmapped. At 200h three entries of delay imports: the
 /// addresses of the third are virtual and below the image base. At 280h such a table of five numbers, as at 180h. At 300h a resource tree
-/// of two leaves.
+/// of two leaves. At 390h the x64 functions, of which the first has a chain of four records: the last is that of the second function, to
+/// which the third links, and is chained to one that is unmapped. The record at 740h is chained to itself.
 fn bytes_of_all(alloc: Global) -> Result<Vec<u8>, AllocError> {
     let mut bytes = bytes_of(
         alloc,
@@ -82,9 +86,28 @@ fn bytes_of_all(alloc: Global) -> Result<Vec<u8>, AllocError> {
     bytes[0x300..0x38E].copy_from_slice(&tree[0x20..0xAE]);
     put(
         &mut bytes,
-        &[(0x358, &[0x04, 0x20]), (0x368, &[0x10, 0x40])],
+        &[
+            (0x358, &[0x04, 0x20]),
+            (0x368, &[0x10, 0x40]),
+            (0x390, &[0, 0x50, 0, 0, 0x10, 0x50, 0, 0, 0x68, 0x20]),
+            (0x39C, &[0x10, 0x50, 0, 0, 0x20, 0x50, 0, 0, 0x20, 0x41]),
+            (0x468, &chained(7, 0x4100)),
+            (0x4C0, &chained(9, 0x139D)),
+            (0x700, &chained(8, 0x20C0)),
+            (0x720, &chained(10, 0x9000)),
+            (0x740, &chained(13, 0x4140)),
+            (0x808, &chained(12, 0x4100)),
+        ],
     );
     Ok(bytes)
+}
+
+/// An x64 unwind record without codes, of a prolog of this length, that is chained to the record of an RVA.
+fn chained(prolog: u8, unwind: u16) -> [u8; 16] {
+    let [low, high] = unwind.to_le_bytes();
+    [
+        0x21, prolog, 0, 0, 0, 0x50, 0, 0, 0x10, 0x50, 0, 0, low, high, 0, 0,
+    ]
 }
 
 /// Sections that share no RVA: their numbers are 1, 2 and 3.
@@ -266,8 +289,28 @@ fn leaves(view: &View, keeps: Keeps) -> [Step; 6] {
     steps
 }
 
-/// Six steps of each of the six walks.
-fn all_steps(view: &View, keeps: Keeps) -> [[Step; 6]; 6] {
+/// The result of a step of a plan over the table at 390h, the range of the record's codes, the length of its prolog, and what is kept.
+fn record_step(view: &View, walk: &mut PlanWalk) -> Step {
+    let mut out = no_record();
+    let answer = pe_c_next_record(view, &range(0x390, 24), walk, &mut out);
+    let number = u64::from(out.size_of_prolog);
+    step_of(answer, of_range(out.codes.left), number, walk.kept)
+}
+
+/// The same as of the others over the records of the first function.
+fn records(view: &View, keeps: Keeps) -> [Step; 6] {
+    let mut walk = plan_from(0x2068);
+    walk.kept = at_start(keeps);
+    let mut steps = [NO_STEP; 6];
+    for step in &mut steps {
+        walk.kept = before(keeps, walk.kept);
+        *step = record_step(view, &mut walk);
+    }
+    steps
+}
+
+/// Six steps of each of the seven walks.
+fn all_steps(view: &View, keeps: Keeps) -> [[Step; 6]; 7] {
     [
         exports(view, keeps),
         libraries(view, keeps),
@@ -275,11 +318,12 @@ fn all_steps(view: &View, keeps: Keeps) -> [[Step; 6]; 6] {
         dlls(view, keeps),
         functions(view, keeps),
         leaves(view, keeps),
+        records(view, keeps),
     ]
 }
 
 /// The same without what is kept.
-fn returned(mut all: [[Step; 6]; 6]) -> [[Step; 6]; 6] {
+fn returned(mut all: [[Step; 6]; 7]) -> [[Step; 6]; 7] {
     for steps in &mut all {
         for step in steps {
             step.3 = [0, 0];
@@ -295,8 +339,8 @@ fn over_with(kept: [u32; 2]) -> Step {
 }
 
 /// What the walks return over sections that share no RVA. Of an export the section of the address comes first, then that of the name,
-/// so the last is that of the name; of a library, and of a DLL, that of its list is the last.
-fn steps_apart() -> [[Step; 6]; 6] {
+/// so the last is that of the name; of a library, and of a DLL, that of its list is the last; of a record by a link that of the link is.
+fn steps_apart() -> [[Step; 6]; 7] {
     [
         [
             (DONE, [0x410, 1], 0x680, [2, 3]),
@@ -346,6 +390,14 @@ fn steps_apart() -> [[Step; 6]; 6] {
             over_with([3, 2]),
             over_with([3, 2]),
         ],
+        [
+            (DONE, [0x46C, 0], 7, [2, 0]),
+            (DONE, [0x704, 0], 8, [3, 2]),
+            (DONE, [0x4C4, 0], 9, [3, 2]),
+            (DONE, [0x724, 0], 10, [1, 3]),
+            (UNMAPPED, OVER, 0, [1, 3]),
+            over_with([1, 3]),
+        ],
     ]
 }
 
@@ -353,8 +405,9 @@ fn steps_apart() -> [[Step; 6]; 6] {
 const NO_MORE: u32 = u32::MAX;
 
 /// What they return where a section has come over a part of another, which is never kept then: from the first RVA in that on a walk
-/// keeps no more. What is at 2060h is another hint, in the section that came first.
-fn steps_below() -> [[Step; 6]; 6] {
+/// keeps no more. What is at 2060h is another hint, in the section that came first, and another record at 2068h. After that the page
+/// from 2060h on counts as this section's, and of an RVA in it nothing is kept.
+fn steps_below() -> [[Step; 6]; 7] {
     [
         [
             (DONE, [0x410, 1], 0x680, [NO_MORE, 4]),
@@ -403,6 +456,14 @@ fn steps_below() -> [[Step; 6]; 6] {
             over_with([NO_MORE, 0]),
             over_with([NO_MORE, 0]),
             over_with([NO_MORE, 0]),
+        ],
+        [
+            (DONE, [0x80C, 0], 12, [1, 0]),
+            (DONE, [0x704, 0], 8, [4, 1]),
+            (DONE, [0x4C4, 0], 9, [4, 1]),
+            (DONE, [0x724, 0], 10, [2, 4]),
+            (UNMAPPED, OVER, 0, [2, 4]),
+            over_with([2, 4]),
         ],
     ]
 }
@@ -520,10 +581,60 @@ fn numbers_that_change_offsets(rt: HostRuntime) -> Result<(), Fail> {
     for kept in [[3, 0], [0, 3], [3, 1], [4, 3], [3, u32::MAX]] {
         let [first, ..] = imports(&view, Keeps::From(kept));
         assert_eq!(rt; first, (DONE, [0x462, 1], 7, kept));
+        let [first, ..] = records(&view, Keeps::From(kept));
+        assert_eq!(rt; first, (DONE, [0x46C, 0], 7, kept));
     }
     // The first is tested first.
     let [first, ..] = imports(&view, Keeps::From([1, 3]));
     assert_eq!(rt; first, (DONE, [0x802, 2], 11, [1, 3]));
+    let [first, ..] = records(&view, Keeps::From([1, 3]));
+    assert_eq!(rt; first, (DONE, [0x80C, 0], 12, [1, 3]));
+    Ok(())
+}
+
+/// The plan of another function goes on with what the last one kept. An error of the chain, and a plan that is over, leave it.
+#[test]
+fn plans_one_after_the_other(rt: HostRuntime) -> Result<(), Fail> {
+    let bytes = bytes_of_all(rt.alloc())?;
+    let (image, sections) = (fine_image(), apart());
+    let view = view(&bytes, &image, &sections);
+    let mut walk = plan_from(0x20C0);
+    let first = record_step(&view, &mut walk);
+    assert_eq!(rt; first, (DONE, [0x4C4, 0], 9, [2, 0]));
+    assert_eq!(rt; pe_c_plan_from(0x2068, &mut walk.plan), DONE);
+    let second = record_step(&view, &mut walk);
+    assert_eq!(rt; second, (DONE, [0x46C, 0], 7, [2, 0]));
+    assert_eq!(rt; pe_c_plan_from(0x4120, &mut walk.plan), DONE);
+    let third = record_step(&view, &mut walk);
+    assert_eq!(rt; third, (DONE, [0x724, 0], 10, [3, 2]));
+    // The record is in a section that is not kept, and is read.
+    walk.kept = kept_of([2, 1]);
+    assert_eq!(rt; pe_c_plan_from(0x4140, &mut walk.plan), DONE);
+    let ring = record_step(&view, &mut walk);
+    assert_eq!(rt; ring, (FUNCTION_CYCLE, OVER, 0, [2, 1]));
+    assert_eq!(rt; record_step(&view, &mut walk), over_with([2, 1]));
+    Ok(())
+}
+
+/// What a walk keeps maps the RVAs of links too. Of the link the section is kept, and not of the record to which it leads.
+#[test]
+fn links_by_what_is_kept(rt: HostRuntime) -> Result<(), Fail> {
+    let bytes = bytes_of_all(rt.alloc())?;
+    let [first, second, third] = apart();
+    let image = fine_image();
+    let sections = [section(0x1390, 0x1000, 0x800, 0x20), first, second, third];
+    let view = view(&bytes, &image, &sections);
+    // By the section that came first the RVA is no place in the table.
+    for (kept, step) in [
+        ([0, 0], (FUNCTION_LINK, OVER, 0, [0, 0])),
+        ([4, 1], (FUNCTION_LINK, OVER, 0, [4, 1])),
+        ([2, 0], (DONE, [0x724, 0], 10, [2, 0])),
+        ([4, 2], (DONE, [0x724, 0], 10, [4, 2])),
+    ] {
+        let mut walk = plan_from(0x139D);
+        walk.kept = kept_of(kept);
+        assert_eq!(rt; record_step(&view, &mut walk), step);
+    }
     Ok(())
 }
 
@@ -570,6 +681,7 @@ fn walks_over_an_image_as_loaded(rt: HostRuntime) -> Result<(), Fail> {
             (DONE, [0x2080, 5], 0x40C0, [0, 0]),
             (DONE, [0x2092, 1], 9, [0, 0]),
             (DONE, [0x2004, 5], 0x2004, [0, 0]),
+            (DONE, [0x206C, 0], 7, [0, 0]),
         ]
     );
     assert_eq!(rt; returned(all), all);
@@ -605,6 +717,81 @@ fn addresses_past_32_bits(rt: HostRuntime) -> Result<(), Fail> {
         );
         assert_eq!(rt; step, (DONE, name, hint, kept));
     }
+    Ok(())
+}
+
+/// An even RVA, and its offset, which is below 4000h. If none of twenty is mapped there, the last one, and 0.
+fn any_mapped(view: &View, seed: &mut u64) -> (u32, u64) {
+    let mut rva = 0;
+    for _ in 0..20 {
+        let mut offset = 0;
+        rva = any_rva(seed, view.sections) & !1;
+        if pe_c_offset(view, rva, &mut offset) == DONE && offset < 0x4000 {
+            return (rva, offset);
+        }
+    }
+    (rva, 0)
+}
+
+/// Any sections, which mostly lie over one another, and a chain of records at any RVAs that they map.
+#[test]
+fn any_chains_change_nothing(rt: HostRuntime) -> Result<(), Fail> {
+    let (mut seed, mut kept, mut given) = (11, 0, 0);
+    for _ in 0..200 {
+        let image = Image {
+            file_alignment: 0x100 << (next(&mut seed) % 6),
+            ..image(X64)
+        };
+        let mut sections = [section(0, 0, 0, 0); 5];
+        for section in &mut sections {
+            *section = any_section(&mut seed);
+        }
+        let mut bytes = bytes_of(rt.alloc(), 0x4010, &[])?;
+        let (start, mut offset) = any_mapped(&view(&bytes, &image, &sections), &mut seed);
+        let mut walk = plan_from(start);
+        for prolog in 0..12 {
+            let (after, next_offset) = any_mapped(&view(&bytes, &image, &sections), &mut seed);
+            let record = &mut bytes[offset as usize..offset as usize + 16];
+            record[..4].copy_from_slice(&[0x21, prolog, 0, 0]);
+            record[12..].copy_from_slice(&after.to_le_bytes());
+            offset = next_offset;
+        }
+        let view = view(&bytes, &image, &sections);
+        let table = range(0, 0);
+        loop {
+            let mut alone = PlanWalk {
+                kept: kept_of([0, 0]),
+                ..walk
+            };
+            let (mut out, mut other) = (no_record(), no_record());
+            let answer = pe_c_next_record(&view, &table, &mut walk, &mut out);
+            assert_eq!(rt;
+                pe_c_next_record(&view, &table, &mut alone, &mut other),
+                answer
+            );
+            assert_eq!(rt;
+                (
+                    of_range(out.codes.left),
+                    out.size_of_prolog,
+                    walk.plan.unwind
+                ),
+                (
+                    of_range(other.codes.left),
+                    other.size_of_prolog,
+                    alone.plan.unwind
+                )
+            );
+            if answer != DONE {
+                break;
+            }
+            given += 1;
+            if 0 < walk.kept.first && walk.kept.first < 6 {
+                kept += 1;
+            }
+        }
+    }
+    // Not in vain: in many steps a section was kept, which the next ones tested.
+    assert!(rt; 50 < kept && kept < given, "{kept} of {given}");
     Ok(())
 }
 

@@ -5,7 +5,8 @@ use super::made::{
     range, sections, view, words,
 };
 use super::unwinding::no_record;
-use crate::plan::{Plan, pe_c_next_record, pe_c_plan_from};
+use crate::kept_sections::NO_SECTIONS;
+use crate::plan::{Plan, PlanWalk, pe_c_next_record, pe_c_plan_from};
 use crate::ranges::Range;
 use crate::results::{DONE, NOTHING};
 use crate::unwinding::UnwindRecord;
@@ -79,17 +80,26 @@ fn table_of_chains() -> Range {
     range(0, 0x30)
 }
 
-fn plan_from(unwind: u32) -> Plan {
-    let mut plan = Plan {
+/// A walk by steps, which starts here.
+fn from(plan: Plan) -> PlanWalk {
+    PlanWalk {
+        plan,
+        kept: NO_SECTIONS,
+    }
+}
+
+/// The same from an unwind RVA.
+pub(crate) fn plan_from(unwind: u32) -> PlanWalk {
+    let mut walk = from(Plan {
         unwind: 7,
         is_over: 7,
         saved: 7,
         spare: 7,
         steps: 7,
         limit: 7,
-    };
-    let _done = pe_c_plan_from(unwind, &mut plan);
-    plan
+    });
+    let _done = pe_c_plan_from(unwind, &mut walk.plan);
+    walk
 }
 
 fn fields_of(plan: &Plan) -> [u64; 6] {
@@ -124,21 +134,21 @@ fn key_of(record: &UnwindRecord) -> [u64; 4] {
 const NO_KEY: [u64; 4] = [1, 9, 10, 12];
 
 /// One step: the answer, what goes out, and the plan after it.
-fn step(bytes: &[u8], table: &Range, plan: &mut Plan) -> (u32, [u64; 4], [u64; 6]) {
+fn step(bytes: &[u8], table: &Range, walk: &mut PlanWalk) -> (u32, [u64; 4], [u64; 6]) {
     let mut out = no_record();
     let answer = pe_c_next_record(
         &view(bytes, &image(X64), &sections()),
         table,
-        plan,
+        walk,
         &mut out,
     );
-    (answer, key_of(&out), fields_of(plan))
+    (answer, key_of(&out), fields_of(&walk.plan))
 }
 
 /// A plan starts at its unwind RVA, with nothing returned and a limit of one record.
 #[test]
 fn plans_start(rt: HostRuntime) -> Result<(), Fail> {
-    let mut plan = plan_from(7);
+    let mut plan = plan_from(7).plan;
     assert_eq!(rt; pe_c_plan_from(0x1060, &mut plan), DONE);
     assert_eq!(rt; fields_of(&plan), [0x1060, 0, 0x1060, 0, 0, 1]);
     Ok(())
@@ -216,7 +226,7 @@ fn plans_that_are_refused(rt: HostRuntime) -> Result<(), Fail> {
         for _ in 0..given {
             assert_eq!(rt; step(&bytes, &table, &mut plan).0, DONE, "from {unwind:#x}");
         }
-        let before = fields_of(&plan);
+        let before = fields_of(&plan.plan);
         let (answer, key, after) = step(&bytes, &table, &mut plan);
         assert_eq!(rt; (answer, key), (number, NO_KEY), "from {unwind:#x}");
         assert_eq!(rt; after, [before[0], 1, before[2], 0, before[4], before[5]]);
@@ -248,13 +258,13 @@ fn plans_that_lie(rt: HostRuntime) -> Result<(), Fail> {
         limit: u64::MAX,
     };
     let over = (NOTHING, NO_KEY, [0x1060, 7, 3, 5, u64::MAX, u64::MAX]);
-    assert_eq!(rt; step(&bytes, &table, &mut { lie }), over);
+    assert_eq!(rt; step(&bytes, &table, &mut from(lie)), over);
     for (limit, after) in [(u64::MAX, u64::MAX), (0, 0), (1 << 63, u64::MAX)] {
-        let mut plan = Plan {
+        let mut plan = from(Plan {
             is_over: 0,
             limit,
             ..lie
-        };
+        });
         let given = (
             DONE,
             [0x64, 0x1050, 1, 0x14],

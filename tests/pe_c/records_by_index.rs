@@ -6,13 +6,14 @@ use super::made::{
     ARM64, FUNCTION_CYCLE, FUNCTION_LINK, LEFT_ENTRY, NO_FAILURE, UNMAPPED, X64, directory,
     from_start, having, image, of_range, range, section, view,
 };
+use super::plan::plan_from;
 use super::unwinding::no_record;
 use crate::arm64::frames::{Arm64FrameRegisters, Arm64StackFrame, pe_c_step_arm64};
 use crate::arm64::functions::pe_c_find_arm64_function;
 use crate::arm64::records::{Arm64Record, pe_c_arm64_unwind_record};
 use crate::image::Image;
 use crate::lists::x64::pe_c_record_codes;
-use crate::plan::{Plan, pe_c_next_record, pe_c_plan_from};
+use crate::plan::pe_c_next_record;
 use crate::ranges::Range;
 use crate::results::{DONE, NOTHING};
 use crate::section_index::pe_c_index;
@@ -50,8 +51,7 @@ fn record_by(view: &View, table: &Range, unwind: u32) -> [Found; 3] {
     // The walk of the record is after the codes that were written.
     let bytes = u64::from(with_codes.size_of_prolog != NONE.0) * record.codes.left.length;
     let left = with_codes.codes.left;
-    let mut plan = NO_PLAN;
-    let _done = pe_c_plan_from(unwind, &mut plan);
+    let mut plan = plan_from(unwind);
     let mut first = no_record();
     let last = pe_c_next_record(view, table, &mut plan, &mut first);
     [
@@ -71,15 +71,6 @@ const NO_CODE: Code = Code {
     operand: 7,
     from_frame: 7,
     value: 7,
-};
-
-const NO_PLAN: Plan = Plan {
-    unwind: 7,
-    is_over: 7,
-    saved: 7,
-    spare: 7,
-    steps: 7,
-    limit: 7,
 };
 
 /// Why a record is refused: the answer, the error and its value.
@@ -191,8 +182,7 @@ fn records_with_an_index(rt: HostRuntime) -> Result<(), Fail> {
                 (number, 0x1_4000_500F)
             );
         }
-        let mut plan = NO_PLAN;
-        let _done = pe_c_plan_from(0x1029, &mut plan);
+        let mut plan = plan_from(0x1029);
         for prolog in [5, 4] {
             let mut record = no_record();
             assert_eq!(rt;

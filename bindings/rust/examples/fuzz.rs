@@ -202,7 +202,8 @@ fn any_kept(random: &mut Random) -> sys::KeptSections {
 /// steps have a call that says why they return an error, that does so exactly where they do, and by the same error. A second walk
 /// keeps any numbers.
 macro_rules! steps {
-    ($view:expr, $random:expr, $most:expr, $name:ident($walk:ident { $place:ident: $start:expr }), $out:ident $(, $why:ident)?) => {{
+    ($view:expr, $random:expr, $most:expr,
+     $name:ident($walk:ident { $place:ident: $start:expr } $(; $more:expr)?), $out:ident $(, $why:ident)?) => {{
         let (view, start, mut items): (&sys::View, _, _) = (&$view, $start, vec![]);
         let none = sys::KeptSections::default();
         let mut walk = sys::$walk { $place: start, kept: none };
@@ -215,9 +216,9 @@ macro_rules! steps {
                 let said = unsafe { sys::$why(view, &walk.$place, &mut failure) };
             )?
             // SAFETY: the view is of slices, and each record is lent for its call.
-            let answer = unsafe { sys::$name(view, &mut walk, &mut out) };
+            let answer = unsafe { sys::$name(view, $($more,)? &mut walk, &mut out) };
             // SAFETY: as above.
-            let other = unsafe { sys::$name(view, &mut alone, &mut same) };
+            let other = unsafe { sys::$name(view, $($more,)? &mut alone, &mut same) };
             assert_eq!((answer, out, walk.$place), (other, same, alone.$place));
             $(
                 let is_refused = answer != sys::DONE && answer != sys::NOTHING;
@@ -233,7 +234,7 @@ macro_rules! steps {
         for _ in 0..$most {
             let mut out = sys::$out::default();
             // SAFETY: as above.
-            if unsafe { sys::$name(view, &mut walk, &mut out) } != sys::DONE {
+            if unsafe { sys::$name(view, $($more,)? &mut walk, &mut out) } != sys::DONE {
                 break;
             }
             if $random.below(4) == 0 {
@@ -306,6 +307,26 @@ fn read_by_steps(bytes: &[u8], mode: Mode, layout: Layout, random: &mut Random, 
         pe_c_resource_leaf_failure
     )
     .len();
+    let table = started!(pe_c_function_table, Range);
+    let mut last = sys::PlanWalk::default();
+    for function in table.of(bytes).unwrap_or(&[]).chunks_exact(12).take(MOST) {
+        let unwind = u32::from_le_bytes(function[8..].try_into().unwrap());
+        let mut start = sys::Plan::default();
+        // SAFETY: the records are lent for the calls, and the view is of slices.
+        unsafe {
+            sys::pe_c_plan_from(unwind, &mut start);
+            sys::pe_c_plan_from(unwind, &mut last.plan);
+        }
+        let records = steps!(view, random, MOST, pe_c_next_record(PlanWalk { plan: start }; &table), Record);
+        // the same from what the plan before kept
+        for record in &records {
+            let mut out = sys::Record::default();
+            // SAFETY: as above.
+            let answer = unsafe { sys::pe_c_next_record(&view, &table, &mut last, &mut out) };
+            assert_eq!((answer, &out), (sys::DONE, record));
+        }
+        count += records.len();
+    }
     seen.records += count as u64;
 }
 
@@ -379,18 +400,6 @@ fn read_by_lies(bytes: &[u8], random: &mut Random, seen: &mut Seen) {
                 let mut out = sys::$out::default();
                 // SAFETY: as above.
                 if unsafe { sys::$name(start, length, &mut walk, &mut out) } != 0 {
-                    break;
-                }
-            }
-        }};
-    }
-    macro_rules! walk_of_image {
-        ($name:ident($walk:expr $(; $more:expr)?), $out:ident) => {{
-            let mut walk = $walk;
-            for _ in 0..MOST {
-                let mut out = sys::$out::default();
-                // SAFETY: as above.
-                if unsafe { sys::$name(&view, $($more,)? &mut walk, &mut out) } != 0 {
                     break;
                 }
             }
@@ -930,10 +939,12 @@ fn read_by_lies(bytes: &[u8], random: &mut Random, seen: &mut Seen) {
         limit: range.length,
         ..sys::Plan::default()
     };
-    walk_of_image!(pe_c_next_record(plan; &range), Record);
     let mut started = sys::Plan::default();
+    // SAFETY: the record is lent for the call.
     unsafe { sys::pe_c_plan_from(few, &mut started) };
-    walk_of_image!(pe_c_next_record(started; &range), Record);
+    for walk in [plan, started] {
+        steps!(view, random, MOST, pe_c_next_record(PlanWalk { plan: walk }; &range), Record);
+    }
     let mut frame = sys::Frame {
         registers: sys::Registers { general: [random.edge(number); 16], xmm: [index; 32], rip: few.into() },
         function: sys::Function { begin: few % 64, end: few, unwind: directory.virtual_address },

@@ -149,8 +149,8 @@ IndexEntry, 16 {
     section: u64,
 });
 record!(
-/// The sections of the last RVAs of a walk, which the steps over exports, imports, delay imports and resources test before the others.
-/// All 0 at the start of a walk; only these calls read and write it.
+/// The sections of the last RVAs of a walk, which the steps over exports, imports, delay imports, resources and the records of a plan
+/// test before the others. All 0 at the start of a walk; only these calls read and write it.
 KeptSections, 8 {
     /// The index of a section plus 1; 0 for none; `u32::MAX` for none, and the walk keeps no more, where sections may overlap.
     first: u32,
@@ -560,7 +560,7 @@ Scope, 16 {
     target: u32,
 });
 record!(
-/// A walk over the records of a function, up to the root of its chain. [`pe_c_plan_from`] starts it.
+/// Where a walk over the records of a function stands, up to the root of its chain. [`pe_c_plan_from`] starts it.
 Plan, 32 {
     /// Unwind RVA of the next record.
     unwind: u32,
@@ -574,6 +574,14 @@ Plan, 32 {
     steps: u64,
     /// Records after which another RVA is saved.
     limit: u64,
+});
+record!(
+/// A walk over the records of a function, step by step.
+PlanWalk, 40 {
+    /// Where it stands.
+    plan: Plan,
+    /// The sections of its last RVAs.
+    kept: KeptSections,
 });
 record!(
 /// The registers of a thread that unwinding restores.
@@ -2968,7 +2976,7 @@ calls_of_an_image! {
     /// Returns the x64 unwind record of an unwind RVA.
     pe_c_unwind_record(table: *const Range, unwind: u32) -> Record;
     /// Returns the next record of a plan.
-    pe_c_next_record(table: *const Range, plan: *mut Plan) -> Record;
+    pe_c_next_record(table: *const Range, walk: *mut PlanWalk) -> Record;
     /// Returns the range of the ARM64 function table.
     pe_c_arm64_table() -> Range;
     /// Returns the ARM64 function that covers an RVA.

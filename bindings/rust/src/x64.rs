@@ -324,18 +324,18 @@ impl<'i, 'a> Functions<'i, 'a> {
     }
 }
 
-fn plan_from(unwind: u32) -> sys::Plan {
-    let mut plan = sys::Plan::default();
+fn plan_from(unwind: u32) -> sys::PlanWalk {
+    let mut walk = sys::PlanWalk::default();
     // SAFETY: a writable record.
-    let _ = unsafe { sys::pe_c_plan_from(unwind, &mut plan) };
-    plan
+    let _ = unsafe { sys::pe_c_plan_from(unwind, &mut walk.plan) };
+    walk
 }
 
 /// The records of a function, up to the root of its chain. [`Functions::plan`] says which errors an item can be.
 #[derive(Clone, Debug)]
 pub struct Plan<'i, 'a> {
     table: sys::Range,
-    walk: ImageWalk<'i, 'a, sys::Plan>,
+    walk: ImageWalk<'i, 'a, sys::PlanWalk>,
 }
 
 impl<'a> Iterator for Plan<'_, 'a> {

@@ -259,6 +259,41 @@ fn walks_over_leaves_that_lie_end() {
 }
 
 #[test]
+fn plans_that_lie_end() {
+    let bytes = with_functions();
+    let image = Image::parse(&bytes, Mode::Strict).unwrap();
+    let (view, mut table) = (view_of(&image), sys::Range::default());
+    // SAFETY: the view is of slices, and the records are lent for the calls; so below.
+    assert_eq!(unsafe { sys::pe_c_function_table(&view, &mut table) }, sys::DONE);
+    let entry = table.of(&bytes).unwrap();
+    let chained = u32::from_le_bytes(entry[20..24].try_into().unwrap());
+    let numbers = lies(bytes.len() as u64);
+    for (unwind, kept) in [chained, 0, 3, u32::MAX].into_iter().flat_map(|it| KEPT.map(|kept| (it, kept))) {
+        for (steps, limit) in numbers.iter().flat_map(|it| lies(3).into_iter().map(move |limit| (*it, limit))) {
+            for is_over in [0, 1, u32::MAX] {
+                let plan = sys::Plan { unwind, is_over, saved: u32::MAX - 1, spare: 9, steps, limit };
+                let first = first_of_all(2, sys::PlanWalk { plan, kept }, |walk, out| unsafe {
+                    sys::pe_c_next_record(&view, &table, walk, out)
+                });
+                assert_eq!(first == 100, is_over != 0);
+                assert_eq!(first == 0, is_over == 0 && unwind == chained);
+            }
+        }
+    }
+    for (offset, length) in numbers.iter().flat_map(|it| numbers.iter().map(move |length| (*it, *length))) {
+        let (lie, mut plan) = (sys::Range { offset, length }, sys::Plan::default());
+        // SAFETY: as above.
+        unsafe { sys::pe_c_plan_from(chained, &mut plan) };
+        for kept in KEPT {
+            let first = first_of_all(2, sys::PlanWalk { plan, kept }, |walk, out| unsafe {
+                sys::pe_c_next_record(&view, &lie, walk, out)
+            });
+            assert_eq!(first, if lie.of(&bytes).is_some() { 0 } else { 2 });
+        }
+    }
+}
+
+#[test]
 fn images_that_lie_are_refused() {
     let bytes = with_functions();
     let (start, length) = (bytes.as_ptr(), bytes.len());

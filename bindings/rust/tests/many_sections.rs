@@ -107,7 +107,7 @@ fn started<T: Default>(start: unsafe extern "C" fn(*const sys::View, *mut T) -> 
     (unsafe { start(view, &mut out) } == sys::DONE).then_some(out)
 }
 
-/// What the steps of the six walks that keep sections return: exports, libraries and imports, DLLs and functions, leaves.
+/// What the steps of the seven walks that keep sections return: exports, libraries and imports, DLLs and functions, leaves, records.
 type Items = (
     Vec<sys::Export>,
     Vec<sys::Library>,
@@ -115,6 +115,7 @@ type Items = (
     Vec<sys::DelayImport>,
     Vec<sys::DelayedFunction>,
     Vec<sys::ResourceLeaf>,
+    Vec<sys::Record>,
 );
 
 /// The items of an image by these sections, without an index of them.
@@ -152,14 +153,44 @@ fn items_by_steps(image: &Image, sections: &[sys::Section]) -> Items {
         // SAFETY: as above.
         all.5 = items(walk, |walk, out| unsafe { sys::pe_c_next_resource_leaf(&view, walk, out) });
     }
+    let mut walk = sys::PlanWalk::default();
+    if let Some(table) = started(sys::pe_c_function_table, &view) {
+        for entry in table.of(image.bytes()).unwrap().chunks_exact(12) {
+            let unwind = u32::from_le_bytes(entry[8..].try_into().unwrap());
+            // SAFETY: the record is lent for the call.
+            unsafe { sys::pe_c_plan_from(unwind, &mut walk.plan) };
+            // SAFETY: as above. Each plan starts with the sections that the one before kept.
+            all.6.extend(items(&mut walk, |walk, out| unsafe {
+                sys::pe_c_next_record(&view, &table, &mut **walk, out)
+            }));
+        }
+    }
     all
+}
+
+/// An image of 200,000 x64 functions, of which each but the first is chained to the first.
+fn with_chained_functions() -> Vec<u8> {
+    let mut made = made::Made::new(made::X64);
+    let (table, count) = (made.next(), 200_000);
+    // the records follow the table
+    let root = table + 12 * count;
+    let record_of = |i: u32| if i == 0 { root } else { root + 4 + 16 * (i - 1) };
+    for i in 0..count {
+        made.put_words(&[i, i + 1, record_of(i)]);
+    }
+    made.put(&[0x01, 0, 0, 0]);
+    for _ in 1..count {
+        made.put_words(&[0x21, 0, 1, root]);
+    }
+    made.directory(made::EXCEPTIONS, table, 12 * count);
+    made.image()
 }
 
 /// A step whose walk keeps the section of the RVA takes no search: with one for each RVA these would take a minute.
 #[test]
 fn steps_under_many_sections_take_no_longer_than_under_one() {
     let start = Instant::now();
-    let mut counts = [0; 6];
+    let mut counts = [0; 7];
     for bytes in [
         made::with_exports(),
         made::with_imports(),
@@ -167,17 +198,22 @@ fn steps_under_many_sections_take_no_longer_than_under_one() {
         made::with_named_resources(),
         made::with_names_in_one_text(),
         made::with_late_names_in_one_text(),
+        with_chained_functions(),
     ] {
         let image = Image::parse(&bytes, Mode::Strict).unwrap();
         assert_eq!(image.sections().len(), 1);
         let sections = [&vec![sys::Section::default(); 65_534], image.sections()].concat();
         let found = items_by_steps(&image, &sections);
         assert!(found == items_by_steps(&image, image.sections()));
-        let own = [found.0.len(), found.1.len(), found.2.len(), found.3.len(), found.4.len(), found.5.len()];
+        let own =
+            [found.0.len(), found.1.len(), found.2.len(), found.3.len(), found.4.len(), found.5.len(), found.6.len()];
         for (count, more) in counts.iter_mut().zip(own) {
             *count += more;
         }
     }
-    assert!(counts.iter().all(|it| *it > 1) && counts[2] > 90_000 && counts[4] > 90_000, "{counts:?}");
+    assert!(
+        counts.iter().all(|it| *it > 1) && counts[2] > 90_000 && counts[4] > 90_000 && counts[6] > 390_000,
+        "{counts:?}"
+    );
     assert!(start.elapsed() < Duration::from_secs(20), "{:?}", start.elapsed());
 }

@@ -674,7 +674,7 @@ FIND(find_arm64_function, pe_c_arm64_function, pe_c_arm64_table, pe_c_find_arm64
 static PyObject *unwind_records(Image *self, PyObject *argument)
 {
     pe_c_range table = PE_C_EMPTY;
-    pe_c_plan plan = PE_C_EMPTY;
+    pe_c_plan_walk walk = PE_C_EMPTY;
     pe_c_record item = PE_C_EMPTY;
     uint32_t unwind, result;
     if (!rva_of(argument, &unwind, &result))
@@ -682,8 +682,8 @@ static PyObject *unwind_records(Image *self, PyObject *argument)
     OPEN
     rows = rows_of(self, &budget);
     rows.result = result == PE_C_DONE ? pe_c_function_table(VIEW, &table) : result;
-    pe_c_plan_from(unwind, &plan);
-    EACH(&rows, pe_c_next_record(VIEW, &table, &plan, &item), ROW_OF(record));
+    pe_c_plan_from(unwind, &walk.plan);
+    EACH(&rows, pe_c_next_record(VIEW, &table, &walk, &item), ROW_OF(record));
     return finished(&rows);
 }
 
