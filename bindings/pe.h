@@ -709,6 +709,18 @@ typedef struct {
     pe_c_range checksum;            /* the rest of the record */
 } pe_c_pdb_checksum;
 
+/* What is read of the first entry of each type, each with its own result: PE_C_DONE, and then the record is here;
+ * PE_C_NOTHING or an error, and then it is as it was. */
+typedef struct {
+    pe_c_key key;                   /* of pe_c_symbol_key */
+    pe_c_pdb20 pdb20;               /* of pe_c_debug_pdb20 */
+    pe_c_repro repro;               /* of pe_c_debug_repro */
+    pe_c_pogo pogo;                 /* of pe_c_debug_pogo */
+    pe_c_vc_features features;      /* of pe_c_debug_vc_features */
+    uint32_t characteristics;       /* of pe_c_debug_characteristics */
+    uint32_t key_result, pdb20_result, repro_result, pogo_result, features_result, characteristics_result;
+} pe_c_debug_records;
+
 PE_C_SIZE(pe_c_debug_entry, 28);
 PE_C_SIZE(pe_c_key, 40);
 PE_C_SIZE(pe_c_pdb20, 32);
@@ -718,6 +730,7 @@ PE_C_SIZE(pe_c_pogo, 24);
 PE_C_SIZE(pe_c_pogo_entry, 24);
 PE_C_SIZE(pe_c_embedded_pdb, 24);
 PE_C_SIZE(pe_c_pdb_checksum, 32);
+PE_C_SIZE(pe_c_debug_records, 168);
 
 /* Returns the entries of the debug directory as a walk for pe_c_next_debug_entry. PE_C_NOTHING without a directory.
  * Errors: PE_C_UNMAPPED; PE_C_DEBUG_BOUNDS in strict mode. */
@@ -757,6 +770,10 @@ uint32_t pe_c_debug_repro(const pe_c_view *view, pe_c_repro *out) PE_C_RESULT(1,
 
 /* Returns the POGO record. PE_C_NOTHING also for another signature. */
 uint32_t pe_c_debug_pogo(const pe_c_view *view, pe_c_pogo *out) PE_C_RESULT(1, 2);
+
+/* Reads the record of the first entry of each type at once, as these six do. It always returns PE_C_DONE: each record has a
+ * result of its own. */
+uint32_t pe_c_debug_data(const pe_c_view *view, pe_c_debug_records *out) PE_C_NOT_NULL(1, 2);
 
 /* The next eight read the record of an entry that the caller has, in a mode, whatever the entry's type is. */
 
@@ -1503,6 +1520,12 @@ typedef struct {
     uint32_t value;                 /* bytes, or as the operation says; else 0 */
 } pe_c_code;
 
+/* How codes are read: two fields of their unwind record, for pe_c_all_codes. */
+typedef struct {
+    uint8_t version;                /* of the record, 1 or 2 */
+    uint8_t frame_register;         /* its number; 0 without one */
+} pe_c_code_form;
+
 /* An entry of the scope table of a C handler: a __try block. */
 typedef struct {
     uint32_t begin, end;            /* RVAs of the guarded code, without the end */
@@ -1608,6 +1631,7 @@ PE_C_SIZE(pe_c_function, 12);
 PE_C_SIZE(pe_c_walk, 24);
 PE_C_SIZE(pe_c_record, 72);
 PE_C_SIZE(pe_c_code, 8);
+PE_C_SIZE(pe_c_code_form, 2);
 PE_C_SIZE(pe_c_scope, 16);
 PE_C_SIZE(pe_c_plan, 32);
 PE_C_SIZE(pe_c_plan_walk, 40);
@@ -2948,13 +2972,12 @@ uint32_t pe_c_list_codes(const pe_c_view *view, pe_c_walk *walk, pe_c_code *entr
 uint32_t pe_c_record_codes(const pe_c_view *view, const pe_c_range *table, uint32_t unwind, pe_c_record *out,
                            pe_c_code *codes, size_t number_of_codes, uint64_t *written) PE_C_RESULT(1, 2, 4, 7);
 
-/* Lists all codes of a record, of which these are the bytes of its codes alone; `version` and `frame_register` are the
- * record's, of which the lowest byte counts. It keeps no walk: `written` is set after an error and after PE_C_ROOM too, to
- * the number of codes before it, which are written. A record has at most 255 codes.
+/* Lists all codes of a record, of which these are the bytes of its codes alone. It keeps no walk: `written` is set after an
+ * error and after PE_C_ROOM too, to the number of codes before it, which are written. A record has at most 255 codes.
  * Errors: PE_C_ROOM where bytes are left after number_of_entries codes, whatever they start with; those of
  * pe_c_next_code. */
-uint32_t pe_c_all_codes(const uint8_t *bytes, size_t length, uint32_t version, uint32_t frame_register, pe_c_code *entries,
-                        size_t number_of_entries, uint64_t *written) PE_C_RESULT(7);
+uint32_t pe_c_all_codes(const uint8_t *bytes, size_t length, const pe_c_code_form *form, pe_c_code *entries,
+                        size_t number_of_entries, uint64_t *written) PE_C_RESULT(3, 6);
 
 /* Lists the functions of an ARM64 table as pe_c_arm64_function_at reads them, from the index `next` on, which moves past
  * them.

@@ -724,7 +724,7 @@ test('functions and codes in one call', () => {
   assert.deepEqual([made.written, codes.slice(0, 3), all.length], [3n, all, 3]);
   assert.deepEqual(listed(image, 'pe_c_list_codes', { walk: structuredClone(record.codes) }), all);
   const { left, version, frame_register } = record.codes, entries = [{}, {}, {}, {}];
-  const count = library.file(image.slice(left)).call('pe_c_all_codes', { version, frame_register, entries });
+  const count = library.file(image.slice(left)).call('pe_c_all_codes', { form: { version, frame_register }, entries });
   assert.deepEqual([count, entries.slice(0, 3)], [3n, all]);
   const arm64 = opened('arm64_functions'), [, second] = arm64.functions();
   const { codes: range } = arm64.call('pe_c_arm64_unwind_record', { function: second });

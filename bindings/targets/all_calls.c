@@ -200,8 +200,8 @@ static void walk_x64(const struct file *file)
         if (left.offset <= file->length && left.length <= file->length - left.offset) {
             const uint8_t *start = file->bytes + left.offset;
             coded = 0;
-            CALL(pe_c_all_codes, codes, start, (size_t)left.length, record.codes.version, record.codes.frame_register, codes, 8,
-                 &coded);
+            const pe_c_code_form form = {record.codes.version, record.codes.frame_register};
+            CALL(pe_c_all_codes, codes, start, (size_t)left.length, &form, codes, 8, &coded);
             add(coded);
         }
         pe_c_failure failure = PE_C_EMPTY;
@@ -340,6 +340,8 @@ static void debug_data(const struct file *file)
     CALL(pe_c_debug_vc_features, features, VIEW, &features);
     CALL(pe_c_debug_characteristics, flags, VIEW, &flags);
     CALL(pe_c_debug_repro, repro, VIEW, &repro);
+    pe_c_debug_records all = PE_C_EMPTY;
+    CALL(pe_c_debug_data, all, VIEW, &all);
     if (IS_DONE(pe_c_debug_pogo, pogo, VIEW, &pogo)) {
         pe_c_range entries_walk = pogo.entries;
         LIST(pe_c_list_pogo_entries, pe_c_pogo_entry, VIEW, &entries_walk);

@@ -21,7 +21,7 @@ use crate::lists::exports::{pe_c_list_export_addresses, pe_c_list_exports};
 use crate::lists::imports::{pe_c_list_imports, pe_c_list_libraries};
 use crate::lists::relocations::{pe_c_list_relocation_blocks, pe_c_list_relocations};
 use crate::lists::resources::{pe_c_list_resource_leaves, pe_c_list_version_blocks};
-use crate::lists::x64::{pe_c_all_codes, pe_c_list_codes, pe_c_list_functions};
+use crate::lists::x64::{CodeForm, pe_c_all_codes, pe_c_list_codes, pe_c_list_functions};
 use crate::ranges::Range;
 use crate::resource_leaves::pe_c_resource_leaves;
 use crate::results::{DONE, ROOM};
@@ -173,10 +173,14 @@ fn large_allocations_in_lists(rt: HostRuntime) {
 }
 
 /// All codes in these bytes, in this room: the result, how many are written, and the values of the first three entries.
-fn all_codes(codes: &[u8], version: u32, room: usize) -> (u32, u64, [u32; 3]) {
+fn all_codes(codes: &[u8], version: u8, room: usize) -> (u32, u64, [u32; 3]) {
     let mut entries = [NO_CODE; 3];
     let mut written = UNWRITTEN;
-    let number = pe_c_all_codes(codes, version, 0, &mut entries[..room.min(3)], &mut written);
+    let form = CodeForm {
+        version,
+        frame_register: 0,
+    };
+    let number = pe_c_all_codes(codes, &form, &mut entries[..room.min(3)], &mut written);
     (
         number,
         written,
@@ -215,20 +219,21 @@ fn all_codes_of_any_size(rt: HostRuntime) {
 }
 
 /// Opcode 6 is a saved register in version 1 and an epilog in version 2; an offset counts from the frame register, if there is one.
-/// Of both numbers the lowest byte counts.
 #[test]
 fn all_codes_by_version_and_frame(rt: HostRuntime) {
     for (version, frame_register, operation, from_frame) in [
         (1, 0, 4, 0),
-        (0x101, 0x500, 4, 0),
         (1, 5, 4, 1),
-        (0x501, 0x105, 4, 1),
-        (0x102, 5, 5, 0),
+        (2, 5, 5, 0),
     ] {
         let mut entries = [NO_CODE; 1];
         let mut written = UNWRITTEN;
         let codes = [8, 0x36, 2, 0];
-        let number = pe_c_all_codes(&codes, version, frame_register, &mut entries, &mut written);
+        let form = CodeForm {
+            version,
+            frame_register,
+        };
+        let number = pe_c_all_codes(&codes, &form, &mut entries, &mut written);
         assert_eq!(rt; written, 1);
         let first = entries[0];
         assert_eq!(rt;

@@ -559,10 +559,9 @@ fn read_by_lies(bytes: &[u8], random: &mut Random, seen: &mut Seen) {
     unsafe { sys::pe_c_record_codes(&view, &range, few % 512, &mut record, codes.as_mut_ptr(), room, &mut written) };
     assert!(written <= room as u64 && codes[written as usize..].iter().all(|it| *it == sys::Code::default()));
     let mut codes = [sys::Code::default(); 3];
+    let form = sys::CodeForm { version: few as u8, frame_register: (few >> 8) as u8 };
     // SAFETY: as above.
-    unsafe {
-        sys::pe_c_all_codes(bytes.as_ptr(), bytes.len(), few % 512, few / 512, codes.as_mut_ptr(), room, &mut written)
-    };
+    unsafe { sys::pe_c_all_codes(bytes.as_ptr(), bytes.len(), &form, codes.as_mut_ptr(), room, &mut written) };
     assert!(written <= room as u64 && codes[written as usize..].iter().all(|it| *it == sys::Code::default()));
     for entry in [
         entry,
@@ -630,6 +629,7 @@ fn read_by_lies(bytes: &[u8], random: &mut Random, seen: &mut Seen) {
     call_of_image!(pe_c_symbol_key(), Key);
     call_of_image!(pe_c_debug_repro(), Repro);
     call_of_image!(pe_c_debug_pogo(), Pogo);
+    call_of_image!(pe_c_debug_data(), DebugRecords);
     call_of_image!(pe_c_overlay(), Range);
     call_of_image!(pe_c_function_table(), Range);
     call_of_image!(pe_c_arm64_table(), Range);

@@ -431,6 +431,35 @@ Pogo, 24 {
     spare: u32,
 });
 record!(
+/// What is read of the first debug entry of each type, each with its own result: [`DONE`], and then the record is here; else it is as
+/// it was.
+DebugRecords, 168 {
+    /// That of [`pe_c_symbol_key`].
+    key: Key,
+    /// That of [`pe_c_debug_pdb20`].
+    pdb20: Pdb20,
+    /// That of [`pe_c_debug_repro`].
+    repro: Repro,
+    /// That of [`pe_c_debug_pogo`].
+    pogo: Pogo,
+    /// Those of [`pe_c_debug_vc_features`].
+    features: VcFeatures,
+    /// Those of [`pe_c_debug_characteristics`].
+    characteristics: u32,
+    /// The result of `key`.
+    key_result: u32,
+    /// The result of `pdb20`.
+    pdb20_result: u32,
+    /// The result of `repro`.
+    repro_result: u32,
+    /// The result of `pogo`.
+    pogo_result: u32,
+    /// The result of `features`.
+    features_result: u32,
+    /// The result of `characteristics`.
+    characteristics_result: u32,
+});
+record!(
 /// A portable PDB in the image itself. See [`EmbeddedPdb`](crate::EmbeddedPdb).
 EmbeddedPdb, 24 {
     /// Raw Deflate data.
@@ -546,6 +575,14 @@ Code, 8 {
     from_frame: u8,
     /// In bytes: a size or an offset. Of an epilog its size or the low part of its offset; else 0.
     value: u32,
+});
+record!(
+/// How codes are read: two fields of their unwind record.
+CodeForm, 2 {
+    /// The version of the record, 1 or 2.
+    version: u8,
+    /// The number of the frame register; 0 without one.
+    frame_register: u8,
 });
 record!(
 /// An entry of the scope table of a C handler: a `__try` block.
@@ -2298,8 +2335,7 @@ extern "C" {
     pub fn pe_c_all_codes(
         bytes: *const u8,
         length: usize,
-        version: u32,
-        frame_register: u32,
+        form: *const CodeForm,
         entries: *mut Code,
         number_of_entries: usize,
         written: *mut u64,
@@ -2957,6 +2993,8 @@ calls_of_an_image! {
     pe_c_debug_repro() -> Repro;
     /// Returns the POGO record.
     pe_c_debug_pogo() -> Pogo;
+    /// Reads the record of the first debug entry of each type, each with its own result.
+    pe_c_debug_data() -> DebugRecords;
     /// Returns the range of the overlay.
     pe_c_overlay() -> Range;
     /// Returns the COFF string table.
