@@ -130,6 +130,16 @@ fn over_the_others() -> [SectionTable; 4] {
     [over(), first, second, third]
 }
 
+/// As many sections as an image has at least whose walks keep some.
+const MANY: usize = 17;
+
+/// These sections, and empty ones after them.
+fn many(sections: &[SectionTable]) -> [SectionTable; MANY] {
+    let mut all = [section(0, 0, 0, 0); MANY];
+    all[..sections.len()].copy_from_slice(sections);
+    all
+}
+
 fn fine_image() -> Image {
     Image {
         file_alignment: 0x10,
@@ -472,7 +482,7 @@ fn steps_below() -> [[Step; 6]; 7] {
 #[test]
 fn sections_of_each_walk(rt: HostRuntime) -> Result<(), Fail> {
     let bytes = bytes_of_all(rt.alloc())?;
-    let (image, sections) = (fine_image(), apart());
+    let (image, sections) = (fine_image(), many(&apart()));
     let view = view(&bytes, &image, &sections);
     let all = all_steps(&view, NONE);
     for (steps, wanted) in all.iter().zip(steps_apart().iter()) {
@@ -488,7 +498,7 @@ fn sections_of_each_walk(rt: HostRuntime) -> Result<(), Fail> {
 #[test]
 fn sections_that_overlap(rt: HostRuntime) -> Result<(), Fail> {
     let bytes = bytes_of_all(rt.alloc())?;
-    let (image, sections) = (fine_image(), over_the_others());
+    let (image, sections) = (fine_image(), many(&over_the_others()));
     let below = view(&bytes, &image, &sections);
     let all = all_steps(&below, NONE);
     for (steps, wanted) in all.iter().zip(steps_below().iter()) {
@@ -498,7 +508,7 @@ fn sections_that_overlap(rt: HostRuntime) -> Result<(), Fail> {
     }
     assert_eq!(rt; returned(all_steps(&below, Keeps::Nothing)), returned(all));
     let [first, second, third] = apart();
-    let after = [first, second, third, over()];
+    let after = many(&[first, second, third, over()]);
     let above = view(&bytes, &image, &after);
     assert_eq!(rt; all_steps(&above, NONE), steps_apart());
     Ok(())
@@ -510,7 +520,7 @@ fn sections_that_are_covered(rt: HostRuntime) -> Result<(), Fail> {
     let bytes = bytes_of_all(rt.alloc())?;
     let image = fine_image();
     let [first, second, third] = apart();
-    let twice = [first, first, second, second, third, third];
+    let twice = many(&[first, first, second, second, third, third]);
     let view = view(&bytes, &image, &twice);
     // The numbers 1, 2 and 3 of the sections apart are 1, 3 and 5 here.
     let mut wanted = steps_apart();
@@ -533,7 +543,7 @@ fn empty_sections(rt: HostRuntime) -> Result<(), Fail> {
     let bytes = bytes_of_all(rt.alloc())?;
     let (image, empty) = (fine_image(), section(0x2000, 0x1000, 0x400, 0));
     let [first, second, third] = apart();
-    let sections = [first, empty, second, third];
+    let sections = many(&[first, empty, second, third]);
     let view = view(&bytes, &image, &sections);
     let kept = imports(&view, NONE).map(|step| step.3);
     assert_eq!(rt; kept, [[3, 0], [3, 0], [4, 3], [4, 3], [4, 3], [4, 3]]);
@@ -545,7 +555,7 @@ fn empty_sections(rt: HostRuntime) -> Result<(), Fail> {
 fn numbers_that_no_step_left(rt: HostRuntime) -> Result<(), Fail> {
     let bytes = bytes_of_all(rt.alloc())?;
     let image = fine_image();
-    let (sections, overlapping) = (apart(), over_the_others());
+    let (sections, overlapping) = (many(&apart()), many(&over_the_others()));
     let (alone, below) = (
         view(&bytes, &image, &sections),
         view(&bytes, &image, &overlapping),
@@ -557,7 +567,7 @@ fn numbers_that_no_step_left(rt: HostRuntime) -> Result<(), Fail> {
             assert_eq!(rt; returned(all), returned(steps_apart()));
         }
     }
-    let past = [0, 5, 6, 1 << 31, u32::MAX];
+    let past = [0, 18, 19, 1 << 31, u32::MAX];
     for first in past {
         for second in past {
             let all = all_steps(&below, Keeps::From([first, second]));
@@ -565,8 +575,8 @@ fn numbers_that_no_step_left(rt: HostRuntime) -> Result<(), Fail> {
         }
     }
     // The one before the new one stays beside it, whatever it is.
-    let kept = imports(&below, Keeps::From([5, 6])).map(|step| step.3);
-    assert_eq!(rt; kept, [[1, 5], [1, 5], [4, 1], [4, 1], [4, 1], [4, 1]]);
+    let kept = imports(&below, Keeps::From([18, 19])).map(|step| step.3);
+    assert_eq!(rt; kept, [[1, 18], [1, 18], [4, 1], [4, 1], [4, 1], [4, 1]]);
     let kept = imports(&below, Keeps::From([NO_MORE, 2])).map(|step| step.3);
     assert_eq!(rt; kept, [[NO_MORE, 2]; 6]);
     Ok(())
@@ -576,7 +586,7 @@ fn numbers_that_no_step_left(rt: HostRuntime) -> Result<(), Fail> {
 #[test]
 fn numbers_that_change_offsets(rt: HostRuntime) -> Result<(), Fail> {
     let bytes = bytes_of_all(rt.alloc())?;
-    let (image, sections) = (fine_image(), over_the_others());
+    let (image, sections) = (fine_image(), many(&over_the_others()));
     let view = view(&bytes, &image, &sections);
     for kept in [[3, 0], [0, 3], [3, 1], [4, 3], [3, u32::MAX]] {
         let [first, ..] = imports(&view, Keeps::From(kept));
@@ -596,7 +606,7 @@ fn numbers_that_change_offsets(rt: HostRuntime) -> Result<(), Fail> {
 #[test]
 fn plans_one_after_the_other(rt: HostRuntime) -> Result<(), Fail> {
     let bytes = bytes_of_all(rt.alloc())?;
-    let (image, sections) = (fine_image(), apart());
+    let (image, sections) = (fine_image(), many(&apart()));
     let view = view(&bytes, &image, &sections);
     let mut walk = plan_from(0x20C0);
     let first = record_step(&view, &mut walk);
@@ -622,7 +632,8 @@ fn links_by_what_is_kept(rt: HostRuntime) -> Result<(), Fail> {
     let bytes = bytes_of_all(rt.alloc())?;
     let [first, second, third] = apart();
     let image = fine_image();
-    let sections = [section(0x1390, 0x1000, 0x800, 0x20), first, second, third];
+    let before = section(0x1390, 0x1000, 0x800, 0x20);
+    let sections = many(&[before, first, second, third]);
     let view = view(&bytes, &image, &sections);
     // By the section that came first the RVA is no place in the table.
     for (kept, step) in [
@@ -638,13 +649,32 @@ fn links_by_what_is_kept(rt: HostRuntime) -> Result<(), Fail> {
     Ok(())
 }
 
+/// Over sixteen sections nothing is kept. What was kept before stays, and maps RVAs first.
+#[test]
+fn few_sections(rt: HostRuntime) -> Result<(), Fail> {
+    let bytes = bytes_of_all(rt.alloc())?;
+    let (image, sections) = (fine_image(), many(&apart()));
+    let few = view(&bytes, &image, &sections[..MANY - 1]);
+    assert_eq!(rt; all_steps(&few, NONE), returned(steps_apart()));
+    for steps in all_steps(&few, Keeps::From([2, 3])) {
+        for step in steps {
+            assert_eq!(rt; step.3, [2, 3]);
+        }
+    }
+    let overlapping = over_the_others();
+    let below = view(&bytes, &image, &overlapping);
+    let [first, ..] = imports(&below, Keeps::From([3, 0]));
+    assert_eq!(rt; first, (DONE, [0x462, 1], 7, [3, 0]));
+    Ok(())
+}
+
 /// With an index nothing is kept; what was kept before stays.
 #[test]
 fn walks_with_an_index(rt: HostRuntime) -> Result<(), Fail> {
     let bytes = bytes_of_all(rt.alloc())?;
-    let (image, sections) = (fine_image(), over_the_others());
+    let (image, sections) = (fine_image(), many(&over_the_others()));
     let without = view(&bytes, &image, &sections);
-    let (mut room, mut written) = ([LEFT_ENTRY; 16], 0);
+    let (mut room, mut written) = ([LEFT_ENTRY; 4 * MANY], 0);
     assert_eq!(rt; pe_c_index(&without, &mut room, &mut written), DONE);
     let with = View {
         index: &room[..written as usize],
@@ -668,7 +698,7 @@ fn walks_over_an_image_as_loaded(rt: HostRuntime) -> Result<(), Fail> {
     bytes[0x1000..0x1400].copy_from_slice(&file[..0x400]);
     bytes[0x2000..0x2200].copy_from_slice(&file[0x400..0x600]);
     bytes[0x4000..0x4200].copy_from_slice(&file[0x600..0x800]);
-    let (image, sections) = (in_mode(&fine_image(), MAPPED), apart());
+    let (image, sections) = (in_mode(&fine_image(), MAPPED), many(&apart()));
     let view = view(&bytes, &image, &sections);
     let all = all_steps(&view, NONE);
     let firsts = all.map(|[first, ..]| first);
@@ -703,7 +733,8 @@ fn addresses_past_32_bits(rt: HostRuntime) -> Result<(), Fail> {
         (0x1010, b"\x07\0f"),
     ];
     let bytes = bytes_of(rt.alloc(), 0x2000, &parts)?;
-    let (image, sections) = (image(X64), [section(0xFFFF_F000, 0x2000, 0, 0x2000)]);
+    let image = image(X64);
+    let sections = many(&[section(0xFFFF_F000, 0x2000, 0, 0x2000)]);
     let view = view(&bytes, &image, &sections);
     let mut walk = from_function(functions_in([0x20, 24], 0));
     let mut out = NO_FUNCTION;
@@ -720,12 +751,23 @@ fn addresses_past_32_bits(rt: HostRuntime) -> Result<(), Fail> {
     Ok(())
 }
 
+/// How many sections `any_sections` makes.
+const ANY: usize = 5;
+
+fn any_sections(seed: &mut u64) -> [SectionTable; ANY] {
+    let mut sections = [section(0, 0, 0, 0); ANY];
+    for section in &mut sections {
+        *section = any_section(seed);
+    }
+    sections
+}
+
 /// An even RVA, and its offset, which is below 4000h. If none of twenty is mapped there, the last one, and 0.
 fn any_mapped(view: &View, seed: &mut u64) -> (u32, u64) {
     let mut rva = 0;
     for _ in 0..20 {
         let mut offset = 0;
-        rva = any_rva(seed, view.sections) & !1;
+        rva = any_rva(seed, &view.sections[..ANY]) & !1;
         if pe_c_offset(view, rva, &mut offset) == DONE && offset < 0x4000 {
             return (rva, offset);
         }
@@ -742,10 +784,8 @@ fn any_chains_change_nothing(rt: HostRuntime) -> Result<(), Fail> {
             file_alignment: 0x100 << (next(&mut seed) % 6),
             ..image(X64)
         };
-        let mut sections = [section(0, 0, 0, 0); 5];
-        for section in &mut sections {
-            *section = any_section(&mut seed);
-        }
+        let some = any_sections(&mut seed);
+        let sections = many(&some);
         let mut bytes = bytes_of(rt.alloc(), 0x4010, &[])?;
         let (start, mut offset) = any_mapped(&view(&bytes, &image, &sections), &mut seed);
         let mut walk = plan_from(start);
@@ -805,13 +845,11 @@ fn any_sections_change_nothing(rt: HostRuntime) -> Result<(), Fail> {
             file_alignment: 0x100 << (next(&mut seed) % 6),
             ..image(X64)
         };
-        let mut sections = [section(0, 0, 0, 0); 5];
-        for section in &mut sections {
-            *section = any_section(&mut seed);
-        }
+        let some = any_sections(&mut seed);
+        let sections = many(&some);
         let mut bytes = bytes_of(rt.alloc(), 0x4000, &[])?;
         for entry in 0..40 {
-            let rva = any_rva(&mut seed, &sections);
+            let rva = any_rva(&mut seed, &some);
             put(&mut bytes, &[(4 * entry, &rva.to_le_bytes())]);
         }
         // The 20 names are the first numbers, and the 20 addresses the others.

@@ -250,7 +250,12 @@ fn read_by_steps(bytes: &[u8], mode: Mode, layout: Layout, random: &mut Random, 
     let Ok(image) = Image::parse_as(bytes, mode, layout) else {
         return;
     };
-    let view = sys::View::of(bytes, image.info(), image.sections(), &[]);
+    let mut sections = image.sections().to_vec();
+    if random.below(2) == 0 {
+        // Walks over few sections keep none.
+        sections.resize(sections.len() + 16, sys::Section::default());
+    }
+    let view = sys::View::of(bytes, image.info(), &sections, &[]);
     macro_rules! started {
         ($name:ident, $out:ident) => {{
             let mut out = sys::$out::default();
