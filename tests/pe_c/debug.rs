@@ -6,7 +6,7 @@ use super::made::{
     untouched, view,
 };
 use crate::debug::{
-    pe_c_debug_characteristics, pe_c_debug_entries, pe_c_debug_pdb20, pe_c_debug_pogo,
+    DebugRecords, pe_c_debug_characteristics, pe_c_debug_data, pe_c_debug_entries, pe_c_debug_pdb20, pe_c_debug_pogo,
     pe_c_debug_repro, pe_c_debug_vc_features, pe_c_first_debug_entry, pe_c_symbol_key,
 };
 use crate::debug_records::{
@@ -490,6 +490,90 @@ fn tables_that_are_refused(rt: HostRuntime) -> Result<(), Fail> {
         reported_by(&bytes, &long, PERMISSIVE),
         reported_of_records()
     );
+    Ok(())
+}
+
+/// The same in one call. `None` if it does not return `DONE`.
+fn reported_at_once(bytes: &[u8], image: &Image, mode: u32) -> Option<Reported> {
+    let mut out = DebugRecords {
+        key: SymbolKey {
+            guid: [7; 16],
+            age: 8,
+            spare: 9,
+            name: untouched(),
+        },
+        pdb20: Pdb20 {
+            name: untouched(),
+            offset: 5,
+            signature: 6,
+            age: 7,
+            spare: 8,
+        },
+        repro: Repro {
+            hash: untouched(),
+            has_hash: 5,
+            spare: 6,
+        },
+        pogo: Pogo {
+            entries: untouched(),
+            signature: 5,
+            spare: 6,
+        },
+        features: NO_FEATURES,
+        characteristics: 9,
+        key_result: 99,
+        pdb20_result: 99,
+        repro_result: 99,
+        pogo_result: 99,
+        features_result: 99,
+        characteristics_result: 99,
+    };
+    if pe_c_debug_data(&view(bytes, &in_mode(image, mode), &sections()), &mut out) != DONE {
+        return None;
+    }
+    let (key, old, repro, pogo) = (out.key, out.pdb20, out.repro, out.pogo);
+    Some(Reported {
+        key: (out.key_result, key.guid, [key.age, key.spare], of_range(key.name)),
+        pdb20: (
+            out.pdb20_result,
+            of_range(old.name),
+            [old.offset, old.signature, old.age, old.spare],
+        ),
+        features: (out.features_result, out.features),
+        characteristics: (out.characteristics_result, out.characteristics),
+        repro: (out.repro_result, of_range(repro.hash), [repro.has_hash, repro.spare]),
+        pogo: (out.pogo_result, of_range(pogo.entries), [pogo.signature, pogo.spare]),
+    })
+}
+
+/// Each record has its own result, whatever refuses another.
+#[test]
+fn records_at_once(rt: HostRuntime) -> Result<(), Fail> {
+    let image = with_table(0x1010, TABLE_SIZE);
+    let mut bytes = with_records(rt.alloc())?;
+    let whole = reported_at_once(&bytes, &image, STRICT);
+    assert_eq!(rt; whole, Some(reported_of_records()));
+    let unmapped = reported_at_once(&bytes, &with_table(0x3000, 28), STRICT);
+    assert_eq!(rt; unmapped, Some(nothing_but(UNMAPPED)));
+    let absent = reported_at_once(&bytes, &with_table(0, 0), STRICT);
+    assert_eq!(rt; absent, Some(nothing_but(NOTHING)));
+    put(&mut bytes, &[(0x20, &[23]), (0x61, &[2]), (0x101, &[1])]);
+    for (mode, number) in [(STRICT, DEBUG_SIZE), (PERMISSIVE, NOTHING)] {
+        let damaged = Reported {
+            key: nothing_but(number).key,
+            pogo: nothing_but(SHORT).pogo,
+            repro: nothing_but(DEBUG_DATA).repro,
+            ..reported_of_records()
+        };
+        assert_eq!(rt; reported_at_once(&bytes, &image, mode), Some(damaged));
+    }
+    let older = with_old_records(rt.alloc())?;
+    let want = Reported {
+        pdb20: (DONE, [0xB0, 7], [0x0403_0201, 0x0807_0605, 6, 0]),
+        repro: (DONE, [0, 0], [0, 0]),
+        ..nothing_but(NOTHING)
+    };
+    assert_eq!(rt; reported_at_once(&older, &image, PERMISSIVE), Some(want));
     Ok(())
 }
 
