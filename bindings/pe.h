@@ -87,9 +87,10 @@ static uint32_t (*const pe_c_abi)(void) __attribute__((used)) = pe_c_abi_4;
 
 /* ---- results
  *
- * The numbers are stable; new ones may be added. pe_c_text returns their texts. tools/make_errors writes this list. */
+ * The numbers are stable; new ones may be added. pe_c_text returns their texts. A call returns a uint32_t, whose width is
+ * fixed; the name of the list is for debuggers. tools/make_errors writes this list. */
 
-enum {
+enum pe_c_result {
     PE_C_DONE = 0,
     PE_C_MEMORY = 1,                /* out of memory; never returned */
     PE_C_SHORT = 2,                 /* truncated */
