@@ -87,8 +87,8 @@ static uint32_t (*const pe_c_abi)(void) __attribute__((used)) = pe_c_abi_4;
 
 /* ---- results
  *
- * The numbers are stable; new ones may be added. pe_c_text returns their texts. A call returns a uint32_t, whose width is
- * fixed; the name of the list is for debuggers. tools/make_errors writes this list. */
+ * The numbers are stable; new ones may be added. pe_c_text returns their texts. Calls return a uint32_t, since C leaves the
+ * width of an enum open; debuggers show a number by its name where it is cast to this one. tools/make_errors writes it. */
 
 enum pe_c_result {
     PE_C_DONE = 0,
@@ -208,10 +208,10 @@ enum { PE_C_STRICT = 0, PE_C_PERMISSIVE = 1, PE_C_MAPPED = 2 };
 /* Writes the text of a result to the start of the array, in UTF-8, with a zero after it; where the array is too small as
  * much of it as has room before the zero. Returns the length of the whole text in bytes, which is below 128.
  *
- *     uint8_t text[128];
+ *     char text[128];
  *     pe_c_text(result, text, sizeof text);
- *     printf("%s\n", (const char *)text); */
-size_t pe_c_text(uint32_t number, uint8_t *room, size_t length);
+ *     printf("%s\n", text); */
+size_t pe_c_text(uint32_t number, char *room, size_t length);
 
 /* ---- the image
  *

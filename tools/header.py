@@ -10,7 +10,7 @@ import re
 
 TOP = os.path.dirname(os.path.dirname(os.path.realpath(__file__)))
 PE_H = os.path.join(TOP, "bindings", "pe.h")
-WIDTHS = {"uint8_t": 1, "uint16_t": 2, "uint32_t": 4, "uint64_t": 8, "size_t": 8, "int16_t": 2}
+WIDTHS = {"char": 1, "uint8_t": 1, "uint16_t": 2, "uint32_t": 4, "uint64_t": 8, "size_t": 8, "int16_t": 2}
 
 
 @dataclasses.dataclass(frozen=True)
