@@ -1647,7 +1647,7 @@ uint32_t pe_c_next_code(const uint8_t *bytes, size_t length, pe_c_walk *walk, pe
 
 /* Returns the scope table in a record's handler_data as a walk for pe_c_next_scope. PE_C_NOTHING where it is truncated.
  * Only a handler such as __C_specific_handler has one: the caller knows it by the handler's RVA.
- * Hostile functions may share one table: n bytes have n/12 functions of n/16 scopes, so bound what you read for all of them.
+ * Functions may share one table: n hostile bytes have n/12 functions of n/16 scopes. Bound what you read for all of them.
  * Errors: PE_C_SHORT where handler_data is not inside the bytes. */
 uint32_t pe_c_scope_table(const uint8_t *bytes, size_t length, const pe_c_range *handler_data, pe_c_range *out)
     PE_C_RESULT(3, 4);
@@ -1885,8 +1885,8 @@ uint32_t pe_c_arm64_packed_fields(const pe_c_arm64_function *function, pe_c_arm6
 uint32_t pe_c_arm64_unwind_record(const pe_c_view *view, const pe_c_arm64_function *function, pe_c_arm64_record *out)
     PE_C_RESULT(1, 2, 3);
 
-/* Returns the next epilog scope of a record. Hostile functions may share one record: n bytes have n/8 functions of 65,535
- * scopes, or n/4 if that is less, so bound what you read for all of them.
+/* Returns the next epilog scope of a record. Functions may share one record: n hostile bytes have n/8 functions of 65,535
+ * scopes, or of n/4 if that is less. Bound what you read for all of them.
  * Errors: PE_C_SHORT where the walk is not inside the bytes, or its last scope is truncated. */
 uint32_t pe_c_next_arm64_scope(const uint8_t *bytes, size_t length, pe_c_range *walk, pe_c_arm64_scope *out)
     PE_C_RESULT(3, 4);
