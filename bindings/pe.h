@@ -87,9 +87,10 @@ static uint32_t (*const pe_c_abi)(void) __attribute__((used)) = pe_c_abi_4;
 
 /* ---- results
  *
- * The numbers are stable; new ones may be added. pe_c_text returns their texts. tools/make_errors writes this list. */
+ * The numbers are stable; new ones may be added. pe_c_text returns their texts. Calls return a uint32_t, since C leaves the
+ * width of an enum open; debuggers show a number by its name where it is cast to this one. tools/make_errors writes it. */
 
-enum {
+enum pe_c_result {
     PE_C_DONE = 0,
     PE_C_MEMORY = 1,                /* out of memory; never returned */
     PE_C_SHORT = 2,                 /* truncated */
@@ -207,10 +208,10 @@ enum { PE_C_STRICT = 0, PE_C_PERMISSIVE = 1, PE_C_MAPPED = 2 };
 /* Writes the text of a result to the start of the array, in UTF-8, with a zero after it; where the array is too small as
  * much of it as has room before the zero. Returns the length of the whole text in bytes, which is below 128.
  *
- *     uint8_t text[128];
+ *     char text[128];
  *     pe_c_text(result, text, sizeof text);
- *     printf("%s\n", (const char *)text); */
-size_t pe_c_text(uint32_t number, uint8_t *room, size_t length);
+ *     printf("%s\n", text); */
+size_t pe_c_text(uint32_t number, char *room, size_t length);
 
 /* ---- the image
  *
@@ -1670,6 +1671,7 @@ uint32_t pe_c_next_code(const uint8_t *bytes, size_t length, pe_c_walk *walk, pe
 
 /* Returns the scope table in a record's handler_data as a walk for pe_c_next_scope. PE_C_NOTHING where it is truncated.
  * Only a handler such as __C_specific_handler has one: the caller knows it by the handler's RVA.
+ * Functions may share one table: n hostile bytes have n/12 functions of n/16 scopes. Bound what you read for all of them.
  * Errors: PE_C_SHORT where handler_data is not inside the bytes. */
 uint32_t pe_c_scope_table(const uint8_t *bytes, size_t length, const pe_c_range *handler_data, pe_c_range *out)
     PE_C_RESULT(3, 4);
@@ -1907,7 +1909,8 @@ uint32_t pe_c_arm64_packed_fields(const pe_c_arm64_function *function, pe_c_arm6
 uint32_t pe_c_arm64_unwind_record(const pe_c_view *view, const pe_c_arm64_function *function, pe_c_arm64_record *out)
     PE_C_RESULT(1, 2, 3);
 
-/* Returns the next epilog scope of a record.
+/* Returns the next epilog scope of a record. Functions may share one record: n hostile bytes have n/8 functions of 65,535
+ * scopes, or of n/4 if that is less. Bound what you read for all of them.
  * Errors: PE_C_SHORT where the walk is not inside the bytes, or its last scope is truncated. */
 uint32_t pe_c_next_arm64_scope(const uint8_t *bytes, size_t length, pe_c_range *walk, pe_c_arm64_scope *out)
     PE_C_RESULT(3, 4);

@@ -86,9 +86,9 @@ static uint32_t read_image(image *it, uint32_t mode)
 
 static int refused(const image *it, uint32_t result, const char *advice)
 {
-    uint8_t text[128];
+    char text[128];
     pe_c_text(result, text, sizeof text);
-    fprintf(stderr, "pe_list: \"%s\" is refused: %s%s\n", it->file, (const char *)text, advice);
+    fprintf(stderr, "pe_list: \"%s\" is refused: %s%s\n", it->file, text, advice);
     return REFUSED;
 }
 

@@ -10,7 +10,7 @@ import re
 
 TOP = os.path.dirname(os.path.dirname(os.path.realpath(__file__)))
 PE_H = os.path.join(TOP, "bindings", "pe.h")
-WIDTHS = {"uint8_t": 1, "uint16_t": 2, "uint32_t": 4, "uint64_t": 8, "size_t": 8, "int16_t": 2}
+WIDTHS = {"char": 1, "uint8_t": 1, "uint16_t": 2, "uint32_t": 4, "uint64_t": 8, "size_t": 8, "int16_t": 2}
 
 
 @dataclasses.dataclass(frozen=True)
@@ -84,7 +84,7 @@ class Header:
         self.records = self.read_records(text)
         self.calls = self.read_calls(text)
         self.constants = self.read_constants(text)
-        self.results = self.read_constants(re.search(r"\benum \{\s*PE_C_DONE.*?\}", text, re.S)[0])
+        self.results = self.read_constants(re.search(r"\benum pe_c_result \{.*?\}", text, re.S)[0])
         self.abi = next(int(name.removeprefix("pe_c_abi_")) for name in self.calls if name.startswith("pe_c_abi_"))
 
     @staticmethod
@@ -131,7 +131,7 @@ class Header:
     @staticmethod
     def read_constants(text):
         constants = {}
-        for body in re.findall(r"\benum \{(.*?)\}", text, re.S):
+        for body in re.findall(r"\benum (?:\w+ )?\{(.*?)\}", text, re.S):
             for it in filter(None, map(str.strip, body.split(","))):
                 form = re.fullmatch(r"(PE_C_\w+) = (\d+)", it)
                 if not form:

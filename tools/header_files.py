@@ -95,7 +95,7 @@ def length_of(call, parameter):
     record."""
     after = call.parameters[call.parameters.index(parameter) + 1:][:1]
     is_array = bool(after) and after[0].type == "size_t" and not after[0].is_pointer
-    size = "" if parameter.type == "uint8_t" else f" * sizeof *{parameter.name}"
+    size = "" if parameter.type in ("uint8_t", "char") else f" * sizeof *{parameter.name}"
     return f"{after[0].name}{size}" if is_array else f"sizeof *{parameter.name}"
 
 

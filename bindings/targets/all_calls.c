@@ -1044,7 +1044,7 @@ static void make_stack(void)
 static void texts(void)
 {
     for (uint32_t number = 0; number < 570; number++) {
-        uint8_t text[128] = {0};
+        char text[128] = {0};
         size_t length = TARGET_CALL(pe_c_text)(number, text, sizeof text);
         count(number_of_pe_c_text, length > 0);
         add(length);

@@ -396,8 +396,8 @@ fn no_debug_data(rt: HostRuntime) -> Result<(), Fail> {
 }
 
 /// Whose record is damaged: what it reports then, beside what the others report.
-fn with_damaged(number: u32, kind: u32) -> Reported {
-    let (refused, whole) = (nothing_but(number), reported_of_records());
+fn with_damaged(whole: Reported, number: u32, kind: u32) -> Reported {
+    let refused = nothing_but(number);
     match kind {
         2 => Reported {
             key: refused.key,
@@ -448,9 +448,42 @@ fn damaged_records_are_refused_alone(rt: HostRuntime) -> Result<(), Fail> {
         for (mode, number) in [(STRICT, strict), (PERMISSIVE, permissive)] {
             assert_eq!(rt;
                 reported_by(&bytes, &image, mode),
-                with_damaged(number, kind),
+                with_damaged(reported_of_records(), number, kind),
                 "at {offset:#x}"
             );
+        }
+    }
+    Ok(())
+}
+
+/// Two entries whose size, RVA and offset are all 0xFFFFFFFF, in both modes: their records are refused at the first number,
+/// and the key and the other two records stay what they are.
+#[test]
+fn two_damaged_entries_are_refused_alone(rt: HostRuntime) -> Result<(), Fail> {
+    let image = with_table(0x1010, TABLE_SIZE);
+    // where the size, the RVA and the offset of the entry of a type stand: 16 bytes into it
+    let entries = [(12, 0x3C), (13, 0x58), (16, 0x74), (20, 0x90)];
+    for (at, &(first, one)) in entries.iter().enumerate() {
+        for &(second, other) in &entries[at + 1..] {
+            let mut bytes = with_records(rt.alloc())?;
+            put(&mut bytes, &[(one, &[0xFF; 12]), (other, &[0xFF; 12])]);
+            let want = with_damaged(reported_of_records(), SHORT, first);
+            let want = with_damaged(want, SHORT, second);
+            for mode in [STRICT, PERMISSIVE] {
+                assert_eq!(rt;
+                    reported_by(&bytes, &image, mode),
+                    want,
+                    "of {first} and {second}"
+                );
+            }
+            let damaged = ImageDebugDirectory {
+                data_type: first,
+                size_of_data: u32::MAX,
+                address_of_raw_data: u32::MAX,
+                pointer_to_raw_data: u32::MAX,
+                ..ImageDebugDirectory::default()
+            };
+            assert_eq!(rt; first_entry(&bytes, &image, first), (DONE, damaged));
         }
     }
     Ok(())

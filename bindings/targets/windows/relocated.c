@@ -4,7 +4,7 @@
 #include <stdio.h>
 #include <stdint.h>
 
-typedef size_t (*text_call)(uint32_t number, uint8_t *room, size_t length);
+typedef size_t (*text_call)(uint32_t number, char *room, size_t length);
 
 static text_call loaded(const char *path)
 {
@@ -19,7 +19,7 @@ int main(int count, char **paths)
     if (!one || !other || one == other)
         return 3;
     for (uint32_t number = 0; number < 500; number++) {
-        uint8_t mine[128] = {0}, its[128] = {0};
+        char mine[128] = {0}, its[128] = {0};
         size_t length = one(number, mine, sizeof mine);
         texts += length > 0;
         differ += other(number, its, sizeof its) != length || memcmp(mine, its, sizeof mine) != 0;

@@ -16,7 +16,10 @@
 //! - `address_table`: the slots of imports as they stand, which are addresses of another run, or the list of imports again;
 //! - `tls_slot`: what the loader wrote to the slot whose address `pe_c_tls` returns;
 //! - `word_at`: the words of an ARM64 record, whose fields `pe_c_arm64_unwind_record` returns, but not their reserved bits;
-//! - `resource_directory`, `resource_entry`, `resource_data_entry`: the nodes of the tree, of which the calls return the leaves;
+//! - `resource_directory`: a directory of the tree, also where its entries are truncated: `pe_c_resource_directory_at` refuses it then;
+//! - `resource_entry`: both words of an entry as they stand: `pe_c_next_resource_item` reads the name of one that has a name, refuses the
+//!   entry where that is truncated, and returns the name in place of its offset, and of an id 16 bits;
+//! - `resource_data_entry`: a data entry at any depth: `pe_c_next_resource_leaf` returns those below a language, without the reserved word;
 //! - `version_string`: a version string with its length and the length of its value, which `pe_c_next_version_block` uses and does not
 //!   return;
 //! - `code_units`: UTF-16 that must be a text, where `pe_c_utf16_text` writes one of what is none too;
@@ -187,7 +190,7 @@ pub(crate) fn word_at(bytes: &[u8], at: usize) -> error::Result<u32> {
     record(bytes, at)
 }
 
-// ---- resources: the calls return leaves, and read version strings by their names alone
+// ---- resources: nodes of the tree and version strings as they stand
 
 pub(crate) fn resource_directory(bytes: &[u8], at: usize) -> error::Result<ImageResourceDirectory> {
     record(bytes, at)

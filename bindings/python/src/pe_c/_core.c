@@ -1106,12 +1106,12 @@ static PyObject *image(PyObject *module, PyObject *arguments)
 
 static PyObject *text_of(PyObject *Py_UNUSED(module), PyObject *argument)
 {
-    uint8_t room[128];
+    char room[128];
     unsigned long number = PyLong_AsUnsignedLong(argument);
     if (number == (unsigned long)-1 && PyErr_Occurred())
         return NULL;
     size_t length = pe_c_text((uint32_t)number, room, sizeof room);
-    return PyUnicode_DecodeUTF8((const char *)room, (Py_ssize_t)length, "strict");
+    return PyUnicode_DecodeUTF8(room, (Py_ssize_t)length, "strict");
 }
 
 #define WITHOUT(name) {#name, (PyCFunction)name, METH_NOARGS, NULL}
