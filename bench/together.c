@@ -1,4 +1,4 @@
-/* Lists names of a file by the calls of the library for C: together FILE WHAT alone|together
+/* Lists what a file has by the calls of the library for C: together FILE WHAT alone|together
  *
  * WHAT is exports, libraries, imports, symbols, addresses (all exports by their index, with the texts of forwarders), dlls (those
  * whose imports are delayed), delayed (what is imported of the first of them), all-delayed (of all of them), sections (their long
@@ -6,8 +6,13 @@
  *
  * `together` lists them by one call with room for all, which reads the names together, `alone` by calls of 64 entries, or of symbols,
  * sections and bound imports by a call for each. Imports are those of all libraries; `alone` lists them library by library, and
- * functions of all delay-loaded DLLs DLL by DLL. How many there are is printed, and the milliseconds of the processor that the calls
- * took. */
+ * functions of all delay-loaded DLLs DLL by DLL.
+ *
+ * Or WHAT is a list that has no names to read together, which comes by calls of 64 entries in any way: leaves (of resources), blocks
+ * (of version information, and those refused), relocations (and their blocks), pogo, functions (of x64 with their codes) or
+ * arm64-functions. Leaves, POGO entries and codes end after as many entries as the file has bytes.
+ *
+ * How many there are is printed, and the milliseconds of the processor that the calls took, in the mean of some rounds. */
 #include "pe.h"
 
 #include <stdio.h>
@@ -15,9 +20,8 @@
 #include <string.h>
 #include <time.h>
 
+#include "alone.h"
 #include "reading.h"
-
-enum { ENTRIES = 64 };
 
 /* A function that lists all that a walk has left: with these runs by one call, else some a call. */
 #define LISTS(name, walk_type, entry_type, alone, together) \
@@ -225,6 +229,24 @@ static uint64_t list(const pe_c_view *view, const char *what, pe_c_run *runs, si
     return list_all_imports(view, libraries, runs, number_of_runs);
 }
 
+/* Reads the list WHAT in rounds until they took 50 ms, since a clock may have steps of 4, and prints what a round took. */
+static void measure(const pe_c_view *view, const char *what, pe_c_run *runs, size_t number_of_runs)
+{
+    const clock_t start = clock();
+    clock_t took = 0;
+    uint64_t count = 0;
+    int rounds = 0;
+    for (; took < CLOCKS_PER_SEC / 20; rounds++) {
+        int is_known = 1;
+        count = strcmp(what, "symbols") == 0 ? list_symbols(view->bytes, view->length, runs, number_of_runs)
+                                             : count_alone(view, what, &is_known);
+        if (!is_known)
+            count = list(view, what, runs, number_of_runs);
+        took = clock() - start;
+    }
+    printf("%llu entries, %.1f ms\n", (unsigned long long)count, 1000.0 * (double)took / CLOCKS_PER_SEC / rounds);
+}
+
 int main(int argc, char **argv)
 {
     if (argc != 4)
@@ -237,18 +259,12 @@ int main(int argc, char **argv)
     /* As many as there can be of any of these. */
     const size_t most = view.length / 4 + 1;
     pe_c_run *runs = strcmp(argv[3], "together") == 0 ? calloc(most, sizeof *runs) : NULL;
-    clock_t start = clock();
-    uint64_t count = 0;
-    if (strcmp(argv[2], "symbols") == 0) {
-        count = list_symbols(bytes, view.length, runs, most);
-    } else {
-        if (!read_view(bytes, &image, &view))
-            return 1;
-        start = clock();
-        count = list(&view, argv[2], runs, most);
-        free((void *)view.sections);
-    }
-    printf("%llu entries, %.0f ms\n", (unsigned long long)count, 1000.0 * (double)(clock() - start) / CLOCKS_PER_SEC);
+    /* An object is no image. */
+    view.bytes = bytes;
+    if (strcmp(argv[2], "symbols") != 0 && !read_view(bytes, &image, &view))
+        return 1;
+    measure(&view, argv[2], runs, most);
+    free((void *)view.sections);
     free(bytes);
     free(runs);
     return 0;
