@@ -1,5 +1,5 @@
 -- What is read of a room to which an image was written as a loader lays it out.
-use Rattle.std.proofs.Common.{◌≡◌, ℕ, ◌+◌, ◌<◌, ◌≤◌, ◌++◌, Bool, true, false, List, length, drop, get_or, Option, Some, refl, ap, sym, ◌∙◌, arith}
+use Rattle.std.proofs.Common.{◌≡◌, ℕ, ◌+◌, ◌<◌, ◌≤◌, ◌++◌, Bool, true, false, List, length, drop, Some, refl, ap, sym, ◌∙◌, arith}
 use Rattle.std.specs.Prelude.{nat_lt}
 use Rattle.std.proofs.lemmas.List.{get_or_append_left, get_or_default, length-append, same_lists}
 use Rattle.pe_core.specs.Bytes.{range}
@@ -8,7 +8,7 @@ use Rattle.pe_core.specs.declared.section_table.SectionTable.{SectionTable}
 use Rattle.pe_core.proofs.EntryItems.{length-each}
 use Rattle.pe_core.proofs.Ranges.{byte_of_range, length_range}
 use Rattle.pe_directories.proofs.LoadedReads.{range_is}
-use Rattle.pe_directories.specs.LoadedImages.{loaded, loaded_byte}
+use Rattle.pe_directories.specs.LoadedImages.{loaded_byte}
 use Rattle.pe_c.specs.Loaded.{PutsImage, PutsImageIf, loaded_of}
 use Rattle.pe_c.specs.Modes.{resolves}
 use Rattle.pe_c.specs.Views.{map_of, may_map}

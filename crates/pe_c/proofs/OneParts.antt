@@ -18,10 +18,10 @@ use Rattle.pe_unwind.specs.ExceptionTable.{ExceptionView}
 use Rattle.pe_c.proofs.OneRun.{Moves, ReportsOne, one_list, one_option, one_result}
 use Rattle.pe_c.specs.Certificates.{ReportsCertificate, StepsCertificates, certificate_reported, certificate_step}
 use Rattle.pe_c.specs.Directories.{table_at}
+use Rattle.pe_c.specs.DirectoryTables.{export_directory_at}
 use Rattle.pe_c.specs.ExportAddresses.{address_table_at}
 use Rattle.pe_c.specs.Exports.{FindsNext, StepsExports, StepsExportsIf, StepsOverExports, count_of, exports_after, one_if_some, or_zero, reported_entry, tables_at, tables_or_short}
 use Rattle.pe_c.specs.ImageParts.{AreCertificates, AreExceptions, AreExports, AreExportsBy, AreListed, AreRelocations, HasOption, IsExportData, IsTable, function_table, is_left_out}
-use Rattle.pe_c.specs.DirectoryTables.{export_directory_at, export_fields}
 use Rattle.pe_c.specs.Images.{directory, map_of_image}
 use Rattle.pe_c.specs.Parts.{ReportsExport}
 use Rattle.pe_c.specs.Ranges.{IsPart, IsRange, no_bytes}

@@ -294,6 +294,9 @@ pub extern "C" fn pe_c_debug_data(view: &View, out: &mut DebugRecords) -> u32
     out.repro_result = hand_out_some(first_repro(view), &mut out.repro);
     out.pogo_result = hand_out_some(first_pogo(view), &mut out.pogo);
     out.features_result = hand_out_some(first_features(view), &mut out.features);
-    out.characteristics_result = hand_out_some(first_characteristics(view), &mut out.characteristics);
+    out.characteristics_result = hand_out_some(
+        first_characteristics(view),
+        &mut out.characteristics,
+    );
     DONE
 }

@@ -6,7 +6,6 @@
 ghost use Rattle.std.specs.Prelude.{◌≡◌, ◌==◌, ◌+◌, ◌<◌, ◌≤◌, ◌^◌, length, Some, IfOk, IfSome};
 ghost use Rattle.pe_core.specs.Imports.{entry_size, name_or_refusal};
 ghost use Rattle.pe_core.specs.Refusals.{Returns, ReturnsAs, answer_of};
-ghost use Rattle.pe_core.specs.SectionMap.{mapped};
 ghost use Rattle.pe_core.specs.Text.{text_at};
 ghost use Rattle.pe_c.specs.HandsOut.{HandsOutIf};
 ghost use Rattle.pe_c.specs.KeptSections.{ChangeNothing, KeepsOn, map_kept};
@@ -20,7 +19,7 @@ use crate::kept_sections::{
 };
 use crate::named_view::NamedView;
 use crate::near_map::{NO_WINDOW, Window, map_near};
-use crate::ranges::{NO_BYTES, Range, range_from, slice_of};
+use crate::ranges::{NO_BYTES, Range, range_from};
 use crate::results::hand_out_some;
 use crate::step_failures::hint_rva;
 use crate::text_runs::Run;

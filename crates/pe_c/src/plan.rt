@@ -5,7 +5,7 @@
 
 ghost use Rattle.std.specs.Prelude.{◌≡◌};
 ghost use Rattle.pe_core.specs.Refusals.{answer_of};
-ghost use Rattle.pe_c.specs.Plans.{goes_on, ended, plan_from, returned_record, after_record, StepsPlan, HandsOutPlan};
+ghost use Rattle.pe_c.specs.Plans.{goes_on, plan_from, returned_record, after_record, StepsPlan, HandsOutPlan};
 ghost use Rattle.pe_c.specs.KeptSections.{KeepsOn, map_kept};
 ghost use Rattle.pe_c.specs.Unwinding.{links_at};
 
