@@ -6,8 +6,9 @@ use super::made::{
     untouched, view,
 };
 use crate::debug::{
-    DebugRecords, pe_c_debug_characteristics, pe_c_debug_data, pe_c_debug_entries, pe_c_debug_pdb20, pe_c_debug_pogo,
-    pe_c_debug_repro, pe_c_debug_vc_features, pe_c_first_debug_entry, pe_c_symbol_key,
+    DebugRecords, pe_c_debug_characteristics, pe_c_debug_data, pe_c_debug_entries,
+    pe_c_debug_pdb20, pe_c_debug_pogo, pe_c_debug_repro, pe_c_debug_vc_features,
+    pe_c_first_debug_entry, pe_c_symbol_key,
 };
 use crate::debug_records::{
     EmbeddedPdb, Pdb20, PdbChecksum, Pogo, Repro, SymbolKey, pe_c_characteristics_of,
@@ -566,7 +567,12 @@ fn reported_at_once(bytes: &[u8], image: &Image, mode: u32) -> Option<Reported> 
     }
     let (key, old, repro, pogo) = (out.key, out.pdb20, out.repro, out.pogo);
     Some(Reported {
-        key: (out.key_result, key.guid, [key.age, key.spare], of_range(key.name)),
+        key: (
+            out.key_result,
+            key.guid,
+            [key.age, key.spare],
+            of_range(key.name),
+        ),
         pdb20: (
             out.pdb20_result,
             of_range(old.name),
@@ -574,8 +580,16 @@ fn reported_at_once(bytes: &[u8], image: &Image, mode: u32) -> Option<Reported> 
         ),
         features: (out.features_result, out.features),
         characteristics: (out.characteristics_result, out.characteristics),
-        repro: (out.repro_result, of_range(repro.hash), [repro.has_hash, repro.spare]),
-        pogo: (out.pogo_result, of_range(pogo.entries), [pogo.signature, pogo.spare]),
+        repro: (
+            out.repro_result,
+            of_range(repro.hash),
+            [repro.has_hash, repro.spare],
+        ),
+        pogo: (
+            out.pogo_result,
+            of_range(pogo.entries),
+            [pogo.signature, pogo.spare],
+        ),
     })
 }
 
