@@ -4,9 +4,11 @@
 use crate::coff::room_for;
 use crate::failure::{found, Failure};
 use crate::image::{bytes_of, returned, Error, Image};
+use crate::shown::{self, shown};
 use crate::sys;
 use crate::walk::{look, most_names};
 use alloc::vec::Vec;
+use core::fmt;
 use core::iter::FusedIterator;
 use core::ops::Range;
 
@@ -24,7 +26,7 @@ type List<T> = unsafe extern "C" fn(
 ) -> u32;
 
 /// A walk through the entries of the directory, or of one DLL, whose names are read together, of more entries a call each time.
-#[derive(Clone, Debug)]
+#[derive(Clone)]
 struct Entries<'a, T> {
     bytes: &'a [u8],
     table: sys::Range,
@@ -36,6 +38,14 @@ struct Entries<'a, T> {
     taken: usize,
     /// The walk as it was before the step that returned an error.
     refused: Option<sys::Range>,
+}
+
+impl<T> fmt::Debug for Entries<'_, T> {
+    fn fmt(&self, f: &mut fmt::Formatter<'_>) -> fmt::Result {
+        let Self { table, walk, left, .. } = self;
+        let mut shown = f.debug_struct("Entries");
+        shown.field("table", table).field("walk", walk).field("left", &left.len()).finish_non_exhaustive()
+    }
 }
 
 impl<'a, T: Copy + Default> Entries<'a, T> {
@@ -81,7 +91,7 @@ impl<'a, T: Copy + Default> Entries<'a, T> {
 }
 
 /// A DLL that an image is bound to.
-#[derive(Clone, Debug)]
+#[derive(Clone)]
 pub struct BoundImport<'a> {
     /// Its name: UTF-8, without its final zero.
     pub name: &'a [u8],
@@ -89,6 +99,8 @@ pub struct BoundImport<'a> {
     pub time_date_stamp: u32,
     forwarders: Entries<'a, sys::BoundForwarder>,
 }
+
+shown! { BoundImport<'_> { name: shown::Text, time_date_stamp; .. } }
 
 impl<'a> BoundImport<'a> {
     /// The DLLs that it forwards to.
@@ -98,13 +110,15 @@ impl<'a> BoundImport<'a> {
 }
 
 /// A DLL that another one forwards to.
-#[derive(Clone, Copy, Debug, PartialEq, Eq)]
+#[derive(Clone, Copy, PartialEq, Eq)]
 pub struct BoundForwarder<'a> {
     /// Its name: UTF-8, without its final zero.
     pub name: &'a [u8],
     /// Its time stamp.
     pub time_date_stamp: u32,
 }
+
+shown! { BoundForwarder<'_> { name: shown::Text, time_date_stamp } }
 
 impl<'a> BoundForwarder<'a> {
     fn of(found: &sys::BoundForwarder, bytes: &'a [u8]) -> Result<Self, Error> {
@@ -162,7 +176,7 @@ impl<'a> Iterator for BoundForwarders<'a> {
 impl FusedIterator for BoundForwarders<'_> {}
 
 /// A DLL that another one forwards to, and that other one.
-#[derive(Clone, Copy, Debug, PartialEq, Eq)]
+#[derive(Clone, Copy, PartialEq, Eq)]
 pub struct LibraryForwarder<'a> {
     /// The name of the DLL that forwards: UTF-8, without its final zero.
     pub library: &'a [u8],
@@ -171,6 +185,8 @@ pub struct LibraryForwarder<'a> {
     /// The DLL that it forwards to.
     pub forwarder: BoundForwarder<'a>,
 }
+
+shown! { LibraryForwarder<'_> { library: shown::Text, index, forwarder } }
 
 /// The DLLs that bound imports forward to, one bound import after the other.
 ///
@@ -188,7 +204,7 @@ pub struct LibraryForwarder<'a> {
 /// assert_eq!(names, [(b"one.dll".as_slice(), b"two.dll".as_slice())]);
 /// # Ok::<(), pe_c::Error>(())
 /// ```
-#[derive(Clone, Debug)]
+#[derive(Clone)]
 pub struct AllBoundForwarders<'a> {
     imports: Entries<'a, sys::BoundImport>,
     /// All entries of the directory, those of the bound imports too.
@@ -199,6 +215,8 @@ pub struct AllBoundForwarders<'a> {
     begun: u64,
     is_over: bool,
 }
+
+shown! { AllBoundForwarders<'_> { imports, entries, library: shown::Text, left, begun, is_over } }
 
 impl<'a> AllBoundForwarders<'a> {
     /// The next forwarder; `None` after the last.

@@ -4,18 +4,21 @@
 
 use crate::failure::Failure;
 use crate::image::{bytes_of, Error, Image};
+use crate::shown::{self, shown};
 use crate::sys;
 use crate::walk::{most_names, ImageList, List, Together};
 use core::iter::FusedIterator;
 
 /// A DLL that is loaded when one of its functions is called first.
-#[derive(Clone, Copy, Debug)]
+#[derive(Clone, Copy)]
 pub struct DelayImport<'i, 'a> {
     image: &'i Image<'a>,
     /// The DLL's name: UTF-8, without its final zero.
     pub name: &'a [u8],
     raw: sys::DelayImport,
 }
+
+shown! { DelayImport<'_, '_> { name: shown::Text, raw; .. } }
 
 impl<'i, 'a> DelayImport<'i, 'a> {
     /// The entry of the directory, with the addresses of its tables.
@@ -86,13 +89,15 @@ impl DelayImports<'_, '_> {
 }
 
 /// A function of a DLL that is loaded later, by name or by ordinal.
-#[derive(Clone, Copy, Debug, PartialEq, Eq)]
+#[derive(Clone, Copy, PartialEq, Eq)]
 pub struct DelayedFunction<'a> {
     /// UTF-8, without its final zero; `None` for an import by ordinal.
     pub name: Option<&'a [u8]>,
     /// The ordinal; with a name its hint, an index into the DLL's table of names.
     pub ordinal: u32,
 }
+
+shown! { DelayedFunction<'_> { name: shown::text, ordinal } }
 
 impl<'a> DelayedFunction<'a> {
     fn of(found: &sys::DelayedFunction, bytes: &'a [u8]) -> Result<Self, Error> {
@@ -135,7 +140,7 @@ impl DelayedFunctions<'_, '_> {
 }
 
 /// A function, and the DLL that it is of.
-#[derive(Clone, Copy, Debug, PartialEq, Eq)]
+#[derive(Clone, Copy, PartialEq, Eq)]
 pub struct LibraryFunction<'a> {
     /// The DLL's name: UTF-8, without its final zero.
     pub library: &'a [u8],
@@ -144,6 +149,8 @@ pub struct LibraryFunction<'a> {
     /// The function.
     pub function: DelayedFunction<'a>,
 }
+
+shown! { LibraryFunction<'_> { library: shown::Text, index, function } }
 
 /// The functions of all DLLs that are loaded later, one DLL after the other.
 ///

@@ -6,6 +6,7 @@
 
 use crate::coff::room_for;
 use crate::image::{bytes_of, Error, Image};
+use crate::shown::{self, shown};
 use crate::sys;
 use crate::walk::most_names;
 use alloc::vec::Vec;
@@ -13,7 +14,7 @@ use core::iter::FusedIterator;
 use core::ops::Range;
 
 /// An export that has a name.
-#[derive(Clone, Copy, Debug, PartialEq, Eq)]
+#[derive(Clone, Copy, PartialEq, Eq)]
 pub struct Export<'a> {
     /// UTF-8, without its final zero.
     pub name: &'a [u8],
@@ -24,6 +25,8 @@ pub struct Export<'a> {
     /// Its index in the table of RVAs: [`AddressTable::get`] has its ordinal and forwarder.
     pub index: u32,
 }
+
+shown! { Export<'_> { name: shown::Text, rva, offset, index } }
 
 /// The exports of an image, in the order of the name table.
 ///
@@ -119,7 +122,7 @@ impl<'i, 'a> Exports<'i, 'a> {
 
 impl core::fmt::Debug for Exports<'_, '_> {
     fn fmt(&self, f: &mut core::fmt::Formatter<'_>) -> core::fmt::Result {
-        f.debug_struct("Exports").field("image", &self.image).field("walk", &self.walk).finish_non_exhaustive()
+        f.debug_struct("Exports").field("walk", &self.walk).finish_non_exhaustive()
     }
 }
 
@@ -146,7 +149,7 @@ impl<'a> Iterator for Exports<'_, 'a> {
 impl FusedIterator for Exports<'_, '_> {}
 
 /// An export by its index, with or without a name.
-#[derive(Clone, Copy, Debug, PartialEq, Eq)]
+#[derive(Clone, Copy, PartialEq, Eq)]
 pub struct Exported<'a> {
     /// Its index in the table plus the [ordinal base](AddressTable::ordinal_base).
     pub ordinal: u64,
@@ -155,6 +158,8 @@ pub struct Exported<'a> {
     /// Of a forwarder its text, `DLL.NAME` or `DLL.#ORDINAL`: UTF-8, without its final zero; empty where no text is there.
     pub forwarder: Option<&'a [u8]>,
 }
+
+shown! { Exported<'_> { ordinal, rva, forwarder: shown::text } }
 
 /// The export directory's table of RVAs: all exports by their index, also those without a name.
 ///
@@ -175,11 +180,13 @@ pub struct Exported<'a> {
 /// assert_eq!((last.ordinal, last.forwarder), (8, Some(b"NTDLL.RtlFree".as_slice())));
 /// # Ok::<(), pe_c::Error>(())
 /// ```
-#[derive(Clone, Copy, Debug)]
+#[derive(Clone, Copy)]
 pub struct AddressTable<'i, 'a> {
     image: &'i Image<'a>,
     table: sys::AddressTable,
 }
+
+shown! { AddressTable<'_, '_> { table; .. } }
 
 impl<'i, 'a> AddressTable<'i, 'a> {
     /// The DLL's name: UTF-8, without its final zero. `None` where its RVA is 0 or unmapped, or no text is there.

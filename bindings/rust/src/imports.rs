@@ -4,18 +4,21 @@
 
 use crate::failure::Failure;
 use crate::image::{bytes_of, Error, Image};
+use crate::shown::{self, shown};
 use crate::sys;
 use crate::walk::{most_names, ImageList, List, Together};
 use core::iter::FusedIterator;
 
 /// A DLL that an image imports from.
-#[derive(Clone, Copy, Debug)]
+#[derive(Clone, Copy)]
 pub struct Library<'i, 'a> {
     image: &'i Image<'a>,
     /// The DLL's name: UTF-8, without its final zero.
     pub name: &'a [u8],
     raw: sys::Library,
 }
+
+shown! { Library<'_, '_> { name: shown::Text, raw; .. } }
 
 impl<'i, 'a> Library<'i, 'a> {
     /// The record of the C library, with the RVAs of the lookup and address tables.
@@ -102,7 +105,7 @@ impl Libraries<'_, '_> {
 }
 
 /// An import, by name or by ordinal.
-#[derive(Clone, Copy, Debug, PartialEq, Eq)]
+#[derive(Clone, Copy, PartialEq, Eq)]
 pub struct Import<'a> {
     /// UTF-8, without its final zero; `None` for an import by ordinal.
     pub name: Option<&'a [u8]>,
@@ -111,6 +114,8 @@ pub struct Import<'a> {
     /// RVA of the slot to which the loader writes the import's virtual address.
     pub rva: u64,
 }
+
+shown! { Import<'_> { name: shown::text, ordinal, rva } }
 
 impl<'a> Import<'a> {
     fn of(found: &sys::Import, bytes: &'a [u8]) -> Result<Self, Error> {
@@ -149,7 +154,7 @@ impl Imports<'_, '_> {
 }
 
 /// An import, and the DLL that it is from.
-#[derive(Clone, Copy, Debug, PartialEq, Eq)]
+#[derive(Clone, Copy, PartialEq, Eq)]
 pub struct LibraryImport<'a> {
     /// The DLL's name: UTF-8, without its final zero.
     pub library: &'a [u8],
@@ -160,6 +165,8 @@ pub struct LibraryImport<'a> {
     /// RVA of the hint, which the name follows; `None` for an import by ordinal.
     pub hint_rva: Option<u32>,
 }
+
+shown! { LibraryImport<'_> { library: shown::Text, index, import, hint_rva } }
 
 /// The imports of all DLLs of an image, one DLL after the other.
 ///

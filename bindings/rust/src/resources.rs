@@ -4,6 +4,7 @@
 
 use crate::failure::Failure;
 use crate::image::{bytes_of, Error, Image};
+use crate::shown::shown;
 use crate::sys;
 use crate::version::{FixedVersion, Text, VersionName};
 use crate::walk::{ask_of_bytes, look, ImageList};
@@ -22,7 +23,7 @@ pub enum ResourceName<'a> {
 }
 
 /// A resource in one language.
-#[derive(Clone, Copy, Debug)]
+#[derive(Clone, Copy)]
 pub struct ResourceLeaf<'a> {
     /// The type.
     pub resource_type: ResourceName<'a>,
@@ -40,6 +41,8 @@ pub struct ResourceLeaf<'a> {
     content: sys::Range,
     content_result: u32,
 }
+
+shown! { ResourceLeaf<'_> { resource_type, name, language, rva, size, code_page, content, content_result; .. } }
 
 fn name_of(found: sys::ResourceName, bytes: &[u8]) -> Result<ResourceName<'_>, Error> {
     if found.has_name == 0 {
@@ -181,7 +184,7 @@ impl ResourceLeaves<'_, '_> {
 /// }
 /// # Ok::<(), pe_c::Error>(())
 /// ```
-#[derive(Clone, Copy, Debug)]
+#[derive(Clone, Copy)]
 pub struct ResourceDirectory<'a> {
     /// Reserved.
     pub characteristics: u32,
@@ -198,6 +201,12 @@ pub struct ResourceDirectory<'a> {
     bytes: &'a [u8],
     tree: sys::Range,
     entries: sys::Range,
+}
+
+shown! {
+    ResourceDirectory<'_> {
+        characteristics, time_date_stamp, major_version, minor_version, number_of_named_entries, number_of_id_entries, tree, entries; ..
+    }
 }
 
 impl<'a> ResourceDirectory<'a> {
@@ -219,12 +228,14 @@ pub struct ResourceItem<'a> {
 }
 
 /// The entries of a directory of a resource tree, one after the other.
-#[derive(Clone, Debug)]
+#[derive(Clone)]
 pub struct ResourceItems<'a> {
     bytes: &'a [u8],
     tree: sys::Range,
     left: sys::Range,
 }
+
+shown! { ResourceItems<'_> { tree, left; .. } }
 
 impl<'a> Iterator for ResourceItems<'a> {
     type Item = Result<ResourceItem<'a>, Error>;

@@ -6,6 +6,7 @@
 use crate::coff::sections_of;
 use crate::debug::{key_of, SymbolKey};
 use crate::image::{returned, Error};
+use crate::shown::{self, shown};
 use crate::sys::{self, DebugEntry, Section, TeHeader};
 use crate::walk::{ask_of_bytes, look, next_of};
 use alloc::vec::Vec;
@@ -22,7 +23,7 @@ pub struct Te<'a> {
 
 impl fmt::Debug for Te<'_> {
     fn fmt(&self, f: &mut fmt::Formatter<'_>) -> fmt::Result {
-        f.debug_struct("Te").field("header", &self.header).field("sections", &self.sections).finish()
+        f.debug_struct("Te").field("header", &self.header).field("sections", &shown::Sections(&self.sections)).finish()
     }
 }
 
@@ -97,12 +98,14 @@ impl<'a> Te<'a> {
 const CODEVIEW: u32 = 2;
 
 /// The entries of the debug directory of a TE image.
-#[derive(Clone, Debug)]
+#[derive(Clone)]
 pub struct TeDebugEntries<'a> {
     bytes: &'a [u8],
     header: TeHeader,
     walk: Option<sys::Range>,
 }
+
+shown! { TeDebugEntries<'_> { header, walk; .. } }
 
 impl Iterator for TeDebugEntries<'_> {
     type Item = Result<DebugEntry, Error>;

@@ -3,6 +3,7 @@
 //! <https://learn.microsoft.com/windows/win32/debug/pe-format#the-tls-section>. A scanner lists the callbacks.
 
 use crate::image::{Error, Image};
+use crate::shown::shown;
 use crate::sys;
 use crate::walk::next_of;
 use core::iter::FusedIterator;
@@ -27,12 +28,14 @@ pub struct Tls {
 /// The callbacks of an image, virtual addresses, in the order of the table.
 ///
 /// An item is an error, and the last one: [`Error::SHORT`] where the bytes end before the table does.
-#[derive(Clone, Debug)]
+#[derive(Clone)]
 pub struct TlsCallbacks<'i, 'a> {
     image: &'i Image<'a>,
     /// `None` where the walk is over.
     walk: Option<sys::Range>,
 }
+
+shown! { TlsCallbacks<'_, '_> { walk; .. } }
 
 impl Iterator for TlsCallbacks<'_, '_> {
     type Item = Result<u64, Error>;

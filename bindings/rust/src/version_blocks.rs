@@ -3,8 +3,10 @@
 
 use crate::image::{bytes_of, returned, Error, Image};
 use crate::resources::ResourceLeaf;
+use crate::shown::{self, shown};
 use crate::sys;
 use crate::version::Text;
+use core::fmt;
 use core::iter::FusedIterator;
 
 /// A block of version information.
@@ -29,7 +31,7 @@ use core::iter::FusedIterator;
 /// }
 /// # Ok::<(), pe_c::Error>(())
 /// ```
-#[derive(Clone, Copy, Debug)]
+#[derive(Clone, Copy)]
 pub struct VersionBlock<'a> {
     /// The key.
     pub key: Text<'a>,
@@ -41,6 +43,19 @@ pub struct VersionBlock<'a> {
     pub language: Option<VersionLanguage>,
     bytes: &'a [u8],
     children: sys::Range,
+}
+
+impl fmt::Debug for VersionBlock<'_> {
+    fn fmt(&self, f: &mut fmt::Formatter<'_>) -> fmt::Result {
+        let mut shown = f.debug_struct("VersionBlock");
+        shown.field("key", &self.key);
+        if self.is_text {
+            shown.field("value", &self.text());
+        } else {
+            shown.field("value", &shown::Bytes(self.value));
+        }
+        shown.field("is_text", &self.is_text).field("language", &self.language).finish_non_exhaustive()
+    }
 }
 
 /// A language and a code page of version information.
@@ -76,11 +91,13 @@ impl<'a> VersionBlock<'a> {
 ///
 /// An item is an error: [`Error::SHORT`] where a block is truncated, and the last one; [`Error::RESOURCE_STRING`] where its
 /// length is below 6, and the last one, or its key is not NUL-terminated, and then the block after it comes next.
-#[derive(Clone, Debug)]
+#[derive(Clone)]
 pub struct VersionBlocks<'a> {
     bytes: &'a [u8],
     walk: sys::Range,
 }
+
+shown! { VersionBlocks<'_> { walk; .. } }
 
 impl<'a> VersionBlocks<'a> {
     /// The blocks in the content of a resource of type `RT_VERSION`, of which the first is all of it.

@@ -5,6 +5,7 @@ use crate::failure::{found, Failure};
 use crate::image::{returned, CallWith, Error, Image, Look as ImageLook};
 use crate::sys::{self, Run, View};
 use alloc::vec::Vec;
+use core::fmt;
 
 /// A call that takes the bytes, a record and a number, and returns a record.
 pub(crate) type Look<M, N, T> = unsafe extern "C" fn(*const u8, usize, *const M, N, *mut T) -> u32;
@@ -53,13 +54,19 @@ pub(crate) fn next_of<W, T: Default>(
 }
 
 /// A walk over bytes.
-#[derive(Clone, Copy, Debug)]
+#[derive(Clone, Copy)]
 pub(crate) struct Walk<'a, W> {
     pub bytes: &'a [u8],
     walk: W,
     is_over: bool,
     /// The walk as it was before the step that returned an error.
     refused: Option<W>,
+}
+
+impl<W: fmt::Debug> fmt::Debug for Walk<'_, W> {
+    fn fmt(&self, f: &mut fmt::Formatter<'_>) -> fmt::Result {
+        f.debug_struct("Walk").field("walk", &self.walk).field("is_over", &self.is_over).finish_non_exhaustive()
+    }
 }
 
 impl<'a, W: Copy> Walk<'a, W> {
@@ -116,11 +123,17 @@ macro_rules! items {
 pub(crate) use items;
 
 /// A walk over an image.
-#[derive(Clone, Debug)]
+#[derive(Clone)]
 pub(crate) struct ImageWalk<'i, 'a, W> {
     pub image: &'i Image<'a>,
     walk: W,
     is_over: bool,
+}
+
+impl<W: fmt::Debug> fmt::Debug for ImageWalk<'_, '_, W> {
+    fn fmt(&self, f: &mut fmt::Formatter<'_>) -> fmt::Result {
+        f.debug_struct("ImageWalk").field("walk", &self.walk).field("is_over", &self.is_over).finish_non_exhaustive()
+    }
 }
 
 impl<'i, 'a, W> ImageWalk<'i, 'a, W> {
@@ -170,15 +183,11 @@ pub(crate) struct ImageList<'i, 'a, W, T> {
     refused: Option<W>,
 }
 
-impl<W: core::fmt::Debug, T> core::fmt::Debug for ImageList<'_, '_, W, T> {
-    fn fmt(&self, f: &mut core::fmt::Formatter<'_>) -> core::fmt::Result {
-        let Self { image, walk, left, is_over, .. } = self;
-        f.debug_struct("ImageList")
-            .field("image", image)
-            .field("walk", walk)
-            .field("left", &left.len())
-            .field("is_over", is_over)
-            .finish()
+impl<W: fmt::Debug, T> fmt::Debug for ImageList<'_, '_, W, T> {
+    fn fmt(&self, f: &mut fmt::Formatter<'_>) -> fmt::Result {
+        let Self { walk, left, is_over, .. } = self;
+        let mut shown = f.debug_struct("ImageList");
+        shown.field("walk", walk).field("left", &left.len()).field("is_over", is_over).finish_non_exhaustive()
     }
 }
 

@@ -7,8 +7,10 @@
 
 use crate::failure::{found, Failure};
 use crate::image::{bytes_of, Error, Image};
+use crate::shown::{self, shown};
 use crate::sys::{self, Function, Scope};
 use crate::walk::{items, look, ImageWalk, Walk};
+use core::fmt;
 use core::iter::FusedIterator;
 
 /// A register, by its number: 0 to 15 are rax, rcx, rdx, rbx, rsp, rbp, rsi, rdi and r8 to r15, 17 to 32 xmm0 to xmm15.
@@ -134,12 +136,22 @@ items! {
 
 /// The handler of a function: its RVA, and its data, which follows that in the record. Only the handler knows the length
 /// of its data, so the slice goes up to the end of the file.
-#[derive(Clone, Copy, Debug, PartialEq, Eq)]
+#[derive(Clone, Copy, PartialEq, Eq)]
 pub enum Handler<'a> {
     /// `UNW_FLAG_EHANDLER`, also with `UNW_FLAG_UHANDLER`: called for exceptions.
     Exception(u32, &'a [u8]),
     /// `UNW_FLAG_UHANDLER` alone: called when an exception unwinds the function.
     Termination(u32, &'a [u8]),
+}
+
+impl fmt::Debug for Handler<'_> {
+    fn fmt(&self, f: &mut fmt::Formatter<'_>) -> fmt::Result {
+        let (name, rva, data) = match self {
+            Handler::Exception(rva, data) => ("Exception", rva, data),
+            Handler::Termination(rva, data) => ("Termination", rva, data),
+        };
+        f.debug_tuple(name).field(rva).field(&shown::Bytes(data)).finish()
+    }
 }
 
 /// An unwind record, `UNWIND_INFO`: what the prolog of a function did to the stack.
@@ -159,11 +171,13 @@ pub enum Handler<'a> {
 /// assert_eq!(scopes.count(), 1);
 /// # Ok::<(), pe_c::Error>(())
 /// ```
-#[derive(Clone, Copy, Debug)]
+#[derive(Clone, Copy)]
 pub struct UnwindRecord<'a> {
     raw: sys::Record,
     bytes: &'a [u8],
 }
+
+shown! { UnwindRecord<'_> { raw; .. } }
 
 impl<'a> UnwindRecord<'a> {
     /// The record of the C library.
@@ -237,11 +251,13 @@ impl<'a> UnwindRecord<'a> {
 /// assert_eq!(record.raw(), plan?[0].raw());
 /// # Ok::<(), pe_c::Error>(())
 /// ```
-#[derive(Clone, Copy, Debug)]
+#[derive(Clone, Copy)]
 pub struct Functions<'i, 'a> {
     image: &'i Image<'a>,
     table: sys::Range,
 }
+
+shown! { Functions<'_, '_> { table; .. } }
 
 impl<'i, 'a> Functions<'i, 'a> {
     /// The image that has them.
