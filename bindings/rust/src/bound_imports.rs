@@ -49,8 +49,9 @@ impl<T> fmt::Debug for Entries<'_, T> {
 }
 
 impl<'a, T: Copy + Default> Entries<'a, T> {
-    fn new(bytes: &'a [u8], table: sys::Range, walk: sys::Range) -> Self {
-        Entries { bytes, table, walk: Some(walk), found: Vec::new(), left: 0..0, taken: 0, refused: None }
+    /// The walk over what is left of the directory, or one that is over.
+    fn new(bytes: &'a [u8], table: sys::Range, walk: Option<sys::Range>) -> Self {
+        Entries { bytes, table, walk, found: Vec::new(), left: 0..0, taken: 0, refused: None }
     }
 
     /// The next entry.
@@ -140,7 +141,7 @@ impl<'a> Iterator for BoundImports<'a> {
         let found = self.0.step(sys::pe_c_list_bound_imports)?;
         Some(found.and_then(|found| {
             let name = bytes_of(found.name, self.0.bytes)?;
-            let forwarders = Entries::new(self.0.bytes, self.0.table, found.forwarders);
+            let forwarders = Entries::new(self.0.bytes, self.0.table, Some(found.forwarders));
             Ok(BoundImport { name, time_date_stamp: found.time_date_stamp, forwarders })
         }))
     }
@@ -199,7 +200,7 @@ shown! { LibraryForwarder<'_> { library: shown::Text, index, forwarder } }
 /// use pe_c::{Image, Mode};
 ///
 /// let image = Image::parse(&bytes, Mode::Permissive)?;
-/// let forwarders: Vec<_> = image.bound_forwarders()?.into_iter().flatten().collect::<Result<_, _>>()?;
+/// let forwarders: Vec<_> = image.bound_forwarders()?.collect::<Result<_, _>>()?;
 /// let names: Vec<_> = forwarders.iter().map(|it| (it.library, it.forwarder.name)).collect();
 /// assert_eq!(names, [(b"one.dll".as_slice(), b"two.dll".as_slice())]);
 /// # Ok::<(), pe_c::Error>(())
@@ -256,31 +257,32 @@ impl<'a> Iterator for AllBoundForwarders<'a> {
 impl FusedIterator for AllBoundForwarders<'_> {}
 
 impl<'a> Image<'a> {
-    /// The DLLs that the image is bound to. `None` where the directory is absent.
+    /// The DLLs that the image is bound to; none where the directory is absent.
     ///
     /// # Errors
     ///
     /// [`Error::SHORT`].
-    pub fn bound_imports(&self) -> Result<Option<BoundImports<'a>>, Error> {
+    pub fn bound_imports(&self) -> Result<BoundImports<'a>, Error> {
         let table = self.ask(sys::pe_c_bound_imports)?;
-        Ok(table.map(|table| BoundImports(Entries::new(self.bytes(), table, table))))
+        Ok(BoundImports(Entries::new(self.bytes(), table.unwrap_or_default(), table)))
     }
 
-    /// The DLLs that bound imports forward to, each with the bound import. `None` where the directory is absent. One walk reads all
+    /// The DLLs that bound imports forward to, each with the bound import; none where the directory is absent. One walk reads all
     /// names, where [`BoundImport::forwarders`] of each costs a text that they share for each.
     ///
     /// # Errors
     ///
     /// [`Error::SHORT`].
-    pub fn bound_forwarders(&self) -> Result<Option<AllBoundForwarders<'a>>, Error> {
-        let table = self.ask(sys::pe_c_bound_imports)?;
-        Ok(table.map(|table| AllBoundForwarders {
-            imports: Entries::new(self.bytes(), table, table),
-            entries: Entries::new(self.bytes(), table, table),
+    pub fn bound_forwarders(&self) -> Result<AllBoundForwarders<'a>, Error> {
+        let walk = self.ask(sys::pe_c_bound_imports)?;
+        let (bytes, table) = (self.bytes(), walk.unwrap_or_default());
+        Ok(AllBoundForwarders {
+            imports: Entries::new(bytes, table, walk),
+            entries: Entries::new(bytes, table, walk),
             library: &[],
             left: 0,
             begun: 0,
             is_over: false,
-        }))
+        })
     }
 }

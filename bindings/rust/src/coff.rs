@@ -82,7 +82,7 @@ impl<'a> Coff<'a> {
         &self.sections
     }
 
-    /// The symbols. `None` where the header's pointer to them is 0.
+    /// The symbols. `None` where the header's pointer to them is 0: a table without symbols may be followed by a string table.
     ///
     /// # Errors
     ///

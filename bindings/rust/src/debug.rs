@@ -171,7 +171,7 @@ items! {
     ///
     /// let image = Image::parse(&bytes, Mode::Permissive)?;
     /// let mut types = Vec::new();
-    /// for entry in image.debug_entries()?.into_iter().flatten() {
+    /// for entry in image.debug_entries()? {
     ///     types.push(entry?.data_type);
     /// }
     /// assert_eq!(types, [2, 12, 13, 16, 20]);
@@ -262,14 +262,13 @@ type OfEntry<T> = unsafe extern "C" fn(*const u8, usize, u32, *const DebugEntry,
 /// - the embedded PDB: [`Error::DEBUG_SIZE`], [`Error::SHORT`], [`Error::BAD_MAGIC`], [`Error::DEBUG_DATA`];
 /// - the checksum of the PDB: [`Error::DEBUG_DATA`], [`Error::DEBUG_SIZE`].
 impl<'a> Image<'a> {
-    /// The entries of the debug directory, or `None` without a directory.
+    /// The entries of the debug directory; none without a directory.
     ///
     /// # Errors
     ///
     /// [`Error::UNMAPPED`]; in strict mode [`Error::DEBUG_BOUNDS`].
-    pub fn debug_entries(&self) -> Result<Option<DebugEntries<'a>>, Error> {
-        let entries = self.ask(sys::pe_c_debug_entries)?;
-        Ok(entries.map(|entries| DebugEntries(Walk::new(self.bytes(), entries))))
+    pub fn debug_entries(&self) -> Result<DebugEntries<'a>, Error> {
+        Ok(DebugEntries(Walk::started(self.bytes(), self.ask(sys::pe_c_debug_entries)?)))
     }
 
     /// The first entry of a type, `IMAGE_DEBUG_TYPE_` of winnt.h. A truncated last entry is none.

@@ -46,7 +46,7 @@ impl<'i, 'a> DelayImport<'i, 'a> {
 ///
 /// let image = Image::parse(&bytes, Mode::Permissive)?;
 /// let mut found = Vec::new();
-/// for import in image.delay_imports()?.into_iter().flatten() {
+/// for import in image.delay_imports()? {
 ///     let import = import?;
 ///     for function in import.functions() {
 ///         found.push((import.name, function?.name));
@@ -165,7 +165,7 @@ shown! { LibraryFunction<'_> { library: shown::Text, index, function } }
 /// use pe_c::{Image, Mode};
 ///
 /// let image = Image::parse(&bytes, Mode::Permissive)?;
-/// let functions: Vec<_> = image.delayed_functions()?.into_iter().flatten().collect::<Result<_, _>>()?;
+/// let functions: Vec<_> = image.delayed_functions()?.collect::<Result<_, _>>()?;
 /// let names: Vec<_> = functions.iter().map(|it| (it.library, it.function.name)).collect();
 /// let (dbghelp, version) = (b"dbghelp.dll".as_slice(), b"VERSION.dll".as_slice());
 /// assert_eq!(names[0], (dbghelp, Some(b"SymInitialize".as_slice())));
@@ -194,25 +194,23 @@ impl<'a> Iterator for AllDelayedFunctions<'_, 'a> {
 impl FusedIterator for AllDelayedFunctions<'_, '_> {}
 
 impl<'a> Image<'a> {
-    /// The DLLs that are loaded when one of their functions is called first, each with its functions. `None` where the
+    /// The DLLs that are loaded when one of their functions is called first, each with its functions; none where the
     /// directory is absent.
     ///
     /// # Errors
     ///
     /// [`Error::UNMAPPED`], [`Error::SHORT`].
-    pub fn delay_imports(&self) -> Result<Option<DelayImports<'_, 'a>>, Error> {
-        let walk = self.ask(sys::pe_c_delay_imports)?;
-        Ok(walk.map(|walk| DelayImports(ImageList::new(self, walk))))
+    pub fn delay_imports(&self) -> Result<DelayImports<'_, 'a>, Error> {
+        Ok(DelayImports(ImageList::started(self, self.ask(sys::pe_c_delay_imports)?)))
     }
 
-    /// The functions of all DLLs of the delay import directory, or `None` where it is absent. The names of DLLs and functions are read
+    /// The functions of all DLLs of the delay import directory; none where it is absent. The names of DLLs and functions are read
     /// together from the first on, however many share one text.
     ///
     /// # Errors
     ///
     /// [`Error::UNMAPPED`], [`Error::SHORT`].
-    pub fn delayed_functions(&self) -> Result<Option<AllDelayedFunctions<'_, 'a>>, Error> {
-        let walk = self.ask(sys::pe_c_all_delayed_functions)?;
-        Ok(walk.map(|walk| AllDelayedFunctions(ImageList::new(self, walk))))
+    pub fn delayed_functions(&self) -> Result<AllDelayedFunctions<'_, 'a>, Error> {
+        Ok(AllDelayedFunctions(ImageList::started(self, self.ask(sys::pe_c_all_delayed_functions)?)))
     }
 }

@@ -40,7 +40,7 @@ shown! { Export<'_> { name: shown::Text, rva, offset, index } }
 ///
 /// let image = Image::parse(&bytes, Mode::Permissive)?;
 /// let mut found = Vec::new();
-/// for export in image.exports()?.into_iter().flatten() {
+/// for export in image.exports()? {
 ///     let export = export?;
 ///     found.push((export.name, export.rva));
 /// }
@@ -67,14 +67,15 @@ const ROOM: usize = 16;
 const SKIPPED: usize = 64;
 
 impl<'i, 'a> Exports<'i, 'a> {
-    fn new(image: &'i Image<'a>, walk: sys::Exports) -> Self {
+    /// The exports of these tables; none without them.
+    fn new(image: &'i Image<'a>, tables: Option<sys::Exports>) -> Self {
         Exports {
             image,
-            walk,
+            walk: tables.unwrap_or_default(),
             few: [sys::Export::default(); ROOM],
             many: Vec::new(),
             left: 0..0,
-            is_over: false,
+            is_over: tables.is_none(),
             spent: 0,
         }
     }
@@ -171,7 +172,7 @@ shown! { Exported<'_> { ordinal, rva, forwarder: shown::text } }
 /// let image = Image::parse(&bytes, Mode::Permissive)?;
 /// let table = image.export_addresses()?.expect("the image has exports");
 /// assert_eq!(table.name(), Some(b"made.dll".as_slice()));
-/// for export in image.exports()?.into_iter().flatten() {
+/// for export in image.exports()? {
 ///     let export = export?;
 ///     let entry = table.get(export.index.into()).expect("the entry of an export is in the table");
 ///     assert_eq!(entry.rva, export.rva);
@@ -286,7 +287,7 @@ impl<'a> Image<'a> {
         self.ask(sys::pe_c_export_directory)
     }
 
-    /// The table of RVAs of the exports, or `None` without an export directory.
+    /// The table of RVAs of the exports, or `None` without an export directory: one without exports has a name and an ordinal base.
     ///
     /// # Errors
     ///
@@ -296,13 +297,12 @@ impl<'a> Image<'a> {
         Ok(table.map(|table| AddressTable { image: self, table }))
     }
 
-    /// The exports that have a name, or `None` without an export directory.
+    /// The exports that have a name; none without an export directory.
     ///
     /// # Errors
     ///
     /// [`Error::UNMAPPED`], [`Error::SHORT`] of the directory, then of the table of RVAs, of names and of indices.
-    pub fn exports(&self) -> Result<Option<Exports<'_, 'a>>, Error> {
-        let tables = self.ask(sys::pe_c_export_tables)?;
-        Ok(tables.map(|tables| Exports::new(self, tables)))
+    pub fn exports(&self) -> Result<Exports<'_, 'a>, Error> {
+        Ok(Exports::new(self, self.ask(sys::pe_c_export_tables)?))
     }
 }

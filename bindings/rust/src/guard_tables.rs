@@ -74,7 +74,8 @@ impl<'a> Iterator for GuardEntries<'_, 'a> {
 impl FusedIterator for GuardEntries<'_, '_> {}
 
 impl<'a> Image<'a> {
-    /// The entries of a table of the load configuration. `None` where there is no load configuration, or this has no such table.
+    /// The entries of a table of the load configuration. `None` where there is no load configuration, or this has no such table: one
+    /// without entries may say that nothing is allowed, and its entries have a size.
     ///
     /// # Errors
     ///

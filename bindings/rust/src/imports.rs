@@ -46,7 +46,7 @@ impl<'i, 'a> Library<'i, 'a> {
 ///
 /// let image = Image::parse(&bytes, Mode::Permissive)?;
 /// let mut found = Vec::new();
-/// for library in image.libraries()?.into_iter().flatten() {
+/// for library in image.libraries()? {
 ///     let library = library?;
 ///     for import in library.imports() {
 ///         found.push((library.name, import?.name));
@@ -93,7 +93,7 @@ impl Libraries<'_, '_> {
     /// # let start = Image::parse(&bytes, Mode::Strict)?.offset(directory.virtual_address).unwrap() as usize;
     /// bytes[start + 20 + 12..][..4].copy_from_slice(&0x0123_4567_u32.to_le_bytes());
     /// let image = Image::parse(&bytes, Mode::Strict)?;
-    /// let mut libraries = image.libraries()?.expect("it has imports");
+    /// let mut libraries = image.libraries()?;
     /// let error = libraries.find_map(Result::err).expect("the second has no name");
     /// let failure = libraries.failure().expect("an item was an error");
     /// assert_eq!((failure.error, failure.value), (error, Some(0x0123_4567)));
@@ -181,7 +181,7 @@ shown! { LibraryImport<'_> { library: shown::Text, index, import, hint_rva } }
 /// use pe_c::{Image, Mode};
 ///
 /// let image = Image::parse(&bytes, Mode::Permissive)?;
-/// let imports: Vec<_> = image.imports()?.into_iter().flatten().collect::<Result<_, _>>()?;
+/// let imports: Vec<_> = image.imports()?.collect::<Result<_, _>>()?;
 /// let names: Vec<_> = imports.iter().map(|it| (it.library, it.import.name)).collect();
 /// let (kernel32, a) = (b"KERNEL32.dll".as_slice(), b"a.dll".as_slice());
 /// // The second is imported by its ordinal.
@@ -213,26 +213,25 @@ impl<'a> Iterator for AllImports<'_, 'a> {
 impl FusedIterator for AllImports<'_, '_> {}
 
 impl<'a> Image<'a> {
-    /// The imports of all DLLs that the image imports from, or `None` without an import directory. The names of DLLs and imports are
+    /// The imports of all DLLs that the image imports from; none without an import directory. The names of DLLs and imports are
     /// read together from the first on, however many share one text; so the calls take two to four times as long for ordinary names as
     /// library by library, by [`Image::libraries`].
     ///
     /// # Errors
     ///
     /// [`Error::UNMAPPED`].
-    pub fn imports(&self) -> Result<Option<AllImports<'_, 'a>>, Error> {
-        let Some(walk) = self.ask(sys::pe_c_all_imports)? else { return Ok(None) };
-        let libraries = self.libraries()?.map_or(0, |all| all.take_while(Result::is_ok).count() as u64);
-        Ok(Some(AllImports { list: ImageList::new(self, walk), libraries }))
+    pub fn imports(&self) -> Result<AllImports<'_, 'a>, Error> {
+        let walk = self.ask(sys::pe_c_all_imports)?;
+        let libraries = self.libraries()?.take_while(Result::is_ok).count() as u64;
+        Ok(AllImports { list: ImageList::started(self, walk), libraries })
     }
 
-    /// The DLLs that the image imports from, each with its imports, or `None` without an import directory.
+    /// The DLLs that the image imports from, each with its imports; none without an import directory.
     ///
     /// # Errors
     ///
     /// [`Error::UNMAPPED`].
-    pub fn libraries(&self) -> Result<Option<Libraries<'_, 'a>>, Error> {
-        let walk = self.ask(sys::pe_c_import_libraries)?;
-        Ok(walk.map(|walk| Libraries(ImageList::new(self, walk))))
+    pub fn libraries(&self) -> Result<Libraries<'_, 'a>, Error> {
+        Ok(Libraries(ImageList::started(self, self.ask(sys::pe_c_import_libraries)?)))
     }
 }

@@ -51,7 +51,8 @@
 //!
 //! - An `Image` borrows the bytes of the file or module. Names, bodies and texts are slices of these bytes: they outlive the
 //!   `Image`.
-//! - A directory that is absent is `Ok(None)`; a damaged one is an [`Error`]. An error in one part, a directory or a debug
+//! - Of a directory that is absent lists are empty, and what has fields of its own is `Ok(None)`; [`ImageInfo::directory`] says
+//!   whether it is there. A damaged one is an [`Error`]. An error in one part, a directory or a debug
 //!   record, does not affect another; of debug records that is proved over all bytes.
 //! - Every list is an iterator. After an `Err` item it returns `None`; [`VersionBlocks`] alone may go on after one.
 //! - No bytes, registers or memory make a call panic or loop forever. Of the methods of an [`Image`] only [`Image::parse`] and

@@ -110,13 +110,13 @@ impl Iterator for Relocations<'_> {
 impl FusedIterator for Relocations<'_> {}
 
 impl<'a> Image<'a> {
-    /// The blocks of the base relocations. `None` where the directory is absent.
+    /// The blocks of the base relocations; none where the directory is absent.
     ///
     /// # Errors
     ///
     /// [`Error::UNMAPPED`], [`Error::SHORT`].
-    pub fn relocation_blocks(&self) -> Result<Option<RelocationBlocks<'a>>, Error> {
-        Ok(self.ask(sys::pe_c_relocation_blocks)?.map(|walk| RelocationBlocks(Walk::new(self.bytes(), walk))))
+    pub fn relocation_blocks(&self) -> Result<RelocationBlocks<'a>, Error> {
+        Ok(RelocationBlocks(Walk::started(self.bytes(), self.ask(sys::pe_c_relocation_blocks)?)))
     }
 }
 

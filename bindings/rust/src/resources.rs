@@ -282,7 +282,7 @@ impl<'a> ResourceLeaves<'_, 'a> {
 
 impl<'a> Image<'a> {
     /// All resources, each in each language. `None` where the directory is absent, and in permissive mode where its data is too
-    /// short for a directory.
+    /// short for a directory: a tree without leaves has directories, with fields of their own.
     ///
     /// # Errors
     ///

@@ -60,14 +60,15 @@ impl<'a> Te<'a> {
         &self.sections
     }
 
-    /// The entries of the debug directory, the RVAs and file offsets of their records reduced. `None` where it is absent.
+    /// The entries of the debug directory, the RVAs and file offsets of their records reduced; none where it is
+    /// absent.
     ///
     /// # Errors
     ///
     /// [`Error::DEBUG_BOUNDS`].
-    pub fn debug_entries(&self) -> Result<Option<TeDebugEntries<'a>>, Error> {
-        let found = ask_of_bytes(self.bytes, sys::pe_c_te_debug_entries, &self.header)?;
-        Ok(found.map(|walk| TeDebugEntries { bytes: self.bytes, header: self.header, walk: Some(walk) }))
+    pub fn debug_entries(&self) -> Result<TeDebugEntries<'a>, Error> {
+        let walk = ask_of_bytes(self.bytes, sys::pe_c_te_debug_entries, &self.header)?;
+        Ok(TeDebugEntries { bytes: self.bytes, header: self.header, walk })
     }
 
     /// The first entry of a type, `IMAGE_DEBUG_TYPE_` of winnt.h. `None` where there is none.

@@ -66,14 +66,17 @@ impl<'a> Image<'a> {
         }))
     }
 
-    /// The callbacks of the TLS directory. `None` where the directory is absent or has no table of them.
+    /// The callbacks of the TLS directory; none where the directory is absent or has no table of them: [`Tls::address_of_callbacks`]
+    /// says which.
     ///
     /// # Errors
     ///
     /// Those of [`Image::tls`]; [`Error::DIRECTORY_VA_BELOW_BASE`] and [`Error::UNMAPPED`] of the table's address.
-    pub fn tls_callbacks(&self) -> Result<Option<TlsCallbacks<'_, 'a>>, Error> {
-        let Some(found) = self.ask(sys::pe_c_tls)? else { return Ok(None) };
-        let walk = self.ask_of(sys::pe_c_tls_callbacks, &found)?;
-        Ok(walk.map(|walk| TlsCallbacks { image: self, walk: Some(walk) }))
+    pub fn tls_callbacks(&self) -> Result<TlsCallbacks<'_, 'a>, Error> {
+        let walk = match self.ask(sys::pe_c_tls)? {
+            Some(found) => self.ask_of(sys::pe_c_tls_callbacks, &found)?,
+            None => None,
+        };
+        Ok(TlsCallbacks { image: self, walk })
     }
 }

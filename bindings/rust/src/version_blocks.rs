@@ -20,7 +20,7 @@ use core::iter::FusedIterator;
 /// use pe_c::{Image, Mode};
 ///
 /// let image = Image::parse(&bytes, Mode::Permissive)?;
-/// for root in image.version_blocks()?.into_iter().flatten().flatten().take(1) {
+/// for root in image.version_blocks()?.flatten().take(1) {
 ///     for info in root.children().flatten().filter(|block| block.key.to_string_lossy() == "StringFileInfo") {
 ///         for table in info.children().flatten() {
 ///             for string in table.children().flatten() {
@@ -135,25 +135,26 @@ impl<'a> Iterator for VersionBlocks<'a> {
 impl FusedIterator for VersionBlocks<'_> {}
 
 impl<'a> ResourceLeaf<'a> {
-    /// The blocks of the version information that a leaf of type `RT_VERSION` is, of which the first is all of it. `None` of
+    /// The blocks of the version information that a leaf of type `RT_VERSION` is, of which the first is all of it; none of
     /// another type.
     ///
     /// # Errors
     ///
     /// Those of [`ResourceLeaf::content`].
-    pub fn version_blocks(&self) -> Result<Option<VersionBlocks<'a>>, Error> {
-        Ok(self.version_content()?.map(|(bytes, walk)| VersionBlocks { bytes, walk }))
+    pub fn version_blocks(&self) -> Result<VersionBlocks<'a>, Error> {
+        let (bytes, walk) = self.version_content()?.unwrap_or_default();
+        Ok(VersionBlocks { bytes, walk })
     }
 }
 
 impl<'a> Image<'a> {
-    /// The blocks of version information, of which the first is all of it: `None` without version information.
+    /// The blocks of version information, of which the first is all of it; none without version information.
     ///
     /// # Errors
     ///
     /// Those of [version information](#version-information-and-manifest), the first three items.
-    pub fn version_blocks(&self) -> Result<Option<VersionBlocks<'a>>, Error> {
-        let bytes = self.bytes();
-        Ok(self.ask(sys::pe_c_version_blocks)?.map(|walk| VersionBlocks { bytes, walk }))
+    pub fn version_blocks(&self) -> Result<VersionBlocks<'a>, Error> {
+        let walk = self.ask(sys::pe_c_version_blocks)?.unwrap_or_default();
+        Ok(VersionBlocks { bytes: self.bytes(), walk })
     }
 }

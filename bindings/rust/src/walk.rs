@@ -74,6 +74,14 @@ impl<'a, W: Copy> Walk<'a, W> {
         Walk { bytes, walk, is_over: false, refused: None }
     }
 
+    /// The walk that a call has started, or one that is over where there is nothing to walk over.
+    pub fn started(bytes: &'a [u8], walk: Option<W>) -> Self
+    where
+        W: Default,
+    {
+        Walk { is_over: walk.is_none(), ..Walk::new(bytes, walk.unwrap_or_default()) }
+    }
+
     /// The next item.
     pub fn step<T: Default>(
         &mut self,
@@ -204,6 +212,14 @@ impl<'i, 'a, W: Copy, T: Copy + Default> ImageList<'i, 'a, W, T> {
             is_over: false,
             refused: None,
         }
+    }
+
+    /// The walk that a call has started, or one that is over where there is nothing to walk over.
+    pub fn started(image: &'i Image<'a>, walk: Option<W>) -> Self
+    where
+        W: Default,
+    {
+        ImageList { is_over: walk.is_none(), ..ImageList::new(image, walk.unwrap_or_default()) }
     }
 
     /// Makes a call, and keeps how many items it wrote. Returns the error of the walk, if it is one.

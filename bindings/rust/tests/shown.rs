@@ -58,10 +58,10 @@ fn long_names_and_many_sections_are_cut() {
     made.directory(EXPORTS, directory, 44);
     let bytes = made.image();
     let image = permissive(&bytes);
-    let export = image.exports().unwrap().unwrap().next().unwrap().unwrap();
+    let export = image.exports().unwrap().next().unwrap().unwrap();
     let cut = format!("\"{}\".. <1048576 bytes>", "\\u{1}".repeat(256));
     assert_eq!(format!("{export:?}"), format!("Export {{ name: {cut}, rva: 4100, offset: Some(1028), index: 0 }}"));
-    let import = image.imports().unwrap().unwrap().next().unwrap().unwrap();
+    let import = image.imports().unwrap().next().unwrap().unwrap();
     assert_eq!((import.library.len(), import.import.name.unwrap().len()), (MEBIBYTE, MEBIBYTE));
     assert!(format!("{import:?}").len() <= MOST_PRINTED);
 
@@ -88,7 +88,7 @@ fn shown_of(name: &[u8]) -> String {
     made.directory(IMPORTS, records, 40);
     let bytes = made.image();
     let image = permissive(&bytes);
-    let library = image.libraries().unwrap().unwrap().next().unwrap().unwrap();
+    let library = image.libraries().unwrap().next().unwrap().unwrap();
     let shown = format!("{library:?}");
     shown["Library { name: ".len()..shown.find(", raw: ").unwrap()].to_string()
 }
@@ -161,7 +161,7 @@ fn records_are_short() {
     assert!(section.starts_with("Section { name: \".rdata\", virtual_size: 512, virtual_address: 4096,"), "{section}");
 
     let bytes = with_imports();
-    let import = permissive(&bytes).imports().unwrap().unwrap().next().unwrap().unwrap();
+    let import = permissive(&bytes).imports().unwrap().next().unwrap().unwrap();
     let own = "Import { name: Some(\"Sleep\"), ordinal: 42, rva: 32768 }";
     assert!(format!("{import:?}")
         .starts_with(&format!("LibraryImport {{ library: \"KERNEL32.dll\", index: 0, import: {own},")));

@@ -30,7 +30,7 @@ fn push_all<T: Debug>(lines: &mut Vec<String>, word: &str, items: impl Iterator<
 
 fn push_debug(lines: &mut Vec<String>, image: &Image) {
     match image.debug_entries() {
-        Ok(entries) => push_all(lines, "debug", entries.into_iter().flatten()),
+        Ok(entries) => push_all(lines, "debug", entries),
         Err(error) => lines.push(format!("debug {error:?}")),
     }
     lines.push(format!("key {:?}", image.symbol_key()));
@@ -112,14 +112,11 @@ fn push_tables(lines: &mut Vec<String>, image: &Image) {
         Err(error) => lines.push(format!("exported {error:?}")),
     }
     match image.exports() {
-        Ok(exports) => {
-            let exports = exports.into_iter().flatten();
-            push_all(lines, "export", exports.map(|it| it.map(|it| (it.name, it.rva))));
-        }
+        Ok(exports) => push_all(lines, "export", exports.map(|it| it.map(|it| (it.name, it.rva)))),
         Err(error) => lines.push(format!("exports {error:?}")),
     }
     let libraries = match image.libraries() {
-        Ok(libraries) => libraries.into_iter().flatten(),
+        Ok(libraries) => libraries,
         Err(error) => return lines.push(format!("imports {error:?}")),
     };
     for library in libraries {

@@ -107,7 +107,7 @@ fn read_debug_entry(image: &Image, entry: &pe_c::DebugEntry, seen: &mut Seen) {
 }
 
 fn read_debug(image: &Image, seen: &mut Seen) {
-    if let Some(entries) = seen.keep(image.debug_entries()) {
+    if let Some(entries) = seen.item(image.debug_entries()) {
         for entry in entries {
             if let Some(entry) = seen.item(entry) {
                 read_debug_entry(image, &entry, seen);
@@ -182,7 +182,7 @@ pub fn read_others(bytes: &[u8], seen: &mut Seen) {
     }
     if let Some(te) = seen.item(te) {
         assert_eq!((Te::failure(bytes), te.sections().len()), (None, te.header().number_of_sections.into()));
-        for entry in seen.keep(te.debug_entries()).into_iter().flatten().take(seen.most) {
+        for entry in seen.item(te.debug_entries()).into_iter().flatten().take(seen.most) {
             seen.item(entry);
         }
         if let Some(key) = seen.keep(te.symbol_key()) {
@@ -491,7 +491,7 @@ fn read_arm64_functions(image: &Image, seen: &mut Seen) {
 }
 
 fn read_exports(image: &Image, seen: &mut Seen) {
-    if let Some(exports) = seen.keep(image.exports()) {
+    if let Some(exports) = seen.item(image.exports()) {
         for export in exports.take(seen.most) {
             if let Some(export) = seen.item(export) {
                 seen.touch(export.name);
@@ -511,7 +511,7 @@ fn read_addresses(image: &Image, seen: &mut Seen) {
 }
 
 fn read_imports(image: &Image, seen: &mut Seen) {
-    let Some(libraries) = seen.keep(image.libraries()) else {
+    let Some(libraries) = seen.item(image.libraries()) else {
         return;
     };
     for library in libraries.take(seen.most) {
@@ -529,7 +529,7 @@ fn read_imports(image: &Image, seen: &mut Seen) {
 }
 
 fn read_delay_imports(image: &Image, seen: &mut Seen) {
-    for import in seen.keep(image.delay_imports()).into_iter().flatten().take(seen.most) {
+    for import in seen.item(image.delay_imports()).into_iter().flatten().take(seen.most) {
         let Some(import) = seen.item(import) else {
             continue;
         };
@@ -577,7 +577,7 @@ fn read_version(image: &Image, seen: &mut Seen) {
     if let Some(manifest) = seen.counted(image.manifest()).flatten() {
         seen.touch(manifest);
     }
-    if let Some(blocks) = seen.keep(image.version_blocks()) {
+    if let Some(blocks) = seen.item(image.version_blocks()) {
         read_blocks(blocks, 4, seen);
     }
 }
@@ -620,7 +620,7 @@ fn read_leaves(image: &Image, seen: &mut Seen) {
 }
 
 fn read_bound_imports(image: &Image, seen: &mut Seen) {
-    for import in seen.keep(image.bound_imports()).into_iter().flatten().take(seen.most) {
+    for import in seen.item(image.bound_imports()).into_iter().flatten().take(seen.most) {
         let Some(import) = seen.item(import) else {
             continue;
         };
@@ -656,19 +656,19 @@ fn read_others_of(image: &Image, seen: &mut Seen) {
     seen.keep(image.tls());
     seen.keep(image.export_directory());
     let most = seen.most;
-    for import in seen.keep(image.imports()).into_iter().flatten().take(most) {
+    for import in seen.item(image.imports()).into_iter().flatten().take(most) {
         seen.item(import);
     }
-    for function in seen.keep(image.delayed_functions()).into_iter().flatten().take(most) {
+    for function in seen.item(image.delayed_functions()).into_iter().flatten().take(most) {
         seen.item(function);
     }
-    for forwarder in seen.keep(image.bound_forwarders()).into_iter().flatten().take(most) {
+    for forwarder in seen.item(image.bound_forwarders()).into_iter().flatten().take(most) {
         seen.item(forwarder);
     }
-    for callback in seen.keep(image.tls_callbacks()).into_iter().flatten().take(most) {
+    for callback in seen.item(image.tls_callbacks()).into_iter().flatten().take(most) {
         seen.item(callback);
     }
-    for block in seen.keep(image.relocation_blocks()).into_iter().flatten().take(most) {
+    for block in seen.item(image.relocation_blocks()).into_iter().flatten().take(most) {
         let Some(block) = seen.item(block) else { continue };
         seen.print(&block.relocations());
         for relocation in block.relocations().take(most) {
