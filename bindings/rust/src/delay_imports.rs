@@ -6,7 +6,7 @@ use crate::failure::Failure;
 use crate::image::{bytes_of, Error, Image};
 use crate::shown::{self, shown};
 use crate::sys;
-use crate::walk::{most_names, ImageList, List, Together};
+use crate::walk::{most_names, ImageList, Listing, Together};
 use core::iter::FusedIterator;
 
 /// A DLL that is loaded when one of its functions is called first.
@@ -64,9 +64,9 @@ impl<'i, 'a> Iterator for DelayImports<'i, 'a> {
     type Item = Result<DelayImport<'i, 'a>, Error>;
 
     fn next(&mut self) -> Option<Self::Item> {
-        let image = self.0.image;
+        let image = self.0.source;
         let (call, together) =
-            (sys::pe_c_list_delay_imports as List<_, _>, sys::pe_c_list_delay_imports_together as Together<_, _>);
+            (sys::pe_c_list_delay_imports as Listing<_, _>, sys::pe_c_list_delay_imports_together as Together<_, _>);
         // At most all that the walk has left, and four times as many as there were.
         let most = |walk: &sys::Range, taken: usize| {
             (walk.length / 32).min((4 * taken).min(most_names(image.bytes())) as u64) as usize
@@ -118,9 +118,9 @@ impl<'a> Iterator for DelayedFunctions<'_, 'a> {
     type Item = Result<DelayedFunction<'a>, Error>;
 
     fn next(&mut self) -> Option<Self::Item> {
-        let bytes = self.0.image.bytes();
+        let bytes = self.0.source.bytes();
         let (call, together) = (
-            sys::pe_c_list_delayed_functions as List<_, _>,
+            sys::pe_c_list_delayed_functions as Listing<_, _>,
             sys::pe_c_list_delayed_functions_together as Together<_, _>,
         );
         // Nothing says how many are left: four times as many as there were.
@@ -180,7 +180,7 @@ impl<'a> Iterator for AllDelayedFunctions<'_, 'a> {
     type Item = Result<LibraryFunction<'a>, Error>;
 
     fn next(&mut self) -> Option<Self::Item> {
-        let bytes = self.0.image.bytes();
+        let bytes = self.0.source.bytes();
         // No more DLLs than entries of the directory are left.
         let more = |walk: &sys::LibraryFunctions| (walk.libraries.length / 32) as usize;
         let found = self.0.step_with_runs(sys::pe_c_list_all_delayed_functions_together, more)?;

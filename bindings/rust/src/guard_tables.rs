@@ -65,7 +65,7 @@ impl<'a> Iterator for GuardEntries<'_, 'a> {
     type Item = Result<GuardEntry<'a>, Error>;
 
     fn next(&mut self) -> Option<Self::Item> {
-        let bytes = self.entries.image.bytes();
+        let bytes = self.entries.source.bytes();
         let found = self.entries.step(sys::pe_c_list_guard_entries)?;
         Some(found.and_then(|found| Ok(GuardEntry { rva: found.rva, flags: bytes_of(found.flag_bytes, bytes)? })))
     }

@@ -6,7 +6,7 @@ use crate::failure::Failure;
 use crate::image::{bytes_of, Error, Image};
 use crate::shown::{self, shown};
 use crate::sys;
-use crate::walk::{most_names, ImageList, List, Together};
+use crate::walk::{most_names, ImageList, Listing, Together};
 use core::iter::FusedIterator;
 
 /// A DLL that an image imports from.
@@ -64,12 +64,12 @@ impl<'i, 'a> Iterator for Libraries<'i, 'a> {
     type Item = Result<Library<'i, 'a>, Error>;
 
     fn next(&mut self) -> Option<Self::Item> {
-        let image = self.0.image;
+        let image = self.0.source;
         // Nothing says how many are left: four times as many as there were.
         let most = |_: &sys::Libraries, taken: usize| (4 * taken).min(most_names(image.bytes()));
         let cost = |it: &sys::Library| it.name.length + it.imports.left.length;
         let (call, together) =
-            (sys::pe_c_list_libraries as List<_, _>, sys::pe_c_list_libraries_together as Together<_, _>);
+            (sys::pe_c_list_libraries as Listing<_, _>, sys::pe_c_list_libraries_together as Together<_, _>);
         let found: Result<sys::Library, Error> = self.0.step_together(call, together, 2, most, cost)?;
         Some(found.and_then(|raw| {
             let name = bytes_of(raw.name, image.bytes())?;
@@ -135,7 +135,7 @@ impl<'a> Iterator for Imports<'_, 'a> {
     type Item = Result<Import<'a>, Error>;
 
     fn next(&mut self) -> Option<Self::Item> {
-        let bytes = self.0.image.bytes();
+        let bytes = self.0.source.bytes();
         let most = |walk: &sys::Imports, _| (walk.left.length / 4).min(most_names(bytes) as u64) as usize;
         let found = self
             .0
@@ -199,7 +199,7 @@ impl<'a> Iterator for AllImports<'_, 'a> {
     type Item = Result<LibraryImport<'a>, Error>;
 
     fn next(&mut self) -> Option<Self::Item> {
-        let (bytes, libraries) = (self.list.image.bytes(), self.libraries);
+        let (bytes, libraries) = (self.list.source.bytes(), self.libraries);
         let more = |walk: &sys::LibraryImports| libraries.saturating_sub(walk.begun) as usize;
         let found = self.list.step_with_runs(sys::pe_c_list_all_imports_together, more)?;
         Some(found.and_then(|found| {

@@ -154,7 +154,7 @@ impl<'a> Iterator for ResourceLeaves<'_, 'a> {
     type Item = Result<ResourceLeaf<'a>, Error>;
 
     fn next(&mut self) -> Option<Self::Item> {
-        let bytes = self.left.image.bytes();
+        let bytes = self.left.source.bytes();
         Some(self.left.step(sys::pe_c_list_resource_leaves)?.and_then(|found| ResourceLeaf::of(found, bytes)))
     }
 }
@@ -263,7 +263,7 @@ impl<'a> ResourceLeaves<'_, 'a> {
     ///
     /// [`Error::SHORT`] where the directory or its entries are not inside the tree.
     pub fn directory(&self, offset: u32) -> Result<ResourceDirectory<'a>, Error> {
-        let (bytes, tree) = (self.left.image.bytes(), self.tree);
+        let (bytes, tree) = (self.left.source.bytes(), self.tree);
         let it = look(bytes, sys::pe_c_resource_directory_at, &tree, offset)?.ok_or(Error::SHORT)?;
         let sys::ResourceDirectory { characteristics, time_date_stamp, major_version, minor_version, .. } = it;
         Ok(ResourceDirectory {
