@@ -318,6 +318,14 @@ impl<T> Part<T> {
     }
 }
 
+impl<T> Part<T> {
+    /// What a walk over a directory found, which is empty where the directory is absent.
+    pub fn of_walk(found: Result<T, Error>, image: &Image<'_>, index: DirectoryIndex) -> Part<T> {
+        let is_there = image.info().directory(index).is_some();
+        Part::of_directory(found.map(|it| is_there.then_some(it)), image, index)
+    }
+}
+
 impl<T> From<Result<Option<T>, Error>> for Part<T> {
     fn from(found: Result<Option<T>, Error>) -> Part<T> {
         match found {

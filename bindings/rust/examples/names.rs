@@ -14,7 +14,7 @@ fn shown(name: &[u8]) -> String {
 pub fn names(bytes: &[u8]) -> Result<Vec<String>, Error> {
     let image = Image::parse(bytes, Mode::Permissive)?;
     let mut lines = Vec::new();
-    for library in image.libraries()?.into_iter().flatten() {
+    for library in image.libraries()? {
         let library = library?;
         for import in library.imports() {
             let import = import?;
@@ -25,7 +25,7 @@ pub fn names(bytes: &[u8]) -> Result<Vec<String>, Error> {
     let Some(table) = image.export_addresses()? else { return Ok(lines) };
     // Each export has an ordinal, and any number of names.
     let mut names = vec![Vec::new(); table.len() as usize];
-    for export in image.exports()?.into_iter().flatten() {
+    for export in image.exports()? {
         let export = export?;
         names[export.index as usize].push(shown(export.name));
     }

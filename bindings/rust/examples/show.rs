@@ -235,7 +235,7 @@ fn show_debug(image: &Image) {
     if image.symbol_key().is_err() {
         return;
     }
-    for entry in there(image.debug_entries()).into_iter().flatten() {
+    for entry in image.debug_entries().into_iter().flatten() {
         match entry {
             Ok(it) => {
                 println!(
@@ -343,13 +343,13 @@ fn show_resources(image: &Image) {
 
 fn show_tables(image: &Image) {
     println!("image {}", image.info().machine);
-    for export in there(image.exports()).into_iter().flatten() {
+    for export in image.exports().into_iter().flatten() {
         match export {
             Ok(it) => println!("export {} {:?} {:?}", it.rva, it.offset, Some(String::from_utf8_lossy(it.name))),
             Err(error) => println!("refused {error:?}"),
         }
     }
-    for library in there(image.libraries()).into_iter().flatten().flatten() {
+    for library in image.libraries().into_iter().flatten().flatten() {
         println!("record {:?}", String::from_utf8_lossy(library.name));
     }
     for (library, it) in imports(image).unwrap_or_default() {
@@ -360,7 +360,7 @@ fn show_tables(image: &Image) {
 
 /// Reads every library, then every import: errors come in the order of `peinfo list`.
 fn imports<'a>(image: &Image<'a>) -> Result<Vec<(&'a [u8], Import<'a>)>, Error> {
-    let libraries: Vec<_> = image.libraries()?.into_iter().flatten().collect::<Result<_, _>>()?;
+    let libraries: Vec<_> = image.libraries()?.collect::<Result<_, _>>()?;
     let each = libraries.iter().flat_map(|it| it.imports().map(|import| import.map(|import| (it.name, import))));
     each.collect()
 }

@@ -7,6 +7,7 @@
 
 use crate::failure::{found, Failure};
 use crate::image::{Error, Image};
+use crate::shown::shown;
 use crate::sys::{self, Arm64Function, Arm64Packed, Arm64Scope};
 use crate::walk::{items, look, Walk};
 
@@ -300,11 +301,13 @@ items! {
 }
 
 /// An ARM64 unwind record (`.xdata`).
-#[derive(Clone, Copy, Debug)]
+#[derive(Clone, Copy)]
 pub struct Arm64Record<'a> {
     raw: sys::Arm64Record,
     bytes: &'a [u8],
 }
+
+shown! { Arm64Record<'_> { raw; .. } }
 
 impl<'a> Arm64Record<'a> {
     /// The record of the C library.
@@ -376,11 +379,13 @@ pub enum Arm64Unwinding<'a> {
 /// }
 /// # Ok::<(), pe_c::Error>(())
 /// ```
-#[derive(Clone, Copy, Debug)]
+#[derive(Clone, Copy)]
 pub struct Arm64Functions<'i, 'a> {
     image: &'i Image<'a>,
     table: sys::Range,
 }
+
+shown! { Arm64Functions<'_, '_> { table; .. } }
 
 impl<'i, 'a> Arm64Functions<'i, 'a> {
     /// The image of the functions.

@@ -4,9 +4,11 @@
 use crate::coff::room_for;
 use crate::failure::{found, Failure};
 use crate::image::{bytes_of, returned, Error, Image};
+use crate::shown::{self, shown};
 use crate::sys;
 use crate::walk::{look, most_names};
 use alloc::vec::Vec;
+use core::fmt;
 use core::iter::FusedIterator;
 use core::ops::Range;
 
@@ -24,7 +26,7 @@ type List<T> = unsafe extern "C" fn(
 ) -> u32;
 
 /// A walk through the entries of the directory, or of one DLL, whose names are read together, of more entries a call each time.
-#[derive(Clone, Debug)]
+#[derive(Clone)]
 struct Entries<'a, T> {
     bytes: &'a [u8],
     table: sys::Range,
@@ -38,9 +40,18 @@ struct Entries<'a, T> {
     refused: Option<sys::Range>,
 }
 
+impl<T> fmt::Debug for Entries<'_, T> {
+    fn fmt(&self, f: &mut fmt::Formatter<'_>) -> fmt::Result {
+        let Self { table, walk, left, .. } = self;
+        let mut shown = f.debug_struct("Entries");
+        shown.field("table", table).field("walk", walk).field("left", &left.len()).finish_non_exhaustive()
+    }
+}
+
 impl<'a, T: Copy + Default> Entries<'a, T> {
-    fn new(bytes: &'a [u8], table: sys::Range, walk: sys::Range) -> Self {
-        Entries { bytes, table, walk: Some(walk), found: Vec::new(), left: 0..0, taken: 0, refused: None }
+    /// The walk over what is left of the directory, or one that is over.
+    fn new(bytes: &'a [u8], table: sys::Range, walk: Option<sys::Range>) -> Self {
+        Entries { bytes, table, walk, found: Vec::new(), left: 0..0, taken: 0, refused: None }
     }
 
     /// The next entry.
@@ -81,7 +92,7 @@ impl<'a, T: Copy + Default> Entries<'a, T> {
 }
 
 /// A DLL that an image is bound to.
-#[derive(Clone, Debug)]
+#[derive(Clone)]
 pub struct BoundImport<'a> {
     /// Its name: UTF-8, without its final zero.
     pub name: &'a [u8],
@@ -89,6 +100,8 @@ pub struct BoundImport<'a> {
     pub time_date_stamp: u32,
     forwarders: Entries<'a, sys::BoundForwarder>,
 }
+
+shown! { BoundImport<'_> { name: shown::Text, time_date_stamp; .. } }
 
 impl<'a> BoundImport<'a> {
     /// The DLLs that it forwards to.
@@ -98,13 +111,15 @@ impl<'a> BoundImport<'a> {
 }
 
 /// A DLL that another one forwards to.
-#[derive(Clone, Copy, Debug, PartialEq, Eq)]
+#[derive(Clone, Copy, PartialEq, Eq)]
 pub struct BoundForwarder<'a> {
     /// Its name: UTF-8, without its final zero.
     pub name: &'a [u8],
     /// Its time stamp.
     pub time_date_stamp: u32,
 }
+
+shown! { BoundForwarder<'_> { name: shown::Text, time_date_stamp } }
 
 impl<'a> BoundForwarder<'a> {
     fn of(found: &sys::BoundForwarder, bytes: &'a [u8]) -> Result<Self, Error> {
@@ -126,7 +141,7 @@ impl<'a> Iterator for BoundImports<'a> {
         let found = self.0.step(sys::pe_c_list_bound_imports)?;
         Some(found.and_then(|found| {
             let name = bytes_of(found.name, self.0.bytes)?;
-            let forwarders = Entries::new(self.0.bytes, self.0.table, found.forwarders);
+            let forwarders = Entries::new(self.0.bytes, self.0.table, Some(found.forwarders));
             Ok(BoundImport { name, time_date_stamp: found.time_date_stamp, forwarders })
         }))
     }
@@ -162,7 +177,7 @@ impl<'a> Iterator for BoundForwarders<'a> {
 impl FusedIterator for BoundForwarders<'_> {}
 
 /// A DLL that another one forwards to, and that other one.
-#[derive(Clone, Copy, Debug, PartialEq, Eq)]
+#[derive(Clone, Copy, PartialEq, Eq)]
 pub struct LibraryForwarder<'a> {
     /// The name of the DLL that forwards: UTF-8, without its final zero.
     pub library: &'a [u8],
@@ -171,6 +186,8 @@ pub struct LibraryForwarder<'a> {
     /// The DLL that it forwards to.
     pub forwarder: BoundForwarder<'a>,
 }
+
+shown! { LibraryForwarder<'_> { library: shown::Text, index, forwarder } }
 
 /// The DLLs that bound imports forward to, one bound import after the other.
 ///
@@ -183,12 +200,12 @@ pub struct LibraryForwarder<'a> {
 /// use pe_c::{Image, Mode};
 ///
 /// let image = Image::parse(&bytes, Mode::Permissive)?;
-/// let forwarders: Vec<_> = image.bound_forwarders()?.into_iter().flatten().collect::<Result<_, _>>()?;
+/// let forwarders: Vec<_> = image.bound_forwarders()?.collect::<Result<_, _>>()?;
 /// let names: Vec<_> = forwarders.iter().map(|it| (it.library, it.forwarder.name)).collect();
 /// assert_eq!(names, [(b"one.dll".as_slice(), b"two.dll".as_slice())]);
 /// # Ok::<(), pe_c::Error>(())
 /// ```
-#[derive(Clone, Debug)]
+#[derive(Clone)]
 pub struct AllBoundForwarders<'a> {
     imports: Entries<'a, sys::BoundImport>,
     /// All entries of the directory, those of the bound imports too.
@@ -199,6 +216,8 @@ pub struct AllBoundForwarders<'a> {
     begun: u64,
     is_over: bool,
 }
+
+shown! { AllBoundForwarders<'_> { imports, entries, library: shown::Text, left, begun, is_over } }
 
 impl<'a> AllBoundForwarders<'a> {
     /// The next forwarder; `None` after the last.
@@ -238,31 +257,32 @@ impl<'a> Iterator for AllBoundForwarders<'a> {
 impl FusedIterator for AllBoundForwarders<'_> {}
 
 impl<'a> Image<'a> {
-    /// The DLLs that the image is bound to. `None` where the directory is absent.
+    /// The DLLs that the image is bound to; none where the directory is absent.
     ///
     /// # Errors
     ///
     /// [`Error::SHORT`].
-    pub fn bound_imports(&self) -> Result<Option<BoundImports<'a>>, Error> {
+    pub fn bound_imports(&self) -> Result<BoundImports<'a>, Error> {
         let table = self.ask(sys::pe_c_bound_imports)?;
-        Ok(table.map(|table| BoundImports(Entries::new(self.bytes(), table, table))))
+        Ok(BoundImports(Entries::new(self.bytes(), table.unwrap_or_default(), table)))
     }
 
-    /// The DLLs that bound imports forward to, each with the bound import. `None` where the directory is absent. One walk reads all
+    /// The DLLs that bound imports forward to, each with the bound import; none where the directory is absent. One walk reads all
     /// names, where [`BoundImport::forwarders`] of each costs a text that they share for each.
     ///
     /// # Errors
     ///
     /// [`Error::SHORT`].
-    pub fn bound_forwarders(&self) -> Result<Option<AllBoundForwarders<'a>>, Error> {
-        let table = self.ask(sys::pe_c_bound_imports)?;
-        Ok(table.map(|table| AllBoundForwarders {
-            imports: Entries::new(self.bytes(), table, table),
-            entries: Entries::new(self.bytes(), table, table),
+    pub fn bound_forwarders(&self) -> Result<AllBoundForwarders<'a>, Error> {
+        let walk = self.ask(sys::pe_c_bound_imports)?;
+        let (bytes, table) = (self.bytes(), walk.unwrap_or_default());
+        Ok(AllBoundForwarders {
+            imports: Entries::new(bytes, table, walk),
+            entries: Entries::new(bytes, table, walk),
             library: &[],
             left: 0,
             begun: 0,
             is_over: false,
-        }))
+        })
     }
 }

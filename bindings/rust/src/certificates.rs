@@ -5,11 +5,12 @@
 
 use crate::failure::Failure;
 use crate::image::{bytes_of, DirectoryIndex, Error, Image, Layout};
+use crate::shown::{self, shown};
 use crate::sys;
 use crate::walk::{items, Walk};
 
 /// An attribute certificate, `WIN_CERTIFICATE`.
-#[derive(Clone, Copy, Debug, PartialEq, Eq)]
+#[derive(Clone, Copy, PartialEq, Eq)]
 pub struct Certificate<'a> {
     /// `dwLength`: bytes of header and body.
     pub length: u32,
@@ -20,6 +21,8 @@ pub struct Certificate<'a> {
     /// What follows the header of 8 bytes.
     pub body: &'a [u8],
 }
+
+shown! { Certificate<'_> { length, revision, kind, body: shown::Bytes } }
 
 fn certificate_of(found: sys::Certificate, bytes: &[u8]) -> Result<Certificate<'_>, Error> {
     let sys::Certificate { length, revision, kind, .. } = found;

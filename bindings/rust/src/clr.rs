@@ -3,6 +3,7 @@
 //! image with a CLR header is one for the .NET runtime.
 
 use crate::image::{bytes_of, up_to_zero, Error, Image};
+use crate::shown::{self, shown};
 use crate::sys;
 use crate::walk::{items, Walk};
 
@@ -23,11 +24,13 @@ use crate::walk::{items, Walk};
 /// }
 /// # Ok::<(), pe_c::Error>(())
 /// ```
-#[derive(Clone, Copy, Debug)]
+#[derive(Clone, Copy)]
 pub struct Clr<'i, 'a> {
     image: &'i Image<'a>,
     header: sys::ClrHeader,
 }
+
+shown! { Clr<'_, '_> { header; .. } }
 
 impl<'a> Clr<'_, 'a> {
     /// The fields of the header, `IMAGE_COR20_HEADER`.
@@ -57,7 +60,7 @@ impl<'a> Clr<'_, 'a> {
 }
 
 /// The root of CLR metadata.
-#[derive(Clone, Copy, Debug)]
+#[derive(Clone, Copy)]
 pub struct Metadata<'a> {
     /// The metadata.
     pub bytes: &'a [u8],
@@ -70,6 +73,12 @@ pub struct Metadata<'a> {
     /// Reserved.
     pub flags: u16,
     streams: Walk<'a, sys::MetadataStreams>,
+}
+
+shown! {
+    Metadata<'_> {
+        bytes: shown::Bytes, version_bytes: shown::Text, major_version, minor_version, flags, streams
+    }
 }
 
 impl<'a> Metadata<'a> {
@@ -85,7 +94,7 @@ impl<'a> Metadata<'a> {
 }
 
 /// A stream of CLR metadata.
-#[derive(Clone, Copy, Debug, PartialEq, Eq)]
+#[derive(Clone, Copy, PartialEq, Eq)]
 pub struct MetadataStream<'a> {
     /// `#~` the tables, `#Strings`, `#US`, `#GUID`, `#Blob` or another, without the final zero.
     pub name: &'a [u8],
@@ -96,6 +105,8 @@ pub struct MetadataStream<'a> {
     /// In bytes, as the stream's header says.
     pub size: u32,
 }
+
+shown! { MetadataStream<'_> { name: shown::Text, content: shown::bytes, offset, size } }
 
 fn stream_of(found: sys::MetadataStream, bytes: &[u8]) -> Result<MetadataStream<'_>, Error> {
     let content = bytes_of(found.content, bytes)?;

@@ -6,6 +6,7 @@
 use crate::failure::{found, Failure};
 use crate::image::{bytes_of, returned, Error, Image, Layout};
 use crate::section_names::long_names;
+use crate::shown;
 use crate::sys::{self, CoffHeader, Section};
 use crate::walk::{ask_of_bytes, look};
 use alloc::vec::Vec;
@@ -41,7 +42,10 @@ pub struct Coff<'a> {
 
 impl fmt::Debug for Coff<'_> {
     fn fmt(&self, f: &mut fmt::Formatter<'_>) -> fmt::Result {
-        f.debug_struct("Coff").field("header", &self.header).field("sections", &self.sections).finish()
+        f.debug_struct("Coff")
+            .field("header", &self.header)
+            .field("sections", &shown::Sections(&self.sections))
+            .finish()
     }
 }
 
@@ -78,7 +82,7 @@ impl<'a> Coff<'a> {
         &self.sections
     }
 
-    /// The symbols. `None` where the header's pointer to them is 0.
+    /// The symbols. `None` where the header's pointer to them is 0: a table without symbols may be followed by a string table.
     ///
     /// # Errors
     ///
@@ -314,12 +318,19 @@ impl<'a> Iterator for Symbols<'a> {
 impl FusedIterator for Symbols<'_> {}
 
 /// A COFF symbol with its name, as [`Symbol::name`] returns it.
-#[derive(Clone, Copy, Debug)]
+#[derive(Clone, Copy)]
 pub struct NamedSymbol<'a> {
     /// The symbol.
     pub symbol: Symbol<'a>,
     /// UTF-8, without its final zero.
     pub name: Result<&'a [u8], Error>,
+}
+
+impl fmt::Debug for NamedSymbol<'_> {
+    fn fmt(&self, f: &mut fmt::Formatter<'_>) -> fmt::Result {
+        let name = self.name.map(shown::Text);
+        f.debug_struct("NamedSymbol").field("symbol", &self.symbol).field("name", &name).finish()
+    }
 }
 
 /// A COFF symbol. The fields of its entry are those of [`SymbolEntry`](sys::SymbolEntry).
@@ -382,8 +393,7 @@ impl core::ops::Deref for Symbol<'_> {
 
 impl fmt::Debug for Symbol<'_> {
     fn fmt(&self, f: &mut fmt::Formatter<'_>) -> fmt::Result {
-        let name = self.name();
-        let text = name.as_ref().map(|it| alloc::string::String::from_utf8_lossy(it));
+        let text = self.name().map(shown::Text);
         f.debug_struct("Symbol")
             .field("index", &self.entry.index)
             .field("name", &text)

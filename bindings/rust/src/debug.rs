@@ -4,6 +4,7 @@
 //! Symbolizers take the symbol key, and fetch the PDB from a symbol server by it.
 
 use crate::image::{bytes_of, returned, up_to_zero, Error, Image};
+use crate::shown::{self, shown};
 use crate::symbol_server::Guid;
 use crate::sys::{self, DebugEntry, VcFeatures};
 use crate::walk::{ask_of_bytes, items, Walk};
@@ -25,7 +26,7 @@ use core::fmt;
 /// assert_eq!(key.to_string(), "497B72F6390A44FC878E5A2D63B6CC4B1");
 /// # Ok::<(), pe_c::Error>(())
 /// ```
-#[derive(Clone, Copy, Debug, PartialEq, Eq)]
+#[derive(Clone, Copy, PartialEq, Eq)]
 pub struct SymbolKey<'a> {
     /// Of the PDB.
     pub guid: Guid,
@@ -34,6 +35,8 @@ pub struct SymbolKey<'a> {
     /// The PDB file's name and the zeros after it, up to the end of the record.
     pub name_bytes: &'a [u8],
 }
+
+shown! { SymbolKey<'_> { guid, age, name_bytes: shown::Text } }
 
 impl<'a> SymbolKey<'a> {
     /// The key of a CodeView record that stands alone, as a minidump has one of each module. `None` where it is not one of
@@ -74,7 +77,7 @@ impl fmt::Display for SymbolKey<'_> {
 ///
 /// `Display` writes the key as symbol servers do: the time stamp's 8 digits, then the age, in upper-case hexadecimal.
 /// [`path`](Self::path) is the whole path there, and has an example.
-#[derive(Clone, Copy, Debug, PartialEq, Eq)]
+#[derive(Clone, Copy, PartialEq, Eq)]
 pub struct Pdb20<'a> {
     /// 0 where the symbols are in a file of their own.
     pub offset: u32,
@@ -85,6 +88,8 @@ pub struct Pdb20<'a> {
     /// The PDB file's name and the zeros after it, up to the end of the record.
     pub name_bytes: &'a [u8],
 }
+
+shown! { Pdb20<'_> { offset, signature, age, name_bytes: shown::Text } }
 
 impl<'a> Pdb20<'a> {
     /// The PDB file's name, up to the first zero.
@@ -100,7 +105,7 @@ impl fmt::Display for Pdb20<'_> {
 }
 
 /// A Repro record: the same sources build the same image.
-#[derive(Clone, Copy, Debug, PartialEq, Eq)]
+#[derive(Clone, Copy, PartialEq, Eq)]
 pub enum Repro<'a> {
     /// The image's time stamps are a hash.
     TimeStamp,
@@ -108,8 +113,17 @@ pub enum Repro<'a> {
     Hash(&'a [u8]),
 }
 
+impl fmt::Debug for Repro<'_> {
+    fn fmt(&self, f: &mut fmt::Formatter<'_>) -> fmt::Result {
+        match self {
+            Repro::TimeStamp => f.write_str("TimeStamp"),
+            Repro::Hash(hash) => f.debug_tuple("Hash").field(&shown::Bytes(hash)).finish(),
+        }
+    }
+}
+
 /// A POGO record: the parts of the image's sections, such as `.text$mn`.
-#[derive(Clone, Copy, Debug)]
+#[derive(Clone, Copy)]
 pub struct Pogo<'a> {
     /// 0x4C544347 (LTCG) or 0x50475500 (PGU).
     pub signature: u32,
@@ -117,6 +131,8 @@ pub struct Pogo<'a> {
     pub entry_bytes: &'a [u8],
     entries: Walk<'a, sys::Range>,
 }
+
+shown! { Pogo<'_> { signature, entry_bytes: shown::Bytes; .. } }
 
 impl<'a> Pogo<'a> {
     /// The entries, in the order of the record.
@@ -126,7 +142,7 @@ impl<'a> Pogo<'a> {
 }
 
 /// An entry of a POGO record: a part of a section.
-#[derive(Clone, Copy, Debug, PartialEq, Eq)]
+#[derive(Clone, Copy, PartialEq, Eq)]
 pub struct PogoEntry<'a> {
     /// RVA of the part.
     pub rva: u32,
@@ -135,6 +151,8 @@ pub struct PogoEntry<'a> {
     /// The name and its final zero.
     pub name_bytes: &'a [u8],
 }
+
+shown! { PogoEntry<'_> { rva, size, name_bytes: shown::Text } }
 
 impl<'a> PogoEntry<'a> {
     /// The name, without its final zero.
@@ -153,7 +171,7 @@ items! {
     ///
     /// let image = Image::parse(&bytes, Mode::Permissive)?;
     /// let mut types = Vec::new();
-    /// for entry in image.debug_entries()?.into_iter().flatten() {
+    /// for entry in image.debug_entries()? {
     ///     types.push(entry?.data_type);
     /// }
     /// assert_eq!(types, [2, 12, 13, 16, 20]);
@@ -175,7 +193,7 @@ items! {
 }
 
 /// A portable PDB in the image itself, as compilers of .NET write it.
-#[derive(Clone, Copy, Debug, PartialEq, Eq)]
+#[derive(Clone, Copy, PartialEq, Eq)]
 pub struct EmbeddedPdb<'a> {
     /// In bytes, of the PDB, as the record states it.
     pub uncompressed_size: u32,
@@ -183,14 +201,18 @@ pub struct EmbeddedPdb<'a> {
     pub compressed: &'a [u8],
 }
 
+shown! { EmbeddedPdb<'_> { uncompressed_size, compressed: shown::Bytes } }
+
 /// A checksum of the PDB file, as compilers of .NET write it: of its bytes with zeros in place of the PDB's id.
-#[derive(Clone, Copy, Debug, PartialEq, Eq)]
+#[derive(Clone, Copy, PartialEq, Eq)]
 pub struct PdbChecksum<'a> {
     /// The name of the algorithm, as `SHA256`.
     pub algorithm: &'a [u8],
     /// The checksum.
     pub checksum: &'a [u8],
 }
+
+shown! { PdbChecksum<'_> { algorithm: shown::Text, checksum: shown::Bytes } }
 
 pub(crate) fn key_of(key: sys::Key, bytes: &[u8]) -> Result<SymbolKey<'_>, Error> {
     Ok(SymbolKey { guid: Guid(key.guid), age: key.age, name_bytes: bytes_of(key.name, bytes)? })
@@ -240,14 +262,13 @@ type OfEntry<T> = unsafe extern "C" fn(*const u8, usize, u32, *const DebugEntry,
 /// - the embedded PDB: [`Error::DEBUG_SIZE`], [`Error::SHORT`], [`Error::BAD_MAGIC`], [`Error::DEBUG_DATA`];
 /// - the checksum of the PDB: [`Error::DEBUG_DATA`], [`Error::DEBUG_SIZE`].
 impl<'a> Image<'a> {
-    /// The entries of the debug directory, or `None` without a directory.
+    /// The entries of the debug directory; none without a directory.
     ///
     /// # Errors
     ///
     /// [`Error::UNMAPPED`]; in strict mode [`Error::DEBUG_BOUNDS`].
-    pub fn debug_entries(&self) -> Result<Option<DebugEntries<'a>>, Error> {
-        let entries = self.ask(sys::pe_c_debug_entries)?;
-        Ok(entries.map(|entries| DebugEntries(Walk::new(self.bytes(), entries))))
+    pub fn debug_entries(&self) -> Result<DebugEntries<'a>, Error> {
+        Ok(DebugEntries(Walk::started(self.bytes(), self.ask(sys::pe_c_debug_entries)?)))
     }
 
     /// The first entry of a type, `IMAGE_DEBUG_TYPE_` of winnt.h. A truncated last entry is none.

@@ -4,18 +4,21 @@
 
 use crate::failure::Failure;
 use crate::image::{bytes_of, Error, Image};
+use crate::shown::{self, shown};
 use crate::sys;
-use crate::walk::{most_names, ImageList, List, Together};
+use crate::walk::{most_names, ImageList, Listing, Together};
 use core::iter::FusedIterator;
 
 /// A DLL that is loaded when one of its functions is called first.
-#[derive(Clone, Copy, Debug)]
+#[derive(Clone, Copy)]
 pub struct DelayImport<'i, 'a> {
     image: &'i Image<'a>,
     /// The DLL's name: UTF-8, without its final zero.
     pub name: &'a [u8],
     raw: sys::DelayImport,
 }
+
+shown! { DelayImport<'_, '_> { name: shown::Text, raw; .. } }
 
 impl<'i, 'a> DelayImport<'i, 'a> {
     /// The entry of the directory, with the addresses of its tables.
@@ -43,7 +46,7 @@ impl<'i, 'a> DelayImport<'i, 'a> {
 ///
 /// let image = Image::parse(&bytes, Mode::Permissive)?;
 /// let mut found = Vec::new();
-/// for import in image.delay_imports()?.into_iter().flatten() {
+/// for import in image.delay_imports()? {
 ///     let import = import?;
 ///     for function in import.functions() {
 ///         found.push((import.name, function?.name));
@@ -61,9 +64,9 @@ impl<'i, 'a> Iterator for DelayImports<'i, 'a> {
     type Item = Result<DelayImport<'i, 'a>, Error>;
 
     fn next(&mut self) -> Option<Self::Item> {
-        let image = self.0.image;
+        let image = self.0.source;
         let (call, together) =
-            (sys::pe_c_list_delay_imports as List<_, _>, sys::pe_c_list_delay_imports_together as Together<_, _>);
+            (sys::pe_c_list_delay_imports as Listing<_, _>, sys::pe_c_list_delay_imports_together as Together<_, _>);
         // At most all that the walk has left, and four times as many as there were.
         let most = |walk: &sys::Range, taken: usize| {
             (walk.length / 32).min((4 * taken).min(most_names(image.bytes())) as u64) as usize
@@ -86,13 +89,15 @@ impl DelayImports<'_, '_> {
 }
 
 /// A function of a DLL that is loaded later, by name or by ordinal.
-#[derive(Clone, Copy, Debug, PartialEq, Eq)]
+#[derive(Clone, Copy, PartialEq, Eq)]
 pub struct DelayedFunction<'a> {
     /// UTF-8, without its final zero; `None` for an import by ordinal.
     pub name: Option<&'a [u8]>,
     /// The ordinal; with a name its hint, an index into the DLL's table of names.
     pub ordinal: u32,
 }
+
+shown! { DelayedFunction<'_> { name: shown::text, ordinal } }
 
 impl<'a> DelayedFunction<'a> {
     fn of(found: &sys::DelayedFunction, bytes: &'a [u8]) -> Result<Self, Error> {
@@ -113,9 +118,9 @@ impl<'a> Iterator for DelayedFunctions<'_, 'a> {
     type Item = Result<DelayedFunction<'a>, Error>;
 
     fn next(&mut self) -> Option<Self::Item> {
-        let bytes = self.0.image.bytes();
+        let bytes = self.0.source.bytes();
         let (call, together) = (
-            sys::pe_c_list_delayed_functions as List<_, _>,
+            sys::pe_c_list_delayed_functions as Listing<_, _>,
             sys::pe_c_list_delayed_functions_together as Together<_, _>,
         );
         // Nothing says how many are left: four times as many as there were.
@@ -135,7 +140,7 @@ impl DelayedFunctions<'_, '_> {
 }
 
 /// A function, and the DLL that it is of.
-#[derive(Clone, Copy, Debug, PartialEq, Eq)]
+#[derive(Clone, Copy, PartialEq, Eq)]
 pub struct LibraryFunction<'a> {
     /// The DLL's name: UTF-8, without its final zero.
     pub library: &'a [u8],
@@ -144,6 +149,8 @@ pub struct LibraryFunction<'a> {
     /// The function.
     pub function: DelayedFunction<'a>,
 }
+
+shown! { LibraryFunction<'_> { library: shown::Text, index, function } }
 
 /// The functions of all DLLs that are loaded later, one DLL after the other.
 ///
@@ -158,7 +165,7 @@ pub struct LibraryFunction<'a> {
 /// use pe_c::{Image, Mode};
 ///
 /// let image = Image::parse(&bytes, Mode::Permissive)?;
-/// let functions: Vec<_> = image.delayed_functions()?.into_iter().flatten().collect::<Result<_, _>>()?;
+/// let functions: Vec<_> = image.delayed_functions()?.collect::<Result<_, _>>()?;
 /// let names: Vec<_> = functions.iter().map(|it| (it.library, it.function.name)).collect();
 /// let (dbghelp, version) = (b"dbghelp.dll".as_slice(), b"VERSION.dll".as_slice());
 /// assert_eq!(names[0], (dbghelp, Some(b"SymInitialize".as_slice())));
@@ -173,7 +180,7 @@ impl<'a> Iterator for AllDelayedFunctions<'_, 'a> {
     type Item = Result<LibraryFunction<'a>, Error>;
 
     fn next(&mut self) -> Option<Self::Item> {
-        let bytes = self.0.image.bytes();
+        let bytes = self.0.source.bytes();
         // No more DLLs than entries of the directory are left.
         let more = |walk: &sys::LibraryFunctions| (walk.libraries.length / 32) as usize;
         let found = self.0.step_with_runs(sys::pe_c_list_all_delayed_functions_together, more)?;
@@ -187,25 +194,23 @@ impl<'a> Iterator for AllDelayedFunctions<'_, 'a> {
 impl FusedIterator for AllDelayedFunctions<'_, '_> {}
 
 impl<'a> Image<'a> {
-    /// The DLLs that are loaded when one of their functions is called first, each with its functions. `None` where the
+    /// The DLLs that are loaded when one of their functions is called first, each with its functions; none where the
     /// directory is absent.
     ///
     /// # Errors
     ///
     /// [`Error::UNMAPPED`], [`Error::SHORT`].
-    pub fn delay_imports(&self) -> Result<Option<DelayImports<'_, 'a>>, Error> {
-        let walk = self.ask(sys::pe_c_delay_imports)?;
-        Ok(walk.map(|walk| DelayImports(ImageList::new(self, walk))))
+    pub fn delay_imports(&self) -> Result<DelayImports<'_, 'a>, Error> {
+        Ok(DelayImports(ImageList::started(self, self.ask(sys::pe_c_delay_imports)?)))
     }
 
-    /// The functions of all DLLs of the delay import directory, or `None` where it is absent. The names of DLLs and functions are read
+    /// The functions of all DLLs of the delay import directory; none where it is absent. The names of DLLs and functions are read
     /// together from the first on, however many share one text.
     ///
     /// # Errors
     ///
     /// [`Error::UNMAPPED`], [`Error::SHORT`].
-    pub fn delayed_functions(&self) -> Result<Option<AllDelayedFunctions<'_, 'a>>, Error> {
-        let walk = self.ask(sys::pe_c_all_delayed_functions)?;
-        Ok(walk.map(|walk| AllDelayedFunctions(ImageList::new(self, walk))))
+    pub fn delayed_functions(&self) -> Result<AllDelayedFunctions<'_, 'a>, Error> {
+        Ok(AllDelayedFunctions(ImageList::started(self, self.ask(sys::pe_c_all_delayed_functions)?)))
     }
 }

@@ -7,6 +7,7 @@
 //! stacks.
 
 use crate::image::{bytes_of, Error};
+use crate::shown::shown;
 use crate::sys::{
     self, Arm64Context, Arm64Registers, Context, DumpEntry, DumpException, DumpHandle, DumpInfo, DumpLocation,
     DumpModule, DumpPiece, DumpProcess, DumpRegion, DumpSystem, DumpThread, DumpThreadInfo, DumpThreadName,
@@ -49,12 +50,14 @@ const ARM64: u16 = 12;
 /// assert_eq!(dump.thread_context(&thread)?.ip(), 0x1_8000_5000);
 /// # Ok::<(), pe_c::Error>(())
 /// ```
-#[derive(Clone, Copy, Debug)]
+#[derive(Clone, Copy)]
 pub struct Dump<'a> {
     bytes: &'a [u8],
     info: DumpInfo,
     streams: [Result<Option<Range>, Error>; KINDS.len()],
 }
+
+shown! { Dump<'_> { info, streams; .. } }
 
 /// The registers of a thread, by its machine.
 #[derive(Clone, Copy, Debug, PartialEq, Eq)]

@@ -6,6 +6,7 @@
 
 use crate::coff::room_for;
 use crate::image::{bytes_of, Error, Image};
+use crate::shown::{self, shown};
 use crate::sys;
 use crate::walk::most_names;
 use alloc::vec::Vec;
@@ -13,7 +14,7 @@ use core::iter::FusedIterator;
 use core::ops::Range;
 
 /// An export that has a name.
-#[derive(Clone, Copy, Debug, PartialEq, Eq)]
+#[derive(Clone, Copy, PartialEq, Eq)]
 pub struct Export<'a> {
     /// UTF-8, without its final zero.
     pub name: &'a [u8],
@@ -24,6 +25,8 @@ pub struct Export<'a> {
     /// Its index in the table of RVAs: [`AddressTable::get`] has its ordinal and forwarder.
     pub index: u32,
 }
+
+shown! { Export<'_> { name: shown::Text, rva, offset, index } }
 
 /// The exports of an image, in the order of the name table.
 ///
@@ -37,7 +40,7 @@ pub struct Export<'a> {
 ///
 /// let image = Image::parse(&bytes, Mode::Permissive)?;
 /// let mut found = Vec::new();
-/// for export in image.exports()?.into_iter().flatten() {
+/// for export in image.exports()? {
 ///     let export = export?;
 ///     found.push((export.name, export.rva));
 /// }
@@ -64,14 +67,15 @@ const ROOM: usize = 16;
 const SKIPPED: usize = 64;
 
 impl<'i, 'a> Exports<'i, 'a> {
-    fn new(image: &'i Image<'a>, walk: sys::Exports) -> Self {
+    /// The exports of these tables; none without them.
+    fn new(image: &'i Image<'a>, tables: Option<sys::Exports>) -> Self {
         Exports {
             image,
-            walk,
+            walk: tables.unwrap_or_default(),
             few: [sys::Export::default(); ROOM],
             many: Vec::new(),
             left: 0..0,
-            is_over: false,
+            is_over: tables.is_none(),
             spent: 0,
         }
     }
@@ -119,7 +123,7 @@ impl<'i, 'a> Exports<'i, 'a> {
 
 impl core::fmt::Debug for Exports<'_, '_> {
     fn fmt(&self, f: &mut core::fmt::Formatter<'_>) -> core::fmt::Result {
-        f.debug_struct("Exports").field("image", &self.image).field("walk", &self.walk).finish_non_exhaustive()
+        f.debug_struct("Exports").field("walk", &self.walk).finish_non_exhaustive()
     }
 }
 
@@ -146,7 +150,7 @@ impl<'a> Iterator for Exports<'_, 'a> {
 impl FusedIterator for Exports<'_, '_> {}
 
 /// An export by its index, with or without a name.
-#[derive(Clone, Copy, Debug, PartialEq, Eq)]
+#[derive(Clone, Copy, PartialEq, Eq)]
 pub struct Exported<'a> {
     /// Its index in the table plus the [ordinal base](AddressTable::ordinal_base).
     pub ordinal: u64,
@@ -155,6 +159,8 @@ pub struct Exported<'a> {
     /// Of a forwarder its text, `DLL.NAME` or `DLL.#ORDINAL`: UTF-8, without its final zero; empty where no text is there.
     pub forwarder: Option<&'a [u8]>,
 }
+
+shown! { Exported<'_> { ordinal, rva, forwarder: shown::text } }
 
 /// The export directory's table of RVAs: all exports by their index, also those without a name.
 ///
@@ -166,7 +172,7 @@ pub struct Exported<'a> {
 /// let image = Image::parse(&bytes, Mode::Permissive)?;
 /// let table = image.export_addresses()?.expect("the image has exports");
 /// assert_eq!(table.name(), Some(b"made.dll".as_slice()));
-/// for export in image.exports()?.into_iter().flatten() {
+/// for export in image.exports()? {
 ///     let export = export?;
 ///     let entry = table.get(export.index.into()).expect("the entry of an export is in the table");
 ///     assert_eq!(entry.rva, export.rva);
@@ -175,11 +181,13 @@ pub struct Exported<'a> {
 /// assert_eq!((last.ordinal, last.forwarder), (8, Some(b"NTDLL.RtlFree".as_slice())));
 /// # Ok::<(), pe_c::Error>(())
 /// ```
-#[derive(Clone, Copy, Debug)]
+#[derive(Clone, Copy)]
 pub struct AddressTable<'i, 'a> {
     image: &'i Image<'a>,
     table: sys::AddressTable,
 }
+
+shown! { AddressTable<'_, '_> { table; .. } }
 
 impl<'i, 'a> AddressTable<'i, 'a> {
     /// The DLL's name: UTF-8, without its final zero. `None` where its RVA is 0 or unmapped, or no text is there.
@@ -279,7 +287,7 @@ impl<'a> Image<'a> {
         self.ask(sys::pe_c_export_directory)
     }
 
-    /// The table of RVAs of the exports, or `None` without an export directory.
+    /// The table of RVAs of the exports, or `None` without an export directory: one without exports has a name and an ordinal base.
     ///
     /// # Errors
     ///
@@ -289,13 +297,12 @@ impl<'a> Image<'a> {
         Ok(table.map(|table| AddressTable { image: self, table }))
     }
 
-    /// The exports that have a name, or `None` without an export directory.
+    /// The exports that have a name; none without an export directory.
     ///
     /// # Errors
     ///
     /// [`Error::UNMAPPED`], [`Error::SHORT`] of the directory, then of the table of RVAs, of names and of indices.
-    pub fn exports(&self) -> Result<Option<Exports<'_, 'a>>, Error> {
-        let tables = self.ask(sys::pe_c_export_tables)?;
-        Ok(tables.map(|tables| Exports::new(self, tables)))
+    pub fn exports(&self) -> Result<Exports<'_, 'a>, Error> {
+        Ok(Exports::new(self, self.ask(sys::pe_c_export_tables)?))
     }
 }

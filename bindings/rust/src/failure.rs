@@ -137,7 +137,7 @@ impl Image<'_> {
     /// use pe_c::{DebugRecord, Error, Image, Mode};
     ///
     /// let image = Image::parse(&bytes, Mode::Strict)?;
-    /// let mut entry = image.debug_entries()?.expect("it has debug data").next().expect("it has an entry")?;
+    /// let mut entry = image.debug_entries()?.next().expect("it has an entry")?;
     /// assert_eq!(image.debug_failure(&entry, DebugRecord::SymbolKey), None);
     /// entry.size_of_data = 23;
     /// assert_eq!(image.symbol_key_of(&entry).unwrap_err(), Error::DEBUG_SIZE);

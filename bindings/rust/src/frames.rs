@@ -5,19 +5,22 @@
 
 use crate::arm64::Arm64Functions;
 use crate::image::{Error, Image};
+use crate::shown::{self, shown};
 use crate::stack_walk::{Frame, Way};
 use crate::sys::{self, Arm64Function, Arm64Registers, Function, MemoryPiece, Registers};
 use crate::x64::Functions;
 use core::{fmt, ptr};
 
 /// A piece of a thread's memory: bytes, and the address of the first.
-#[derive(Clone, Copy, Debug)]
+#[derive(Clone, Copy)]
 pub struct Stack<'s> {
     /// The address of the first byte.
     pub start: u64,
     /// The bytes.
     pub bytes: &'s [u8],
 }
+
+shown! { Stack<'_> { start, bytes: shown::Bytes } }
 
 impl Stack<'_> {
     /// The piece that it is of its bytes.
@@ -32,10 +35,17 @@ impl Stack<'_> {
 /// The byte at an address is that of the first piece that has it, so eight bytes may stand in pieces that touch. Pieces in
 /// ascending order that do not overlap are searched by halving, any others in turn for each byte. Each step tests all pieces
 /// once, so of thousands pass those of the thread's stack.
-#[derive(Clone, Copy, Debug)]
+#[derive(Clone, Copy)]
 pub struct MemoryList<'s> {
     bytes: &'s [u8],
     pieces: &'s [MemoryPiece],
+}
+
+impl fmt::Debug for MemoryList<'_> {
+    fn fmt(&self, f: &mut fmt::Formatter<'_>) -> fmt::Result {
+        let (bytes, pieces) = (shown::Bytes(self.bytes), shown::Items(self.pieces.len()));
+        f.debug_struct("MemoryList").field("bytes", &bytes).field("pieces", &pieces).finish()
+    }
 }
 
 impl<'s> MemoryList<'s> {

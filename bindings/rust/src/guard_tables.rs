@@ -65,7 +65,7 @@ impl<'a> Iterator for GuardEntries<'_, 'a> {
     type Item = Result<GuardEntry<'a>, Error>;
 
     fn next(&mut self) -> Option<Self::Item> {
-        let bytes = self.entries.image.bytes();
+        let bytes = self.entries.source.bytes();
         let found = self.entries.step(sys::pe_c_list_guard_entries)?;
         Some(found.and_then(|found| Ok(GuardEntry { rva: found.rva, flags: bytes_of(found.flag_bytes, bytes)? })))
     }
@@ -74,7 +74,8 @@ impl<'a> Iterator for GuardEntries<'_, 'a> {
 impl FusedIterator for GuardEntries<'_, '_> {}
 
 impl<'a> Image<'a> {
-    /// The entries of a table of the load configuration. `None` where there is no load configuration, or this has no such table.
+    /// The entries of a table of the load configuration. `None` where there is no load configuration, or this has no such table: one
+    /// without entries may say that nothing is allowed, and its entries have a size.
     ///
     /// # Errors
     ///

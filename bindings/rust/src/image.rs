@@ -5,6 +5,7 @@
 //! those of Microsoft's [PE Format](https://learn.microsoft.com/windows/win32/debug/pe-format). Most calls of the
 //! library are made here and in `walk`.
 
+use crate::shown;
 use crate::sys::{self, Directory, Headers, ImageInfo, IndexEntry, Section};
 use alloc::vec::Vec;
 use core::fmt;
@@ -432,8 +433,8 @@ impl fmt::Debug for Image<'_> {
             .field("mode", &self.mode)
             .field("layout", &self.layout)
             .field("info", &self.info)
-            .field("sections", &self.sections)
-            .finish()
+            .field("sections", &shown::Sections(&self.sections))
+            .finish_non_exhaustive()
     }
 }
 

@@ -4,18 +4,21 @@
 
 use crate::failure::Failure;
 use crate::image::{bytes_of, Error, Image};
+use crate::shown::{self, shown};
 use crate::sys;
-use crate::walk::{most_names, ImageList, List, Together};
+use crate::walk::{most_names, ImageList, Listing, Together};
 use core::iter::FusedIterator;
 
 /// A DLL that an image imports from.
-#[derive(Clone, Copy, Debug)]
+#[derive(Clone, Copy)]
 pub struct Library<'i, 'a> {
     image: &'i Image<'a>,
     /// The DLL's name: UTF-8, without its final zero.
     pub name: &'a [u8],
     raw: sys::Library,
 }
+
+shown! { Library<'_, '_> { name: shown::Text, raw; .. } }
 
 impl<'i, 'a> Library<'i, 'a> {
     /// The record of the C library, with the RVAs of the lookup and address tables.
@@ -43,7 +46,7 @@ impl<'i, 'a> Library<'i, 'a> {
 ///
 /// let image = Image::parse(&bytes, Mode::Permissive)?;
 /// let mut found = Vec::new();
-/// for library in image.libraries()?.into_iter().flatten() {
+/// for library in image.libraries()? {
 ///     let library = library?;
 ///     for import in library.imports() {
 ///         found.push((library.name, import?.name));
@@ -61,12 +64,12 @@ impl<'i, 'a> Iterator for Libraries<'i, 'a> {
     type Item = Result<Library<'i, 'a>, Error>;
 
     fn next(&mut self) -> Option<Self::Item> {
-        let image = self.0.image;
+        let image = self.0.source;
         // Nothing says how many are left: four times as many as there were.
         let most = |_: &sys::Libraries, taken: usize| (4 * taken).min(most_names(image.bytes()));
         let cost = |it: &sys::Library| it.name.length + it.imports.left.length;
         let (call, together) =
-            (sys::pe_c_list_libraries as List<_, _>, sys::pe_c_list_libraries_together as Together<_, _>);
+            (sys::pe_c_list_libraries as Listing<_, _>, sys::pe_c_list_libraries_together as Together<_, _>);
         let found: Result<sys::Library, Error> = self.0.step_together(call, together, 2, most, cost)?;
         Some(found.and_then(|raw| {
             let name = bytes_of(raw.name, image.bytes())?;
@@ -90,7 +93,7 @@ impl Libraries<'_, '_> {
     /// # let start = Image::parse(&bytes, Mode::Strict)?.offset(directory.virtual_address).unwrap() as usize;
     /// bytes[start + 20 + 12..][..4].copy_from_slice(&0x0123_4567_u32.to_le_bytes());
     /// let image = Image::parse(&bytes, Mode::Strict)?;
-    /// let mut libraries = image.libraries()?.expect("it has imports");
+    /// let mut libraries = image.libraries()?;
     /// let error = libraries.find_map(Result::err).expect("the second has no name");
     /// let failure = libraries.failure().expect("an item was an error");
     /// assert_eq!((failure.error, failure.value), (error, Some(0x0123_4567)));
@@ -102,7 +105,7 @@ impl Libraries<'_, '_> {
 }
 
 /// An import, by name or by ordinal.
-#[derive(Clone, Copy, Debug, PartialEq, Eq)]
+#[derive(Clone, Copy, PartialEq, Eq)]
 pub struct Import<'a> {
     /// UTF-8, without its final zero; `None` for an import by ordinal.
     pub name: Option<&'a [u8]>,
@@ -111,6 +114,8 @@ pub struct Import<'a> {
     /// RVA of the slot to which the loader writes the import's virtual address.
     pub rva: u64,
 }
+
+shown! { Import<'_> { name: shown::text, ordinal, rva } }
 
 impl<'a> Import<'a> {
     fn of(found: &sys::Import, bytes: &'a [u8]) -> Result<Self, Error> {
@@ -130,7 +135,7 @@ impl<'a> Iterator for Imports<'_, 'a> {
     type Item = Result<Import<'a>, Error>;
 
     fn next(&mut self) -> Option<Self::Item> {
-        let bytes = self.0.image.bytes();
+        let bytes = self.0.source.bytes();
         let most = |walk: &sys::Imports, _| (walk.left.length / 4).min(most_names(bytes) as u64) as usize;
         let found = self
             .0
@@ -149,7 +154,7 @@ impl Imports<'_, '_> {
 }
 
 /// An import, and the DLL that it is from.
-#[derive(Clone, Copy, Debug, PartialEq, Eq)]
+#[derive(Clone, Copy, PartialEq, Eq)]
 pub struct LibraryImport<'a> {
     /// The DLL's name: UTF-8, without its final zero.
     pub library: &'a [u8],
@@ -160,6 +165,8 @@ pub struct LibraryImport<'a> {
     /// RVA of the hint, which the name follows; `None` for an import by ordinal.
     pub hint_rva: Option<u32>,
 }
+
+shown! { LibraryImport<'_> { library: shown::Text, index, import, hint_rva } }
 
 /// The imports of all DLLs of an image, one DLL after the other.
 ///
@@ -174,7 +181,7 @@ pub struct LibraryImport<'a> {
 /// use pe_c::{Image, Mode};
 ///
 /// let image = Image::parse(&bytes, Mode::Permissive)?;
-/// let imports: Vec<_> = image.imports()?.into_iter().flatten().collect::<Result<_, _>>()?;
+/// let imports: Vec<_> = image.imports()?.collect::<Result<_, _>>()?;
 /// let names: Vec<_> = imports.iter().map(|it| (it.library, it.import.name)).collect();
 /// let (kernel32, a) = (b"KERNEL32.dll".as_slice(), b"a.dll".as_slice());
 /// // The second is imported by its ordinal.
@@ -192,7 +199,7 @@ impl<'a> Iterator for AllImports<'_, 'a> {
     type Item = Result<LibraryImport<'a>, Error>;
 
     fn next(&mut self) -> Option<Self::Item> {
-        let (bytes, libraries) = (self.list.image.bytes(), self.libraries);
+        let (bytes, libraries) = (self.list.source.bytes(), self.libraries);
         let more = |walk: &sys::LibraryImports| libraries.saturating_sub(walk.begun) as usize;
         let found = self.list.step_with_runs(sys::pe_c_list_all_imports_together, more)?;
         Some(found.and_then(|found| {
@@ -206,26 +213,25 @@ impl<'a> Iterator for AllImports<'_, 'a> {
 impl FusedIterator for AllImports<'_, '_> {}
 
 impl<'a> Image<'a> {
-    /// The imports of all DLLs that the image imports from, or `None` without an import directory. The names of DLLs and imports are
+    /// The imports of all DLLs that the image imports from; none without an import directory. The names of DLLs and imports are
     /// read together from the first on, however many share one text; so the calls take two to four times as long for ordinary names as
     /// library by library, by [`Image::libraries`].
     ///
     /// # Errors
     ///
     /// [`Error::UNMAPPED`].
-    pub fn imports(&self) -> Result<Option<AllImports<'_, 'a>>, Error> {
-        let Some(walk) = self.ask(sys::pe_c_all_imports)? else { return Ok(None) };
-        let libraries = self.libraries()?.map_or(0, |all| all.take_while(Result::is_ok).count() as u64);
-        Ok(Some(AllImports { list: ImageList::new(self, walk), libraries }))
+    pub fn imports(&self) -> Result<AllImports<'_, 'a>, Error> {
+        let walk = self.ask(sys::pe_c_all_imports)?;
+        let libraries = self.libraries()?.take_while(Result::is_ok).count() as u64;
+        Ok(AllImports { list: ImageList::started(self, walk), libraries })
     }
 
-    /// The DLLs that the image imports from, each with its imports, or `None` without an import directory.
+    /// The DLLs that the image imports from, each with its imports; none without an import directory.
     ///
     /// # Errors
     ///
     /// [`Error::UNMAPPED`].
-    pub fn libraries(&self) -> Result<Option<Libraries<'_, 'a>>, Error> {
-        let walk = self.ask(sys::pe_c_import_libraries)?;
-        Ok(walk.map(|walk| Libraries(ImageList::new(self, walk))))
+    pub fn libraries(&self) -> Result<Libraries<'_, 'a>, Error> {
+        Ok(Libraries(ImageList::started(self, self.ask(sys::pe_c_import_libraries)?)))
     }
 }

@@ -51,11 +51,13 @@
 //!
 //! - An `Image` borrows the bytes of the file or module. Names, bodies and texts are slices of these bytes: they outlive the
 //!   `Image`.
-//! - A directory that is absent is `Ok(None)`; a damaged one is an [`Error`]. An error in one part, a directory or a debug
+//! - Of a directory that is absent lists are empty, and what has fields of its own is `Ok(None)`; [`ImageInfo::directory`] says
+//!   whether it is there. A damaged one is an [`Error`]. An error in one part, a directory or a debug
 //!   record, does not affect another; of debug records that is proved over all bytes.
 //! - Every list is an iterator. After an `Err` item it returns `None`; [`VersionBlocks`] alone may go on after one.
 //! - No bytes, registers or memory make a call panic or loop forever. Of the methods of an [`Image`] only [`Image::parse`] and
 //!   a clone, both for the section headers and an index of them, [`Image::attach`] and [`Image::detach`] allocate.
+//! - `{:?}` of a record prints names as texts, up to 256 bytes of each, and contents by how many bytes they have: never the file.
 //! - An `offset` counts bytes from the start of the image's bytes: a file offset, or in a module in memory an RVA.
 //! - The docs of a call list its errors in the order in which they are tested.
 //!
@@ -108,6 +110,7 @@ mod resources;
 mod rich_header;
 mod section_names;
 mod section_write;
+mod shown;
 mod signatures;
 mod signing;
 mod stack_walk;

@@ -3,6 +3,7 @@
 
 use crate::failure::{found, Failure};
 use crate::image::{returned, Error, Image};
+use crate::shown::shown;
 use crate::signing::file_of;
 use crate::sys;
 use crate::walk::{items, next_of, Walk};
@@ -10,13 +11,15 @@ use alloc::vec::Vec;
 use core::iter::FusedIterator;
 
 /// A block of base relocations.
-#[derive(Clone, Copy, Debug)]
+#[derive(Clone, Copy)]
 pub struct RelocationBlock<'a> {
     /// RVA of the page that its relocations count from.
     pub page_rva: u32,
     bytes: &'a [u8],
     entries: sys::Range,
 }
+
+shown! { RelocationBlock<'_> { page_rva, entries; .. } }
 
 /// A base relocation.
 #[derive(Clone, Copy, Debug, PartialEq, Eq)]
@@ -54,7 +57,7 @@ impl RelocationBlocks<'_> {
 /// The relocations of a block.
 ///
 /// An item is an error, and the last one: [`Error::SHORT`] of the entry; [`Error::DIRECTORY_NO_ARGUMENT`].
-#[derive(Clone, Debug)]
+#[derive(Clone)]
 pub struct Relocations<'a> {
     bytes: &'a [u8],
     page_rva: u32,
@@ -63,6 +66,8 @@ pub struct Relocations<'a> {
     /// The walk as it was before the step that returned an error.
     refused: Option<sys::Range>,
 }
+
+shown! { Relocations<'_> { page_rva, walk, refused; .. } }
 
 impl Relocations<'_> {
     /// Why the item that is an error is one: the error with its numbers. `None` where no item was an error.
@@ -105,13 +110,13 @@ impl Iterator for Relocations<'_> {
 impl FusedIterator for Relocations<'_> {}
 
 impl<'a> Image<'a> {
-    /// The blocks of the base relocations. `None` where the directory is absent.
+    /// The blocks of the base relocations; none where the directory is absent.
     ///
     /// # Errors
     ///
     /// [`Error::UNMAPPED`], [`Error::SHORT`].
-    pub fn relocation_blocks(&self) -> Result<Option<RelocationBlocks<'a>>, Error> {
-        Ok(self.ask(sys::pe_c_relocation_blocks)?.map(|walk| RelocationBlocks(Walk::new(self.bytes(), walk))))
+    pub fn relocation_blocks(&self) -> Result<RelocationBlocks<'a>, Error> {
+        Ok(RelocationBlocks(Walk::started(self.bytes(), self.ask(sys::pe_c_relocation_blocks)?)))
     }
 }
 

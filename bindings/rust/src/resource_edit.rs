@@ -6,6 +6,7 @@
 
 use crate::image::{Error, Image};
 use crate::resources::{ResourceLeaf, ResourceName};
+use crate::shown;
 use crate::signing::file_of;
 use crate::sys;
 use crate::version::Text;
@@ -13,6 +14,7 @@ use alloc::borrow::Cow;
 use alloc::collections::btree_map::{BTreeMap, Entry};
 use alloc::string::String;
 use alloc::vec::Vec;
+use core::fmt;
 
 /// The most leaves that a tree can be written of.
 const MOST: usize = 65_535;
@@ -20,12 +22,21 @@ const MOST: usize = 65_535;
 const MOST_NAMES: usize = 0x100_0000;
 
 /// What names a type or a resource, in the order of the format: names by their code units, and before ids.
-#[derive(Clone, Debug, PartialEq, Eq, PartialOrd, Ord, Hash)]
+#[derive(Clone, PartialEq, Eq, PartialOrd, Ord, Hash)]
 pub enum ResourceKey {
     /// UTF-16 code units, without a final zero. Windows looks names up in upper case.
     Name(Vec<u16>),
     /// An id, as 16 for version information.
     Id(u16),
+}
+
+impl fmt::Debug for ResourceKey {
+    fn fmt(&self, f: &mut fmt::Formatter<'_>) -> fmt::Result {
+        match self {
+            ResourceKey::Name(units) => f.debug_tuple("Name").field(&shown::Utf16(units.iter().copied())).finish(),
+            ResourceKey::Id(id) => f.debug_tuple("Id").field(id).finish(),
+        }
+    }
 }
 
 impl From<&str> for ResourceKey {
@@ -94,12 +105,19 @@ impl ResourceKey {
 pub type ResourcePlace = (ResourceKey, ResourceKey, u16);
 
 /// The content of a resource in one language.
-#[derive(Clone, Debug, PartialEq, Eq)]
+#[derive(Clone, PartialEq, Eq)]
 pub struct ResourceContent<'a> {
     /// The code page of its texts; most linkers write 0.
     pub code_page: u32,
     /// Its bytes.
     pub bytes: Cow<'a, [u8]>,
+}
+
+impl fmt::Debug for ResourceContent<'_> {
+    fn fmt(&self, f: &mut fmt::Formatter<'_>) -> fmt::Result {
+        let bytes = shown::Bytes(&self.bytes);
+        f.debug_struct("ResourceContent").field("code_page", &self.code_page).field("bytes", &bytes).finish()
+    }
 }
 
 /// The resources of an image, to be changed and written.
@@ -120,11 +138,18 @@ pub struct ResourceContent<'a> {
 /// assert_eq!(image.manifest()?, Some(&b"<assembly/>"[..]));
 /// # Ok::<(), pe_c::Error>(())
 /// ```
-#[derive(Clone, Debug)]
+#[derive(Clone)]
 pub struct ResourceEditor<'a> {
     bytes: &'a [u8],
     info: sys::ImageInfo,
     resources: BTreeMap<ResourcePlace, ResourceContent<'a>>,
+}
+
+impl fmt::Debug for ResourceEditor<'_> {
+    fn fmt(&self, f: &mut fmt::Formatter<'_>) -> fmt::Result {
+        let resources = shown::Items(self.resources.len());
+        f.debug_struct("ResourceEditor").field("resources", &resources).finish_non_exhaustive()
+    }
 }
 
 /// A leaf, with its place.

@@ -4,6 +4,7 @@
 
 use crate::failure::Failure;
 use crate::image::{bytes_of, Error, Image};
+use crate::shown::shown;
 use crate::sys;
 use crate::version::{FixedVersion, Text, VersionName};
 use crate::walk::{ask_of_bytes, look, ImageList};
@@ -22,7 +23,7 @@ pub enum ResourceName<'a> {
 }
 
 /// A resource in one language.
-#[derive(Clone, Copy, Debug)]
+#[derive(Clone, Copy)]
 pub struct ResourceLeaf<'a> {
     /// The type.
     pub resource_type: ResourceName<'a>,
@@ -40,6 +41,8 @@ pub struct ResourceLeaf<'a> {
     content: sys::Range,
     content_result: u32,
 }
+
+shown! { ResourceLeaf<'_> { resource_type, name, language, rva, size, code_page, content, content_result; .. } }
 
 fn name_of(found: sys::ResourceName, bytes: &[u8]) -> Result<ResourceName<'_>, Error> {
     if found.has_name == 0 {
@@ -151,7 +154,7 @@ impl<'a> Iterator for ResourceLeaves<'_, 'a> {
     type Item = Result<ResourceLeaf<'a>, Error>;
 
     fn next(&mut self) -> Option<Self::Item> {
-        let bytes = self.left.image.bytes();
+        let bytes = self.left.source.bytes();
         Some(self.left.step(sys::pe_c_list_resource_leaves)?.and_then(|found| ResourceLeaf::of(found, bytes)))
     }
 }
@@ -181,7 +184,7 @@ impl ResourceLeaves<'_, '_> {
 /// }
 /// # Ok::<(), pe_c::Error>(())
 /// ```
-#[derive(Clone, Copy, Debug)]
+#[derive(Clone, Copy)]
 pub struct ResourceDirectory<'a> {
     /// Reserved.
     pub characteristics: u32,
@@ -198,6 +201,12 @@ pub struct ResourceDirectory<'a> {
     bytes: &'a [u8],
     tree: sys::Range,
     entries: sys::Range,
+}
+
+shown! {
+    ResourceDirectory<'_> {
+        characteristics, time_date_stamp, major_version, minor_version, number_of_named_entries, number_of_id_entries, tree, entries; ..
+    }
 }
 
 impl<'a> ResourceDirectory<'a> {
@@ -219,12 +228,14 @@ pub struct ResourceItem<'a> {
 }
 
 /// The entries of a directory of a resource tree, one after the other.
-#[derive(Clone, Debug)]
+#[derive(Clone)]
 pub struct ResourceItems<'a> {
     bytes: &'a [u8],
     tree: sys::Range,
     left: sys::Range,
 }
+
+shown! { ResourceItems<'_> { tree, left; .. } }
 
 impl<'a> Iterator for ResourceItems<'a> {
     type Item = Result<ResourceItem<'a>, Error>;
@@ -252,7 +263,7 @@ impl<'a> ResourceLeaves<'_, 'a> {
     ///
     /// [`Error::SHORT`] where the directory or its entries are not inside the tree.
     pub fn directory(&self, offset: u32) -> Result<ResourceDirectory<'a>, Error> {
-        let (bytes, tree) = (self.left.image.bytes(), self.tree);
+        let (bytes, tree) = (self.left.source.bytes(), self.tree);
         let it = look(bytes, sys::pe_c_resource_directory_at, &tree, offset)?.ok_or(Error::SHORT)?;
         let sys::ResourceDirectory { characteristics, time_date_stamp, major_version, minor_version, .. } = it;
         Ok(ResourceDirectory {
@@ -271,7 +282,7 @@ impl<'a> ResourceLeaves<'_, 'a> {
 
 impl<'a> Image<'a> {
     /// All resources, each in each language. `None` where the directory is absent, and in permissive mode where its data is too
-    /// short for a directory.
+    /// short for a directory: a tree without leaves has directories, with fields of their own.
     ///
     /// # Errors
     ///

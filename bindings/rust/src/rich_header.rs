@@ -3,6 +3,7 @@
 //! it with those of known files.
 
 use crate::image::{returned, Error, Image};
+use crate::shown::shown;
 use crate::sys;
 use crate::walk::next_of;
 use core::iter::FusedIterator;
@@ -11,7 +12,7 @@ use core::iter::FusedIterator;
 pub type RichEntry = sys::RichEntry;
 
 /// The Rich header of an image.
-#[derive(Clone, Copy, Debug)]
+#[derive(Clone, Copy)]
 pub struct RichHeader<'a> {
     /// What the header is XORed with.
     pub key: u32,
@@ -23,14 +24,18 @@ pub struct RichHeader<'a> {
     entries: sys::Range,
 }
 
+shown! { RichHeader<'_> { key, checksum, count, entries; .. } }
+
 /// The entries of a Rich header, without the key.
-#[derive(Clone, Debug)]
+#[derive(Clone)]
 pub struct RichEntries<'a> {
     bytes: &'a [u8],
     key: u32,
     /// `None` where the walk is over.
     walk: Option<sys::Range>,
 }
+
+shown! { RichEntries<'_> { key, walk; .. } }
 
 impl<'a> RichHeader<'a> {
     /// Whether the key is the checksum, so that nobody changed what the checksum covers.

@@ -17,8 +17,10 @@ pub use signer::{Attribute, Attributes, OpusInfo, Signer, Signers};
 pub use time::{Time, TimeStamp};
 pub use x509::{Extension, Extensions, KeyPurposes, X509s, X509};
 
+use crate::shown::{self, shown};
 use crate::sys;
 use crate::Certificate;
+use core::fmt;
 use core::iter::FusedIterator;
 use error::read;
 
@@ -51,11 +53,13 @@ fn all(bytes: &[u8]) -> sys::Range {
 /// }
 /// # Ok::<(), pe_c::Error>(())
 /// ```
-#[derive(Clone, Copy, Debug)]
+#[derive(Clone, Copy)]
 pub struct Signature<'a> {
     bytes: &'a [u8],
     parts: sys::SignedData,
 }
+
+shown! { Signature<'_> { parts; .. } }
 
 impl<'a> Signature<'a> {
     /// Reads the signature that the bytes start with; bytes after it pad it. Offsets in errors count from the start of the bytes.
@@ -153,11 +157,13 @@ impl<'a> Certificate<'a> {
 }
 
 /// What Authenticode signs, `SpcIndirectDataContent`: the digest of an image.
-#[derive(Clone, Copy, Debug)]
+#[derive(Clone, Copy)]
 pub struct IndirectData<'a> {
     bytes: &'a [u8],
     parts: sys::SpcIndirectData,
 }
+
+shown! { IndirectData<'_> { parts; .. } }
 
 impl<'a> IndirectData<'a> {
     /// The type of what is signed: [`KnownOid::SPC_PE_IMAGE_DATA`] of an image.
@@ -182,10 +188,17 @@ impl<'a> IndirectData<'a> {
 }
 
 /// An algorithm: of a digest, a signature or a key.
-#[derive(Clone, Copy, Debug)]
+#[derive(Clone, Copy)]
 pub struct Algorithm<'a> {
     bytes: &'a [u8],
     parts: sys::Algorithm,
+}
+
+impl fmt::Debug for Algorithm<'_> {
+    fn fmt(&self, f: &mut fmt::Formatter<'_>) -> fmt::Result {
+        let parameters = shown::Bytes(self.parameters());
+        f.debug_struct("Algorithm").field("oid", &self.oid()).field("parameters", &parameters).finish()
+    }
 }
 
 impl<'a> Algorithm<'a> {
@@ -201,12 +214,14 @@ impl<'a> Algorithm<'a> {
 }
 
 /// A walk over the elements of a list. It is over after an error.
-#[derive(Clone, Debug)]
+#[derive(Clone)]
 pub(crate) struct Elements<'a> {
     bytes: &'a [u8],
     walk: sys::Range,
     is_over: bool,
 }
+
+shown! { Elements<'_> { walk, is_over; .. } }
 
 impl<'a> Elements<'a> {
     fn new(bytes: &'a [u8], walk: sys::Range) -> Self {

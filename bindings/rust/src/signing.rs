@@ -5,17 +5,20 @@
 //! A caller hashes what the digest covers by a crate of its choice, signs that, and attaches the signature.
 
 use crate::image::{Error, Image};
+use crate::shown::shown;
 use crate::sys;
 use alloc::vec::Vec;
 use core::ops::Range;
 
 /// What the Authenticode digest of an image covers: parts of the file, and then zeros. [`Image::digest_ranges`] has a
 /// sample.
-#[derive(Clone, Copy, Debug, PartialEq, Eq)]
+#[derive(Clone, Copy, PartialEq, Eq)]
 pub struct DigestRanges<'a> {
     bytes: &'a [u8],
     found: sys::Digest,
 }
+
+shown! { DigestRanges<'_> { found; .. } }
 
 impl<'a> DigestRanges<'a> {
     /// The parts as file ranges, in their order. None is empty, and none touches the next.

@@ -4,11 +4,13 @@
 
 use crate::frames::{stepped, MemoryList, StepError};
 use crate::image::{Error, Image};
+use crate::shown::{self, shown};
 use crate::sys::{self, Arm64Registers, Registers};
 use alloc::vec::Vec;
+use core::fmt;
 
 /// A module of a process: its image, and the addresses where it is loaded.
-#[derive(Clone, Copy, Debug)]
+#[derive(Clone, Copy)]
 pub struct Module<'m> {
     image: &'m Image<'m>,
     base: u64,
@@ -16,6 +18,8 @@ pub struct Module<'m> {
     table: sys::Range,
     is_arm64: bool,
 }
+
+shown! { Module<'_> { base, table, is_arm64; .. } }
 
 impl<'m> Module<'m> {
     /// An image, a file or as loaded, that is loaded at an address, with as many bytes as `SizeOfImage` says.
@@ -245,7 +249,7 @@ const MOST_AT_ONCE: usize = 1024;
 /// assert_eq!(frames.end(), Some(End::Bottom));
 /// # Ok::<(), pe_c::Error>(())
 /// ```
-#[derive(Clone, Debug)]
+#[derive(Clone)]
 pub struct Frames<'m, R: MachineRegisters = Registers> {
     modules: Vec<sys::Module>,
     memory: MemoryList<'m>,
@@ -255,6 +259,14 @@ pub struct Frames<'m, R: MachineRegisters = Registers> {
     index: usize,
     end: Option<End>,
     images: core::marker::PhantomData<&'m Image<'m>>,
+}
+
+impl<R: MachineRegisters> fmt::Debug for Frames<'_, R> {
+    fn fmt(&self, f: &mut fmt::Formatter<'_>) -> fmt::Result {
+        let modules = shown::Items(self.modules.len());
+        let mut shown = f.debug_struct("Frames");
+        shown.field("modules", &modules).field("memory", &self.memory).field("end", &self.end).finish_non_exhaustive()
+    }
 }
 
 impl<'m, R: MachineRegisters> Frames<'m, R> {

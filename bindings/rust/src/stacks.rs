@@ -10,10 +10,12 @@
 use crate::dump::{Dump, DumpContext, DumpRegisters};
 use crate::frames::MemoryList;
 use crate::image::{number_of, Error, Image, Layout, Mode};
+use crate::shown;
 use crate::stack_walk::{End, Frame, Frames, MachineRegisters, Module};
 use crate::sys::{self, DumpModule, DumpThread, ImageInfo, MemoryPiece, Range, RangeEntry};
 use alloc::vec;
 use alloc::vec::Vec;
+use core::fmt;
 
 /// How many section headers all images of a dump may have together.
 const MOST_SECTIONS: usize = 1 << 20;
@@ -71,12 +73,19 @@ fn owner_of(piece: &MemoryPiece) -> usize {
 
 /// The memory of a minidump: its pieces in ascending order, apart. The byte at an address is that of the first piece that has it,
 /// those of the memory list before those of a full dump's.
-#[derive(Clone, Debug)]
+#[derive(Clone)]
 pub struct DumpMemory<'a> {
     bytes: &'a [u8],
     pieces: Vec<MemoryPiece>,
     lost: u64,
     refused: Vec<(u32, Error)>,
+}
+
+impl fmt::Debug for DumpMemory<'_> {
+    fn fmt(&self, f: &mut fmt::Formatter<'_>) -> fmt::Result {
+        let (pieces, mut shown) = (shown::Items(self.pieces.len()), f.debug_struct("DumpMemory"));
+        shown.field("pieces", &pieces).field("lost", &self.lost).field("refused", &self.refused).finish_non_exhaustive()
+    }
 }
 
 impl<'a> DumpMemory<'a> {
@@ -178,12 +187,20 @@ pub struct DumpImage<'a> {
 /// An image is that of a module if its time stamp and its size are those of the module; the checksum is not asked. One that the
 /// dump's memory has whole comes first, since hooks change code in memory; then one that the caller finds; then as much as the
 /// memory has from the module's address up to the first gap.
-#[derive(Clone, Debug)]
+#[derive(Clone)]
 pub struct DumpImages<'a> {
     memory: DumpMemory<'a>,
     modules: Vec<DumpModule>,
     images: Vec<Option<DumpImage<'a>>>,
     owned: Vec<MemoryPiece>,
+}
+
+impl fmt::Debug for DumpImages<'_> {
+    fn fmt(&self, f: &mut fmt::Formatter<'_>) -> fmt::Result {
+        let (modules, images) = (self.modules.len(), self.images.iter().flatten().count());
+        let (modules, images, mut shown) = (shown::Items(modules), shown::Items(images), f.debug_struct("DumpImages"));
+        shown.field("memory", &self.memory).field("modules", &modules).field("images", &images).finish_non_exhaustive()
+    }
 }
 
 /// What is known of images as they are found.
@@ -279,12 +296,19 @@ impl<'a> DumpImages<'a> {
 }
 
 /// The frames of a thread, from the top frame outwards.
-#[derive(Clone, Debug)]
+#[derive(Clone)]
 pub struct DumpStack {
     /// The frames.
     pub frames: Vec<Frame<DumpRegisters>>,
     /// Why the walk is over. [`End::Bound`] also where all walks together have cost as much as they may.
     pub end: End,
+}
+
+impl fmt::Debug for DumpStack {
+    fn fmt(&self, f: &mut fmt::Formatter<'_>) -> fmt::Result {
+        let frames = shown::Items(self.frames.len());
+        f.debug_struct("DumpStack").field("frames", &frames).field("end", &self.end).finish()
+    }
 }
 
 /// The stacks of the threads of a minidump.
@@ -303,13 +327,21 @@ pub struct DumpStack {
 /// }
 /// # Ok::<(), pe_c::Error>(())
 /// ```
-#[derive(Clone, Debug)]
+#[derive(Clone)]
 pub struct Stacks<'i> {
     memory: MemoryList<'i>,
     modules: Vec<Module<'i>>,
     left: usize,
     cost_of_test: usize,
     cost_of_frame: usize,
+}
+
+impl fmt::Debug for Stacks<'_> {
+    fn fmt(&self, f: &mut fmt::Formatter<'_>) -> fmt::Result {
+        let modules = shown::Items(self.modules.len());
+        let mut shown = f.debug_struct("Stacks");
+        shown.field("memory", &self.memory).field("modules", &modules).field("left", &self.left).finish_non_exhaustive()
+    }
 }
 
 impl<'i> Stacks<'i> {

@@ -5,6 +5,7 @@
 //! URL, or to the folder of its own store.
 
 use crate::debug::{Pdb20, SymbolKey};
+use crate::shown;
 use crate::sys::{self, ImageInfo};
 use core::fmt;
 
@@ -16,7 +17,7 @@ use core::fmt;
 /// let guid = pe_c::Guid(*b"\xF6\x72\x7B\x49\x0A\x39\xFC\x44\x87\x8E\x5A\x2D\x63\xB6\xCC\x4B");
 /// assert_eq!(guid.to_string(), "{497B72F6-390A-44FC-878E-5A2D63B6CC4B}");
 /// ```
-#[derive(Clone, Copy, Debug, Default, PartialEq, Eq, Hash)]
+#[derive(Clone, Copy, Default, PartialEq, Eq, Hash)]
 pub struct Guid(pub [u8; 16]);
 
 impl Guid {
@@ -34,6 +35,12 @@ impl Guid {
         };
         let text = room.get(..written as usize).filter(|_| number == sys::DONE).unwrap_or_default();
         f.write_str(core::str::from_utf8(text).unwrap_or_default())
+    }
+}
+
+impl fmt::Debug for Guid {
+    fn fmt(&self, f: &mut fmt::Formatter<'_>) -> fmt::Result {
+        write!(f, "Guid({self})")
     }
 }
 
@@ -58,10 +65,17 @@ enum Identifier {
 ///
 /// The case of the letters is that of the name. Servers ignore the case; a store in a folder of a file system that does
 /// not needs one case for all.
-#[derive(Clone, Copy, Debug, PartialEq, Eq, Hash)]
+#[derive(Clone, Copy, PartialEq, Eq, Hash)]
 pub struct SymbolPath<'a> {
     name: &'a str,
     identifier: Identifier,
+}
+
+impl fmt::Debug for SymbolPath<'_> {
+    fn fmt(&self, f: &mut fmt::Formatter<'_>) -> fmt::Result {
+        let (name, identifier) = (shown::Text(self.name.as_bytes()), &self.identifier);
+        f.debug_struct("SymbolPath").field("name", &name).field("identifier", identifier).finish()
+    }
 }
 
 impl<'a> SymbolPath<'a> {

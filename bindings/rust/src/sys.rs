@@ -7,6 +7,8 @@
 //!
 //! `tools/bindings` compares the names, the parameters and the fields with the header and the archive.
 
+use crate::shown::{self, shown};
+
 /// The call succeeded.
 pub const DONE: u32 = 0;
 /// There is nothing of the kind, or the walk is over.
@@ -116,30 +118,39 @@ ImageInfo, 208 {
     /// `IMAGE_DLLCHARACTERISTICS_` flags.
     dll_characteristics: u16,
 });
-record!(
 /// A section header, `IMAGE_SECTION_HEADER`.
-Section, 40 {
+#[repr(C)]
+#[derive(Clone, Copy, Default, PartialEq, Eq)]
+pub struct Section {
     /// Padded with zeros; a name of 8 bytes is not NUL-terminated. [`Section::name`] is without the zeros.
-    name: [u8; 8],
+    pub name: [u8; 8],
     /// Bytes in memory.
-    virtual_size: u32,
+    pub virtual_size: u32,
     /// RVA of its first byte.
-    virtual_address: u32,
+    pub virtual_address: u32,
     /// Bytes in the file.
-    size_of_raw_data: u32,
+    pub size_of_raw_data: u32,
     /// File offset of its first byte.
-    pointer_to_raw_data: u32,
+    pub pointer_to_raw_data: u32,
     /// File offset; 0 in images.
-    pointer_to_relocations: u32,
+    pub pointer_to_relocations: u32,
     /// File offset, or 0.
-    pointer_to_linenumbers: u32,
+    pub pointer_to_linenumbers: u32,
     /// 0 in images.
-    number_of_relocations: u16,
+    pub number_of_relocations: u16,
     /// The number of COFF line numbers.
-    number_of_linenumbers: u16,
+    pub number_of_linenumbers: u16,
     /// `IMAGE_SCN_` flags.
-    characteristics: u32,
-});
+    pub characteristics: u32,
+}
+const _: () = assert!(core::mem::size_of::<Section>() == 40);
+shown! {
+    Section<> {
+        name: shown::Padded, virtual_size, virtual_address, size_of_raw_data, pointer_to_raw_data, pointer_to_relocations,
+        pointer_to_linenumbers, number_of_relocations, number_of_linenumbers, characteristics
+    }
+}
+
 record!(
 /// An entry of an index of the sections: the RVAs from `start` up to the start of the next entry.
 IndexEntry, 16 {
@@ -1786,30 +1797,39 @@ TstInfo, 168 {
     /// The name of who stamps.
     authority: Range,
 });
-record!(
 /// A COFF symbol, `IMAGE_SYMBOL`, with what its entry says of others.
-SymbolEntry, 48 {
+#[repr(C)]
+#[derive(Clone, Copy, Default, PartialEq, Eq)]
+pub struct SymbolEntry {
     /// Its auxiliary records, 18 bytes each, up to the end of the table.
-    auxiliary: Range,
+    pub auxiliary: Range,
     /// The index of its entry in the table; auxiliary records count.
-    index: u64,
+    pub index: u64,
     /// Padded with zeros; or four zeros, and the offset of a longer name in the string table.
-    name: [u8; 8],
+    pub name: [u8; 8],
     /// By the storage class, for instance an offset in the section.
-    value: u32,
+    pub value: u32,
     /// The offset of the name in the string table, from its size field; 0 where `name` has the name.
-    string_offset: u32,
+    pub string_offset: u32,
     /// From 1. 0 is `IMAGE_SYM_UNDEFINED`, -1 `IMAGE_SYM_ABSOLUTE`, -2 `IMAGE_SYM_DEBUG`.
-    section_number: i16,
+    pub section_number: i16,
     /// `IMAGE_SYM_TYPE_` and `IMAGE_SYM_DTYPE_`.
-    kind: u16,
+    pub kind: u16,
     /// `IMAGE_SYM_CLASS_`.
-    storage_class: u8,
+    pub storage_class: u8,
     /// How many auxiliary records follow.
-    number_of_aux_symbols: u8,
+    pub number_of_aux_symbols: u8,
     /// 0.
-    spare: u16,
-});
+    pub spare: u16,
+}
+const _: () = assert!(core::mem::size_of::<SymbolEntry>() == 48);
+shown! {
+    SymbolEntry<> {
+        auxiliary, index, name: shown::Padded, value, string_offset, section_number, kind, storage_class,
+        number_of_aux_symbols
+    }
+}
+
 record!(
 /// A walk over symbols.
 SymbolWalk, 24 {

@@ -6,6 +6,7 @@
 use crate::coff::sections_of;
 use crate::debug::{key_of, SymbolKey};
 use crate::image::{returned, Error};
+use crate::shown::{self, shown};
 use crate::sys::{self, DebugEntry, Section, TeHeader};
 use crate::walk::{ask_of_bytes, look, next_of};
 use alloc::vec::Vec;
@@ -22,7 +23,7 @@ pub struct Te<'a> {
 
 impl fmt::Debug for Te<'_> {
     fn fmt(&self, f: &mut fmt::Formatter<'_>) -> fmt::Result {
-        f.debug_struct("Te").field("header", &self.header).field("sections", &self.sections).finish()
+        f.debug_struct("Te").field("header", &self.header).field("sections", &shown::Sections(&self.sections)).finish()
     }
 }
 
@@ -59,14 +60,15 @@ impl<'a> Te<'a> {
         &self.sections
     }
 
-    /// The entries of the debug directory, the RVAs and file offsets of their records reduced. `None` where it is absent.
+    /// The entries of the debug directory, the RVAs and file offsets of their records reduced; none where it is
+    /// absent.
     ///
     /// # Errors
     ///
     /// [`Error::DEBUG_BOUNDS`].
-    pub fn debug_entries(&self) -> Result<Option<TeDebugEntries<'a>>, Error> {
-        let found = ask_of_bytes(self.bytes, sys::pe_c_te_debug_entries, &self.header)?;
-        Ok(found.map(|walk| TeDebugEntries { bytes: self.bytes, header: self.header, walk: Some(walk) }))
+    pub fn debug_entries(&self) -> Result<TeDebugEntries<'a>, Error> {
+        let walk = ask_of_bytes(self.bytes, sys::pe_c_te_debug_entries, &self.header)?;
+        Ok(TeDebugEntries { bytes: self.bytes, header: self.header, walk })
     }
 
     /// The first entry of a type, `IMAGE_DEBUG_TYPE_` of winnt.h. `None` where there is none.
@@ -97,12 +99,14 @@ impl<'a> Te<'a> {
 const CODEVIEW: u32 = 2;
 
 /// The entries of the debug directory of a TE image.
-#[derive(Clone, Debug)]
+#[derive(Clone)]
 pub struct TeDebugEntries<'a> {
     bytes: &'a [u8],
     header: TeHeader,
     walk: Option<sys::Range>,
 }
+
+shown! { TeDebugEntries<'_> { header, walk; .. } }
 
 impl Iterator for TeDebugEntries<'_> {
     type Item = Result<DebugEntry, Error>;

@@ -3,6 +3,7 @@
 //! <https://learn.microsoft.com/windows/win32/debug/pe-format#the-tls-section>. A scanner lists the callbacks.
 
 use crate::image::{Error, Image};
+use crate::shown::shown;
 use crate::sys;
 use crate::walk::next_of;
 use core::iter::FusedIterator;
@@ -27,12 +28,14 @@ pub struct Tls {
 /// The callbacks of an image, virtual addresses, in the order of the table.
 ///
 /// An item is an error, and the last one: [`Error::SHORT`] where the bytes end before the table does.
-#[derive(Clone, Debug)]
+#[derive(Clone)]
 pub struct TlsCallbacks<'i, 'a> {
     image: &'i Image<'a>,
     /// `None` where the walk is over.
     walk: Option<sys::Range>,
 }
+
+shown! { TlsCallbacks<'_, '_> { walk; .. } }
 
 impl Iterator for TlsCallbacks<'_, '_> {
     type Item = Result<u64, Error>;
@@ -63,14 +66,17 @@ impl<'a> Image<'a> {
         }))
     }
 
-    /// The callbacks of the TLS directory. `None` where the directory is absent or has no table of them.
+    /// The callbacks of the TLS directory; none where the directory is absent or has no table of them: [`Tls::address_of_callbacks`]
+    /// says which.
     ///
     /// # Errors
     ///
     /// Those of [`Image::tls`]; [`Error::DIRECTORY_VA_BELOW_BASE`] and [`Error::UNMAPPED`] of the table's address.
-    pub fn tls_callbacks(&self) -> Result<Option<TlsCallbacks<'_, 'a>>, Error> {
-        let Some(found) = self.ask(sys::pe_c_tls)? else { return Ok(None) };
-        let walk = self.ask_of(sys::pe_c_tls_callbacks, &found)?;
-        Ok(walk.map(|walk| TlsCallbacks { image: self, walk: Some(walk) }))
+    pub fn tls_callbacks(&self) -> Result<TlsCallbacks<'_, 'a>, Error> {
+        let walk = match self.ask(sys::pe_c_tls)? {
+            Some(found) => self.ask_of(sys::pe_c_tls_callbacks, &found)?,
+            None => None,
+        };
+        Ok(TlsCallbacks { image: self, walk })
     }
 }

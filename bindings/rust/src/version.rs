@@ -4,6 +4,7 @@
 //! [Microsoft's page](https://learn.microsoft.com/windows/win32/menurc/vs-versioninfo).
 
 use crate::image::{bytes_of, Error, Image};
+use crate::shown;
 use crate::sys;
 use alloc::string::String;
 use core::fmt;
@@ -105,7 +106,7 @@ impl VersionName {
 /// assert_eq!(product.to_string_lossy(), "made");
 /// # Ok::<(), pe_c::Error>(())
 /// ```
-#[derive(Clone, Copy, Debug, PartialEq, Eq)]
+#[derive(Clone, Copy, PartialEq, Eq)]
 pub struct Text<'a>(pub &'a [u8]);
 
 impl<'a> Text<'a> {
@@ -122,6 +123,12 @@ impl<'a> Text<'a> {
     /// The text as a string, with U+FFFD for an unpaired surrogate.
     pub fn to_string_lossy(&self) -> String {
         self.characters().collect()
+    }
+}
+
+impl fmt::Debug for Text<'_> {
+    fn fmt(&self, f: &mut fmt::Formatter<'_>) -> fmt::Result {
+        f.debug_tuple("Text").field(&shown::Utf16(self.units())).finish()
     }
 }
 

@@ -3,8 +3,10 @@
 
 use crate::image::{bytes_of, returned, Error, Image};
 use crate::resources::ResourceLeaf;
+use crate::shown::{self, shown};
 use crate::sys;
 use crate::version::Text;
+use core::fmt;
 use core::iter::FusedIterator;
 
 /// A block of version information.
@@ -18,7 +20,7 @@ use core::iter::FusedIterator;
 /// use pe_c::{Image, Mode};
 ///
 /// let image = Image::parse(&bytes, Mode::Permissive)?;
-/// for root in image.version_blocks()?.into_iter().flatten().flatten().take(1) {
+/// for root in image.version_blocks()?.flatten().take(1) {
 ///     for info in root.children().flatten().filter(|block| block.key.to_string_lossy() == "StringFileInfo") {
 ///         for table in info.children().flatten() {
 ///             for string in table.children().flatten() {
@@ -29,7 +31,7 @@ use core::iter::FusedIterator;
 /// }
 /// # Ok::<(), pe_c::Error>(())
 /// ```
-#[derive(Clone, Copy, Debug)]
+#[derive(Clone, Copy)]
 pub struct VersionBlock<'a> {
     /// The key.
     pub key: Text<'a>,
@@ -41,6 +43,19 @@ pub struct VersionBlock<'a> {
     pub language: Option<VersionLanguage>,
     bytes: &'a [u8],
     children: sys::Range,
+}
+
+impl fmt::Debug for VersionBlock<'_> {
+    fn fmt(&self, f: &mut fmt::Formatter<'_>) -> fmt::Result {
+        let mut shown = f.debug_struct("VersionBlock");
+        shown.field("key", &self.key);
+        if self.is_text {
+            shown.field("value", &self.text());
+        } else {
+            shown.field("value", &shown::Bytes(self.value));
+        }
+        shown.field("is_text", &self.is_text).field("language", &self.language).finish_non_exhaustive()
+    }
 }
 
 /// A language and a code page of version information.
@@ -76,11 +91,13 @@ impl<'a> VersionBlock<'a> {
 ///
 /// An item is an error: [`Error::SHORT`] where a block is truncated, and the last one; [`Error::RESOURCE_STRING`] where its
 /// length is below 6, and the last one, or its key is not NUL-terminated, and then the block after it comes next.
-#[derive(Clone, Debug)]
+#[derive(Clone)]
 pub struct VersionBlocks<'a> {
     bytes: &'a [u8],
     walk: sys::Range,
 }
+
+shown! { VersionBlocks<'_> { walk; .. } }
 
 impl<'a> VersionBlocks<'a> {
     /// The blocks in the content of a resource of type `RT_VERSION`, of which the first is all of it.
@@ -118,25 +135,26 @@ impl<'a> Iterator for VersionBlocks<'a> {
 impl FusedIterator for VersionBlocks<'_> {}
 
 impl<'a> ResourceLeaf<'a> {
-    /// The blocks of the version information that a leaf of type `RT_VERSION` is, of which the first is all of it. `None` of
+    /// The blocks of the version information that a leaf of type `RT_VERSION` is, of which the first is all of it; none of
     /// another type.
     ///
     /// # Errors
     ///
     /// Those of [`ResourceLeaf::content`].
-    pub fn version_blocks(&self) -> Result<Option<VersionBlocks<'a>>, Error> {
-        Ok(self.version_content()?.map(|(bytes, walk)| VersionBlocks { bytes, walk }))
+    pub fn version_blocks(&self) -> Result<VersionBlocks<'a>, Error> {
+        let (bytes, walk) = self.version_content()?.unwrap_or_default();
+        Ok(VersionBlocks { bytes, walk })
     }
 }
 
 impl<'a> Image<'a> {
-    /// The blocks of version information, of which the first is all of it: `None` without version information.
+    /// The blocks of version information, of which the first is all of it; none without version information.
     ///
     /// # Errors
     ///
     /// Those of [version information](#version-information-and-manifest), the first three items.
-    pub fn version_blocks(&self) -> Result<Option<VersionBlocks<'a>>, Error> {
-        let bytes = self.bytes();
-        Ok(self.ask(sys::pe_c_version_blocks)?.map(|walk| VersionBlocks { bytes, walk }))
+    pub fn version_blocks(&self) -> Result<VersionBlocks<'a>, Error> {
+        let walk = self.ask(sys::pe_c_version_blocks)?.unwrap_or_default();
+        Ok(VersionBlocks { bytes: self.bytes(), walk })
     }
 }

@@ -3,11 +3,14 @@
 //! information, string tables by language and code page, and translations.
 
 use crate::image::Error;
+use crate::shown;
 use crate::signing::file_of;
 use crate::sys;
+use crate::version::Text;
 use crate::version_blocks::{VersionBlock, VersionBlocks};
 use alloc::string::String;
 use alloc::vec::Vec;
+use core::fmt;
 
 /// The blocks below the first one: what it contains, the tables in that, the strings in those.
 const LEVELS: usize = 3;
@@ -21,12 +24,21 @@ const PRODUCT_VERSION: usize = 16;
 const UNICODE: u16 = 1200;
 
 /// A block.
-#[derive(Clone, Debug, PartialEq, Eq)]
+#[derive(Clone, PartialEq, Eq)]
 struct Block {
     key: Vec<u8>,
     is_text: bool,
     value: Vec<u8>,
     children: Vec<Block>,
+}
+
+impl fmt::Debug for Block {
+    fn fmt(&self, f: &mut fmt::Formatter<'_>) -> fmt::Result {
+        let (value, children) = (shown::Bytes(&self.value), shown::Items(self.children.len()));
+        let mut shown = f.debug_struct("Block");
+        shown.field("key", &Text(&self.key)).field("is_text", &self.is_text).field("value", &value);
+        shown.field("children", &children).finish()
+    }
 }
 
 fn units_of(text: &str) -> Vec<u8> {

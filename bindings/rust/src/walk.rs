@@ -5,6 +5,7 @@ use crate::failure::{found, Failure};
 use crate::image::{returned, CallWith, Error, Image, Look as ImageLook};
 use crate::sys::{self, Run, View};
 use alloc::vec::Vec;
+use core::fmt;
 
 /// A call that takes the bytes, a record and a number, and returns a record.
 pub(crate) type Look<M, N, T> = unsafe extern "C" fn(*const u8, usize, *const M, N, *mut T) -> u32;
@@ -53,7 +54,7 @@ pub(crate) fn next_of<W, T: Default>(
 }
 
 /// A walk over bytes.
-#[derive(Clone, Copy, Debug)]
+#[derive(Clone, Copy)]
 pub(crate) struct Walk<'a, W> {
     pub bytes: &'a [u8],
     walk: W,
@@ -62,9 +63,23 @@ pub(crate) struct Walk<'a, W> {
     refused: Option<W>,
 }
 
+impl<W: fmt::Debug> fmt::Debug for Walk<'_, W> {
+    fn fmt(&self, f: &mut fmt::Formatter<'_>) -> fmt::Result {
+        f.debug_struct("Walk").field("walk", &self.walk).field("is_over", &self.is_over).finish_non_exhaustive()
+    }
+}
+
 impl<'a, W: Copy> Walk<'a, W> {
     pub fn new(bytes: &'a [u8], walk: W) -> Self {
         Walk { bytes, walk, is_over: false, refused: None }
+    }
+
+    /// The walk that a call has started, or one that is over where there is nothing to walk over.
+    pub fn started(bytes: &'a [u8], walk: Option<W>) -> Self
+    where
+        W: Default,
+    {
+        Walk { is_over: walk.is_none(), ..Walk::new(bytes, walk.unwrap_or_default()) }
     }
 
     /// The next item.
@@ -116,11 +131,17 @@ macro_rules! items {
 pub(crate) use items;
 
 /// A walk over an image.
-#[derive(Clone, Debug)]
+#[derive(Clone)]
 pub(crate) struct ImageWalk<'i, 'a, W> {
     pub image: &'i Image<'a>,
     walk: W,
     is_over: bool,
+}
+
+impl<W: fmt::Debug> fmt::Debug for ImageWalk<'_, '_, W> {
+    fn fmt(&self, f: &mut fmt::Formatter<'_>) -> fmt::Result {
+        f.debug_struct("ImageWalk").field("walk", &self.walk).field("is_over", &self.is_over).finish_non_exhaustive()
+    }
 }
 
 impl<'i, 'a, W> ImageWalk<'i, 'a, W> {
@@ -146,16 +167,42 @@ pub(crate) fn most_names(bytes: &[u8]) -> usize {
 }
 
 /// A call that writes items to an array, and moves a walk past them.
-pub(crate) type List<W, T> = unsafe extern "C" fn(*const View, *mut W, *mut T, usize, *mut u64) -> u32;
+pub(crate) type Listing<W, T> = unsafe extern "C" fn(*const View, *mut W, *mut T, usize, *mut u64) -> u32;
 
 /// The same of items whose names are read together, with runs for these.
 pub(crate) type Together<W, T> =
     unsafe extern "C" fn(*const View, *mut W, *mut Run, usize, *mut T, usize, *mut u64) -> u32;
 
-/// A walk over an image that takes several items a call. Its items are those of the steps, one after the other.
+/// What a walk is over, which calls take as a view.
+pub(crate) trait Source {
+    /// Makes a call that takes it.
+    fn with_view(&self, call: impl FnOnce(&View) -> u32) -> u32;
+}
+
+impl Source for &Image<'_> {
+    fn with_view(&self, call: impl FnOnce(&View) -> u32) -> u32 {
+        call(&self.view())
+    }
+}
+
+/// Bytes by themselves, for calls that read nothing else of a view.
+impl Source for &[u8] {
+    fn with_view(&self, call: impl FnOnce(&View) -> u32) -> u32 {
+        let image = sys::ImageInfo::default();
+        call(&View::of(self, &image, &[], &[]))
+    }
+}
+
+/// A walk over an image that takes several items a call.
+pub(crate) type ImageList<'i, 'a, W, T> = List<&'i Image<'a>, W, T>;
+
+/// The same over bytes.
+pub(crate) type BytesList<'a, W, T> = List<&'a [u8], W, T>;
+
+/// A walk that takes several items a call. Its items are those of the steps, one after the other.
 #[derive(Clone)]
-pub(crate) struct ImageList<'i, 'a, W, T> {
-    pub image: &'i Image<'a>,
+pub(crate) struct List<S, W, T> {
+    pub source: S,
     walk: W,
     items: [T; ROOM],
     /// What the last call wrote in place of these, if it read names together.
@@ -170,22 +217,18 @@ pub(crate) struct ImageList<'i, 'a, W, T> {
     refused: Option<W>,
 }
 
-impl<W: core::fmt::Debug, T> core::fmt::Debug for ImageList<'_, '_, W, T> {
-    fn fmt(&self, f: &mut core::fmt::Formatter<'_>) -> core::fmt::Result {
-        let Self { image, walk, left, is_over, .. } = self;
-        f.debug_struct("ImageList")
-            .field("image", image)
-            .field("walk", walk)
-            .field("left", &left.len())
-            .field("is_over", is_over)
-            .finish()
+impl<S, W: fmt::Debug, T> fmt::Debug for List<S, W, T> {
+    fn fmt(&self, f: &mut fmt::Formatter<'_>) -> fmt::Result {
+        let Self { walk, left, is_over, .. } = self;
+        let mut shown = f.debug_struct("List");
+        shown.field("walk", walk).field("left", &left.len()).field("is_over", is_over).finish_non_exhaustive()
     }
 }
 
-impl<'i, 'a, W: Copy, T: Copy + Default> ImageList<'i, 'a, W, T> {
-    pub fn new(image: &'i Image<'a>, walk: W) -> Self {
-        ImageList {
-            image,
+impl<S: Source + Copy, W: Copy, T: Copy + Default> List<S, W, T> {
+    pub fn new(source: S, walk: W) -> Self {
+        List {
+            source,
             walk,
             items: [T::default(); ROOM],
             many: Vec::new(),
@@ -197,10 +240,18 @@ impl<'i, 'a, W: Copy, T: Copy + Default> ImageList<'i, 'a, W, T> {
         }
     }
 
+    /// The walk that a call has started, or one that is over where there is nothing to walk over.
+    pub fn started(source: S, walk: Option<W>) -> Self
+    where
+        W: Default,
+    {
+        List { is_over: walk.is_none(), ..List::new(source, walk.unwrap_or_default()) }
+    }
+
     /// Makes a call, and keeps how many items it wrote. Returns the error of the walk, if it is one.
     fn fill(&mut self, call: impl FnOnce(&View, &mut Self, &mut u64) -> u32) -> Option<Error> {
-        let (view, before, mut written) = (self.image.view(), self.walk, 0);
-        let number = call(&view, self, &mut written);
+        let (before, source, mut written) = (self.walk, self.source, 0);
+        let number = source.with_view(|view| call(view, self, &mut written));
         let count = returned(number, written).map(|count| count.unwrap_or(0) as usize);
         // An error is that of the first step of its call.
         self.refused = count.is_err().then_some(before);
@@ -210,11 +261,6 @@ impl<'i, 'a, W: Copy, T: Copy + Default> ImageList<'i, 'a, W, T> {
         count.err()
     }
 
-    /// Why the step that returned an error did, by the call that says so of such a step.
-    pub fn failure(&self, call: CallWith<*const W, sys::Failure>) -> Option<Failure> {
-        found(self.image.ask_of(call, self.refused.as_ref()?))
-    }
-
     /// The next of the items that the last call wrote.
     fn first_left(&mut self) -> Option<Result<T, Error>> {
         let i = self.left.next()?;
@@ -222,14 +268,14 @@ impl<'i, 'a, W: Copy, T: Copy + Default> ImageList<'i, 'a, W, T> {
     }
 
     /// The next item.
-    pub fn step(&mut self, call: List<W, T>) -> Option<Result<T, Error>> {
+    pub fn step(&mut self, call: Listing<W, T>) -> Option<Result<T, Error>> {
         // SAFETY: as in `look`; the view, the walk and `written` are lent for the call, the array has so many items, and none overlaps
         // another.
         self.step_of_few(|view, walk, items, written| unsafe { call(view, walk, items.as_mut_ptr(), ROOM, written) })
     }
 
     /// The next item, by a call that writes a few.
-    fn step_of_few(
+    pub fn step_of_few(
         &mut self,
         call: impl FnOnce(&View, &mut W, &mut [T; ROOM], &mut u64) -> u32,
     ) -> Option<Result<T, Error>> {
@@ -242,13 +288,27 @@ impl<'i, 'a, W: Copy, T: Copy + Default> ImageList<'i, 'a, W, T> {
         }
         self.first_left()
     }
+}
+
+impl<W: Copy, T> BytesList<'_, W, T> {
+    /// Why the step that returned an error did, by the call that says so of such a step.
+    pub fn failure(&self, call: Ask<W, sys::Failure>) -> Option<Failure> {
+        found(ask_of_bytes(self.source, call, self.refused.as_ref()?))
+    }
+}
+
+impl<W: Copy, T: Copy + Default> ImageList<'_, '_, W, T> {
+    /// Why the step that returned an error did, by the call that says so of such a step.
+    pub fn failure(&self, call: CallWith<*const W, sys::Failure>) -> Option<Failure> {
+        found(self.source.ask_of(call, self.refused.as_ref()?))
+    }
 
     /// The next item of a walk that may have so many names left, by the walk and how many it returned. Once those that were read
     /// each by itself have as many bytes as the image, by what each cost, further ones are read together, with `runs` for each; where
     /// there is no memory for that each is read by itself.
     pub fn step_together(
         &mut self,
-        call: List<W, T>,
+        call: Listing<W, T>,
         together: Together<W, T>,
         runs: usize,
         most: impl FnOnce(&W, usize) -> usize,
@@ -258,7 +318,7 @@ impl<'i, 'a, W: Copy, T: Copy + Default> ImageList<'i, 'a, W, T> {
             return self.first_left();
         }
         let most = most(&self.walk, self.taken);
-        if most == 0 || self.spent <= self.image.bytes().len() as u64 {
+        if most == 0 || self.spent <= self.source.bytes().len() as u64 {
             let first = self.step(call);
             let others = self.left.clone().map(|i| cost(&self.items[i])).sum::<u64>();
             self.spent += others + first.as_ref().and_then(|it| it.as_ref().ok()).map_or(0, cost);
@@ -296,7 +356,7 @@ impl<'i, 'a, W: Copy, T: Copy + Default> ImageList<'i, 'a, W, T> {
         if !self.left.is_empty() || self.is_over {
             return self.first_left();
         }
-        let most = (4 * self.taken).clamp(ROOM, most_names(self.image.bytes()));
+        let most = (4 * self.taken).clamp(ROOM, most_names(self.source.bytes()));
         if let Some(first) = self.list_together(together, most + more(&self.walk), most) {
             return first;
         }

@@ -7,8 +7,10 @@
 
 use crate::failure::{found, Failure};
 use crate::image::{bytes_of, Error, Image};
+use crate::shown::{self, shown};
 use crate::sys::{self, Function, Scope};
-use crate::walk::{items, look, ImageWalk, Walk};
+use crate::walk::{items, look, BytesList, ImageList, ImageWalk, Walk};
+use core::fmt;
 use core::iter::FusedIterator;
 
 /// A register, by its number: 0 to 15 are rax, rcx, rdx, rbx, rsp, rbp, rsi, rdi and r8 to r15, 17 to 32 xmm0 to xmm15.
@@ -98,27 +100,36 @@ impl From<sys::Code> for Code {
     }
 }
 
-items! {
-    /// The codes of an unwind record, in the order in which they are undone: the last instruction of the prolog first.
-    ///
-    /// The last item may be an error: [`Error::SHORT`] for a truncated code, [`Error::UNWIND_CODE`] for an invalid one.
-    ///
-    /// ```
-    /// # let bytes: &[u8] = include_bytes!(concat!(env!("CARGO_MANIFEST_DIR"), "/../../crates/peinfo/data/i.bin"));
-    /// use pe_c::{Image, Mode, Operation, Register};
-    ///
-    /// let image = Image::parse(bytes, Mode::Strict)?;
-    /// let functions = image.functions()?.expect("an x64 image with exception data");
-    /// let function = functions.find(0x1025)?.expect("a function covers the RVA");
-    /// let codes: Result<Vec<_>, _> = functions.record(function)?.codes().collect();
-    /// let codes = codes?;
-    /// assert_eq!(codes[0].operation, Operation::Alloc(40));
-    /// assert_eq!((codes[1].code_offset, codes[1].operation), (1, Operation::Push(Register(5))));
-    /// assert_eq!(Register(5).name(), "rbp");
-    /// # Ok::<(), pe_c::Error>(())
-    /// ```
-    Codes<'a>(sys::Walk): Code, sys::pe_c_next_code, |code, _| Ok(Code::from(code))
+/// The codes of an unwind record, in the order in which they are undone: the last instruction of the prolog first.
+///
+/// The last item may be an error: [`Error::SHORT`] for a truncated code, [`Error::UNWIND_CODE`] for an invalid one.
+///
+/// ```
+/// # let bytes: &[u8] = include_bytes!(concat!(env!("CARGO_MANIFEST_DIR"), "/../../crates/peinfo/data/i.bin"));
+/// use pe_c::{Image, Mode, Operation, Register};
+///
+/// let image = Image::parse(bytes, Mode::Strict)?;
+/// let functions = image.functions()?.expect("an x64 image with exception data");
+/// let function = functions.find(0x1025)?.expect("a function covers the RVA");
+/// let codes: Result<Vec<_>, _> = functions.record(function)?.codes().collect();
+/// let codes = codes?;
+/// assert_eq!(codes[0].operation, Operation::Alloc(40));
+/// assert_eq!((codes[1].code_offset, codes[1].operation), (1, Operation::Push(Register(5))));
+/// assert_eq!(Register(5).name(), "rbp");
+/// # Ok::<(), pe_c::Error>(())
+/// ```
+#[derive(Clone, Debug)]
+pub struct Codes<'a>(BytesList<'a, sys::Walk, sys::Code>);
+
+impl Iterator for Codes<'_> {
+    type Item = Result<Code, Error>;
+
+    fn next(&mut self) -> Option<Self::Item> {
+        Some(self.0.step(sys::pe_c_list_codes)?.map(Code::from))
+    }
 }
+
+impl FusedIterator for Codes<'_> {}
 
 impl Codes<'_> {
     /// Why the item that is an error is one: the error with its numbers. `None` where no item was an error.
@@ -134,12 +145,22 @@ items! {
 
 /// The handler of a function: its RVA, and its data, which follows that in the record. Only the handler knows the length
 /// of its data, so the slice goes up to the end of the file.
-#[derive(Clone, Copy, Debug, PartialEq, Eq)]
+#[derive(Clone, Copy, PartialEq, Eq)]
 pub enum Handler<'a> {
     /// `UNW_FLAG_EHANDLER`, also with `UNW_FLAG_UHANDLER`: called for exceptions.
     Exception(u32, &'a [u8]),
     /// `UNW_FLAG_UHANDLER` alone: called when an exception unwinds the function.
     Termination(u32, &'a [u8]),
+}
+
+impl fmt::Debug for Handler<'_> {
+    fn fmt(&self, f: &mut fmt::Formatter<'_>) -> fmt::Result {
+        let (name, rva, data) = match self {
+            Handler::Exception(rva, data) => ("Exception", rva, data),
+            Handler::Termination(rva, data) => ("Termination", rva, data),
+        };
+        f.debug_tuple(name).field(rva).field(&shown::Bytes(data)).finish()
+    }
 }
 
 /// An unwind record, `UNWIND_INFO`: what the prolog of a function did to the stack.
@@ -159,11 +180,13 @@ pub enum Handler<'a> {
 /// assert_eq!(scopes.count(), 1);
 /// # Ok::<(), pe_c::Error>(())
 /// ```
-#[derive(Clone, Copy, Debug)]
+#[derive(Clone, Copy)]
 pub struct UnwindRecord<'a> {
     raw: sys::Record,
     bytes: &'a [u8],
 }
+
+shown! { UnwindRecord<'_> { raw; .. } }
 
 impl<'a> UnwindRecord<'a> {
     /// The record of the C library.
@@ -190,7 +213,7 @@ impl<'a> UnwindRecord<'a> {
 
     /// The codes.
     pub fn codes(&self) -> Codes<'a> {
-        Codes(Walk::new(self.bytes, self.raw.codes))
+        Codes(BytesList::new(self.bytes, self.raw.codes))
     }
 
     /// The function to which the record is chained, whose record continues this one.
@@ -237,11 +260,13 @@ impl<'a> UnwindRecord<'a> {
 /// assert_eq!(record.raw(), plan?[0].raw());
 /// # Ok::<(), pe_c::Error>(())
 /// ```
-#[derive(Clone, Copy, Debug)]
+#[derive(Clone, Copy)]
 pub struct Functions<'i, 'a> {
     image: &'i Image<'a>,
     table: sys::Range,
 }
+
+shown! { Functions<'_, '_> { table; .. } }
 
 impl<'i, 'a> Functions<'i, 'a> {
     /// The image that has them.
@@ -274,8 +299,7 @@ impl<'i, 'a> Functions<'i, 'a> {
     where
         'a: 'i,
     {
-        let functions = *self;
-        (0..self.len()).map_while(move |index| functions.get(index))
+        FunctionEntries { table: self.table, list: ImageList::new(self.image, 0), left: self.len() }
     }
 
     /// The function that covers an RVA, by binary search.
@@ -321,6 +345,32 @@ impl<'i, 'a> Functions<'i, 'a> {
     /// errors of the table come from [`Image::functions`].
     pub fn plan(&self, function: Function) -> Plan<'i, 'a> {
         Plan { table: self.table, walk: ImageWalk::new(self.image, plan_from(function.unwind)) }
+    }
+}
+
+/// The functions of a table.
+struct FunctionEntries<'i, 'a> {
+    table: sys::Range,
+    /// The walk is the index of the next one.
+    list: ImageList<'i, 'a, u64, Function>,
+    left: u64,
+}
+
+impl Iterator for FunctionEntries<'_, '_> {
+    type Item = Function;
+
+    fn next(&mut self) -> Option<Function> {
+        let table = &self.table;
+        // SAFETY: the view, the table and the numbers are lent for the call, the array has so many items, and none overlaps another.
+        let found = self.list.step_of_few(|view, next, items, written| unsafe {
+            sys::pe_c_list_functions(view, table, next, items.as_mut_ptr(), items.len(), written)
+        })?;
+        self.left = self.left.saturating_sub(1);
+        found.ok()
+    }
+
+    fn size_hint(&self) -> (usize, Option<usize>) {
+        (0, usize::try_from(self.left).ok())
     }
 }
 

@@ -220,7 +220,7 @@ fn a_text_is_cut_at_the_end_of_its_room() {
 fn debug_records_are_read() {
     let bytes = with_debug();
     let image = strict(&bytes);
-    let entries: Vec<_> = image.debug_entries().unwrap().unwrap().map(Result::unwrap).collect();
+    let entries: Vec<_> = image.debug_entries().unwrap().map(Result::unwrap).collect();
     assert_eq!(entries.iter().map(|entry| entry.data_type).collect::<Vec<_>>(), [2, 12, 13, 16, 20]);
     assert_eq!(entries[0].size_of_data, 30);
     assert_eq!((entries[0].address_of_raw_data, entries[0].pointer_to_raw_data), (ADDRESS, OFFSET));
@@ -250,7 +250,7 @@ fn records_of_debug_entries_are_read() {
     let image = strict(&bytes);
     let of_type = |data_type| image.debug_entry(data_type).unwrap().unwrap();
     let codeview = of_type(2);
-    assert_eq!(image.debug_entries().unwrap().unwrap().next(), Some(Ok(codeview)));
+    assert_eq!(image.debug_entries().unwrap().next(), Some(Ok(codeview)));
     assert_eq!(image.symbol_key_of(&codeview), image.symbol_key());
     assert_eq!(image.pdb20_of(&codeview), Ok(None));
     assert_eq!(image.vc_features_of(&of_type(12)), image.vc_features());
@@ -292,7 +292,7 @@ fn damaged_debug_data_are_refused() {
     long[0xFC..0x100].copy_from_slice(&0x1000u32.to_le_bytes());
     assert_eq!(strict(&long).debug_entries().err(), Some(Error::DEBUG_BOUNDS));
     let image = Image::parse(&long, Mode::Permissive).unwrap();
-    let entries: Vec<_> = image.debug_entries().unwrap().unwrap().collect();
+    let entries: Vec<_> = image.debug_entries().unwrap().collect();
     assert_eq!(entries.len(), 17);
     assert!(entries[..16].iter().all(Result::is_ok));
     assert_eq!(entries[16], Err(Error::SHORT));
@@ -707,10 +707,9 @@ fn each_arm64_operation_is_read() {
 fn exports_are_listed() {
     let bytes = with_exports();
     let image = strict(&bytes);
-    let exports: Vec<_> =
-        image.exports().unwrap().unwrap().map(Result::unwrap).map(|it| (it.name, it.rva, it.offset)).collect();
+    let exports: Vec<_> = image.exports().unwrap().map(Result::unwrap).map(|it| (it.name, it.rva, it.offset)).collect();
     assert_eq!(exports, [(b"first".as_slice(), 0x9_0000, None), (b"second".as_slice(), 0x1004, Some(0x404))]);
-    assert!(strict(SMALL).exports().unwrap().is_none());
+    assert!(strict(SMALL).exports().unwrap().next().is_none());
 }
 
 /// All exports by their index: those with names, an ordinal that is not used, and a forwarder without a name.
@@ -727,7 +726,7 @@ fn exports_have_ordinals_and_forwarders() {
     assert_eq!(rvas[..3], [0x1004, 0x9_0000, 0]);
     let at = bytes.windows(text.len()).position(|it| it == text).unwrap() as u32;
     assert_eq!(offset(rvas[3]), at);
-    let indices: Vec<_> = image.exports().unwrap().unwrap().map(|it| it.unwrap().index).collect();
+    let indices: Vec<_> = image.exports().unwrap().map(|it| it.unwrap().index).collect();
     assert_eq!(indices, [1, 0]);
     assert_eq!((table.get(4), table.get(u64::MAX)), (None, None));
     assert!(strict(SMALL).export_addresses().unwrap().is_none());
@@ -781,7 +780,7 @@ fn resource_directories_have_entries() {
 fn imports_are_listed_by_library() {
     let bytes = with_imports();
     let image = strict(&bytes);
-    let libraries: Vec<_> = image.libraries().unwrap().unwrap().map(Result::unwrap).collect();
+    let libraries: Vec<_> = image.libraries().unwrap().map(Result::unwrap).collect();
     let [first, second] = libraries.as_slice() else { panic!("two libraries") };
     assert_eq!((first.name, second.name), (b"KERNEL32.dll".as_slice(), b"a.dll".as_slice()));
     let imports: Vec<_> = first.imports().map(Result::unwrap).map(|it| (it.name, it.ordinal, it.rva)).collect();
@@ -791,21 +790,21 @@ fn imports_are_listed_by_library() {
     let imports: Vec<_> = second.imports().map(Result::unwrap).map(|it| (it.name, it.ordinal, it.rva)).collect();
     assert_eq!(imports, [(Some(b"f".as_slice()), 0, slots)]);
     assert_eq!((record.lookup_table_rva, record.time_date_stamp, record.forwarder_chain), (0, 5, 6));
-    assert!(strict(SMALL).libraries().unwrap().is_none());
+    assert!(strict(SMALL).libraries().unwrap().next().is_none());
 }
 
 #[test]
 fn imports_of_all_libraries_are_listed() {
     let bytes = with_imports();
     let image = strict(&bytes);
-    let imports: Vec<_> = image.imports().unwrap().unwrap().map(Result::unwrap).collect();
+    let imports: Vec<_> = image.imports().unwrap().map(Result::unwrap).collect();
     let found: Vec<_> = imports.iter().map(|it| (it.library, it.index, it.import.name, it.import.ordinal)).collect();
     let (kernel32, a) = (b"KERNEL32.dll".as_slice(), b"a.dll".as_slice());
     let wanted =
         [(kernel32, 0, Some(b"Sleep".as_slice()), 42), (kernel32, 0, None, 17), (a, 1, Some(b"f".as_slice()), 0)];
     assert_eq!(found, wanted);
     let mut nested = Vec::new();
-    for library in image.libraries().unwrap().unwrap() {
+    for library in image.libraries().unwrap() {
         nested.extend(library.unwrap().imports().map(Result::unwrap));
     }
     assert_eq!(imports.iter().map(|it| it.import).collect::<Vec<_>>(), nested);
@@ -814,7 +813,7 @@ fn imports_of_all_libraries_are_listed() {
     assert_eq!(bytes[hint..hint + 7], *b"\x2A\0Sleep");
     assert_eq!(imports[1].hint_rva, None);
     let refused = with_refused_import();
-    let items: Vec<_> = strict(&refused).imports().unwrap().unwrap().collect();
+    let items: Vec<_> = strict(&refused).imports().unwrap().collect();
     assert_eq!(items, [Err(Error::IMPORT_NAME)]);
 }
 
@@ -824,7 +823,7 @@ fn import_refusals(address: u32, part: &[u8]) -> (Option<Error>, Option<Error>) 
     let at = offset(address) as usize;
     bytes[at..at + part.len()].copy_from_slice(part);
     let image = strict(&bytes);
-    let libraries = image.libraries().unwrap().unwrap();
+    let libraries = image.libraries().unwrap();
     let refused = libraries.clone().find_map(Result::err);
     let imports = libraries.flatten().flat_map(|it| it.imports().collect::<Vec<_>>());
     (refused, imports.into_iter().find_map(Result::err))
@@ -891,13 +890,13 @@ fn tls_callbacks_are_read() {
     assert_eq!((tls.start_address_of_raw_data, tls.end_address_of_raw_data), (0x1_8000_1040, 0x1_8000_1048));
     assert_eq!((tls.address_of_index, tls.address_of_callbacks), (0x1_8000_1050, 0x1_8000_1000));
     assert_eq!((tls.size_of_zero_fill, tls.characteristics), (12, 0x0030_0000));
-    let callbacks: Vec<_> = image.tls_callbacks().unwrap().unwrap().collect();
+    let callbacks: Vec<_> = image.tls_callbacks().unwrap().collect();
     assert_eq!(callbacks, [Ok(0x1_8000_2000), Ok(0x1_8000_2010)]);
     let memory = as_loaded(&image);
     let module = Image::parse_as(&memory, Mode::Strict, Layout::Mapped).unwrap();
-    assert_eq!(module.tls_callbacks().unwrap().unwrap().collect::<Vec<_>>(), callbacks);
+    assert_eq!(module.tls_callbacks().unwrap().collect::<Vec<_>>(), callbacks);
     assert!(strict(&with_debug()).tls().unwrap().is_none());
-    assert!(strict(&with_debug()).tls_callbacks().unwrap().is_none());
+    assert!(strict(&with_debug()).tls_callbacks().unwrap().next().is_none());
 }
 
 #[test]
@@ -910,7 +909,7 @@ fn damaged_tls_is_refused() {
     // the address of the callbacks is the fourth field of the directory, which follows their table of 24 bytes
     let place = OFFSET as usize + 24 + 24;
     let bytes = change(place, 0);
-    assert!(strict(&bytes).tls_callbacks().unwrap().is_none());
+    assert!(strict(&bytes).tls_callbacks().unwrap().next().is_none());
     let bytes = change(place, 0x1_7FFF_FFFF);
     assert_eq!(strict(&bytes).tls_callbacks().unwrap_err(), Error::DIRECTORY_VA_BELOW_BASE);
     assert_eq!(Error::DIRECTORY_VA_BELOW_BASE.number(), 304);
@@ -925,7 +924,7 @@ fn damaged_tls_is_refused() {
     let mut fourth = bytes.clone();
     fourth[place..place + 8].copy_from_slice(&0x1_8000_1000u64.to_le_bytes());
     let image = Image::parse(&fourth, Mode::Strict).unwrap();
-    let callbacks: Vec<_> = image.tls_callbacks().unwrap().unwrap().collect();
+    let callbacks: Vec<_> = image.tls_callbacks().unwrap().collect();
     assert_eq!((callbacks.len(), callbacks.last()), (10, Some(&Err(Error::SHORT))));
 }
 
@@ -933,13 +932,13 @@ fn damaged_tls_is_refused() {
 fn base_relocations_are_read() {
     let bytes = with_relocations();
     let image = strict(&bytes);
-    let blocks: Vec<_> = image.relocation_blocks().unwrap().unwrap().map(Result::unwrap).collect();
+    let blocks: Vec<_> = image.relocation_blocks().unwrap().map(Result::unwrap).collect();
     assert_eq!(blocks.iter().map(|it| it.page_rva).collect::<Vec<_>>(), [0x1000, 0x5000]);
     let of = |index: usize| -> Vec<_> { blocks[index].relocations().map(Result::unwrap).collect() };
     let one = |rva, kind, argument| Relocation { rva, kind, argument };
     assert_eq!(of(0), [one(0x1008, 10, None), one(0x1FFF, 3, None)]);
     assert_eq!(of(1), [one(0x5010, 4, Some(0x8765)), one(0x5000, 0, None), one(0x5000, 0, None)]);
-    assert!(strict(&with_debug()).relocation_blocks().unwrap().is_none());
+    assert!(strict(&with_debug()).relocation_blocks().unwrap().next().is_none());
 }
 
 /// The base, a DIR64 over the entries of its block, and a HIGHLOW in zeros, at a base that is 0x10000 higher; then the same back.
@@ -975,7 +974,7 @@ fn zeros_end_the_base_relocations() {
         let mut bytes = with_relocations();
         bytes[OFFSET as usize + start..][..8].fill(0);
         let image = strict(&bytes);
-        let mut blocks = image.relocation_blocks().unwrap().unwrap();
+        let mut blocks = image.relocation_blocks().unwrap();
         let items: Vec<_> = blocks.by_ref().map(|it| it.map(|it| it.page_rva)).collect();
         assert_eq!(items, pages);
         assert!(blocks.next().is_none());
@@ -989,7 +988,7 @@ fn damaged_base_relocations_are_refused() {
         let mut bytes = with_relocations();
         bytes[place + at] = value;
         let image = strict(&bytes);
-        let mut blocks = image.relocation_blocks().unwrap().unwrap();
+        let mut blocks = image.relocation_blocks().unwrap();
         let items: Vec<_> = blocks.by_ref().map(|it| it.map(|it| it.page_rva)).collect();
         assert!(blocks.next().is_none());
         items
@@ -1002,7 +1001,7 @@ fn damaged_base_relocations_are_refused() {
     let mut bytes = with_relocations();
     bytes[place + 24..place + 28].copy_from_slice(&[0x00, 0x00, 0x10, 0x40]);
     let image = strict(&bytes);
-    let block = image.relocation_blocks().unwrap().unwrap().nth(1).unwrap().unwrap();
+    let block = image.relocation_blocks().unwrap().nth(1).unwrap().unwrap();
     let relocations: Vec<_> = block.relocations().collect();
     assert_eq!(relocations.len(), 3);
     assert_eq!(relocations[2], Err(Error::DIRECTORY_NO_ARGUMENT));
@@ -1013,11 +1012,11 @@ fn damaged_base_relocations_are_refused() {
 fn many_names_in_one_text_are_read_together() {
     let bytes = with_names_in_one_text();
     let image = strict(&bytes);
-    let exports: Vec<_> = image.exports().unwrap().unwrap().map(|it| it.unwrap().name).collect();
+    let exports: Vec<_> = image.exports().unwrap().map(|it| it.unwrap().name).collect();
     let text = [b'a'; 400];
     let wanted: Vec<_> = (0..300).map(|i| &text[i..]).collect();
     assert_eq!(exports, wanted);
-    let libraries: Vec<_> = image.libraries().unwrap().unwrap().map(Result::unwrap).collect();
+    let libraries: Vec<_> = image.libraries().unwrap().map(Result::unwrap).collect();
     assert_eq!(libraries.iter().map(|it| it.name).collect::<Vec<_>>(), wanted);
     let imports: Vec<_> = libraries[299].imports().map(|it| it.unwrap()).collect();
     assert_eq!(imports.iter().map(|it| it.name.unwrap()).collect::<Vec<_>>(), wanted);
@@ -1036,13 +1035,13 @@ fn many_late_names_in_one_text_are_read_together() {
     let forwarders: Vec<_> = table.iter().map(|it| it.forwarder.unwrap()).collect();
     assert_eq!(forwarders, wanted);
     assert_eq!(table.iter().map(|it| it.ordinal).collect::<Vec<_>>(), (5..305).collect::<Vec<_>>());
-    let libraries: Vec<_> = image.delay_imports().unwrap().unwrap().map(Result::unwrap).collect();
+    let libraries: Vec<_> = image.delay_imports().unwrap().map(Result::unwrap).collect();
     assert_eq!(libraries.iter().map(|it| it.name).collect::<Vec<_>>(), wanted);
     let functions: Vec<_> = libraries[299].functions().map(Result::unwrap).collect();
     assert_eq!(functions.iter().map(|it| it.name.unwrap()).collect::<Vec<_>>(), wanted);
     assert_eq!((functions[0].ordinal, functions[1].ordinal, functions[2].ordinal), (0, 0x6100, 0x6161));
     // The DLLs share the table: of each of them all functions are listed.
-    let mut all = image.delayed_functions().unwrap().unwrap();
+    let mut all = image.delayed_functions().unwrap();
     for (i, library) in wanted.iter().enumerate() {
         for function in &functions {
             let found = all.next().unwrap().unwrap();

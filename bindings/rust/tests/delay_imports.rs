@@ -17,7 +17,7 @@ type Function<'a> = Result<(Option<&'a str>, u32), Error>;
 fn listed<'a>(image: &Image<'a>) -> Vec<Result<(&'a str, Vec<Function<'a>>), Error>> {
     let text = |bytes| std::str::from_utf8(bytes).unwrap();
     let function = |it: DelayedFunction<'a>| (it.name.map(text), it.ordinal);
-    let mut imports = image.delay_imports().unwrap().unwrap();
+    let mut imports = image.delay_imports().unwrap();
     let items = imports
         .by_ref()
         .map(|it| it.map(|it| (text(it.name), it.functions().map(|it| it.map(function)).collect())))
@@ -51,7 +51,7 @@ fn delay_imports_are_read() {
     let memory = as_loaded(&image);
     let module = Image::parse_as(&memory, Mode::Strict, Layout::Mapped).unwrap();
     assert_eq!(listed(&module), [first.clone(), second.clone()]);
-    assert!(strict(&with_debug()).delay_imports().unwrap().is_none());
+    assert!(strict(&with_debug()).delay_imports().unwrap().next().is_none());
     // 64 bytes are two entries, which end with the directory; 32 are one
     let of_size = |size: u8| {
         let mut bytes = with_delay_imports();
@@ -70,7 +70,7 @@ type OfDll<'a> = Result<(&'a str, u64, Option<&'a str>, u32), Error>;
 /// The functions of all DLLs.
 fn all<'a>(image: &Image<'a>) -> Vec<OfDll<'a>> {
     let text = |bytes| std::str::from_utf8(bytes).unwrap();
-    let mut functions = image.delayed_functions().unwrap().unwrap();
+    let mut functions = image.delayed_functions().unwrap();
     let items = functions
         .by_ref()
         .map(|it| it.map(|it| (text(it.library), it.index, it.function.name.map(text), it.function.ordinal)))
@@ -90,7 +90,7 @@ fn functions_of_all_dlls_are_in_one_list() {
     let memory = as_loaded(&image);
     let module = Image::parse_as(&memory, Mode::Strict, Layout::Mapped).unwrap();
     assert_eq!(all(&module), [by_name, by_ordinal, second]);
-    assert!(strict(&with_debug()).delayed_functions().unwrap().is_none());
+    assert!(strict(&with_debug()).delayed_functions().unwrap().next().is_none());
     // an error of a DLL ends the list, and so does one of a function
     assert_eq!(
         all(&strict(&changed(VERSION as usize, &[0xFF]))),
@@ -110,7 +110,7 @@ fn functions_of_all_dlls_are_in_one_list() {
 fn descriptors_have_their_fields() {
     let bytes = with_delay_imports();
     let image = strict(&bytes);
-    let imports: Vec<_> = image.delay_imports().unwrap().unwrap().map(Result::unwrap).collect();
+    let imports: Vec<_> = image.delay_imports().unwrap().map(Result::unwrap).collect();
     let first = sys::DelayDescriptor {
         attributes: 1,
         name: ADDRESS + DBGHELP,
@@ -172,7 +172,7 @@ fn damaged_delay_imports_are_refused() {
 fn damaged_functions_are_refused() {
     let functions = |bytes: &[u8]| {
         let image = strict(bytes);
-        let import = image.delay_imports().unwrap().unwrap().next().unwrap().unwrap();
+        let import = image.delay_imports().unwrap().next().unwrap().unwrap();
         let mut functions = import.functions();
         let items: Vec<_> = functions.by_ref().map(|it| it.map(|it| it.ordinal)).collect();
         assert!(functions.next().is_none());

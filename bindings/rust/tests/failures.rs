@@ -45,19 +45,19 @@ fn error_of<T>(found: Result<T, Error>, failure: Option<Failure>) -> usize {
 /// Walks over all lists of an image that have failures, and returns how many errors it met.
 fn walk(image: &Image<'_>) -> usize {
     let mut errors = errors_of!(image.certificates());
-    if let Ok(Some(libraries)) = image.libraries() {
+    if let Ok(libraries) = image.libraries() {
         errors += errors_of!(libraries, library => errors_of!(library.imports()));
     }
-    if let Ok(Some(libraries)) = image.delay_imports() {
+    if let Ok(libraries) = image.delay_imports() {
         errors += errors_of!(libraries, library => errors_of!(library.functions()));
     }
-    if let Ok(Some(imports)) = image.bound_imports() {
+    if let Ok(imports) = image.bound_imports() {
         errors += errors_of!(imports);
     }
     if let Ok(Some(leaves)) = image.resource_leaves() {
         errors += errors_of!(leaves);
     }
-    if let Ok(Some(blocks)) = image.relocation_blocks() {
+    if let Ok(blocks) = image.relocation_blocks() {
         errors += errors_of!(blocks, block => errors_of!(block.relocations()));
     }
     if let Ok(Some(symbols)) = image.symbols() {
@@ -115,7 +115,7 @@ fn failures_of_imports_have_rvas() {
     let start = start_of(&Image::parse(&bytes, Mode::Strict).unwrap(), DirectoryIndex::Import);
     put(&mut bytes, start + 20 + 12, 0x0123_4567);
     let image = Image::parse(&bytes, Mode::Strict).unwrap();
-    let mut libraries = image.libraries().unwrap().unwrap();
+    let mut libraries = image.libraries().unwrap();
     assert_eq!(libraries.failure(), None);
     assert!(libraries.next().unwrap().is_ok());
     assert_eq!(libraries.failure(), None);

@@ -24,7 +24,7 @@ fn exports_of_many_sections() {
     let bytes = after_empty_sections(made::with_exports());
     let image = Image::parse(&bytes, Mode::Permissive).unwrap();
     assert_eq!(image.sections().len(), 40);
-    let exports = image.exports().unwrap().unwrap().map(Result::unwrap);
+    let exports = image.exports().unwrap().map(Result::unwrap);
     let found: Vec<_> = exports.map(|export| (export.name, export.rva, export.offset)).collect();
     assert_eq!(found, [(b"first".as_slice(), 0x9_0000, None), (b"second", 0x1004, Some(0x404))]);
 }
@@ -44,7 +44,7 @@ fn imports_of_many_sections() {
     let bytes = after_empty_sections(made::with_imports());
     let image = Image::parse(&bytes, Mode::Permissive).unwrap();
     let mut found = Vec::new();
-    for library in image.libraries().unwrap().unwrap() {
+    for library in image.libraries().unwrap() {
         let library = library.unwrap();
         found.extend(library.imports().map(|import| (library.name, import.unwrap().name)));
     }
@@ -57,17 +57,17 @@ fn directories_of(bytes: &[u8]) -> [String; 13] {
     let image = Image::parse(bytes, Mode::Permissive).unwrap();
     [
         format!("{:?}", image.export_directory()),
-        format!("{:?}", image.libraries().map(|found| found.map(Iterator::count))),
+        format!("{:?}", image.libraries().map(Iterator::count)),
         format!("{:?}", image.resource_leaves().map(|found| found.map(Iterator::count))),
         format!("{:?}", image.manifest()),
         format!("{:?}", image.version()),
         format!("{:?}", image.functions().map(|found| found.map(|table| table.iter().count()))),
-        format!("{:?}", image.relocation_blocks().map(|found| found.map(Iterator::count))),
+        format!("{:?}", image.relocation_blocks().map(Iterator::count)),
         format!("{:?}", image.debug_entry(2)),
         format!("{:?}", image.symbol_key()),
         format!("{:?}", image.tls().map(|found| found.map(|_| ()))),
         format!("{:?}", image.load_config()),
-        format!("{:?}", image.delay_imports().map(|found| found.map(Iterator::count))),
+        format!("{:?}", image.delay_imports().map(Iterator::count)),
         format!("{:?}", image.clr().map(|found| found.map(|clr| clr.metadata().is_ok()))),
     ]
 }
@@ -82,7 +82,7 @@ fn directories_of_many_sections() {
         let found = directories_of(&bytes);
         assert_eq!(directories_of(&after_empty_sections(bytes)), found, "{name}");
         for (is_there, part) in there.iter_mut().zip(&found) {
-            *is_there |= part.starts_with("Ok(Some(");
+            *is_there |= part.starts_with("Ok(") && !["Ok(None)", "Ok(0)"].contains(&part.as_str());
         }
     }
     assert_eq!(there, [true; 13]);

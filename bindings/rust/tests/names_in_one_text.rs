@@ -84,7 +84,7 @@ fn names_of_exports() {
     let directory = made.next();
     made.put_words(&[0, 0, 0, 0, 5, 1, NAMES, directory + 40, names, ordinals, 0x1004]);
     made.directory(EXPORTS, directory, 44);
-    let found = in_time(made.image(), |bytes| counted(image(bytes).exports().unwrap().unwrap().map(|it| Ok(it?.name))));
+    let found = in_time(made.image(), |bytes| counted(image(bytes).exports().unwrap().map(|it| Ok(it?.name))));
     assert_eq!(found, expected(NAMES, LETTERS));
 }
 
@@ -109,8 +109,7 @@ fn names_of_libraries() {
     let (mut made, text) = with_text();
     let list = put_table(&mut made, [].into_iter());
     put_imports(&mut made, NAMES, |i| (list, text + i));
-    let found =
-        in_time(made.image(), |bytes| counted(image(bytes).libraries().unwrap().unwrap().map(|it| Ok(it?.name))));
+    let found = in_time(made.image(), |bytes| counted(image(bytes).libraries().unwrap().map(|it| Ok(it?.name))));
     assert_eq!(found, expected(NAMES, LETTERS));
 }
 
@@ -125,7 +124,7 @@ fn lists_of_libraries() {
     put_imports(&mut made, NAMES, |i| (list + 8 * i, name));
     let found = in_time(made.image(), |bytes| {
         let image = image(bytes);
-        let libraries: Vec<_> = image.libraries().unwrap().unwrap().map(Result::unwrap).collect();
+        let libraries: Vec<_> = image.libraries().unwrap().map(Result::unwrap).collect();
         (libraries.len(), libraries[libraries.len() - 1].imports().count())
     });
     assert_eq!(found, (NAMES as usize, (entries - NAMES + 1) as usize));
@@ -138,7 +137,7 @@ fn names_of_imports_of_one_library() {
     put_imports(&mut made, 1, |_| (list, text + LETTERS - 9));
     let found = in_time(made.image(), |bytes| {
         let image = image(bytes);
-        let library = image.libraries().unwrap().unwrap().next().unwrap().unwrap();
+        let library = image.libraries().unwrap().next().unwrap().unwrap();
         let found = counted(library.imports().map(|it| Ok(it?.name.unwrap())));
         found
     });
@@ -152,7 +151,7 @@ fn names_of_imports_of_all_libraries() {
     put_imports(&mut made, NAMES, |i| (lists + 16 * i, text + i));
     let found = in_time(made.image(), |bytes| {
         let image = image(bytes);
-        let imports: Vec<_> = image.imports().unwrap().unwrap().map(Result::unwrap).collect();
+        let imports: Vec<_> = image.imports().unwrap().map(Result::unwrap).collect();
         let names = counted(imports.iter().map(|it| Ok(it.import.name.unwrap())));
         (names, counted(imports.iter().map(|it| Ok(it.library))))
     });
@@ -164,8 +163,7 @@ fn names_of_delay_imports() {
     let (mut made, text) = with_text();
     let table = put_table(&mut made, [].into_iter());
     put_delay_imports(&mut made, NAMES, |i| (table, text + i));
-    let found =
-        in_time(made.image(), |bytes| counted(image(bytes).delay_imports().unwrap().unwrap().map(|it| Ok(it?.name))));
+    let found = in_time(made.image(), |bytes| counted(image(bytes).delay_imports().unwrap().map(|it| Ok(it?.name))));
     assert_eq!(found, expected(NAMES, LETTERS));
 }
 
@@ -176,7 +174,7 @@ fn names_of_delayed_functions_of_one_library() {
     put_delay_imports(&mut made, 1, |_| (table, text + LETTERS - 9));
     let found = in_time(made.image(), |bytes| {
         let image = image(bytes);
-        let library = image.delay_imports().unwrap().unwrap().next().unwrap().unwrap();
+        let library = image.delay_imports().unwrap().next().unwrap().unwrap();
         let found = counted(library.functions().map(|it| Ok(it?.name.unwrap())));
         found
     });
@@ -190,7 +188,7 @@ fn names_of_delayed_functions_of_all_libraries() {
     put_delay_imports(&mut made, NAMES, |i| (tables + 16 * i, text + i));
     let found = in_time(made.image(), |bytes| {
         let image = image(bytes);
-        let functions: Vec<_> = image.delayed_functions().unwrap().unwrap().map(Result::unwrap).collect();
+        let functions: Vec<_> = image.delayed_functions().unwrap().map(Result::unwrap).collect();
         let names = counted(functions.iter().map(|it| Ok(it.function.name.unwrap())));
         (names, counted(functions.iter().map(|it| Ok(it.library))))
     });
@@ -217,9 +215,8 @@ fn names_of_bound_imports() {
     directory.extend([0; 8]);
     directory.resize(directory.len() + letters as usize, b'a');
     directory.push(0);
-    let found = in_time(with_bound(&directory), |bytes| {
-        counted(image(bytes).bound_imports().unwrap().unwrap().map(|it| Ok(it?.name)))
-    });
+    let found =
+        in_time(with_bound(&directory), |bytes| counted(image(bytes).bound_imports().unwrap().map(|it| Ok(it?.name))));
     assert_eq!(found, (8_000, 8 * expected(1_000, letters).1));
 }
 
@@ -231,13 +228,13 @@ fn names_of_bound_forwarders() {
     let bytes = with_bound(&directory);
     let name = u64::from(LETTERS) - 0x6161;
     let one = in_time(bytes.clone(), |bytes| {
-        let first = image(bytes).bound_imports().unwrap().unwrap().next().unwrap().unwrap();
+        let first = image(bytes).bound_imports().unwrap().next().unwrap().unwrap();
         let found = counted(first.forwarders().map(|it| Ok(it?.name)));
         found
     });
     assert_eq!(one, (0x6161, 0x6161 * name));
     let all = in_time(bytes, |bytes| {
-        let all = image(bytes).bound_forwarders().unwrap().unwrap();
+        let all = image(bytes).bound_forwarders().unwrap();
         counted(all.map_while(Result::ok).map(|it| Ok(it.forwarder.name)))
     });
     let dlls = u64::from(LETTERS) / 8 / 0x6162;

@@ -146,7 +146,7 @@ fn te_images_are_read() {
     assert_eq!((header.machine, header.subsystem, header.rva_offset), (0x8664, 10, 0x100));
     assert_eq!((header.entry_point, header.debug_dir.virtual_address), (0x1000, 0x50));
     assert_eq!((te.sections().len(), te.sections()[0].virtual_address), (1, 0x1000));
-    let entries: Vec<_> = te.debug_entries().unwrap().unwrap().map(Result::unwrap).collect();
+    let entries: Vec<_> = te.debug_entries().unwrap().map(Result::unwrap).collect();
     assert_eq!((entries.len(), entries[0].address_of_raw_data, entries[0].data_type), (1, 0x70, 2));
     assert_eq!(te.first_debug_entry(2), Ok(Some(entries[0])));
     assert_eq!(te.first_debug_entry(13), Ok(None));

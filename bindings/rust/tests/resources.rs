@@ -120,22 +120,22 @@ fn rich_headers_are_read() {
 fn bound_imports_are_read() {
     let bytes = with_bound_imports();
     let image = strict(&bytes);
-    let imports: Vec<_> = image.bound_imports().unwrap().unwrap().map(Result::unwrap).collect();
+    let imports: Vec<_> = image.bound_imports().unwrap().map(Result::unwrap).collect();
     let names: Vec<_> = imports.iter().map(|it| (it.name, it.time_date_stamp)).collect();
     assert_eq!(names, [(b"one.dll".as_slice(), 0x3F00_0001), (b"six.dll", 0x3F00_0003)]);
     let forwarders: Vec<_> = imports[0].forwarders().map(Result::unwrap).collect();
     assert_eq!(forwarders, [BoundForwarder { name: b"two.dll", time_date_stamp: 0x3F00_0002 }]);
     assert!(imports[1].forwarders().next().is_none());
-    assert!(strict(SMALL).bound_imports().unwrap().is_none());
-    let all: Vec<_> = image.bound_forwarders().unwrap().unwrap().map(Result::unwrap).collect();
+    assert!(strict(SMALL).bound_imports().unwrap().next().is_none());
+    let all: Vec<_> = image.bound_forwarders().unwrap().map(Result::unwrap).collect();
     assert_eq!(all, [LibraryForwarder { library: b"one.dll", index: 0, forwarder: forwarders[0] }]);
-    assert!(strict(SMALL).bound_forwarders().unwrap().is_none());
+    assert!(strict(SMALL).bound_forwarders().unwrap().next().is_none());
 }
 
 /// Each DLL by itself has what the list of all has.
 fn forwarders_one_by_one<'a>(image: &Image<'a>) -> Vec<Result<LibraryForwarder<'a>, Error>> {
     let mut items = Vec::new();
-    for (index, import) in (0..).zip(image.bound_imports().unwrap().unwrap()) {
+    for (index, import) in (0..).zip(image.bound_imports().unwrap()) {
         match import {
             Ok(import) => items.extend(
                 import
@@ -172,7 +172,7 @@ fn forwarders_of_many_bound_imports_are_in_one_list() {
     made.put(&table);
     let bytes = made.image();
     let image = strict(&bytes);
-    let all: Vec<_> = image.bound_forwarders().unwrap().unwrap().collect();
+    let all: Vec<_> = image.bound_forwarders().unwrap().collect();
     assert_eq!((all.len(), entries), (297, 397));
     assert_eq!(all, forwarders_one_by_one(&image));
     let last = all[296].unwrap();
@@ -183,7 +183,7 @@ fn forwarders_of_many_bound_imports_are_in_one_list() {
         for entry in [0, 1, 2, 3, 100, entries - 1] {
             let bytes = changed(bytes.clone(), OFFSET as usize + 8 * entry + 4, &name.to_le_bytes());
             let image = strict(&bytes);
-            let all: Vec<_> = image.bound_forwarders().unwrap().unwrap().collect();
+            let all: Vec<_> = image.bound_forwarders().unwrap().collect();
             assert_eq!(all, forwarders_one_by_one(&image), "{name} {entry}");
         }
     }
@@ -195,7 +195,7 @@ fn damaged_bound_imports_are_refused() {
     let found = |offset: usize, part: &[u8]| {
         let bytes = changed(with_bound_imports(), start + offset, part);
         let image = strict(&bytes);
-        let mut imports = image.bound_imports().unwrap().unwrap();
+        let mut imports = image.bound_imports().unwrap();
         let items: Vec<_> = imports.by_ref().map(|it| it.map(|it| it.forwarders().collect::<Vec<_>>().len())).collect();
         assert!(imports.next().is_none());
         items
@@ -207,7 +207,7 @@ fn damaged_bound_imports_are_refused() {
     assert_eq!(found(4, &[0]), []);
     // a forwarder's name after the directory
     let bytes = changed(with_bound_imports(), start + 12, &[0x40]);
-    let import = strict(&bytes).bound_imports().unwrap().unwrap().next().unwrap().unwrap();
+    let import = strict(&bytes).bound_imports().unwrap().next().unwrap().unwrap();
     let mut forwarders = import.forwarders();
     assert_eq!((forwarders.next(), forwarders.next()), (Some(Err(Error::DIRECTORY_BOUND_IMPORT_NAME)), None));
     let bytes = changed(with_bound_imports(), 0xC8 + 8 * BOUND_IMPORTS + 4, &[1, 2]);

@@ -148,7 +148,7 @@ fn zeros_are_numbers() {
     assert_eq!(bytes[at..at + 4], 0x1004u32.to_le_bytes());
     bytes[at..at + 4].fill(0);
     let second = |image: &Image| {
-        let found = image.exports().unwrap().unwrap().map(Result::unwrap).find(|it| it.name == b"second").unwrap();
+        let found = image.exports().unwrap().map(Result::unwrap).find(|it| it.name == b"second").unwrap();
         (found.rva, found.offset)
     };
     let file = strict(&bytes);
@@ -188,7 +188,7 @@ fn empty_texts_are_there() {
     let at = bytes.windows(5).position(|it| it == b"Sleep").unwrap();
     bytes[at] = 0;
     let image = strict(&bytes);
-    let library = image.libraries().unwrap().unwrap().next().unwrap().unwrap();
+    let library = image.libraries().unwrap().next().unwrap().unwrap();
     let imports: Vec<_> = library.imports().map(|it| it.unwrap()).map(|it| (it.name, it.ordinal)).collect();
     assert_eq!(imports, [(Some(b"".as_slice()), 42), (None, 17)]);
 

@@ -11,7 +11,7 @@ fn strict(bytes: &[u8]) -> Image<'_> {
 
 /// The first block of an image, which is all of its version information.
 fn root<'a>(image: &Image<'a>) -> VersionBlock<'a> {
-    image.version_blocks().unwrap().unwrap().next().unwrap().unwrap()
+    image.version_blocks().unwrap().next().unwrap().unwrap()
 }
 
 /// All strings: their language, key and value.
@@ -39,7 +39,7 @@ fn strings_with_any_key() {
 fn the_first_block_is_all() {
     let bytes = with_resources();
     let image = strict(&bytes);
-    let mut blocks = image.version_blocks().unwrap().unwrap();
+    let mut blocks = image.version_blocks().unwrap();
     let first = blocks.next().unwrap().unwrap();
     assert_eq!(first.key.to_string_lossy(), "VS_VERSION_INFO");
     assert_eq!((first.value.len(), first.is_text, first.language), (52, false, None));
@@ -54,7 +54,7 @@ fn the_first_block_is_all() {
     // The halves of the signature 0xFEEF04BD, the first of 13 numbers.
     assert_eq!(first.languages().next(), Some(VersionLanguage { language: 0x4BD, code_page: 0xFEEF }));
     assert_eq!(first.languages().count(), 13);
-    assert!(strict(SMALL).version_blocks().unwrap().is_none());
+    assert!(strict(SMALL).version_blocks().unwrap().next().is_none());
 }
 
 /// The items of the one string table: keys and errors.

@@ -53,6 +53,5 @@ pub fn is_limited(bound: &List<Bound>) -> bool {
 pub fn of<'a>(image: &'a Image<'_>) -> Part<List<Bound<'a>>> {
     let mut budget = Budget::of(image);
     let bound_imports_of = |bound| List::limited(bound, |found| bound_of(found, &mut budget));
-    let found = image.bound_imports().map(|found| found.map(bound_imports_of));
-    Part::of_directory(found, image, DirectoryIndex::BoundImport)
+    Part::of_walk(image.bound_imports().map(bound_imports_of), image, DirectoryIndex::BoundImport)
 }

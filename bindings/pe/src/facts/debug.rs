@@ -2,7 +2,7 @@
 
 use super::{entry, field, hex_of, Flags, List, Name, Named, Part, Refusal, Stamp};
 use crate::names::{DEBUG_TYPES, EXTENDED_DLL_CHARACTERISTICS};
-use pe_c::{DebugEntry, DirectoryIndex, Error, Image, Repro, SymbolKey, Te};
+use pe_c::{DebugEntry, Directory, DirectoryIndex, Error, Image, Repro, SymbolKey, Te};
 use serde::Serialize;
 
 #[derive(Clone, Debug, Serialize)]
@@ -178,7 +178,9 @@ pub fn of<'a>(image: &'a Image<'_>) -> Debug<'a> {
 /// Of a TE image the entries, and the PDB.
 pub fn of_te<'a>(te: &Te<'a>) -> Debug<'a> {
     let is_hash = matches!(te.first_debug_entry(REPRO), Ok(Some(_)));
-    let entries = te.debug_entries().map(|found| found.map(|it| List::of(it, |entry| entry_of(entry, is_hash))));
+    let is_there = te.header().debug_dir != Directory::default();
+    let list = te.debug_entries().map(|it| List::of(it, |entry| entry_of(entry, is_hash)));
+    let entries = list.map(|it| is_there.then_some(it));
     Debug {
         entries: entries.into(),
         pdb: pdb_of(te.symbol_key()),
@@ -211,8 +213,8 @@ fn extended_of(flags: u32) -> Extended {
 fn entries_of(image: &Image<'_>) -> Part<List<Entry>> {
     // The stamps of a reproducible build are a hash.
     let is_hash = matches!(image.repro(), Ok(Some(_)));
-    let entries = image.debug_entries().map(|found| found.map(|it| List::of(it, |entry| entry_of(entry, is_hash))));
-    Part::of_directory(entries, image, DirectoryIndex::Debug)
+    let entries = image.debug_entries().map(|it| List::of(it, |entry| entry_of(entry, is_hash)));
+    Part::of_walk(entries, image, DirectoryIndex::Debug)
 }
 
 fn entry_of(entry: DebugEntry, is_hash: bool) -> Entry {

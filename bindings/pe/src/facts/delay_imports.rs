@@ -56,6 +56,5 @@ pub fn is_limited(libraries: &List<Library>) -> bool {
 pub fn of<'a>(image: &'a Image<'_>) -> Part<List<Library<'a>>> {
     let mut budget = Budget::of(image);
     let libraries_of = |libraries| List::limited(libraries, |found| library_of(found, &mut budget));
-    let found = image.delay_imports().map(|found| found.map(libraries_of));
-    Part::of_directory(found, image, DirectoryIndex::DelayImport)
+    Part::of_walk(image.delay_imports().map(libraries_of), image, DirectoryIndex::DelayImport)
 }

@@ -39,10 +39,8 @@ pub fn of<'a>(image: &'a Image<'_>) -> Part<Exports<'a>> {
 }
 
 fn exports_of<'a>(image: &'a Image<'_>) -> Result<Option<Exports<'a>>, Error> {
-    let (Some(table), Some(named)) = (image.export_addresses()?, image.exports()?) else {
-        return Ok(None);
-    };
-    let (names, mut is_limited) = names_of(named, Budget::of(image))?;
+    let Some(table) = image.export_addresses()? else { return Ok(None) };
+    let (names, mut is_limited) = names_of(image.exports()?, Budget::of(image))?;
     let mut names = names.into_iter().peekable();
     let (mut entries, mut budget) = (Vec::new(), Budget::of(image));
     for (index, entry) in (0..).zip(table.iter()).filter(|(_, entry)| entry.rva != 0) {

@@ -48,7 +48,7 @@ fn function_of(library: &str, import: &Import<'_>) -> Option<String> {
 
 fn imphash_of(image: &Image<'_>) -> Option<String> {
     let (mut hash, mut left, mut is_first) = (Md5::new(), image.bytes().len().saturating_mul(READINGS), true);
-    for library in image.libraries().ok()?? {
+    for library in image.libraries().ok()? {
         let library = library.ok()?;
         let name = std::str::from_utf8(library.name).ok()?.to_lowercase();
         for import in library.imports() {

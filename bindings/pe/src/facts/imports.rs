@@ -60,6 +60,6 @@ pub fn of<'a>(image: &'a Image<'_>) -> Part<List<Library<'a>>> {
             }
         })
     };
-    let found = image.libraries().map(|found| found.map(|libraries| List::limited(libraries, library_of)));
-    Part::of_directory(found, image, DirectoryIndex::Import)
+    let found = image.libraries().map(|libraries| List::limited(libraries, library_of));
+    Part::of_walk(found, image, DirectoryIndex::Import)
 }

@@ -45,6 +45,6 @@ fn page_of(block: RelocationBlock<'_>) -> Page {
 }
 
 pub fn of(image: &Image<'_>) -> Part<List<Page>> {
-    let found = image.relocation_blocks().map(|found| found.map(|blocks| List::of(blocks, page_of)));
-    Part::of_directory(found, image, DirectoryIndex::BaseRelocation)
+    let found = image.relocation_blocks().map(|blocks| List::of(blocks, page_of));
+    Part::of_walk(found, image, DirectoryIndex::BaseRelocation)
 }

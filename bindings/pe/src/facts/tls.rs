@@ -27,8 +27,8 @@ pub struct Callback(pub u64);
 field!(Tls, "tls");
 entry!(Callback, "callbacks");
 
-fn callbacks_of(image: &Image<'_>) -> Part<List<Callback>> {
-    image.tls_callbacks().map(|found| found.map(|callbacks| List::of(callbacks, Callback))).into()
+fn callbacks_of(image: &Image<'_>, has_table: bool) -> Part<List<Callback>> {
+    image.tls_callbacks().map(|callbacks| has_table.then(|| List::of(callbacks, Callback))).into()
 }
 
 pub fn of(image: &Image<'_>) -> Part<Tls> {
@@ -39,7 +39,7 @@ pub fn of(image: &Image<'_>) -> Part<Tls> {
             index_va: tls.address_of_index,
             zero_fill: tls.size_of_zero_fill,
             characteristics: tls.characteristics,
-            callbacks: callbacks_of(image),
+            callbacks: callbacks_of(image, tls.address_of_callbacks != 0),
         })
     });
     Part::of_directory(found, image, DirectoryIndex::Tls)

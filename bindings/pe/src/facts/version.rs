@@ -129,8 +129,7 @@ fn tables_of<'a>(
         }
         let language = label_of(leaf.language);
         let language = language.id.map_or(language, language_of);
-        let put =
-            leaf.version_blocks().and_then(|it| it.map_or(Ok(()), |it| put_tables(it, &language, &mut list.entries)));
+        let put = leaf.version_blocks().and_then(|it| put_tables(it, &language, &mut list.entries));
         if let Err(error) = put {
             list.error = Some(error.into());
             break;

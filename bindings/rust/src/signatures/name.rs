@@ -2,6 +2,7 @@
 
 use super::error::{read, step};
 use super::{all, of, KnownOid, Oid, SignatureError};
+use crate::shown::{self, shown};
 use crate::sys;
 use alloc::borrow::Cow;
 use alloc::string::String;
@@ -81,18 +82,20 @@ impl fmt::Display for Name<'_> {
 
 impl fmt::Debug for Name<'_> {
     fn fmt(&self, f: &mut fmt::Formatter<'_>) -> fmt::Result {
-        write!(f, "Name({self})")
+        f.debug_tuple("Name").field(&shown::Written(self)).finish()
     }
 }
 
 /// The attributes of a name. After an error it is over.
-#[derive(Clone, Debug)]
+#[derive(Clone)]
 pub struct NameAttributes<'a> {
     bytes: &'a [u8],
     walk: sys::NameWalk,
     first: Option<SignatureError>,
     is_over: bool,
 }
+
+shown! { NameAttributes<'_> { walk, first, is_over; .. } }
 
 impl<'a> Iterator for NameAttributes<'a> {
     type Item = Result<NameAttribute<'a>, SignatureError>;
@@ -211,7 +214,7 @@ impl fmt::Display for NameAttribute<'_> {
 
 impl fmt::Debug for NameAttribute<'_> {
     fn fmt(&self, f: &mut fmt::Formatter<'_>) -> fmt::Result {
-        write!(f, "NameAttribute({self})")
+        f.debug_tuple("NameAttribute").field(&shown::Written(self)).finish()
     }
 }
 

@@ -2,6 +2,7 @@
 
 use super::error::require_tag;
 use super::{of, SignatureError};
+use crate::shown;
 use crate::sys;
 use core::fmt;
 
@@ -241,6 +242,6 @@ impl fmt::Display for Oid<'_> {
 
 impl fmt::Debug for Oid<'_> {
     fn fmt(&self, f: &mut fmt::Formatter<'_>) -> fmt::Result {
-        write!(f, "Oid({self})")
+        f.debug_tuple("Oid").field(&shown::Written(self)).finish()
     }
 }

@@ -2,17 +2,20 @@
 
 use super::error::{find_attribute, look, read};
 use super::{list, of, Algorithm, Elements, KnownOid, Name, Oid, Signature, SignatureError, Time};
+use crate::shown::shown;
 use crate::sys;
 use alloc::string::String;
 
 /// A signer of a signature, or a counter-signature, `SignerInfo`. A verifier takes the certificate of this issuer and serial number,
 /// compares [`message_digest`](Signer::message_digest) with the digest of what is signed, and checks the signature over
 /// [`signed_bytes`](Signer::signed_bytes).
-#[derive(Clone, Copy, Debug)]
+#[derive(Clone, Copy)]
 pub struct Signer<'a> {
     bytes: &'a [u8],
     parts: sys::SignerInfo,
 }
+
+shown! { Signer<'_> { parts; .. } }
 
 list! {
     /// The signers of a signature. One that is refused is an error of its own, and others follow it.
@@ -161,11 +164,13 @@ impl<'a> Signer<'a> {
 }
 
 /// An attribute of a signer.
-#[derive(Clone, Copy, Debug)]
+#[derive(Clone, Copy)]
 pub struct Attribute<'a> {
     bytes: &'a [u8],
     parts: sys::SignerAttribute,
 }
+
+shown! { Attribute<'_> { parts; .. } }
 
 list! {
     /// Attributes of a signer. One that is refused is an error of its own, and others follow it.
@@ -199,11 +204,13 @@ impl<'a> Attribute<'a> {
 }
 
 /// What a signer says of the program, `SpcSpOpusInfo`.
-#[derive(Clone, Copy, Debug)]
+#[derive(Clone, Copy)]
 pub struct OpusInfo<'a> {
     bytes: &'a [u8],
     parts: sys::SpcOpusInfo,
 }
+
+shown! { OpusInfo<'_> { parts; .. } }
 
 impl OpusInfo<'_> {
     /// The name of the program. Characters that are not valid are replaced. `None` without a name.

@@ -2,6 +2,7 @@
 
 use super::error::read;
 use super::{of, Algorithm, SignatureError};
+use crate::shown::shown;
 use crate::sys;
 use core::fmt;
 
@@ -49,11 +50,13 @@ impl fmt::Display for Time {
 }
 
 /// What a time-stamp token says, `TSTInfo` ([RFC 3161](https://www.rfc-editor.org/rfc/rfc3161), 2.4).
-#[derive(Clone, Copy, Debug)]
+#[derive(Clone, Copy)]
 pub struct TimeStamp<'a> {
     bytes: &'a [u8],
     parts: sys::TstInfo,
 }
+
+shown! { TimeStamp<'_> { parts; .. } }
 
 impl<'a> TimeStamp<'a> {
     pub(super) fn at(bytes: &'a [u8], range: sys::Range) -> Result<Self, SignatureError> {

@@ -2,6 +2,7 @@
 
 use super::error::{read, require_tag};
 use super::{list, of, Algorithm, Elements, KnownOid, Name, Oid, SignatureError, Time};
+use crate::shown::shown;
 use crate::sys;
 use core::iter::FusedIterator;
 
@@ -12,12 +13,14 @@ const TAGGED_STRING_0: u32 = 0x80;
 
 /// A certificate of X.509: whose key it is, by whose word, and when it is valid
 /// ([RFC 5280](https://www.rfc-editor.org/rfc/rfc5280), 4.1). An entry of the certificate table is a [`Certificate`](crate::Certificate).
-#[derive(Clone, Copy, Debug)]
+#[derive(Clone, Copy)]
 pub struct X509<'a> {
     bytes: &'a [u8],
     whole: sys::Range,
     parts: sys::X509Certificate,
 }
+
+shown! { X509<'_> { whole, parts; .. } }
 
 list! {
     /// The certificates of a signature, in any order. One that is refused is an error of its own, and others follow it.
@@ -180,12 +183,14 @@ impl<'a> Iterator for KeyPurposes<'a> {
 impl FusedIterator for KeyPurposes<'_> {}
 
 /// An extension of a certificate.
-#[derive(Clone, Copy, Debug)]
+#[derive(Clone, Copy)]
 pub struct Extension<'a> {
     bytes: &'a [u8],
     whole: sys::Range,
     parts: sys::X509Extension,
 }
+
+shown! { Extension<'_> { whole, parts; .. } }
 
 list! {
     /// The extensions of a certificate. One that is refused is an error of its own, and others follow it.

@@ -3,8 +3,8 @@
 #![allow(dead_code)]
 
 use pe_c::{
-    sys, Arm64Function, Arm64Functions, Arm64Unwinding, Error, Function, Functions, Handler, Image, UnwindRecord,
-    VersionName,
+    sys, Arm64Function, Arm64Functions, Arm64Unwinding, Error, Function, Functions, Handler, Image, Repro,
+    UnwindRecord, VersionName,
 };
 use std::fmt::Debug;
 
@@ -30,20 +30,23 @@ fn push_all<T: Debug>(lines: &mut Vec<String>, word: &str, items: impl Iterator<
 
 fn push_debug(lines: &mut Vec<String>, image: &Image) {
     match image.debug_entries() {
-        Ok(entries) => push_all(lines, "debug", entries.into_iter().flatten()),
+        Ok(entries) => push_all(lines, "debug", entries),
         Err(error) => lines.push(format!("debug {error:?}")),
     }
     lines.push(format!("key {:?}", image.symbol_key()));
     lines.push(format!("pdb20 {:?}", image.pdb20()));
     lines.push(format!("features {:?} {:?}", image.vc_features(), image.debug_characteristics()));
-    lines.push(format!("repro {:?}", image.repro()));
+    let hash = image.repro().map(|it| it.map(|it| if let Repro::Hash(hash) = it { hash } else { &[] }));
+    lines.push(format!("repro {:?} {hash:?}", image.repro()));
     let parts = image.pogo().map(|pogo| pogo.map(|pogo| (pogo.signature, pogo.entries().collect::<Vec<_>>())));
     lines.push(format!("pogo {parts:?}"));
     for data_type in [17, 19] {
         let Ok(Some(entry)) = image.debug_entry(data_type) else {
             continue;
         };
-        lines.push(format!("managed {:?} {:?}", image.embedded_pdb_of(&entry), image.pdb_checksum_of(&entry)));
+        let embedded = image.embedded_pdb_of(&entry).map(|it| it.map(|it| (it.uncompressed_size, it.compressed)));
+        let checksum = image.pdb_checksum_of(&entry).map(|it| it.map(|it| (it.algorithm, it.checksum)));
+        lines.push(format!("managed {embedded:?} {checksum:?}"));
     }
 }
 
@@ -109,14 +112,11 @@ fn push_tables(lines: &mut Vec<String>, image: &Image) {
         Err(error) => lines.push(format!("exported {error:?}")),
     }
     match image.exports() {
-        Ok(exports) => {
-            let exports = exports.into_iter().flatten();
-            push_all(lines, "export", exports.map(|it| it.map(|it| (it.name, it.rva))));
-        }
+        Ok(exports) => push_all(lines, "export", exports.map(|it| it.map(|it| (it.name, it.rva)))),
         Err(error) => lines.push(format!("exports {error:?}")),
     }
     let libraries = match image.libraries() {
-        Ok(libraries) => libraries.into_iter().flatten(),
+        Ok(libraries) => libraries,
         Err(error) => return lines.push(format!("imports {error:?}")),
     };
     for library in libraries {
@@ -128,7 +128,7 @@ fn push_tables(lines: &mut Vec<String>, image: &Image) {
 fn push_versions(lines: &mut Vec<String>, image: &Image) {
     lines.push(format!("version {:?}", image.version()));
     for name in VersionName::ALL {
-        lines.push(format!("text {:?}", image.version_text(name)));
+        lines.push(format!("text {:?}", image.version_text(name).map(|it| it.map(|it| it.0))));
     }
     lines.push(format!("manifest {:?}", image.manifest()));
 }

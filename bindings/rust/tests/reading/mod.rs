@@ -3,16 +3,23 @@
 
 use pe_c::{
     Arm64Function, Arm64Functions, Arm64Record, Arm64Registers, Arm64Unwinding, Coff, Dump, DumpImages, Error, Frames,
-    Function, Functions, Handler, Image, Layout, MemoryList, MemoryPiece, Mode, Module, Placement, Registers,
-    ResourceName, Signature, SignatureError, Stack, Stacks, StepError, Symbols, Te, UnwindRecord, VersionBlocks,
-    VersionName, X509,
+    Function, Functions, GuardTable, Handler, Image, Layout, MemoryList, MemoryPiece, Mode, Module, Placement,
+    Registers, ResourceName, Signature, SignatureError, Stack, Stacks, StepError, Symbols, Te, UnwindRecord,
+    VersionBlocks, VersionName, X509,
 };
+use std::fmt::Debug;
+
+/// How many bytes `{:?}` of anything that is read prints at most.
+pub const MOST_PRINTED: usize = 4096;
 
 /// What was read.
 #[derive(Clone, Copy, Debug, Default, PartialEq, Eq)]
 pub struct Seen {
     /// The most items of a table or a walk that are read.
     most: usize,
+    /// Whether what is read is printed by `{:?}`, and how often it was.
+    prints: bool,
+    pub printed: u64,
     pub images: u64,
     pub records: u64,
     pub codes: u64,
@@ -26,12 +33,27 @@ impl Seen {
         Seen { most, ..Seen::default() }
     }
 
+    /// The same, where all that is read is printed too.
+    pub fn printing(most: usize) -> Seen {
+        Seen { prints: true, ..Seen::up_to(most) }
+    }
+
+    /// Prints what was read, which has to be short.
+    fn print(&mut self, value: &impl Debug) {
+        if self.prints {
+            let text = format!("{value:?}");
+            assert!(text.len() <= MOST_PRINTED, "{} bytes: {}", text.len(), text.chars().take(200).collect::<String>());
+            self.printed += 1;
+        }
+    }
+
     pub fn add(&mut self, other: Seen) {
         self.images += other.images;
         self.records += other.records;
         self.codes += other.codes;
         self.slices += other.slices;
         self.refusals += other.refusals;
+        self.printed += other.printed;
     }
 
     /// Reads the first and last byte of a slice of the input.
@@ -41,16 +63,21 @@ impl Seen {
     }
 
     /// The value of a call, or `None` after an error.
-    fn keep<T>(&mut self, answer: Result<Option<T>, Error>) -> Option<T> {
-        answer.unwrap_or_else(|_| {
-            self.refusals += 1;
-            None
-        })
+    fn keep<T: Debug>(&mut self, answer: Result<Option<T>, Error>) -> Option<T> {
+        let found = self.counted(answer).flatten();
+        found.iter().for_each(|it| self.print(it));
+        found
     }
 
     /// Counts an item of a walk.
-    fn item<T>(&mut self, item: Result<T, Error>) -> Option<T> {
+    fn item<T: Debug>(&mut self, item: Result<T, Error>) -> Option<T> {
         self.keep(item.map(Some))
+    }
+
+    /// The same of what is not printed: plain bytes.
+    fn counted<T>(&mut self, item: Result<T, Error>) -> Option<T> {
+        self.refusals += u64::from(item.is_err());
+        item.ok()
     }
 }
 
@@ -80,7 +107,7 @@ fn read_debug_entry(image: &Image, entry: &pe_c::DebugEntry, seen: &mut Seen) {
 }
 
 fn read_debug(image: &Image, seen: &mut Seen) {
-    if let Some(entries) = seen.keep(image.debug_entries()) {
+    if let Some(entries) = seen.item(image.debug_entries()) {
         for entry in entries {
             if let Some(entry) = seen.item(entry) {
                 read_debug_entry(image, &entry, seen);
@@ -105,6 +132,7 @@ fn read_debug(image: &Image, seen: &mut Seen) {
         seen.touch(hash);
     }
     if let Some(pogo) = seen.keep(image.pogo()) {
+        seen.print(&pogo.entries());
         for entry in pogo.entries().take(seen.most) {
             if let Some(entry) = seen.item(entry) {
                 assert_eq!(entry.name_bytes.last(), Some(&0));
@@ -117,13 +145,17 @@ fn read_debug(image: &Image, seen: &mut Seen) {
 /// Reads symbols, their names and their auxiliary records.
 fn read_symbols(symbols: Option<Symbols>, seen: &mut Seen) {
     let Some(symbols) = symbols else { return };
+    for symbol in symbols.clone().named().into_iter().flatten().take(if seen.prints { seen.most } else { 0 }) {
+        seen.print(&symbol);
+    }
     for symbol in symbols.clone().take(seen.most) {
         let Some(symbol) = seen.item(symbol) else { continue };
         assert_eq!(symbols.get(symbol.index).map(|it| it.name()), Some(symbol.name()));
-        if let Some(name) = seen.item(symbol.name()) {
+        if let Some(name) = seen.counted(symbol.name()) {
             seen.touch(name);
         }
         seen.touch(symbol.auxiliary());
+        seen.print(&*symbol);
         assert_eq!(symbols.get(symbol.index).map(|it| *it), Some(*symbol));
     }
 }
@@ -135,11 +167,11 @@ pub fn read_others(bytes: &[u8], seen: &mut Seen) {
         for (i, section) in object.sections().iter().enumerate().take(seen.most) {
             let alone = object.long_section_name(section);
             assert_eq!(names.as_ref().map(|it| it[i]), alone.as_ref().copied());
-            if let Some(name) = seen.keep(alone) {
+            if let Some(name) = seen.counted(alone).flatten() {
                 seen.touch(name);
             }
         }
-        if let Some(table) = seen.keep(object.string_table()) {
+        if let Some(table) = seen.counted(object.string_table()).flatten() {
             seen.touch(table);
         }
         read_symbols(seen.keep(object.symbols()), seen);
@@ -150,7 +182,7 @@ pub fn read_others(bytes: &[u8], seen: &mut Seen) {
     }
     if let Some(te) = seen.item(te) {
         assert_eq!((Te::failure(bytes), te.sections().len()), (None, te.header().number_of_sections.into()));
-        for entry in seen.keep(te.debug_entries()).into_iter().flatten().take(seen.most) {
+        for entry in seen.item(te.debug_entries()).into_iter().flatten().take(seen.most) {
             seen.item(entry);
         }
         if let Some(key) = seen.keep(te.symbol_key()) {
@@ -165,15 +197,15 @@ pub fn read_dump(bytes: &[u8], seen: &mut Seen) {
         return;
     };
     for entry in dump.streams().take(seen.most) {
-        if let Some(bytes) = seen.keep(dump.stream(entry.stream_type)) {
+        if let Some(bytes) = seen.counted(dump.stream(entry.stream_type)).flatten() {
             seen.touch(bytes);
         }
     }
     for module in seen.keep(dump.modules()).into_iter().flatten().take(seen.most) {
-        if let Some(text) = seen.item(dump.text(module.module_name_rva.into())) {
+        if let Some(text) = seen.counted(dump.text(module.module_name_rva.into())) {
             seen.touch(text);
         }
-        if let Some(record) = seen.item(dump.located(&module.cv_record)) {
+        if let Some(record) = seen.counted(dump.located(&module.cv_record)) {
             seen.touch(record);
         }
     }
@@ -190,9 +222,12 @@ pub fn read_dump(bytes: &[u8], seen: &mut Seen) {
     let Some(images) = seen.item(DumpImages::new(&dump, |_| None)) else {
         return;
     };
+    seen.print(images.memory());
+    seen.print(&images.memory().list());
     let pieces = images.memory().pieces();
     assert!(pieces.windows(2).all(|it| it[0].start + it[0].length <= it[1].start));
     let mut stacks = Stacks::with_bound(&images, 64);
+    seen.print(&stacks);
     for thread in seen.keep(dump.threads()).into_iter().flatten().take(most) {
         if let Some(stack) = seen.item(stacks.walk(&dump, &thread, most)) {
             assert!(stack.frames.len() <= most);
@@ -205,6 +240,7 @@ fn read_certificates(image: &Image, seen: &mut Seen) {
         if let Some(certificate) = seen.item(certificate) {
             assert_eq!(certificate.body.len() as u64, u64::from(certificate.length).saturating_sub(8));
             seen.touch(certificate.body);
+            seen.print(&image.certificates());
             if let Ok(Some(signature)) = certificate.signature() {
                 read_signature(&signature, 2, seen);
             }
@@ -213,12 +249,15 @@ fn read_certificates(image: &Image, seen: &mut Seen) {
 }
 
 /// An item of a list in a signature.
-fn part<T>(item: Result<T, SignatureError>, seen: &mut Seen) -> Option<T> {
+fn part<T: Debug>(item: Result<T, SignatureError>, seen: &mut Seen) -> Option<T> {
     seen.refusals += u64::from(item.is_err());
+    item.iter().for_each(|it| seen.print(it));
     item.ok()
 }
 
 fn read_x509(certificate: &X509, seen: &mut Seen) {
+    seen.print(&(certificate.subject(), certificate.issuer(), certificate.extensions()));
+    seen.print(&(certificate.subject().attributes(), certificate.issuer().attributes().next()));
     seen.touch(certificate.der());
     seen.touch(certificate.to_be_signed());
     seen.touch(certificate.signature());
@@ -239,6 +278,7 @@ fn read_x509(certificate: &X509, seen: &mut Seen) {
 
 /// Reads a signature, and those in it so deep.
 fn read_signature(signature: &Signature, depth: usize, seen: &mut Seen) {
+    seen.print(&(signature, signature.content_type(), signature.certificates(), signature.signers()));
     seen.touch(signature.digested().unwrap_or_default());
     if let Some(Some(data)) = part(signature.indirect_data(), seen) {
         seen.touch(data.digest());
@@ -257,6 +297,7 @@ fn read_signature(signature: &Signature, depth: usize, seen: &mut Seen) {
         seen.touch(signer.signature());
         seen.touch(signer.signed_bytes().unwrap_or_default().1);
         part(signer.message_digest(), seen);
+        seen.print(&(signer.issuer(), signer.digest_algorithm(), signer.signature_algorithm()));
         part(signer.signing_time(), seen);
         if let Some(Some(opus)) = part(signer.opus_info(), seen) {
             seen.touch(opus.program_name().unwrap_or_default().as_bytes());
@@ -293,12 +334,12 @@ fn read_signing(image: &Image, seen: &mut Seen) {
         assert!(sum.offset + 4 <= image.bytes().len() as u64);
     }
     for placement in [Placement::After, Placement::InPlace] {
-        if let Some(file) = seen.item(image.attach(&CERTIFICATE, placement)) {
+        if let Some(file) = seen.counted(image.attach(&CERTIFICATE, placement)) {
             assert_eq!(file.len() % 8, 0);
             assert_eq!(file[file.len() - 16..file.len() - 6], CERTIFICATE);
         }
     }
-    if let Some(file) = seen.item(image.detach()) {
+    if let Some(file) = seen.counted(image.detach()) {
         assert!(file.len() <= image.bytes().len());
     }
 }
@@ -313,6 +354,7 @@ fn read_record(record: &UnwindRecord, seen: &mut Seen) {
     }
     assert!(count <= 255);
     seen.codes += count;
+    seen.print(&(record.codes(), record.handler(), record.scopes()));
     match record.handler() {
         Some(Handler::Exception(_, data) | Handler::Termination(_, data)) => seen.touch(data),
         None => {}
@@ -345,7 +387,10 @@ fn step_out(image: &Image, functions: &Functions, function: Function, seen: &mut
         if let Ok(module) = Module::new(image, 0) {
             let pieces = [MemoryPiece { start: 0x2_0000, offset: 0, length: STACK.len() as u64 }];
             let memory = MemoryList::new(&STACK, &pieces).unwrap();
-            assert!(Frames::new(registers, 4, &[module], memory).count() <= 4);
+            let modules = [module];
+            let frames = Frames::new(registers, 4, &modules, memory);
+            seen.print(&(module, memory, &frames, stack));
+            assert!(frames.count() <= 4);
         }
     }
 }
@@ -366,6 +411,7 @@ fn read_functions(image: &Image, seen: &mut Seen) {
             read_record(&record, seen);
         }
         step_out(image, &functions, function, seen);
+        seen.print(&functions.plan(function));
         for record in functions.plan(function).take(seen.most) {
             if let Some(record) = seen.item(record) {
                 read_record(&record, seen);
@@ -406,7 +452,10 @@ fn step_out_arm64(image: &Image, functions: &Arm64Functions, function: Arm64Func
         if let Ok(module) = Module::new(image, 0) {
             let pieces = [MemoryPiece { start: 0x2_0000, offset: 0, length: STACK.len() as u64 }];
             let memory = MemoryList::new(&STACK, &pieces).unwrap();
-            assert!(Frames::new(registers, 4, &[module], memory).count() <= 4);
+            let modules = [module];
+            let frames = Frames::new(registers, 4, &modules, memory);
+            seen.print(&(module, memory, &frames, stack));
+            assert!(frames.count() <= 4);
         }
     }
 }
@@ -442,7 +491,7 @@ fn read_arm64_functions(image: &Image, seen: &mut Seen) {
 }
 
 fn read_exports(image: &Image, seen: &mut Seen) {
-    if let Some(exports) = seen.keep(image.exports()) {
+    if let Some(exports) = seen.item(image.exports()) {
         for export in exports.take(seen.most) {
             if let Some(export) = seen.item(export) {
                 seen.touch(export.name);
@@ -455,13 +504,14 @@ fn read_addresses(image: &Image, seen: &mut Seen) {
     if let Some(table) = seen.keep(image.export_addresses()) {
         seen.touch(table.name().unwrap_or_default());
         for entry in table.iter().take(seen.most) {
+            seen.print(&entry);
             seen.touch(entry.forwarder.unwrap_or_default());
         }
     }
 }
 
 fn read_imports(image: &Image, seen: &mut Seen) {
-    let Some(libraries) = seen.keep(image.libraries()) else {
+    let Some(libraries) = seen.item(image.libraries()) else {
         return;
     };
     for library in libraries.take(seen.most) {
@@ -469,6 +519,7 @@ fn read_imports(image: &Image, seen: &mut Seen) {
             continue;
         };
         seen.touch(library.name);
+        seen.print(&library.imports());
         for import in library.imports().take(seen.most) {
             if let Some(import) = seen.item(import) {
                 seen.touch(import.name.unwrap_or_default());
@@ -478,11 +529,12 @@ fn read_imports(image: &Image, seen: &mut Seen) {
 }
 
 fn read_delay_imports(image: &Image, seen: &mut Seen) {
-    for import in seen.keep(image.delay_imports()).into_iter().flatten().take(seen.most) {
+    for import in seen.item(image.delay_imports()).into_iter().flatten().take(seen.most) {
         let Some(import) = seen.item(import) else {
             continue;
         };
         seen.touch(import.name);
+        seen.print(&import.functions());
         for function in import.functions().take(seen.most) {
             if let Some(function) = seen.item(function) {
                 seen.touch(function.name.unwrap_or_default());
@@ -501,6 +553,7 @@ fn read_clr(image: &Image, seen: &mut Seen) {
     assert_eq!(metadata.bytes.len() as u64, u64::from(clr.header().metadata.size));
     assert!(metadata.version().len() <= metadata.version_bytes.len());
     seen.touch(metadata.version_bytes);
+    seen.print(&metadata.streams());
     for stream in metadata.streams().take(seen.most) {
         if let Some(stream) = seen.item(stream) {
             assert!(stream.name.len() < 32 && !stream.name.contains(&0));
@@ -521,10 +574,10 @@ fn read_version(image: &Image, seen: &mut Seen) {
             std::hint::black_box(text.characters().count());
         }
     }
-    if let Some(manifest) = seen.keep(image.manifest()) {
+    if let Some(manifest) = seen.counted(image.manifest()).flatten() {
         seen.touch(manifest);
     }
-    if let Some(blocks) = seen.keep(image.version_blocks()) {
+    if let Some(blocks) = seen.item(image.version_blocks()) {
         read_blocks(blocks, 4, seen);
     }
 }
@@ -537,6 +590,7 @@ fn read_blocks(blocks: VersionBlocks, levels: usize, seen: &mut Seen) {
         };
         seen.touch(block.key.0);
         seen.touch(block.value);
+        seen.print(&block.children());
         std::hint::black_box(block.languages().count());
         if levels > 1 {
             read_blocks(block.children(), levels - 1, seen);
@@ -554,7 +608,7 @@ fn read_leaves(image: &Image, seen: &mut Seen) {
                 seen.touch(text.0);
             }
         }
-        if let Some(content) = seen.item(leaf.content()) {
+        if let Some(content) = seen.counted(leaf.content()) {
             assert_eq!(content.len(), leaf.size as usize);
             seen.touch(content);
         }
@@ -566,11 +620,12 @@ fn read_leaves(image: &Image, seen: &mut Seen) {
 }
 
 fn read_bound_imports(image: &Image, seen: &mut Seen) {
-    for import in seen.keep(image.bound_imports()).into_iter().flatten().take(seen.most) {
+    for import in seen.item(image.bound_imports()).into_iter().flatten().take(seen.most) {
         let Some(import) = seen.item(import) else {
             continue;
         };
         seen.touch(import.name);
+        seen.print(&import.forwarders());
         for forwarder in import.forwarders().take(seen.most) {
             if let Some(forwarder) = seen.item(forwarder) {
                 seen.touch(forwarder.name);
@@ -582,21 +637,67 @@ fn read_bound_imports(image: &Image, seen: &mut Seen) {
 /// The Rich header, and the names of sections in the string table.
 fn read_names(image: &Image, seen: &mut Seen) {
     if let Some(header) = seen.keep(image.rich_header()) {
+        seen.print(&header.entries());
         assert_eq!(header.entries().filter(Result::is_ok).count() as u64, header.count);
     }
-    if let Some(strings) = seen.keep(image.string_table()) {
+    if let Some(strings) = seen.counted(image.string_table()).flatten() {
         seen.touch(strings);
     }
     for section in image.sections().iter().take(seen.most) {
-        if let Some(name) = seen.keep(image.long_section_name(section)) {
+        if let Some(name) = seen.counted(image.long_section_name(section)).flatten() {
             seen.touch(name);
+        }
+    }
+}
+
+/// Lists of all DLLs, base relocations, TLS callbacks and tables of the load configuration.
+fn read_others_of(image: &Image, seen: &mut Seen) {
+    seen.keep(image.load_config());
+    seen.keep(image.tls());
+    seen.keep(image.export_directory());
+    let most = seen.most;
+    for import in seen.item(image.imports()).into_iter().flatten().take(most) {
+        seen.item(import);
+    }
+    for function in seen.item(image.delayed_functions()).into_iter().flatten().take(most) {
+        seen.item(function);
+    }
+    for forwarder in seen.item(image.bound_forwarders()).into_iter().flatten().take(most) {
+        seen.item(forwarder);
+    }
+    for callback in seen.item(image.tls_callbacks()).into_iter().flatten().take(most) {
+        seen.item(callback);
+    }
+    for block in seen.item(image.relocation_blocks()).into_iter().flatten().take(most) {
+        let Some(block) = seen.item(block) else { continue };
+        seen.print(&block.relocations());
+        for relocation in block.relocations().take(most) {
+            seen.item(relocation);
+        }
+    }
+    for entry in seen.keep(image.guard_table(GuardTable::CfFunctions)).into_iter().flatten().take(most) {
+        seen.item(entry);
+    }
+    if let Some(leaves) = seen.keep(image.resource_leaves()) {
+        let Some(directory) = seen.item(leaves.directory(0)) else { return };
+        seen.print(&directory.items());
+        for item in directory.items().take(most) {
+            seen.item(item);
         }
     }
 }
 
 /// Makes every call on these bytes, and reads at most so many items of each table and walk.
 pub fn read_all(bytes: &[u8], mode: Mode, layout: Layout, most: usize) -> Seen {
-    let mut seen = Seen::up_to(most);
+    read(bytes, mode, layout, Seen::up_to(most))
+}
+
+/// The same, and prints all that is read.
+pub fn print_all(bytes: &[u8], mode: Mode, layout: Layout, most: usize) -> Seen {
+    read(bytes, mode, layout, Seen::printing(most))
+}
+
+fn read(bytes: &[u8], mode: Mode, layout: Layout, mut seen: Seen) -> Seen {
     let answer = Image::parse_as(bytes, mode, layout);
     let Some(image) = seen.item(answer) else {
         return seen;
@@ -606,9 +707,11 @@ pub fn read_all(bytes: &[u8], mode: Mode, layout: Layout, most: usize) -> Seen {
         std::hint::black_box(section.name().len());
         seen.touch(image.section_bytes(section));
         std::hint::black_box(image.section_at(section.virtual_address));
+        seen.print(section);
     }
     std::hint::black_box(image.offset(image.info().entry));
     let headers = image.headers().expect("the headers were read");
+    seen.print(&headers);
     assert_eq!(headers.directories, image.info().directories);
     let stub = headers.dos_stub;
     seen.touch(&bytes[stub.offset as usize..][..stub.length as usize]);
@@ -623,7 +726,7 @@ pub fn read_all(bytes: &[u8], mode: Mode, layout: Layout, most: usize) -> Seen {
     read_exports(&image, &mut seen);
     read_imports(&image, &mut seen);
     read_delay_imports(&image, &mut seen);
-    seen.keep(image.load_config());
+    read_others_of(&image, &mut seen);
     read_clr(&image, &mut seen);
     read_version(&image, &mut seen);
     read_leaves(&image, &mut seen);

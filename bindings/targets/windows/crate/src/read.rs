@@ -3,16 +3,15 @@
 use alloc::format;
 use pe_c::{Error, Image, Mode};
 
-/// Prints the items of a list, up to its error, or that there is none.
+/// Prints the items of a list, up to its error.
 macro_rules! list {
     ($print:ident, $name:literal, $list:expr) => {
         match $list {
-            Ok(Some(items)) => {
+            Ok(items) => {
                 for item in items {
                     $print(&format!("{}: {item:X?}\n", $name));
                 }
             }
-            Ok(None) => $print(concat!($name, ": none\n")),
             Err(error) => $print(&format!("{}: {error}\n", $name)),
         }
     };
@@ -24,11 +23,11 @@ fn image(bytes: &[u8], mode: Mode, mut print: impl FnMut(&str)) -> Result<(), Er
     list!(print, "debug entry", image.debug_entries());
     list!(print, "export", image.exports());
     list!(print, "relocation block", image.relocation_blocks());
-    list!(print, "resource leaf", image.resource_leaves());
+    list!(print, "resource leaf", image.resource_leaves().map(|it| it.into_iter().flatten()));
     list!(print, "block of version information", image.version_blocks());
     list!(print, "callback", image.tls_callbacks());
-    list!(print, "symbol", image.symbols());
-    for library in image.libraries()?.into_iter().flatten() {
+    list!(print, "symbol", image.symbols().map(|it| it.into_iter().flatten()));
+    for library in image.libraries()? {
         let library = library?;
         print(&format!("library: {library:X?}\n"));
         for import in library.imports() {
