@@ -277,15 +277,14 @@ fn add_code<A, B>(it: &sys::Code, all: A, mut add: impl FnMut(A, error::Result<U
 #[inline(never)]
 fn fold_codes<B>(
     bytes: &[u8],
-    version: u32,
-    frame_register: u32,
+    form: sys::CodeForm,
     mut all: B,
     mut add: impl FnMut(B, error::Result<UnwindCode>) -> B,
 ) -> B {
     let mut room = raw::room::<_, MOST_CODES>();
-    let (codes, end) = raw::all_codes(bytes, version, frame_register, &mut room);
+    let (codes, end) = raw::all_codes(bytes, form, &mut room);
     if let Err(refusal) = end {
-        return fold_refused(codes, all, add, || refused_after(codes.len(), bytes, version, frame_register, refusal));
+        return fold_refused(codes, all, add, || refused_after(codes.len(), bytes, form, refusal));
     }
     for it in codes {
         all = add_code(it, all, &mut add);
@@ -310,8 +309,8 @@ fn fold_refused<B>(
 
 /// The error of the code after so many in these bytes.
 #[cold]
-fn refused_after(count: usize, bytes: &[u8], version: u32, frame_register: u32, refusal: Refusal) -> error::Error {
-    let mut walk = whole_walk(bytes, version as u8, frame_register as u8);
+fn refused_after(count: usize, bytes: &[u8], form: sys::CodeForm, refusal: Refusal) -> error::Error {
+    let mut walk = whole_walk(bytes, form);
     let mut room = raw::room::<_, MOST_CODES>();
     // Of a list that is full the walk is after its last code; where it has none, it is at its start.
     let _ = room.get_mut(..count).map(|room| View::of_bytes(bytes).list_codes(&mut walk, room).is_ok());
@@ -319,7 +318,8 @@ fn refused_after(count: usize, bytes: &[u8], version: u32, frame_register: u32, 
 }
 
 /// A walk over all codes in these bytes.
-fn whole_walk(bytes: &[u8], version: u8, frame_register: u8) -> sys::Walk {
+fn whole_walk(bytes: &[u8], form: sys::CodeForm) -> sys::Walk {
+    let sys::CodeForm { version, frame_register } = form;
     sys::Walk { left: raw::whole(bytes), version, frame_register, ..Default::default() }
 }
 
@@ -353,7 +353,8 @@ impl Iterator for UnwindCodeIterator<'_> {
         if left.is_empty() {
             return all;
         }
-        fold_codes(left, walk.version.into(), walk.frame_register.into(), all, add)
+        let form = sys::CodeForm { version: walk.version, frame_register: walk.frame_register };
+        fold_codes(left, form, all, add)
     }
 
     fn size_hint(&self) -> (usize, Option<usize>) {
@@ -491,7 +492,8 @@ impl<'a> UnwindInfo<'a> {
     /// The codes, in the order in which they are undone.
     #[inline]
     pub fn unwind_codes(&self) -> UnwindCodeIterator<'a> {
-        let walk = whole_walk(self.code_bytes, self.version, self.frame_register.0);
+        let form = sys::CodeForm { version: self.version, frame_register: self.frame_register.0 };
+        let walk = whole_walk(self.code_bytes, form);
         UnwindCodeIterator { bytes: self.code_bytes, walk, taken: raw::Few::default() }
     }
 
