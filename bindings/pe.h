@@ -450,7 +450,7 @@ uint32_t pe_c_headers(const uint8_t *bytes, size_t length, uint32_t mode, pe_c_h
  * lists of their names. Few calls, and images with few sections, as most, gain nothing by it. No entries, and PE_C_DONE,
  * where no section is searched: in an image as loaded, and where the file alignment is not a power of two. An index in
  * the view that is passed makes no difference. An index of other sections gives wrong offsets, and no other harm.
- * With an index a walk keeps no sections, and needs none; nor does it under 16 sections or fewer, which are searched for
+ * With an index a walk keeps no sections, and needs none; nor does it under 32 sections or fewer, which are searched for
  * less. Else a step over exports, imports, delay imports, resources or the records of a plan tests the section or two that
  * its walk keeps, and searches all of them only for an RVA elsewhere; all other steps search all for each RVA. A section
  * that may share an RVA with an earlier one, whose size is rounded up to a page, is not kept.

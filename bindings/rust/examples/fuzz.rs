@@ -253,7 +253,7 @@ fn read_by_steps(bytes: &[u8], mode: Mode, layout: Layout, random: &mut Random, 
     let mut sections = image.sections().to_vec();
     if random.below(2) == 0 {
         // Walks over few sections keep none.
-        sections.resize(sections.len() + 16, sys::Section::default());
+        sections.resize(sections.len() + 32, sys::Section::default());
     }
     let view = sys::View::of(bytes, image.info(), &sections, &[]);
     macro_rules! started {

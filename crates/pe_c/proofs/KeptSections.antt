@@ -147,7 +147,7 @@ one_more v old n keeps is_alone h x = by_number (map_of_image v.image.now (numbe
   new = record { first = n; second = old.first }
 
   no_index : (length v.index.now == 0) ≡ true
-  no_index = (both_tests (nat_lt 16 (length v.sections.now)) (length v.index.now == 0) keeps).1
+  no_index = (both_tests (nat_lt 32 (length v.sections.now)) (length v.index.now == 0) keeps).1
 
   by_old : (o : Option ℕ) → map_of_image v.image.now (numbered v.sections.now n) x ≡ None → map_of_image v.image.now (numbered v.sections.now old.first) x ≡ o → map_kept v new x ≡ map_of v x
   by_old (Some q) none_n e = by_second v new x q none_n e ∙ sym (by_first v old x q e) ∙ h x

@@ -50,7 +50,7 @@ ReturnsAsItKeeps {W} {P} {X} {R} place kept Steps =
 
 -- walks over an image keep sections where there are many of them, and no index
 abbrev pub keeps_sections : View → Bool
-keeps_sections v = nat_lt 16 (length v.sections.now) && length v.index.now == 0
+keeps_sections v = nat_lt 32 (length v.sections.now) && length v.index.now == 0
 
 -- the section with this index plus 1 maps RVAs as all sections do
 pub record IsAlone (image : Image) (sections : List SectionTable) (number : ℕ) : Type 0 where

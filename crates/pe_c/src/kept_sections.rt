@@ -40,7 +40,7 @@ pub const NO_SECTIONS: KeptSections = KeptSections {
 };
 
 /// Walks over an image of so many sections keep none: to search them takes less than to test those that a walk keeps.
-const FEW: usize = 16;
+const FEW: usize = 32;
 
 /// Whether walks over an image keep sections.
 #[inline(always)]
