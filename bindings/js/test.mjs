@@ -709,6 +709,9 @@ test('a list in one call has what its walk has, and starts where that is', () =>
   const named = [...it.items('pe_c_next_pogo_entry', { ...parts })];
   assert.deepEqual(named.map((part) => [part.rva, part.size, it.utf8(part.name)]), [[0x1000, 0x10, 'a\0']]);
   assert.deepEqual(listed(it, 'pe_c_list_pogo_entries', { walk: { ...parts } }), named);
+  // each record with its own result: PE_C_DONE, and PE_C_NOTHING
+  const { pogo, ...others } = it.call('pe_c_debug_data');
+  assert.deepEqual([pogo.entries, others.pogo_result, others.key_result, others.repro_result], [parts, 0, 100, 100]);
 });
 
 test('functions and codes in one call', () => {
