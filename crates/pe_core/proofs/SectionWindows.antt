@@ -2,6 +2,7 @@
 use Rattle.std.proofs.Common.{◌≡◌, ℕ, ◌-◌, ◌^◌, ◌<◌, ◌≤◌, Bool, List, length, get_or, Some, sym, ◌∙◌, arith}
 use Rattle.pe_core.specs.declared.section_pieces.Owner.{Owner}
 use Rattle.pe_core.specs.declared.section_pieces.Piece.{Piece}
+use Rattle.pe_core.specs.declared.options.ParseOptions.{ParseOptions}
 use Rattle.pe_core.specs.declared.section_table.SectionTable.{SectionTable}
 use Rattle.pe_core.specs.declared.section_window.Window.{Window}
 use Rattle.pe_core.specs.SectionIndex.{Agrees}
@@ -44,8 +45,8 @@ piece_at_end ps i x d o rising some within last small low is = record {
 }
 
 -- a piece of the map's index is a window of the map
-pub window_from : (m : SectionMapView) (resolve : Bool) (alignment : ℕ) (sections : List SectionTable) (pieces : List Piece) → record { resolve = resolve; alignment = alignment; sections = sections } ≡ m → Agrees resolve alignment sections pieces → (x : ℕ) (w : Window) → IsPieceOf pieces x w → IsWindow m w
-window_from m resolve alignment sections pieces same a x w piece = record {
+pub window_from : (m : SectionMapView) (opts : ParseOptions) (alignment : ℕ) (sections : List SectionTable) (pieces : List Piece) → record { opts = opts; alignment = alignment; sections = sections } ≡ m → Agrees opts.resolve_rva alignment sections pieces → (x : ℕ) (w : Window) → IsPieceOf pieces x w → IsWindow m w
+window_from m opts alignment sections pieces same a x w piece = record {
   above = λ y from to. (a.maps.near y w.owner (piece.owned y from to)).0;
-  maps = λ y from to. found m resolve alignment sections pieces same a y (Some w.owner) (sym (piece.owned y from to));
+  maps = λ y from to. found m opts alignment sections pieces same a y (Some w.owner) (sym (piece.owned y from to));
 }

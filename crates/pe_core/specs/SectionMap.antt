@@ -57,17 +57,17 @@ section_map opts sections alignment = offset_of opts.resolve_rva alignment secti
 
 -- what a section map is made of
 pub record SectionMapView : Type 0 where
-  pub resolve : Bool
+  pub opts : ParseOptions
   pub alignment : ℕ
   pub sections : List SectionTable
 
 -- what the section map of an image is made of
 abbrev pub map_view : ParseOptions → List SectionTable → ℕ → SectionMapView
-map_view opts sections alignment = record { resolve = opts.resolve_rva; alignment = alignment; sections = sections }
+map_view opts sections alignment = record { opts = opts; alignment = alignment; sections = sections }
 
 -- the file offset of an RVA by a section map
 abbrev pub offset_in : SectionMapView → ℕ → Option ℕ
-offset_in m = offset_of m.resolve m.alignment m.sections
+offset_in m = offset_of m.opts.resolve_rva m.alignment m.sections
 
 -- the file offset, or `Unmapped` if there is none
 abbrev pub mapped : Option ℕ → Result ℕ Refusal

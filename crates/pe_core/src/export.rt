@@ -20,6 +20,7 @@ use crate::bytes::{read_u16, read_u32, require_bytes, slice_at, u32_at};
 use crate::data_directories::DataDirectory;
 use crate::error::Result;
 use crate::many_texts::texts_at;
+use crate::mapped_bytes::MappedBytes;
 use crate::options::ParseOptions;
 use crate::rva_map::RvaMap;
 use crate::section_index::{SectionIndex, SectionMap};
@@ -305,23 +306,23 @@ impl<'a> Export<'a> {
             (export_data_view export_data.now))) }
     {
         let index = SectionIndex::new(alloc, sections, file_alignment, opts)?;
-        Export::parse_with_map(alloc, bytes, export_data, &index.map())
+        let map = index.map();
+        Export::parse_with_map(alloc, &MappedBytes { bytes, map }, export_data)
     }
 
     /// The exports that have names, as `parse_with_opts` lists them, by a section map.
     #[tactic(auto, using(crate::proofs::ExportLists::listed))]
     pub fn parse_with_map<A: Allocator + Copy + Drop>(
         alloc: A,
-        bytes: &'a [u8],
+        image: &MappedBytes<'a, '_>,
         export_data: &ExportData<'_>,
-        sections: &SectionMap<'_>,
     ) -> Result<Vec<Export<'a>, A>>
-        ensures { ReturnsUnlessMemory (λ v. map export_view v.items) result (Ok
-            (exports (offset_in sections.now) bytes.entry.now (export_data_view export_data.now))) }
+        ensures { ReturnsUnlessMemory (λ v. map export_view v.items) result (Ok (exports
+            (offset_in image.now.map) image.now.bytes.now (export_data_view export_data.now))) }
     {
-        let offsets = name_offsets(alloc, export_data.names, sections)?;
+        let offsets = name_offsets(alloc, export_data.names, &image.map)?;
         // All names at once: many of them may lie in one long text.
-        let names = texts_at(alloc, bytes, &offsets)?;
-        named_exports(alloc, &names, export_data, sections)
+        let names = texts_at(alloc, image.bytes, &offsets)?;
+        named_exports(alloc, &names, export_data, &image.map)
     }
 }

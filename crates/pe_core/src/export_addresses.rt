@@ -16,7 +16,7 @@ ghost use Rattle.pe_core.specs.SectionMap.{offset_in};
 use crate::bytes::{read_u16, read_u32};
 use crate::data_directories::DataDirectory;
 use crate::export::ExportData;
-use crate::section_index::SectionMap;
+use crate::mapped_bytes::MappedBytes;
 use crate::text::text_at;
 
 /// The address table of an export directory, and the two tables of names that lead into it.
@@ -127,42 +127,32 @@ impl<'a> ExportAddresses<'a> {
     }
 
     /// The text of the forwarder at this RVA, without its NUL. `None` if the RVA does not lie in the export directory or
-    /// is unmapped, or if the text is not NUL-terminated or not UTF-8. `bytes` is the whole file, in which the text is
-    /// read to its end.
-    pub fn forwarder<'b>(
-        &self,
-        rva: u32,
-        bytes: &'b [u8],
-        sections: &SectionMap<'_>,
-    ) -> Option<&'b str>
+    /// is unmapped, or if the text is not NUL-terminated or not UTF-8. The text is read to its end, past that of the
+    /// directory.
+    pub fn forwarder<'b>(&self, rva: u32, image: &MappedBytes<'b, '_>) -> Option<&'b str>
         ensures { option_map (λ s. s.now) result ≡ forwarder_text
-            (offset_in sections.now) bytes.entry.now self.now.directory rva }
+            (offset_in image.now.map) image.now.bytes.now self.now.directory rva }
     {
         if !lies_in(self.directory, rva) {
             return None;
         }
-        let offset = sections.find(rva as usize)?;
-        text_at(bytes, offset)
+        let offset = image.map.find(rva as usize)?;
+        text_at(image.bytes, offset)
     }
 
     /// The entry of the name table with this index, which counts names. `None` if there is no such entry, or none of the
-    /// ordinal table, or if the name is unmapped, not NUL-terminated or not UTF-8. `bytes` is the whole file, in which
-    /// the name is read to its end; `Export::parse_with_opts` reads all names at once, also where they overlap.
-    pub fn name_at<'b>(
-        &self,
-        index: usize,
-        bytes: &'b [u8],
-        sections: &SectionMap<'_>,
-    ) -> Option<ExportName<'b>>
+    /// ordinal table, or if the name is unmapped, not NUL-terminated or not UTF-8. The name is read to its
+    /// end; `Export::parse_with_opts` reads all names at once, also where they overlap.
+    pub fn name_at<'b>(&self, index: usize, image: &MappedBytes<'b, '_>) -> Option<ExportName<'b>>
         ensures { option_map name_view result ≡ name_at
-            (offset_in sections.now) bytes.entry.now (addresses_view self.now) index }
+            (offset_in image.now.map) image.now.bytes.now (addresses_view self.now) index }
     {
         if self.names.len() / 4 <= index || self.ordinals.len() / 2 <= index {
             return None;
         }
-        let offset = sections.find(read_u32(self.names, 4 * index) as usize)?;
+        let offset = image.map.find(read_u32(self.names, 4 * index) as usize)?;
         Some(ExportName {
-            name: text_at(bytes, offset)?,
+            name: text_at(image.bytes, offset)?,
             index: read_u16(self.ordinals, 2 * index),
         })
     }

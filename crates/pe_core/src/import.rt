@@ -21,8 +21,9 @@ use crate::data_directories::DataDirectory;
 use crate::error::{Error, Reason, Result};
 use crate::many_lists::{Entries, lists_at, lookups_among};
 use crate::many_texts::texts_at;
+use crate::mapped_bytes::MappedBytes;
 use crate::options::ParseOptions;
-use crate::section_index::{SectionIndex, SectionMap, mapped_offset};
+use crate::section_index::{SectionIndex, mapped_offset};
 use crate::section_table::SectionTable;
 use std::alloc::{AllocError, Allocator, Global};
 
@@ -147,20 +148,25 @@ pub fn lookups_at(bytes: &[u8], offset: usize, is_64: bool) -> Result<&[u8]>
     }
 }
 
+/// The lists that `lists_at` found, of entries of this width.
+#[derive(Clone, Copy)]
+struct Lists<'l> {
+    lists: &'l [Entries],
+    is_64: bool,
+}
+
 /// The lookup entries of a record, by the lists of `lists_at`. None if their RVA is unmapped.
 fn lookups_of<'a>(
-    bytes: &'a [u8],
+    image: &MappedBytes<'a, '_>,
     entry: &ImportDirectoryEntry,
-    lists: &[Entries],
-    sections: &SectionMap<'_>,
-    is_64: bool,
+    found: Lists<'_>,
 ) -> Result<&'a [u8]>
-    requires { All (IsList (entry_size is_64) bytes.now) lists.now }
-    ensures { ReturnsAs (λ s. s.now) result (lookups_at
-        (entry_size is_64) bytes.entry.now (offset_in sections.now (lookups_rva entry.now))) }
+    requires { All (IsList (entry_size found.is_64) image.now.bytes.now) found.lists.now }
+    ensures { ReturnsAs (λ s. s.now) result (lookups_at (entry_size found.entry.is_64)
+        image.now.bytes.now (offset_in image.now.map (lookups_rva entry.now))) }
 {
-    match sections.find(entry.lookups_rva() as usize) {
-        Some(offset) => lookups_among(bytes, lists, offset, is_64),
+    match image.map.find(entry.lookups_rva() as usize) {
+        Some(offset) => lookups_among(image.bytes, found.lists, offset, found.is_64),
         None => Ok(&[]),
     }
 }
@@ -169,24 +175,22 @@ fn lookups_of<'a>(
 /// entries).
 #[tactic(auto, unfolding(crate::specs::Imports::import_record))]
 fn import_record<'a>(
-    bytes: &'a [u8],
+    image: &MappedBytes<'a, '_>,
     entry: ImportDirectoryEntry,
     name: Option<&'a str>,
-    lists: &[Entries],
-    sections: &SectionMap<'_>,
-    is_64: bool,
+    found: Lists<'_>,
 ) -> Result<SyntheticImportDirectoryEntry<'a>>
-    requires lists { All (IsList (entry_size is_64) bytes.now) lists.now }
-    requires name { option_map (λ s. s.now) name ≡ option_and_then (text_at bytes.now)
-        (offset_in sections.now entry.name_rva) }
-    ensures { ReturnsAs (λ r. Some (import_record_view r)) result
-        (import_record (offset_in sections.now) (entry_size is_64) bytes.entry.now entry) }
+    requires lists { All (IsList (entry_size found.is_64) image.now.bytes.now) found.lists.now }
+    requires name { option_map (λ s. s.now) name ≡ option_and_then (text_at image.now.bytes.now)
+        (offset_in image.now.map entry.name_rva) }
+    ensures { ReturnsAs (λ r. Some (import_record_view r)) result (import_record
+        (offset_in image.now.map) (entry_size found.entry.is_64) image.now.bytes.now entry) }
 {
-    sections.offset_of(entry.name_rva)?;
+    image.map.offset_of(entry.name_rva)?;
     let Some(name) = name else {
         return Err(Error::Malformed(Reason::ImportName(entry.name_rva)));
     };
-    let lookups = lookups_of(bytes, &entry, lists, sections, is_64)?;
+    let lookups = lookups_of(image, &entry, found)?;
     Ok(SyntheticImportDirectoryEntry {
         import_directory_entry: entry,
         name,
@@ -218,19 +222,18 @@ fn count_records(bytes: &[u8], offset: usize) -> usize
 #[tactic(auto, unfolding(crate::specs::Rows::each))]
 fn name_offsets<A: Allocator>(
     alloc: A,
-    bytes: &[u8],
+    image: &MappedBytes<'_, '_>,
     offset: usize,
     count: usize,
-    sections: &SectionMap<'_>,
 ) -> std::result::Result<Vec<usize, A>, AllocError>
-    requires { StandInFront bytes.now offset count }
-    ensures { IfOk result (λ v. v.items ≡ each (λ i. offset_or_end
-        (offset_in sections.now (import_entry bytes.now (offset + 20 * i)).name_rva)) count) }
+    requires { StandInFront image.now.bytes.now offset count }
+    ensures { IfOk result (λ v. v.items ≡ each (λ i. offset_or_end (offset_in image.now.map
+        (import_entry image.now.bytes.now (offset + 20 * i)).name_rva)) count) }
 {
     let mut offsets = Vec::with_capacity(alloc, count)?;
     for i in 0..count {
-        let entry = ImportDirectoryEntry::at(bytes, offset + SIZE_OF_IMPORT_ENTRY * i);
-        offsets.push(sections.find_or_end(entry.name_rva))?;
+        let entry = ImportDirectoryEntry::at(image.bytes, offset + SIZE_OF_IMPORT_ENTRY * i);
+        offsets.push(image.map.find_or_end(entry.name_rva))?;
     }
     Ok(offsets)
 }
@@ -239,19 +242,18 @@ fn name_offsets<A: Allocator>(
 #[tactic(auto, unfolding(crate::specs::Rows::each))]
 fn list_offsets<A: Allocator>(
     alloc: A,
-    bytes: &[u8],
+    image: &MappedBytes<'_, '_>,
     offset: usize,
     count: usize,
-    sections: &SectionMap<'_>,
 ) -> std::result::Result<Vec<usize, A>, AllocError>
-    requires { StandInFront bytes.now offset count }
-    ensures { IfOk result (λ v. v.items ≡ each (λ i. offset_or_end
-        (offset_in sections.now (lookups_rva (import_entry bytes.now (offset + 20 * i))))) count) }
+    requires { StandInFront image.now.bytes.now offset count }
+    ensures { IfOk result (λ v. v.items ≡ each (λ i. offset_or_end (offset_in image.now.map
+        (lookups_rva (import_entry image.now.bytes.now (offset + 20 * i))))) count) }
 {
     let mut offsets = Vec::with_capacity(alloc, count)?;
     for i in 0..count {
-        let entry = ImportDirectoryEntry::at(bytes, offset + SIZE_OF_IMPORT_ENTRY * i);
-        offsets.push(sections.find_or_end(entry.lookups_rva()))?;
+        let entry = ImportDirectoryEntry::at(image.bytes, offset + SIZE_OF_IMPORT_ENTRY * i);
+        offsets.push(image.map.find_or_end(entry.lookups_rva()))?;
     }
     Ok(offsets)
 }
@@ -260,26 +262,24 @@ fn list_offsets<A: Allocator>(
 #[tactic(auto, using(crate::proofs::ImportLists::records_read))]
 fn named_records<'a, A: Allocator>(
     alloc: A,
-    bytes: &'a [u8],
+    image: &MappedBytes<'a, '_>,
     offset: usize,
     names: &[Option<&'a str>],
-    lists: &[Entries],
-    sections: &SectionMap<'_>,
-    is_64: bool,
+    found: Lists<'_>,
 ) -> Result<Vec<SyntheticImportDirectoryEntry<'a>, A>>
-    requires lists { All (IsList (entry_size is_64) bytes.now) lists.now }
-    requires stand { StandInFront bytes.now offset (length names.now) }
-    requires names { AreNames (offset_in sections.now) bytes.now offset names.now }
-    ensures { ReturnsUnlessMemory (λ v. map import_record_view v.items) result
-        (import_records (offset_in sections.now) (entry_size is_64) bytes.entry.now offset) }
+    requires lists { All (IsList (entry_size found.is_64) image.now.bytes.now) found.lists.now }
+    requires stand { StandInFront image.now.bytes.now offset (length names.now) }
+    requires names { AreNames (offset_in image.now.map) image.now.bytes.now offset names.now }
+    ensures { ReturnsUnlessMemory (λ v. map import_record_view v.items) result (import_records
+        (offset_in image.now.map) (entry_size found.entry.is_64) image.now.bytes.now offset) }
 {
     let mut records = Vec::with_capacity(alloc, names.len())?;
     for (i, name) in names.iter().enumerate() {
-        let entry = ImportDirectoryEntry::at(bytes, offset + SIZE_OF_IMPORT_ENTRY * i);
-        records.push(import_record(bytes, entry, *name, lists, sections, is_64)?)?;
+        let entry = ImportDirectoryEntry::at(image.bytes, offset + SIZE_OF_IMPORT_ENTRY * i);
+        records.push(import_record(image, entry, *name, found)?)?;
     }
     let end = offset + SIZE_OF_IMPORT_ENTRY * names.len();
-    require_bytes(bytes, end, SIZE_OF_IMPORT_ENTRY)?;
+    require_bytes(image.bytes, end, SIZE_OF_IMPORT_ENTRY)?;
     Ok(records)
 }
 
@@ -287,22 +287,25 @@ fn named_records<'a, A: Allocator>(
 #[tactic(auto, using(crate::proofs::ImportLists::all_named))]
 fn records_at<'a, A: Allocator + Copy + Drop>(
     alloc: A,
-    bytes: &'a [u8],
+    image: &MappedBytes<'a, '_>,
     offset: usize,
-    sections: &SectionMap<'_>,
     is_64: bool,
 ) -> Result<Vec<SyntheticImportDirectoryEntry<'a>, A>>
-    ensures { ReturnsUnlessMemory (λ v. map import_record_view v.items) result
-        (import_records (offset_in sections.now) (entry_size is_64) bytes.entry.now offset) }
+    ensures { ReturnsUnlessMemory (λ v. map import_record_view v.items) result (import_records
+        (offset_in image.now.map) (entry_size is_64) image.now.bytes.now offset) }
 {
-    let count = count_records(bytes, offset);
-    let offsets = name_offsets(alloc, bytes, offset, count, sections)?;
+    let count = count_records(image.bytes, offset);
+    let offsets = name_offsets(alloc, image, offset, count)?;
     // All names at once: many of them may lie in one long text.
-    let names = texts_at(alloc, bytes, &offsets)?;
+    let names = texts_at(alloc, image.bytes, &offsets)?;
     // All lists at once too: records may share them.
-    let starts = list_offsets(alloc, bytes, offset, count, sections)?;
-    let lists = lists_at(alloc, bytes, &starts, is_64)?;
-    named_records(alloc, bytes, offset, &names, &lists, sections, is_64)
+    let starts = list_offsets(alloc, image, offset, count)?;
+    let lists = lists_at(alloc, image.bytes, &starts, is_64)?;
+    let found = Lists {
+        lists: &lists,
+        is_64,
+    };
+    named_records(alloc, image, offset, &names, found)
 }
 
 /// The names of the DLLs, in the order of the records.
@@ -380,25 +383,25 @@ impl<'a, A: Allocator + Copy + Drop> ImportData<'a, A> {
         // Before the index, which allocates: an unmapped directory is `Unmapped` whether or not memory is left.
         let offset = mapped_offset(directory.virtual_address, sections, file_alignment, opts)?;
         let index = SectionIndex::new(alloc, sections, file_alignment, opts)?;
-        let import_data = records_at(alloc, bytes, offset, &index.map(), is_64)?;
+        let map = index.map();
+        let import_data = records_at(alloc, &MappedBytes { bytes, map }, offset, is_64)?;
         Ok(ImportData { import_data })
     }
 
     /// The import directory, as `parse_with_opts` returns it, by a section map.
     pub fn parse_with_map(
         alloc: A,
-        bytes: &'a [u8],
+        image: &MappedBytes<'a, '_>,
         directory: DataDirectory,
-        sections: &SectionMap<'_>,
         is_64: bool,
     ) -> Result<ImportData<'a, A>>
         ensures { ReturnsUnlessMemoryAfter
-            (mapped (offset_in sections.now directory.virtual_address)) import_data_view result
-            (import_data_at (offset_in sections.now)
-            (entry_size is_64) bytes.entry.now directory.virtual_address) }
+            (mapped (offset_in image.now.map directory.virtual_address)) import_data_view result
+            (import_data_at (offset_in image.now.map)
+            (entry_size is_64) image.now.bytes.now directory.virtual_address) }
     {
-        let offset = sections.offset_of(directory.virtual_address)?;
-        let import_data = records_at(alloc, bytes, offset, sections, is_64)?;
+        let offset = image.map.offset_of(directory.virtual_address)?;
+        let import_data = records_at(alloc, image, offset, is_64)?;
         Ok(ImportData { import_data })
     }
 

@@ -17,6 +17,7 @@ use crate::bytes::u16_at;
 use crate::error::{Error, Reason, Result};
 use crate::import::{ImportData, SyntheticImportDirectoryEntry, lookup_number, lookup_size};
 use crate::many_texts::texts_at;
+use crate::mapped_bytes::MappedBytes;
 use crate::options::ParseOptions;
 use crate::section_index::{SectionIndex, SectionMap};
 use crate::section_table::SectionTable;
@@ -180,19 +181,18 @@ fn entry_offsets<A: Allocator>(
 /// The import of an entry whose name was looked up. Errors, in order: `Unmapped`, `Short` (the hint), `ImportName`.
 #[tactic(auto, unfolding(crate::specs::Imports::import_of))]
 fn import_of<'a>(
-    bytes: &'a [u8],
+    image: &MappedBytes<'a, '_>,
     entry: &Entry<'a>,
     name: Option<&'a str>,
-    sections: &SectionMap<'_>,
     window: &mut Window,
     is_64: bool,
 ) -> Result<Import<'a>>
-    requires window { IsWindow sections.now window.old }
-    requires name { option_map (λ s. s.now) name ≡ text_at bytes.now
-        (hint_offset_of (offset_in sections.now) (entry_size is_64) (entry_view entry.now)) }
-    ensures window { IsWindow sections.now window.new }
-    ensures import { ReturnsAs import_view result (import_of (offset_in sections.now)
-        (entry_size is_64) bytes.entry.now (entry_view entry.entry.now)) }
+    requires window { IsWindow image.now.map window.old }
+    requires name { option_map (λ s. s.now) name ≡ text_at image.now.bytes.now
+        (hint_offset_of (offset_in image.now.map) (entry_size is_64) (entry_view entry.now)) }
+    ensures window { IsWindow image.now.map window.new }
+    ensures import { ReturnsAs import_view result (import_of (offset_in image.now.map)
+        (entry_size is_64) image.now.bytes.now (entry_view entry.entry.now)) }
 {
     let Entry { dll, rva, .. } = *entry;
     if entry.is_ordinal(is_64) {
@@ -204,10 +204,10 @@ fn import_of<'a>(
         });
     }
     let name_rva = entry.name_rva();
-    let Some(offset) = sections.find_near(name_rva, window) else {
+    let Some(offset) = image.map.find_near(name_rva, window) else {
         return Err(Error::Malformed(Reason::Unmapped(u64::from(name_rva))));
     };
-    let ordinal = u16_at(bytes, offset)?;
+    let ordinal = u16_at(image.bytes, offset)?;
     if name.is_none() {
         return Err(Error::Malformed(Reason::ImportName(name_rva)));
     }
@@ -223,23 +223,22 @@ fn import_of<'a>(
 #[tactic(auto, using(crate::proofs::ImportLists::imports_read))]
 fn named_imports<'a, A: Allocator>(
     alloc: A,
-    bytes: &'a [u8],
+    image: &MappedBytes<'a, '_>,
     entries: &[Entry<'a>],
     names: &[Option<&'a str>],
-    sections: &SectionMap<'_>,
     is_64: bool,
 ) -> Result<Vec<Import<'a>, A>>
     requires many { length names.now ≡ length entries.now }
-    requires names { AreEntryNames (offset_in sections.now)
-        (entry_size is_64) bytes.now entries.now names.now }
-    ensures { ReturnsUnlessMemory (λ v. map import_view v.items) result
-        (all_or_refusal (map (import_of (offset_in sections.now) (entry_size is_64) bytes.entry.now)
+    requires names { AreEntryNames (offset_in image.now.map)
+        (entry_size is_64) image.now.bytes.now entries.now names.now }
+    ensures { ReturnsUnlessMemory (λ v. map import_view v.items) result (all_or_refusal (map
+        (import_of (offset_in image.now.map) (entry_size is_64) image.now.bytes.now)
         (map entry_view entries.now))) }
 {
     let mut imports = Vec::with_capacity(alloc, entries.len())?;
-    let mut window = sections.no_window();
+    let mut window = image.map.no_window();
     for (i, entry) in entries.iter().enumerate() {
-        let import = import_of(bytes, entry, names[i], sections, &mut window, is_64)?;
+        let import = import_of(image, entry, names[i], &mut window, is_64)?;
         imports.push(import)?;
     }
     Ok(imports)
@@ -248,19 +247,18 @@ fn named_imports<'a, A: Allocator>(
 /// The imports of these entries.
 fn imports_of<'a, A: Allocator + Copy + Drop>(
     alloc: A,
-    bytes: &'a [u8],
+    image: &MappedBytes<'a, '_>,
     entries: &[Entry<'a>],
-    sections: &SectionMap<'_>,
     is_64: bool,
 ) -> Result<Vec<Import<'a>, A>>
-    ensures { ReturnsUnlessMemory (λ v. map import_view v.items) result
-        (all_or_refusal (map (import_of (offset_in sections.now) (entry_size is_64) bytes.entry.now)
+    ensures { ReturnsUnlessMemory (λ v. map import_view v.items) result (all_or_refusal (map
+        (import_of (offset_in image.now.map) (entry_size is_64) image.now.bytes.now)
         (map entry_view entries.now))) }
 {
-    let offsets = entry_offsets(alloc, entries, sections, is_64)?;
+    let offsets = entry_offsets(alloc, entries, &image.map, is_64)?;
     // All names at once: many of them may lie in one long text.
-    let names = texts_at(alloc, bytes, &offsets)?;
-    named_imports(alloc, bytes, entries, &names, sections, is_64)
+    let names = texts_at(alloc, image.bytes, &offsets)?;
+    named_imports(alloc, image, entries, &names, is_64)
 }
 
 impl<'a> Import<'a> {
@@ -285,7 +283,8 @@ impl<'a> Import<'a> {
             (entry_size is_64) bytes.entry.now (import_data_view import_data.now)) }
     {
         let index = SectionIndex::new(alloc, sections, file_alignment, opts)?;
-        Import::parse_with_map(alloc, bytes, import_data, &index.map(), is_64)
+        let map = index.map();
+        Import::parse_with_map(alloc, &MappedBytes { bytes, map }, import_data, is_64)
     }
 
     /// The imports of all records, as `parse_with_opts` lists them, by a section map. Records may share their lookup
@@ -293,17 +292,16 @@ impl<'a> Import<'a> {
     #[tactic(auto, unfolding(crate::specs::Imports::imports))]
     pub fn parse_with_map<A: Allocator + Copy + Drop>(
         alloc: A,
-        bytes: &'a [u8],
+        image: &MappedBytes<'a, '_>,
         import_data: &ImportData<'a, A>,
-        sections: &SectionMap<'_>,
         is_64: bool,
     ) -> Result<Vec<Import<'a>, A>>
         ensures { ReturnsUnlessMemory
-            (λ v. map import_view v.items) result (imports (offset_in sections.now)
-            (entry_size is_64) bytes.entry.now (import_data_view import_data.now)) }
+            (λ v. map import_view v.items) result (imports (offset_in image.now.map)
+            (entry_size is_64) image.now.bytes.now (import_data_view import_data.now)) }
     {
         let entries = entries_of(alloc, &import_data.import_data, is_64)?;
-        imports_of(alloc, bytes, &entries, sections, is_64)
+        imports_of(alloc, image, &entries, is_64)
     }
 
     /// The imports of the first entries, at most `most`, as `parse_with_map` lists them. Records may share their lookup
@@ -312,18 +310,17 @@ impl<'a> Import<'a> {
     #[tactic(auto, unfolding(crate::specs::Imports::first_imports))]
     pub fn parse_at_most<A: Allocator + Copy + Drop>(
         alloc: A,
-        bytes: &'a [u8],
+        image: &MappedBytes<'a, '_>,
         import_data: &ImportData<'a, A>,
-        sections: &SectionMap<'_>,
         is_64: bool,
         most: usize,
     ) -> Result<Vec<Import<'a>, A>>
         ensures { ReturnsUnlessMemory
-            (λ v. map import_view v.items) result (first_imports (offset_in sections.now)
-            (entry_size is_64) bytes.entry.now (import_data_view import_data.now) most) }
+            (λ v. map import_view v.items) result (first_imports (offset_in image.now.map)
+            (entry_size is_64) image.now.bytes.now (import_data_view import_data.now) most) }
     {
         let entries = first_entries_of(alloc, &import_data.import_data, is_64, most)?;
-        imports_of(alloc, bytes, &entries, sections, is_64)
+        imports_of(alloc, image, &entries, is_64)
     }
 }
 

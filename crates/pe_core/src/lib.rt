@@ -22,6 +22,7 @@ pub mod laws;
 mod library_names;
 mod many_lists;
 mod many_texts;
+mod mapped_bytes;
 mod optional_header;
 mod options;
 mod relocation;
@@ -61,6 +62,7 @@ pub use import::{
 };
 pub use import_list::Import;
 pub use many_texts::texts_at;
+pub use mapped_bytes::MappedBytes;
 pub use optional_header::{MAGIC_32, MAGIC_64, OptionalHeader, StandardFields, WindowsFields};
 pub use options::{ParseMode, ParseOptions};
 pub use relocation::RelocationData;

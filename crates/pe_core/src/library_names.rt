@@ -13,6 +13,7 @@ ghost use Rattle.pe_core.specs.declared.error.Error.TheVariants.{Memory};
 use crate::error::Result;
 use crate::import::{ImportData, SyntheticImportDirectoryEntry, sort_once};
 use crate::many_texts::texts_at;
+use crate::mapped_bytes::MappedBytes;
 use crate::section_index::SectionMap;
 use std::alloc::{AllocError, Allocator};
 
@@ -59,23 +60,22 @@ fn texts_there<'a, A: Allocator>(
 }
 
 impl<'a, A: Allocator + Copy + Drop> ImportData<'a, A> {
-    /// The names of the imported DLLs, as `libraries` returns them of the data of these bytes, by the map by which they
-    /// were parsed. It reads the names again, at the records' RVAs, skips those that are not there, and compares names at
+    /// The names of the imported DLLs, as `libraries` returns them of the data of this image, by which they were
+    /// parsed. It reads the names again, at the records' RVAs, skips those that are not there, and compares names at
     /// one offset once, where `libraries` compares each record's. Error: `Memory`.
     pub fn libraries_with_map(
         &self,
         alloc: A,
-        bytes: &'a [u8],
-        sections: &SectionMap<'_>,
+        image: &MappedBytes<'a, '_>,
     ) -> Result<Vec<&'a str, A>>
         ensures listed { IfOk result (λ v. AreLibraries
-            (filter_map (name_read_of (offset_in sections.now) bytes.entry.now)
+            (filter_map (name_read_of (offset_in image.now.map) image.now.bytes.now)
             (import_data_view self.now)) (map (λ s. s.now) v.items)) }
         ensures refused { IfErr result (λ error. error ≡ Memory record {}) }
     {
-        let mut offsets = name_offsets(alloc, &self.import_data, sections)?;
+        let mut offsets = name_offsets(alloc, &self.import_data, &image.map)?;
         keep_once(&mut offsets);
-        let texts = texts_at(alloc, bytes, &offsets)?;
+        let texts = texts_at(alloc, image.bytes, &offsets)?;
         let mut names = texts_there(alloc, &texts)?;
         sort_once(&mut names);
         Ok(names)

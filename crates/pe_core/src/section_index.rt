@@ -57,6 +57,27 @@ impl<'a> SectionMap<'a> {
         }
     }
 
+    /// The section headers.
+    pub fn sections(&self) -> &'a [SectionTable]
+        ensures { result.now ≡ self.now.sections }
+    {
+        self.sections
+    }
+
+    /// The file alignment in bytes.
+    pub fn file_alignment(&self) -> u32
+        ensures { result ≡ self.now.alignment }
+    {
+        self.file_alignment
+    }
+
+    /// The options: whether RVAs are mapped, and what readers do of an image.
+    pub fn opts(&self) -> ParseOptions
+        ensures { result ≡ self.now.opts }
+    {
+        self.opts
+    }
+
     /// The file offset of an RVA, as `find_offset` returns it.
     pub fn find(&self, rva: usize) -> Option<usize>
         ensures { result ≡ offset_in self.now rva }

@@ -7,4 +7,4 @@ use Rattle.pe_core.specs.SectionMap.{offset_in}
 use Rattle.pe_core.proofs.import.list_offsets.Given as goal
 
 abbrev pub invariant-loop-i : goal.invariant-loop-i
-invariant-loop-i g l = l.offsets.items ≡ each (λ i. offset_or_end (offset_in l.sections (lookups_rva (import_entry l.bytes (l.offset + 20 * i))))) l.i
+invariant-loop-i g l = l.offsets.items ≡ each (λ i. offset_or_end (offset_in l.image.map (lookups_rva (import_entry l.image.bytes.now (l.offset + 20 * i))))) l.i

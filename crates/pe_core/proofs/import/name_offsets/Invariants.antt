@@ -6,4 +6,4 @@ use Rattle.pe_core.specs.SectionMap.{offset_in}
 use Rattle.pe_core.proofs.import.name_offsets.Given as goal
 
 abbrev pub invariant-loop-i : goal.invariant-loop-i
-invariant-loop-i g l = l.offsets.items ≡ each (λ i. offset_or_end (offset_in l.sections (import_entry l.bytes (l.offset + 20 * i)).name_rva)) l.i
+invariant-loop-i g l = l.offsets.items ≡ each (λ i. offset_or_end (offset_in l.image.map (import_entry l.image.bytes.now (l.offset + 20 * i)).name_rva)) l.i

@@ -6,4 +6,4 @@ use Rattle.pe_core.proofs.import.named_records.Given as goal
 
 -- the records so far
 abbrev pub invariant-loop-i : goal.invariant-loop-i
-invariant-loop-i g l = RecordsRead (offset_in l.sections) (entry_size l.is_64) l.bytes l.offset l.i (map import_record_view l.records.items)
+invariant-loop-i g l = RecordsRead (offset_in l.image.map) (entry_size l.found.is_64) l.image.bytes.now l.offset l.i (map import_record_view l.records.items)

@@ -9,6 +9,6 @@ use Rattle.pe_core.proofs.import_list.named_imports.Given as goal
 -- the imports so far, and a window of the map
 abbrev pub invariant-loop-i : goal.invariant-loop-i
 invariant-loop-i g l = record {
-  read : ImportsRead (offset_in l.sections) (entry_size l.is_64) l.bytes (map entry_view l.entries) l.i (map import_view l.imports.items);
-  window : IsWindow l.sections l.window;
+  read : ImportsRead (offset_in l.image.map) (entry_size l.is_64) l.image.bytes.now (map entry_view l.entries) l.i (map import_view l.imports.items);
+  window : IsWindow l.image.map l.window;
 }
