@@ -11,8 +11,8 @@ use crate::function_table::{RuntimeFunction, RuntimeFunctionIterator, SIZE_OF_FU
 use crate::links::linked_record_offset;
 use crate::unwind_info::UnwindInfo;
 use pe_core::{
-    ByteRange, CountedTable, DataDirectory, Error, ParseOptions, Reason, Result, RvaMap,
-    SectionMap, SectionTable, mapped_offset, require_bytes,
+    ByteRange, CountedTable, DataDirectory, Error, MappedBytes, ParseOptions, Reason, Result,
+    RvaMap, SectionMap, SectionTable, require_bytes,
 };
 use std::fmt;
 use std::marker::Model;
@@ -105,8 +105,8 @@ impl<'a> ExceptionData<'a> {
         ensures { Returns result
             (exception_at 12 bytes.entry.now directory sections.now file_alignment opts.now) }
     {
-        let width = SIZE_OF_FUNCTION;
-        ExceptionData::parse_table(bytes, directory, sections, file_alignment, opts, width)
+        let image = MappedBytes::new(bytes, sections, file_alignment, opts);
+        ExceptionData::parse_table(&image, directory, SIZE_OF_FUNCTION)
     }
 
     /// Parses the exception directory of an ARM64 image, whose entries have 8 bytes. Errors: as `parse_with_opts`, but
@@ -121,24 +121,22 @@ impl<'a> ExceptionData<'a> {
         ensures { Returns result
             (exception_at 8 bytes.entry.now directory sections.now file_alignment opts.now) }
     {
-        let width = SIZE_OF_ARM64_FUNCTION;
-        ExceptionData::parse_table(bytes, directory, sections, file_alignment, opts, width)
+        let image = MappedBytes::new(bytes, sections, file_alignment, opts);
+        ExceptionData::parse_table(&image, directory, SIZE_OF_ARM64_FUNCTION)
     }
 
     /// Parses the exception directory whose entries have `width` bytes.
     #[tactic(auto, unfolding(crate::specs::ExceptionTable::exception_at))]
     fn parse_table(
-        bytes: &'a [u8],
+        image: &MappedBytes<'a, '_>,
         directory: DataDirectory,
-        sections: &[SectionTable],
-        file_alignment: u32,
-        opts: &ParseOptions,
         width: usize,
     ) -> Result<ExceptionData<'a>>
         requires { 0 < width }
-        ensures { Returns result
-            (exception_at width bytes.entry.now directory sections.now file_alignment opts.now) }
+        ensures { Returns result (exception_at width image.now.bytes.now directory
+            image.now.map.sections image.now.map.alignment image.now.map.opts) }
     {
+        let bytes = image.bytes;
         let DataDirectory {
             virtual_address,
             size,
@@ -146,7 +144,7 @@ impl<'a> ExceptionData<'a> {
         if size as usize % width != 0 {
             return Err(Error::Malformed(Reason::ExceptionSize(size)));
         }
-        let offset = mapped_offset(virtual_address, sections, file_alignment, opts)?;
+        let offset = image.map.offset_of(virtual_address)?;
         if offset % 4 != 0 {
             return Err(Error::Malformed(Reason::ExceptionOffset(offset as u64)));
         }
@@ -160,7 +158,7 @@ impl<'a> ExceptionData<'a> {
             bytes,
             offset,
             size,
-            file_alignment,
+            file_alignment: image.map.file_alignment(),
         })
     }
 
