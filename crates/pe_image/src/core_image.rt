@@ -21,8 +21,8 @@ ghost use Rattle.pe_image.specs.Memory.{AsksForMemory, HasExports, HasImports, M
 use crate::layout::Layout;
 use pe_core::laws::names_of_records_are_read_again;
 use pe_core::{
-    DataDirectory, Error, Export, ExportData, Header, Import, ImportData, ParseOptions, Reason,
-    Result, SectionIndex, SectionMap, SectionTable, find_offset,
+    DataDirectory, Error, Export, ExportData, Header, Import, ImportData, MappedBytes,
+    ParseOptions, Reason, Result, SectionIndex, SectionMap, SectionTable, find_offset,
 };
 use std::alloc::Allocator;
 
@@ -38,6 +38,13 @@ pub struct Core<'a, A: Allocator + Copy + Drop> {
     pub libraries: Vec<&'a str, A>,
     /// What its optional header says about the image.
     pub layout: Layout,
+}
+
+/// What comes before the directories: the headers and the section headers.
+#[derive(Drop)]
+struct Headers<'a, A: Allocator> {
+    header: Header<'a>,
+    sections: Vec<SectionTable, A>,
 }
 
 /// The section headers of an image.
@@ -133,59 +140,56 @@ fn map_by<'s, A: Allocator>(
 /// The exports of the export directory, if there is one.
 fn exports<'a, A: Allocator + Copy + Drop>(
     alloc: A,
-    bytes: &'a [u8],
+    image: &MappedBytes<'a, '_>,
     export_data: &Option<ExportData<'a>>,
-    sections: &SectionMap<'_>,
 ) -> Result<Vec<Export<'a>, A>>
     ensures exports { ReturnsUnlessMemory (λ v. map export_view v.items) result
-        (Ok (exports_of (offset_in sections.now) bytes.entry.now
+        (Ok (exports_of (offset_in image.now.map) image.now.bytes.now
         (option_map export_data_view export_data.now))) }
     ensures memory { MemoryOnlyIf (IsSome (option_map export_data_view export_data.now)) result }
 {
     match export_data {
         None => Ok(Vec::new(alloc)),
-        Some(data) => Export::parse_with_map(alloc, bytes, data, sections),
+        Some(data) => Export::parse_with_map(alloc, image, data),
     }
 }
 
 /// The import directory. `None` without one, or if `parse_imports` is off.
 fn import_data<'a, A: Allocator + Copy + Drop>(
     alloc: A,
-    bytes: &'a [u8],
+    image: &MappedBytes<'a, '_>,
     opts: &ParseOptions,
     layout: &Layout,
-    sections: &SectionMap<'_>,
 ) -> Result<Option<ImportData<'a, A>>>
     ensures directory { ReturnsUnlessMemory (option_map import_data_view) result (import_data_of
-        (offset_in sections.now) (entry_size layout.now.is_64) bytes.entry.now
+        (offset_in image.now.map) (entry_size layout.now.is_64) image.now.bytes.now
         (import_directory_in opts.now layout.now)) }
     ensures memory { MemoryOnlyIf
         (IsSomeAnd (import_directory_in opts.now layout.now)
-        (λ d. IsSome (offset_in sections.now d.virtual_address))) result }
+        (λ d. IsSome (offset_in image.now.map d.virtual_address))) result }
 {
     let Some(directory) = import_directory_in(opts, layout) else {
         return Ok(None);
     };
-    let data = ImportData::parse_with_map(alloc, bytes, directory, sections, layout.is_64)?;
+    let data = ImportData::parse_with_map(alloc, image, directory, layout.is_64)?;
     Ok(Some(data))
 }
 
 /// The imports of the import directory, if there is one.
 fn imports<'a, A: Allocator + Copy + Drop>(
     alloc: A,
-    bytes: &'a [u8],
+    image: &MappedBytes<'a, '_>,
     import_data: &Option<ImportData<'a, A>>,
-    sections: &SectionMap<'_>,
     is_64: bool,
 ) -> Result<Vec<Import<'a>, A>>
     ensures imports { ReturnsUnlessMemory (λ v. map import_view v.items) result
-        (imports_of (offset_in sections.now) (entry_size is_64) bytes.entry.now
+        (imports_of (offset_in image.now.map) (entry_size is_64) image.now.bytes.now
         (option_map import_data_view import_data.now)) }
     ensures memory { MemoryOnlyIf (IsSome (option_map import_data_view import_data.now)) result }
 {
     match import_data {
         None => Ok(Vec::new(alloc)),
-        Some(data) => Import::parse_with_map(alloc, bytes, data, sections, is_64),
+        Some(data) => Import::parse_with_map(alloc, image, data, is_64),
     }
 }
 
@@ -215,14 +219,13 @@ fn require_within<A: Allocator + Copy + Drop>(
 /// The names of the DLLs in the import directory, if there is one: sorted by their bytes, each once.
 fn libraries<'a, A: Allocator + Copy + Drop>(
     alloc: A,
-    bytes: &'a [u8],
+    image: &MappedBytes<'a, '_>,
     opts: &ParseOptions,
     layout: &Layout,
     import_data: &Option<ImportData<'a, A>>,
-    sections: &SectionMap<'_>,
 ) -> Result<Vec<&'a str, A>>
-    requires { import_data_of (offset_in sections.now) (entry_size layout.now.is_64) bytes.now
-        (import_directory_in opts.now layout.now)
+    requires { import_data_of (offset_in image.now.map) (entry_size layout.now.is_64)
+        image.now.bytes.now (import_directory_in opts.now layout.now)
         ≡ Ok (option_map import_data_view import_data.now) }
     ensures listed { IfOk result (λ v.
         AreLibrariesOf (option_map import_data_view import_data.now) (map (λ s. s.now) v.items)) }
@@ -234,7 +237,7 @@ fn libraries<'a, A: Allocator + Copy + Drop>(
     };
     // By the map: names at one offset are compared once.
     names_of_records_are_read_again();
-    data.libraries_with_map(alloc, bytes, sections)
+    data.libraries_with_map(alloc, image)
 }
 
 /// What the import directory says. Without one all of it is empty.
@@ -251,25 +254,24 @@ impl<'a, A: Allocator + Copy + Drop> Imported<'a, A> {
     #[tactic(auto, using(crate::proofs::Limited::tested_first, crate::proofs::Requests::asks_for_imports), unfolding(crate::specs::LimitSteps::imported_of))]
     fn read(
         alloc: A,
-        bytes: &'a [u8],
+        image: &MappedBytes<'a, '_>,
         opts: &ParseOptions,
         layout: &Layout,
-        sections: &SectionMap<'_>,
         most: Option<u32>,
     ) -> Result<Imported<'a, A>>
         ensures imported { ReturnsUnlessMemory imported_view result (imported_of most
-            (offset_in sections.now) (entry_size layout.now.is_64) bytes.entry.now
+            (offset_in image.now.map) (entry_size layout.now.is_64) image.now.bytes.now
             (import_directory_in opts.now layout.now)) }
         ensures libraries { IfOk result (λ imported. AreLibrariesOf
             (option_map import_data_view imported.data) (map (λ s. s.now) imported.libraries.items)) }
         ensures memory { MemoryOnlyIf
             (IsSomeAnd (import_directory_in opts.now layout.now)
-            (λ d. IsSome (offset_in sections.now d.virtual_address))) result }
+            (λ d. IsSome (offset_in image.now.map d.virtual_address))) result }
     {
-        let data = import_data(alloc, bytes, opts, layout, sections)?;
+        let data = import_data(alloc, image, opts, layout)?;
         require_within(&data, layout.is_64, most)?;
-        let imports = imports(alloc, bytes, &data, sections, layout.is_64)?;
-        let libraries = libraries(alloc, bytes, opts, layout, &data, sections)?;
+        let imports = imports(alloc, image, &data, layout.is_64)?;
+        let libraries = libraries(alloc, image, opts, layout, &data)?;
         Ok(Imported {
             data,
             imports,
@@ -286,29 +288,35 @@ impl<'a, A: Allocator + Copy + Drop> Core<'a, A> {
         alloc: A,
         bytes: &'a [u8],
         opts: &ParseOptions,
-        header: Header<'a>,
-        sections: Vec<SectionTable, A>,
+        headers: Headers<'a, A>,
         most: Option<u32>,
     ) -> Result<Core<'a, A>>
-        ensures core { ReturnsUnlessMemory core_view result
-            (unless_above most (number_or_0 (imports_with bytes.entry.now opts.now
-            (header_view header.entry).optional_header sections.items))
-            (core_with bytes.entry.now opts.now (header_view header.entry) sections.items)) }
-        ensures memory { MemoryOnlyIf (HasExports bytes.entry.now opts.now sections.items
-            (header_view header.entry).optional_header ⊎ HasImports opts.now sections.items
-            (header_view header.entry).optional_header) result }
+        ensures core { ReturnsUnlessMemory core_view result (unless_above most (number_or_0
+            (imports_with bytes.entry.now opts.now
+            (header_view headers.entry.header).optional_header headers.entry.sections.items))
+            (core_with bytes.entry.now opts.now
+            (header_view headers.entry.header) headers.entry.sections.items)) }
+        ensures memory { MemoryOnlyIf
+            (HasExports bytes.entry.now opts.now headers.entry.sections.items
+            (header_view headers.entry.header).optional_header
+            ⊎ HasImports opts.now headers.entry.sections.items
+            (header_view headers.entry.header).optional_header) result }
         ensures libraries { IfOk result CoreHasLibraries }
         ensures layout { IfOk result CoreHasLayout }
     {
+        let Headers { header, sections } = headers;
         let layout = Layout::of(&header.optional_header);
         let export_data = export_data(bytes, opts, &sections, &layout);
         // One index for all: making it costs more than most searches by it.
         let index = index(alloc, opts, &sections, &layout, &export_data)?;
-        let map = map_by(&index, opts, &sections, layout.file_alignment);
-        let exports = exports(alloc, bytes, &export_data, &map)?;
-        let imported = Imported::read(alloc, bytes, opts, &layout, &map, most)?;
+        let image = MappedBytes {
+            bytes,
+            map: map_by(&index, opts, &sections, layout.file_alignment),
+        };
+        let exports = exports(alloc, &image, &export_data)?;
+        let imported = Imported::read(alloc, &image, opts, &layout, most)?;
         // They borrow the sections, which the core takes.
-        drop(map);
+        drop(image);
         drop(index);
         Ok(Core {
             header,
@@ -352,6 +360,6 @@ impl<'a, A: Allocator + Copy + Drop> Core<'a, A> {
     {
         let header = Header::parse_with_opts(bytes, opts)?;
         let sections = sections(alloc, bytes, &header)?;
-        Core::with(alloc, bytes, opts, header, sections, most)
+        Core::with(alloc, bytes, opts, Headers { header, sections }, most)
     }
 }
