@@ -115,22 +115,22 @@ pub(crate) fn caller<M: Memory>(
 ///
 /// As [`step_arm64`], which says what is refused.
 pub fn step_out_arm64<M: Memory>(
+    function: &Arm64RuntimeFunction,
     info: &Arm64UnwindInfo<'_>,
-    start: u32,
     rva: u32,
     registers: Arm64Registers,
     memory: &M,
 ) -> Result<(Arm64Registers, bool), FrameError>
     ensures { StepsOutArm64 (M.word memory.now)
-        (info_view info.now) ((rva - start) / 4) registers result }
+        (info_view info.now) ((rva - function.now.begin_address) / 4) registers result }
 {
-    let offset = rva.saturating_sub(start);
+    let offset = rva.saturating_sub(function.begin_address);
     caller(info, offset / SIZE_OF_INSTRUCTION, registers, memory)
 }
 
 /// The registers of a function's caller, from those inside the function, by its unwind record.
 ///
-/// `info` is the record of the function, `start` its `begin_address`, `rva` the instruction pointer less the image base. After
+/// `info` is the record of the function, `rva` the instruction pointer less the image base. After
 /// the prolog all codes of the record are undone, inside of it those of the instructions before `rva`. In an epilog that the
 /// record describes, and at its return, the codes of the epilog are undone whose instructions have not run: it is the last scope
 /// that starts at or before `rva`, or the only epilog, at the end of the function. The caller goes on at the link register;
@@ -153,21 +153,21 @@ pub fn step_out_arm64<M: Memory>(
 /// unless the first code after it that is another one saves a pair.
 #[tactic(auto, using(crate::proofs::Arm64Streams::registers_of_arm64_step))]
 pub fn step_arm64<M: Memory>(
+    function: &Arm64RuntimeFunction,
     info: &Arm64UnwindInfo<'_>,
-    start: u32,
     rva: u32,
     registers: Arm64Registers,
     memory: &M,
 ) -> Result<Arm64Registers, FrameError>
     ensures exact { StepsArm64 (M.word memory.now)
-        (info_view info.now) ((rva - start) / 4) registers result }
+        (info_view info.now) ((rva - function.now.begin_address) / 4) registers result }
     ensures undoes { (p : Arm64Part) (stand : ℕ) →
-        Leaves (info_view info.now) ((rva - start) / 4) (Ok (ran_arm64 stand p.codes)) →
+        Leaves (info_view info.now) ((rva - function.now.begin_address) / 4) (Ok (ran_arm64 stand p.codes)) →
         IsArm64Frame p stand (M.word memory.now) registers →
         (u : Arm64Registers) × (result ≡ Ok u)
         × IsArm64Caller (effects_at stand p) p.entry registers u }
 {
-    registers_alone(step_out_arm64(info, start, rva, registers, memory))
+    registers_alone(step_out_arm64(function, info, rva, registers, memory))
 }
 
 /// The registers of the caller, where these codes are left to be undone, none of which is `save_next`.
