@@ -277,11 +277,11 @@ fn after_pops(code: &[u8]) -> &[u8]
 }
 
 /// A jump of so many bytes, by a number that counts from its end. The code ends at an RVA.
-fn jump_of(end: u64, code: &[u8], size: u64, number: u64) -> Instruction
+fn jump_of(end: u64, code: &[u8], size: u8, number: u64) -> Instruction
     ensures { Some result ≡ jump_of end code.now size number }
 {
     let start = end.saturating_sub(code.len() as u64);
-    Instruction::Jump(start.wrapping_add(size).wrapping_add(number))
+    Instruction::Jump(start.wrapping_add(u64::from(size)).wrapping_add(number))
 }
 
 /// Whether a mode of ModRM says a register, or memory without a number that is added to a register.

@@ -312,7 +312,7 @@ fn code_of_frame<'a>(found: &FrameFunction<'a>, frame: &StackFrame, rva: u32) ->
     }
     found
         .module
-        .code(found.exceptions, rva, found.function.end_address)
+        .code(found.exceptions, rva..found.function.end_address)
 }
 
 /// Makes a frame what a step left of it, whose registers are those of the caller.

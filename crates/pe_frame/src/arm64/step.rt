@@ -14,7 +14,8 @@ ghost use Rattle.pe_frame.specs.Arm64Machine.{IsArm64Caller};
 
 use super::entry::{Arm64Entry, entry_of};
 use super::epilog::{
-    Arm64Epilog, SIZE_OF_INSTRUCTION, codes_from, epilog_after, epilog_start, is_in_epilog,
+    Arm64Epilog, EpilogPlaces, SIZE_OF_INSTRUCTION, codes_from, epilog_after, epilog_start,
+    is_in_epilog,
 };
 use super::packed::{epilog_codes, has_ended, is_canonical, packed_codes, packed_length};
 use super::record::{after_codes, prolog_length, require_codes, undo_codes, undo_each};
@@ -82,7 +83,7 @@ fn caller_after<M: Memory>(
     let length = prolog_length(rest);
     let count = info.header.function_length() / SIZE_OF_INSTRUCTION;
     let start = epilog_start(count, epilog.start, length);
-    if is_in_epilog(place as usize, start, length) {
+    if is_in_epilog(place as usize, EpilogPlaces { start, length }) {
         let left = after_codes(rest, (place as usize).saturating_sub(start));
         return caller_by_codes(left, registers, memory);
     }
@@ -199,7 +200,11 @@ fn packed_caller_after<M: Memory>(
     let of_epilog = list.as_slice();
     let count = function.function_length() / SIZE_OF_INSTRUCTION;
     let start = epilog_start(count, None, of_epilog.len());
-    if is_in_epilog(place as usize, start, of_epilog.len()) {
+    let places = EpilogPlaces {
+        start,
+        length: of_epilog.len(),
+    };
+    if is_in_epilog(place as usize, places) {
         let left = &of_epilog[(place as usize).saturating_sub(start)..];
         return caller_by_list(left, registers, memory);
     }
