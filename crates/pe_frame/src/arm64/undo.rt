@@ -12,7 +12,7 @@ use super::operation::{Arm64Operation, Arm64Register, operation_of, register_aft
 use super::registers::{Arm64Registers, FRAME_POINTER, LINK_REGISTER};
 use crate::error::FrameError;
 use crate::memory::{Memory, SIZE_OF_WORD};
-use crate::undo::{above, number};
+use crate::undo::{Bytes, above, number};
 use pe_unwind::Arm64UnwindCode;
 
 /// The weight of bit 55, which is set in addresses of the system; how many addresses the 48 bits below a signature have; and
@@ -50,7 +50,7 @@ fn raise(by: u32, registers: &mut Arm64Registers) -> Result<(), FrameError>
     ensures { (m : ℕ → Option ℕ) →
         changed result registers.new ≡ reverted_all m (Lower by ∷ []) registers.old }
 {
-    registers.sp = above(registers.sp, u64::from(by))?;
+    registers.sp = above(registers.sp, Bytes(u64::from(by)))?;
     Ok(())
 }
 
@@ -99,7 +99,7 @@ pub(crate) fn load<M: Memory>(
     ensures { changed result registers.new
         ≡ reverted (M.word memory.now) (Store register offset) registers.old }
 {
-    let value = number(memory, above(registers.sp, offset)?)?;
+    let value = number(memory, above(registers.sp, Bytes(offset))?)?;
     put(register, value, registers);
     Ok(())
 }
