@@ -77,7 +77,13 @@ fn step_at(
     stack: &Stack<'_>,
 ) -> Result<Arm64Registers, FrameError> {
     let info = Arm64UnwindInfo::parse(record, 0).map_err(FrameError::Codes)?;
-    step_arm64(&FUNCTION, &info, FUNCTION.begin_address + offset, registers, stack)
+    step_arm64(
+        &FUNCTION,
+        &info,
+        FUNCTION.begin_address + offset,
+        registers,
+        stack,
+    )
 }
 
 fn shown<T: Debug>(alloc: Global, value: &T) -> Result<String, AllocError> {
@@ -455,7 +461,13 @@ fn step_out_at(
     stack: &Stack<'_>,
 ) -> Result<(Arm64Registers, bool), FrameError> {
     let info = Arm64UnwindInfo::parse(record, 0).map_err(FrameError::Codes)?;
-    step_out_arm64(&FUNCTION, &info, FUNCTION.begin_address + offset, registers, stack)
+    step_out_arm64(
+        &FUNCTION,
+        &info,
+        FUNCTION.begin_address + offset,
+        registers,
+        stack,
+    )
 }
 
 /// A `CONTEXT` record of winnt.h: `X` from 8 on, `Sp` at 100h, `Pc` at 108h, `V` from 110h on.
