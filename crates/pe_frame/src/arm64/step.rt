@@ -163,7 +163,8 @@ pub fn step_arm64<M: Memory>(
     ensures exact { StepsArm64 (M.word memory.now)
         (info_view info.now) ((rva - function.now.begin_address) / 4) registers result }
     ensures undoes { (p : Arm64Part) (stand : ℕ) →
-        Leaves (info_view info.now) ((rva - function.now.begin_address) / 4) (Ok (ran_arm64 stand p.codes)) →
+        Leaves (info_view info.now) ((rva - function.now.begin_address) / 4)
+        (Ok (ran_arm64 stand p.codes)) →
         IsArm64Frame p stand (M.word memory.now) registers →
         (u : Arm64Registers) × (result ≡ Ok u)
         × IsArm64Caller (effects_at stand p) p.entry registers u }
