@@ -1,10 +1,12 @@
 /* Reads lists of an image by the calls of the library for C, a number of times: lists WHAT WAY TIMES FILE
  *
  * WHAT is functions, records (of all functions), codes (the records with their codes), lookups (of an RVA in each function),
- * exports, addresses (of exports, by their index), imports (the libraries and their imports), symbols (with their names) or key
- * (of a symbol server). WAY is steps, a call for each item; lists, by calls with room for 1,024 items; or together, which reads
- * names together, by one call with room for all.
- * It prints how many items there are. The table of functions is read once, so that what one of the times costs is the items alone. */
+ * exports, addresses (of exports, by their index), imports (the libraries and their imports), symbols (with their names), key
+ * (the symbol key, of a view that is made), or headers-key or parse-key (the view and the key, from the bytes). WAY is steps, a
+ * call for each item; lists, by calls with room for 1,024 items; or together, which reads names together, by one call with room
+ * for all.
+ * It prints how many items there are; of a key then its GUID in the order of the file, its age, and the bytes of its name. The
+ * table of functions is read once, so that what one of the times costs is the items alone. */
 #include "pe.h"
 
 #include <stdio.h>
@@ -25,6 +27,9 @@ static size_t number_of_runs;
 static pe_c_range table;
 static pe_c_function *functions;
 static uint64_t number_of_functions;
+
+/* The symbol key that was read last. */
+static pe_c_key key;
 
 static void *room_for(size_t entries, size_t size)
 {
@@ -219,8 +224,29 @@ static uint64_t read_symbols(void)
 
 static uint64_t read_key(void)
 {
-    pe_c_key key = PE_C_EMPTY;
     return pe_c_symbol_key(&view, &key) == PE_C_DONE;
+}
+
+/* The view is made again, in a room of section headers that is kept. */
+static uint64_t read_key_of_bytes(void)
+{
+    static pe_c_section sections[UINT16_MAX];
+    pe_c_image_info image = PE_C_EMPTY;
+    if (pe_c_image(view.bytes, view.length, PE_C_STRICT, &image) != PE_C_DONE ||
+        pe_c_sections(view.bytes, view.length, &image, sections, UINT16_MAX) != PE_C_DONE)
+        return 0;
+    const pe_c_view made = {view.bytes, view.length, &image, sections, image.number_of_sections, NULL, 0};
+    return pe_c_symbol_key(&made, &key) == PE_C_DONE;
+}
+
+static void print_key(void)
+{
+    printf(" ");
+    for (size_t i = 0; i < sizeof key.guid; i++)
+        printf("%02x", key.guid[i]);
+    printf(" %u ", key.age);
+    for (uint64_t i = 0; i < key.name.length; i++)
+        printf("%02x", view.bytes[key.name.offset + i]);
 }
 
 static const struct {
@@ -228,7 +254,8 @@ static const struct {
     uint64_t (*read)(void);
 } PARTS[] = {{"functions", read_functions}, {"records", read_records}, {"codes", read_codes}, {"lookups", read_lookups},
              {"exports", read_exports},     {"addresses", read_addresses}, {"imports", read_imports},
-             {"symbols", read_symbols},     {"key", read_key}};
+             {"symbols", read_symbols},     {"key", read_key}, {"headers-key", read_key_of_bytes},
+             {"parse-key", read_key_of_bytes}};
 
 int main(int argc, char **argv)
 {
@@ -239,10 +266,19 @@ int main(int argc, char **argv)
             way = STEPS + i;
     read_image(argv[4]);
     number_of_functions = read_functions();
+    /* The part is found before, since it is not to be counted. */
+    uint64_t (*read)(void) = NULL;
+    for (size_t i = 0; i < sizeof PARTS / sizeof *PARTS; i++)
+        if (strcmp(argv[1], PARTS[i].name) == 0)
+            read = PARTS[i].read;
+    if (read == NULL)
+        return 2;
     uint64_t count = 0;
-    for (int i = 0; i < 9; i++)
-        for (int times = atoi(argv[3]); strcmp(argv[1], PARTS[i].name) == 0 && times > 0; times--)
-            count = PARTS[i].read();
-    printf("%llu\n", (unsigned long long)count);
+    for (int times = atoi(argv[3]); times > 0; times--)
+        count = read();
+    printf("%llu", (unsigned long long)count);
+    if (count > 0 && (read == read_key || read == read_key_of_bytes))
+        print_key();
+    printf("\n");
     return 0;
 }
