@@ -2921,13 +2921,13 @@ enum {
 
 /* Writes the text of a GUID, the first 16 of these bytes, as those of pe_c_key.
  * Errors: PE_C_SHORT where there are fewer; PE_C_ROOM. */
-uint32_t pe_c_guid_text(const uint8_t *guid, size_t guid_length, uint32_t form, uint8_t *room, size_t room_length,
+uint32_t pe_c_guid_text(const uint8_t *guid, size_t guid_length, uint32_t form, char *room, size_t room_length,
                         uint64_t *written) PE_C_RESULT(6);
 
 /* Writes the text of a range in UTF-16 as UTF-8. U+FFFD stands for a surrogate without a partner, zeros in the text are
  * characters, and an odd byte at the end is left out.
  * Errors: PE_C_SHORT where the range is not inside the bytes; PE_C_ROOM. */
-uint32_t pe_c_utf16_text(const uint8_t *bytes, size_t length, const pe_c_range *range, uint8_t *room, size_t room_length,
+uint32_t pe_c_utf16_text(const uint8_t *bytes, size_t length, const pe_c_range *range, char *room, size_t room_length,
                          uint64_t *written) PE_C_RESULT(3, 6);
 
 /* A text in the bytes. */

@@ -646,7 +646,7 @@ static void resources(const struct file *file)
 static void texts_of_bytes(const struct file *file)
 {
     for (size_t at = 0; at <= 64 && at <= file->length; at += 16) {
-        uint8_t room[200] = PE_C_EMPTY;
+        char room[200] = PE_C_EMPTY;
         uint64_t written = 0;
         pe_c_text_in_bytes text = PE_C_EMPTY;
         pe_c_range range = {at, file->length - at < 60 ? file->length - at : 60};
