@@ -2,14 +2,15 @@
 
 use super::exports::with_exports;
 use super::made::{
-    MAPPED, OVER, PERMISSIVE, SHORT, STRICT, UNMAPPED, X64, directory, having, image, in_mode,
-    of_range, range, sections, view,
+    MAPPED, OVER, PERMISSIVE, RESOURCE_BOUNDS, SHORT, STRICT, UNMAPPED, X64, directory, having,
+    image, in_mode, of_range, range, sections, view,
 };
-use super::resource_leaves::with_tree;
+use super::resource_leaves::{of_size, with_tree};
 use crate::directory_tables::{
     ExportFields, ResourceDirectory, ResourceItem, pe_c_export_directory, pe_c_next_resource_item,
-    pe_c_resource_directory_at,
+    pe_c_resource_directory_at, pe_c_resource_root,
 };
+use crate::image::Image;
 use crate::ranges::Range;
 use crate::resource_leaves::ResourceName;
 use crate::results::{DONE, NOTHING};
@@ -116,8 +117,9 @@ type Numbers = ([u32; 2], [u16; 4], [u64; 2]);
 
 const NO_DIRECTORY: Numbers = ([1, 2], [3, 4, 5, 6], [7, 8]);
 
-fn directory_at(bytes: &[u8], tree: Range, offset: u32) -> (u32, Numbers) {
-    let mut out = ResourceDirectory {
+/// What `out` is before each call.
+fn no_directory() -> ResourceDirectory {
+    ResourceDirectory {
         characteristics: 1,
         time_date_stamp: 2,
         major_version: 3,
@@ -125,8 +127,22 @@ fn directory_at(bytes: &[u8], tree: Range, offset: u32) -> (u32, Numbers) {
         number_of_named_entries: 5,
         number_of_id_entries: 6,
         entries: range(7, 8),
-    };
+    }
+}
+
+fn directory_at(bytes: &[u8], tree: Range, offset: u32) -> (u32, Numbers) {
+    let mut out = no_directory();
     let answer = pe_c_resource_directory_at(bytes, &tree, offset, &mut out);
+    (answer, numbers_of(out))
+}
+
+fn root_of(bytes: &[u8], image: &Image, mode: u32) -> (u32, Numbers) {
+    let mut out = no_directory();
+    let answer = pe_c_resource_root(&view(bytes, &in_mode(image, mode), &sections()), &mut out);
+    (answer, numbers_of(out))
+}
+
+fn numbers_of(directory: ResourceDirectory) -> Numbers {
     let ResourceDirectory {
         characteristics,
         time_date_stamp,
@@ -135,7 +151,7 @@ fn directory_at(bytes: &[u8], tree: Range, offset: u32) -> (u32, Numbers) {
         number_of_named_entries,
         number_of_id_entries,
         entries,
-    } = out;
+    } = directory;
     let counts = [
         major_version,
         minor_version,
@@ -143,7 +159,7 @@ fn directory_at(bytes: &[u8], tree: Range, offset: u32) -> (u32, Numbers) {
         number_of_id_entries,
     ];
     let stamps = [characteristics, time_date_stamp];
-    (answer, (stamps, counts, of_range(entries)))
+    (stamps, counts, of_range(entries))
 }
 
 /// The root and the directory of its first entry; each is refused where its entries end past the tree by a byte.
@@ -178,6 +194,45 @@ fn directories_of_a_tree(rt: HostRuntime) -> Result<(), Fail> {
     ] {
         let found = directory_at(&bytes, tree, offset);
         assert_eq!(rt; found, (SHORT, NO_DIRECTORY), "{offset:#x}");
+    }
+    Ok(())
+}
+
+/// The first directory: each field at the offset of winnt.h, in permissive mode also where its entries end past the data by a byte.
+#[test]
+fn the_first_directory(rt: HostRuntime) -> Result<(), Fail> {
+    let mut bytes = with_tree(rt.alloc())?;
+    put(
+        &mut bytes,
+        &[
+            (0x20, &[0x44, 0x33, 0x22, 0x11, 0x88, 0x77, 0x66, 0x55]),
+            (0x28, &[0x02, 0x01, 0x04, 0x03, 1, 0, 2, 0]),
+        ],
+    );
+    let (stamps, counts) = ([0x1122_3344, 0x5566_7788], [0x0102, 0x0304, 1, 2]);
+    let (whole, truncated) = ((stamps, counts, [0x30, 24]), (stamps, counts, [0x30, 0]));
+    let mapped = having(image(X64), 2, directory(0x20, 142));
+    for mode in [STRICT, PERMISSIVE] {
+        for size in [40, 142] {
+            assert_eq!(rt; root_of(&bytes, &of_size(size), mode), (DONE, whole));
+        }
+        assert_eq!(rt; root_of(&bytes, &mapped, mode | MAPPED), (DONE, whole));
+        assert_eq!(rt; root_of(&bytes, &image(X64), mode), (NOTHING, NO_DIRECTORY));
+        let refused = (RESOURCE_BOUNDS, NO_DIRECTORY);
+        assert_eq!(rt; root_of(&bytes, &of_size(143), mode), refused);
+        let far = having(image(X64), 2, directory(0x2000, 142));
+        assert_eq!(rt; root_of(&bytes, &far, mode), (UNMAPPED, NO_DIRECTORY));
+        let last = &bytes[..0x2F];
+        assert_eq!(rt; root_of(last, &of_size(142), mode), (SHORT, NO_DIRECTORY));
+    }
+    for (size, permissive) in [
+        (39, (DONE, truncated)),
+        (16, (DONE, truncated)),
+        (15, (NOTHING, NO_DIRECTORY)),
+    ] {
+        let refused = (RESOURCE_BOUNDS, NO_DIRECTORY);
+        assert_eq!(rt; root_of(&bytes, &of_size(size), STRICT), refused);
+        assert_eq!(rt; root_of(&bytes, &of_size(size), PERMISSIVE), permissive);
     }
     Ok(())
 }
