@@ -115,7 +115,7 @@ fn the_root_has_fields_and_items() {
         assert_eq!(found.number_of_id_entries, 1);
         let [first, second] = [ResourceName::Name(Text(b"A\0B\0")), ResourceName::Id(3)];
         let items: Vec<_> = found.items().map(Result::unwrap).map(|it| (it.name, it.offset, it.is_directory)).collect();
-        assert_eq!(items, [(first, 0x20, true), (second, 0x6800_0000, false)]);
+        assert_eq!(items, [(first, 0x20, true), (second, 0x68, false)]);
         let leaves = image.resource_leaves().unwrap().unwrap();
         let same = leaves.directory(0).unwrap();
         assert_eq!((fields(same), same.number_of_id_entries), (fields(found), 1));
