@@ -54,20 +54,21 @@ stub_is b mode h e =
     let after : (dos_header b 0).pe_pointer + 4 ≤ length b = inside_if_held b (dos_header b 0).pe_pointer 4 is.1 in
     subst (λ (x : HeaderView). range b 64 (length x.dos_stub) ≡ x.dos_stub) is.2 (same_stub b (dos_header b 0).pe_pointer (omega (arith, after)))
 
+byte_within : (b : List ℕ) (p n k : ℕ) (test : Bool) → nat_lt k n ≡ test → AreBytes b → p + n ≤ length b → slice_index (range b p n) k < 256
+byte_within b p n k true test bytes h =
+    let below : k < n = grind (arith, nat_tests, test) in
+    let same : slice_index b (p + k) ≡ slice_index (range b p n) k = byte_of_range b p n k below in
+    omega (arith, same, bytes (p + k))
+byte_within b p n k false test bytes h =
+    let past : n ≤ k = grind (arith, nat_tests, test) in
+    let none : slice_index (range b p n) k ≡ 0 = get_or_past (range b p n) k 0 (omega (arith, past, length_range b p n h)) in
+    omega (arith, none)
+
 bytes_within : (b : List ℕ) (p n : ℕ) → AreBytes b → p + n ≤ length b → AreBytes (range b p n)
-bytes_within b p n bytes h k = by_test (nat_lt k n) refl where
-  by_test : (test : Bool) → nat_lt k n ≡ test → slice_index (range b p n) k < 256
-  by_test true test =
-      let below : k < n = grind (arith, nat_tests, test) in
-      let same : slice_index b (p + k) ≡ slice_index (range b p n) k = byte_of_range b p n k below in
-      omega (arith, same, bytes (p + k))
-  by_test false test =
-      let past : n ≤ k = grind (arith, nat_tests, test) in
-      let none : slice_index (range b p n) k ≡ 0 = get_or_past (range b p n) k 0 (omega (arith, past, length_range b p n h)) in
-      omega (arith, none)
+bytes_within b p n bytes h k = byte_within b p n k (nat_lt k n) refl bytes h
 
 -- so many numbers of 16 bits from p on, one after the other
-words : List ℕ → ℕ → ℕ → List ℕ
+abbrev words : List ℕ → ℕ → ℕ → List ℕ
 words r p zero = []
 words r p (suc n) = le r p 2 ∷ words r (p + 2) n
 
