@@ -118,29 +118,18 @@ type Numbers = ([u32; 2], [u16; 4], [u64; 2]);
 const NO_DIRECTORY: Numbers = ([1, 2], [3, 4, 5, 6], [7, 8]);
 
 /// What `out` is before each call.
-fn no_directory() -> ResourceDirectory {
-    ResourceDirectory {
-        characteristics: 1,
-        time_date_stamp: 2,
-        major_version: 3,
-        minor_version: 4,
-        number_of_named_entries: 5,
-        number_of_id_entries: 6,
-        entries: range(7, 8),
-    }
-}
-
-fn directory_at(bytes: &[u8], tree: Range, offset: u32) -> (u32, Numbers) {
-    let mut out = no_directory();
-    let answer = pe_c_resource_directory_at(bytes, &tree, offset, &mut out);
-    (answer, numbers_of(out))
-}
-
-fn root_of(bytes: &[u8], image: &Image, mode: u32) -> (u32, Numbers) {
-    let mut out = no_directory();
-    let answer = pe_c_resource_root(&view(bytes, &in_mode(image, mode), &sections()), &mut out);
-    (answer, numbers_of(out))
-}
+pub(crate) const NO_RESOURCE_DIRECTORY: ResourceDirectory = ResourceDirectory {
+    characteristics: 1,
+    time_date_stamp: 2,
+    major_version: 3,
+    minor_version: 4,
+    number_of_named_entries: 5,
+    number_of_id_entries: 6,
+    entries: Range {
+        offset: 7,
+        length: 8,
+    },
+};
 
 fn numbers_of(directory: ResourceDirectory) -> Numbers {
     let ResourceDirectory {
@@ -160,6 +149,53 @@ fn numbers_of(directory: ResourceDirectory) -> Numbers {
     ];
     let stamps = [characteristics, time_date_stamp];
     (stamps, counts, of_range(entries))
+}
+
+fn directory_at(bytes: &[u8], tree: Range, offset: u32) -> (u32, Numbers) {
+    let mut out = NO_RESOURCE_DIRECTORY;
+    let answer = pe_c_resource_directory_at(bytes, &tree, offset, &mut out);
+    (answer, numbers_of(out))
+}
+
+fn first_of(bytes: &[u8], image: &Image) -> (u32, Numbers) {
+    let mut out = NO_RESOURCE_DIRECTORY;
+    let answer = pe_c_resource_root(&view(bytes, image, &sections()), &mut out);
+    (answer, numbers_of(out))
+}
+
+#[test]
+fn first_directories(rt: HostRuntime) -> Result<(), Fail> {
+    let mut bytes = with_tree(rt.alloc())?;
+    put(&mut bytes, &[(0x20, &[0x44, 0x33, 0x22, 0x11])]);
+    let root = ([0x1122_3344, 0], [0, 0, 1, 1], [0x30, 16]);
+    let read = |image: &Image| first_of(&bytes, image);
+    for mode in [STRICT, PERMISSIVE] {
+        let found = read(&in_mode(&of_size(0x8E), mode));
+        assert_eq!(rt; found, (DONE, root));
+    }
+    let loaded = having(image(X64), 2, directory(0x20, 0x8E));
+    assert_eq!(rt; read(&in_mode(&loaded, MAPPED)), (DONE, root));
+    assert_eq!(rt; read(&image(X64)), (NOTHING, NO_DIRECTORY));
+    let far = having(image(X64), 2, directory(0x2000, 0x8E));
+    assert_eq!(rt; read(&far), (UNMAPPED, NO_DIRECTORY));
+    let cut = first_of(&bytes[..0x2F], &of_size(0x8E));
+    assert_eq!(rt; cut, (SHORT, NO_DIRECTORY));
+    assert_eq!(rt; read(&of_size(0x8F)), (RESOURCE_BOUNDS, NO_DIRECTORY));
+    Ok(())
+}
+
+/// Data of 15 bytes, and of all but the last byte of the entries: the directory then has none.
+#[test]
+fn first_directories_in_permissive_mode(rt: HostRuntime) -> Result<(), Fail> {
+    let bytes = with_tree(rt.alloc())?;
+    let without = ([0, 0], [0, 0, 1, 1], [0x30, 0]);
+    for (size, found) in [(15, (NOTHING, NO_DIRECTORY)), (31, (DONE, without))] {
+        let image = of_size(size);
+        let refused = first_of(&bytes, &in_mode(&image, STRICT));
+        assert_eq!(rt; refused, (RESOURCE_BOUNDS, NO_DIRECTORY));
+        assert_eq!(rt; first_of(&bytes, &in_mode(&image, PERMISSIVE)), found);
+    }
+    Ok(())
 }
 
 /// The root and the directory of its first entry; each is refused where its entries end past the tree by a byte.
@@ -194,45 +230,6 @@ fn directories_of_a_tree(rt: HostRuntime) -> Result<(), Fail> {
     ] {
         let found = directory_at(&bytes, tree, offset);
         assert_eq!(rt; found, (SHORT, NO_DIRECTORY), "{offset:#x}");
-    }
-    Ok(())
-}
-
-/// The first directory: each field at the offset of winnt.h, in permissive mode also where its entries end past the data by a byte.
-#[test]
-fn the_first_directory(rt: HostRuntime) -> Result<(), Fail> {
-    let mut bytes = with_tree(rt.alloc())?;
-    put(
-        &mut bytes,
-        &[
-            (0x20, &[0x44, 0x33, 0x22, 0x11, 0x88, 0x77, 0x66, 0x55]),
-            (0x28, &[0x02, 0x01, 0x04, 0x03, 1, 0, 2, 0]),
-        ],
-    );
-    let (stamps, counts) = ([0x1122_3344, 0x5566_7788], [0x0102, 0x0304, 1, 2]);
-    let (whole, truncated) = ((stamps, counts, [0x30, 24]), (stamps, counts, [0x30, 0]));
-    let mapped = having(image(X64), 2, directory(0x20, 142));
-    for mode in [STRICT, PERMISSIVE] {
-        for size in [40, 142] {
-            assert_eq!(rt; root_of(&bytes, &of_size(size), mode), (DONE, whole));
-        }
-        assert_eq!(rt; root_of(&bytes, &mapped, mode | MAPPED), (DONE, whole));
-        assert_eq!(rt; root_of(&bytes, &image(X64), mode), (NOTHING, NO_DIRECTORY));
-        let refused = (RESOURCE_BOUNDS, NO_DIRECTORY);
-        assert_eq!(rt; root_of(&bytes, &of_size(143), mode), refused);
-        let far = having(image(X64), 2, directory(0x2000, 142));
-        assert_eq!(rt; root_of(&bytes, &far, mode), (UNMAPPED, NO_DIRECTORY));
-        let last = &bytes[..0x2F];
-        assert_eq!(rt; root_of(last, &of_size(142), mode), (SHORT, NO_DIRECTORY));
-    }
-    for (size, permissive) in [
-        (39, (DONE, truncated)),
-        (16, (DONE, truncated)),
-        (15, (NOTHING, NO_DIRECTORY)),
-    ] {
-        let refused = (RESOURCE_BOUNDS, NO_DIRECTORY);
-        assert_eq!(rt; root_of(&bytes, &of_size(size), STRICT), refused);
-        assert_eq!(rt; root_of(&bytes, &of_size(size), PERMISSIVE), permissive);
     }
     Ok(())
 }

@@ -176,15 +176,15 @@ pub extern "C" fn pe_c_resource_directory_at(
 }
 
 /// The first directory of the data at a range, before whose first leaf a walk stands at a position.
-fn root_of(bytes: &[u8], data: ByteRange, position: &LeafPosition) -> ResourceDirectory
-    requires { data.offset + 16 ≤ length bytes.now }
-    ensures { result ≡ root_of bytes.now (walk_at (range_of data) position.now) }
+fn root_of(bytes: &[u8], tree: ByteRange, position: &LeafPosition) -> ResourceDirectory
+    requires { tree.offset + 16 ≤ length bytes.now }
+    ensures { result ≡ root_of bytes.now (walk_at (range_of tree) position.now) }
 {
     let entries = Range {
-        offset: (data.offset + SIZE_OF_RESOURCE_DIRECTORY) as u64,
+        offset: (tree.offset + SIZE_OF_RESOURCE_DIRECTORY) as u64,
         length: position.types.length as u64,
     };
-    directory_with(&ImageResourceDirectory::at(bytes, data.offset), entries)
+    directory_with(&ImageResourceDirectory::at(bytes, tree.offset), entries)
 }
 
 #[tactic(auto, using(crate::proofs::ResourceRoots::root_is_there))]
