@@ -342,10 +342,7 @@ fn trees(rt: HostRuntime) -> Result<(), Fail> {
         let answer = pe_c_resource_root(view, &mut out);
         (answer, of_range(out.entries))
     });
-    assert_eq!(rt;
-        roots,
-        alike((DONE, [0x30, 16]), (DONE, [0x430, 16]), none)
-    );
+    assert_eq!(rt; roots, alike((DONE, [0x30, 16]), (DONE, [0x430, 16]), none));
     Ok(())
 }
 
