@@ -4,7 +4,8 @@
 
 use anyhow::{Context, Result};
 use pe_core::{
-    CoffHeader, Export, ExportData, Header, Import, ImportData, ParseOptions, SectionIndex,
+    CoffHeader, Export, ExportData, Header, Import, ImportData, MappedBytes, ParseOptions,
+    SectionIndex,
 };
 use std::time::Instant;
 use std::{env, fs};
@@ -51,14 +52,17 @@ fn main(rt: HostRuntime) -> Result<()> {
         )?;
         println!(rt; "{} records {:?}", data.import_data.len(), start.elapsed(&rt)?)?;
         let index = SectionIndex::new(alloc, &sections, alignment, &opts)?;
-        let map = index.map();
+        let image = MappedBytes {
+            bytes: &bytes,
+            map: index.map(),
+        };
         let start = Instant::now(&rt)?;
-        let imports = Import::parse_at_most(alloc, &bytes, &data, &map, true, 1 << 20)?;
+        let imports = Import::parse_at_most(alloc, &image, &data, true, 1 << 20)?;
         println!(rt;
             "{} imports of {} {:?}", imports.len(), data.import_count(true), start.elapsed(&rt)?
         )?;
         let start = Instant::now(&rt)?;
-        let libraries = data.libraries_with_map(alloc, &bytes, &map)?;
+        let libraries = data.libraries_with_map(alloc, &image)?;
         println!(rt; "{} libraries by offset {:?}", libraries.len(), start.elapsed(&rt)?)?;
         let start = Instant::now(&rt)?;
         let libraries = data.libraries(alloc)?;

@@ -4,8 +4,8 @@ use crate::images::{image, with_byte};
 use crate::sections::section;
 use linked_list_allocator::LocalHeap;
 use pe_core::{
-    DataDirectory, Error, Export, ExportAddress, ExportAddresses, ExportData, ParseOptions, Reason,
-    SectionMap, SectionTable, lies_in,
+    DataDirectory, Error, Export, ExportAddress, ExportAddresses, ExportData, MappedBytes,
+    ParseOptions, Reason, SectionTable, lies_in,
 };
 use std::alloc::{AllocError, Global};
 use std::process::Abort;
@@ -349,7 +349,8 @@ fn exports_by_index(rt: HostRuntime) -> Result<(), Fail> {
 fn texts_of_forwarders_and_names(rt: HostRuntime) -> Result<(), Fail> {
     let bytes = forwarding(rt.alloc())?;
     let sections = one_section();
-    let map = SectionMap::new(&sections, ALIGNMENT, &ParseOptions::default());
+    let opts = ParseOptions::default();
+    let image = MappedBytes::new(&bytes, &sections, ALIGNMENT, &opts);
     let data = ExportData::parse(&bytes, WIDE, &sections, ALIGNMENT)?;
     let exports = ExportAddresses::new(&data, WIDE);
     for (rva, want) in [
@@ -360,30 +361,29 @@ fn texts_of_forwarders_and_names(rt: HostRuntime) -> Result<(), Fail> {
         (0x10E0, None),
         (0x1020, None),
     ] {
-        assert_eq!(rt; exports.forwarder(rva, &bytes, &map), want, "at {rva:#x}");
+        assert_eq!(rt; exports.forwarder(rva, &image), want, "at {rva:#x}");
     }
-    assert_eq!(rt; exports.forwarder(0x1090, &bytes[..0x295], &map), None);
+    let short = MappedBytes::new(&bytes[..0x295], &sections, ALIGNMENT, &opts);
+    assert_eq!(rt; exports.forwarder(0x1090, &short), None);
     for (index, want) in [
         (0, Some(("f", 0))),
         (1, Some(("f", 5))),
         (2, None),
         (usize::MAX, None),
     ] {
-        let found = exports.name_at(index, &bytes, &map);
+        let found = exports.name_at(index, &image);
         assert_eq!(rt; found.map(|it| (it.name, it.index)), want, "at {index}");
     }
     let short = ExportAddresses {
         ordinals: &data.ordinals[..3],
         ..exports
     };
-    assert!(rt;
-        short.name_at(0, &bytes, &map).is_some() && short.name_at(1, &bytes, &map).is_none()
-    );
+    assert!(rt; short.name_at(0, &image).is_some() && short.name_at(1, &image).is_none());
     let unmapped = with_byte(bytes, 0x2B1, 0x30);
     let data = ExportData::parse(&unmapped, WIDE, &sections, ALIGNMENT)?;
     assert!(rt;
         ExportAddresses::new(&data, WIDE)
-            .name_at(0, &unmapped, &map)
+            .name_at(0, &MappedBytes::new(&unmapped, &sections, ALIGNMENT, &opts))
             .is_none()
     );
     Ok(())

@@ -5,8 +5,8 @@ use crate::images::{image, with_byte};
 use crate::refusing::Refusing;
 use linked_list_allocator::LocalHeap;
 use pe_core::{
-    DataDirectory, Error, Import, ImportData, ImportDirectoryEntry, ParseOptions, Reason, Result,
-    SectionIndex, lookup_number, lookup_size, lookups_at,
+    DataDirectory, Error, Import, ImportData, ImportDirectoryEntry, MappedBytes, ParseOptions,
+    Reason, Result, SectionIndex, lookup_number, lookup_size, lookups_at,
 };
 use std::alloc::{AllocError, Allocator, Global};
 use std::process::Abort;
@@ -32,6 +32,17 @@ fn importing(alloc: Global, len: usize) -> std::result::Result<Vec<u8>, AllocErr
             (0x2D0, b"\x07\0f\0"),
         ],
     )
+}
+
+/// An image whose RVAs are mapped by an index.
+pub(crate) fn image_by<'a, 's, A: Allocator>(
+    bytes: &'a [u8],
+    index: &'s SectionIndex<'_, A>,
+) -> MappedBytes<'a, 's> {
+    MappedBytes {
+        bytes,
+        map: index.map(),
+    }
 }
 
 /// The image of one section, with 8 bytes an entry.
@@ -199,7 +210,7 @@ fn lists_libraries_by_offset(rt: HostRuntime) -> std::result::Result<(), Fail> {
     let opts = flat();
     let data = ImportData::parse_with_opts(alloc, &bytes, directory, &[], 0, &opts, true)?;
     let index = SectionIndex::new(alloc, &[], 0, &opts)?;
-    let libraries = data.libraries_with_map(alloc, &bytes, &index.map())?;
+    let libraries = data.libraries_with_map(alloc, &image_by(&bytes, &index))?;
     let want = ["B.dll", "a", "a.dll", "b.dll"];
     assert_eq!(rt; libraries.len(), want.len());
     for (library, name) in libraries.iter().zip(want) {
@@ -207,10 +218,10 @@ fn lists_libraries_by_offset(rt: HostRuntime) -> std::result::Result<(), Fail> {
     }
     let last = bytes.len() - 1;
     let front = bytes.get(..last).ok_or("fewer bytes")?;
-    let libraries = data.libraries_with_map(alloc, front, &index.map())?;
+    let libraries = data.libraries_with_map(alloc, &image_by(front, &index))?;
     assert_eq!(rt; libraries.len(), 4);
     let front = bytes.get(..last - 6).ok_or("fewer bytes")?;
-    let libraries = data.libraries_with_map(alloc, front, &index.map())?;
+    let libraries = data.libraries_with_map(alloc, &image_by(front, &index))?;
     assert_eq!(rt; libraries.len(), 3);
     Ok(())
 }
@@ -256,7 +267,7 @@ fn many_records_of_one_name(rt: HostRuntime) -> std::result::Result<(), Fail> {
     let bytes = sharing(alloc, 50_000, &after, (0, (1 << 20) + 1), (0, 0))?;
     let data = shared_data(alloc, &bytes)?;
     let index = SectionIndex::new(alloc, &[], 0, &flat())?;
-    let libraries = data.libraries_with_map(alloc, &bytes, &index.map())?;
+    let libraries = data.libraries_with_map(alloc, &image_by(&bytes, &index))?;
     assert_eq!(rt; libraries.len(), 1);
     assert_eq!(rt; libraries[0].len(), 1 << 20);
     Ok(())
@@ -285,7 +296,13 @@ fn many_records_of_one_list(rt: HostRuntime) -> std::result::Result<(), Fail> {
         };
         assert_eq!(rt; data.import_count(true), total);
         let index = SectionIndex::new(alloc, &[], 0, &flat())?;
-        let imports = Import::parse_at_most(alloc, &bytes, &data, &index.map(), true, 100_000)?;
+        let imports = Import::parse_at_most(
+            alloc,
+            &image_by(&bytes, &index),
+            &data,
+            true,
+            100_000,
+        )?;
         assert_eq!(rt; imports.len(), 100_000);
         assert_eq!(rt; imports[size - 1].rva, 0x10 + 8 * u64::from(entries - 1));
         assert_eq!(rt; imports[size].rva, 0x10);
@@ -349,17 +366,17 @@ fn lists_at_most(rt: HostRuntime) -> std::result::Result<(), Fail> {
     let index = SectionIndex::new(alloc, &sections, ALIGNMENT, &opts)?;
     let want: [Wanted<'_>; 2] = [(None, "a.dll", 5, 0x10C0), (Some("f"), "a.dll", 7, 0x10C8)];
     for (most, count) in [(0, 0), (1, 1), (2, 2), (3, 2), (usize::MAX, 2)] {
-        let imports = Import::parse_at_most(alloc, &bytes, &data, &index.map(), true, most)?;
+        let imports = Import::parse_at_most(alloc, &image_by(&bytes, &index), &data, true, most)?;
         check_imports(&rt, &imports, want.get(..count).ok_or("fewer")?);
     }
     // The name of the second import is no text.
     let bytes = with_byte(importing(alloc, 0x410)?, 0x2D2, 0xFF);
     let data = directory_of(alloc, &bytes)?;
-    let imports = Import::parse_at_most(alloc, &bytes, &data, &index.map(), true, 1)?;
+    let imports = Import::parse_at_most(alloc, &image_by(&bytes, &index), &data, true, 1)?;
     check_imports(&rt, &imports, want.get(..1).ok_or("fewer")?);
     assert!(rt;
         matches!(
-            Import::parse_at_most(alloc, &bytes, &data, &index.map(), true, 2),
+            Import::parse_at_most(alloc, &image_by(&bytes, &index), &data, true, 2),
             Err(Error::Malformed(Reason::ImportName(0x10D0)))
         )
     );

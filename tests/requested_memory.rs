@@ -5,7 +5,7 @@
 use crate::directories::{at, image_of};
 use crate::exports::one_section;
 use crate::images::{put, te, with_every_directory, with_exports, with_imports, with_resources};
-use crate::imports::sharing;
+use crate::imports::{image_by, sharing};
 use crate::minidumps::with_stream;
 use crate::plans::{chain, offset_of, plan};
 use crate::refusing::Refusing;
@@ -331,7 +331,7 @@ fn imports(rt: HostRuntime) -> Result<(), Fail> {
         room.check(&rt, &asked, "imports", count);
         let most = count / 2;
         let asked = granting(alloc);
-        let imports = Import::parse_at_most(&asked, &bytes, &data, &index.map(), true, most)?;
+        let imports = Import::parse_at_most(&asked, &image_by(&bytes, &index), &data, true, most)?;
         assert_eq!(rt; imports.len(), most);
         let room = Room::NONE.imports(most);
         room.check(&rt, &asked, "the first imports", most);
@@ -353,7 +353,7 @@ fn libraries(rt: HostRuntime) -> Result<(), Fail> {
         let room = Room::NONE.list(count, TEXT);
         room.check(&rt, &asked, "libraries", count);
         let asked = granting(alloc);
-        let names = data.libraries_with_map(&asked, &bytes, &index.map())?;
+        let names = data.libraries_with_map(&asked, &image_by(&bytes, &index))?;
         assert_eq!(rt; names.len(), 1);
         let room = Room::NONE.libraries(count, count);
         room.check(&rt, &asked, "libraries by a map", count);
