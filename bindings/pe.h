@@ -2488,6 +2488,12 @@ uint32_t pe_c_resource_leaves(const pe_c_view *view, pe_c_resource_walk *out) PE
  * entry of a language PE_C_TREE_NOT_DATA, PE_C_SHORT of its data entry; PE_C_SHORT of a name. */
 uint32_t pe_c_next_resource_leaf(const pe_c_view *view, pe_c_leaf_walk *walk, pe_c_resource_leaf *out) PE_C_RESULT(1, 2, 3);
 
+/* Returns the first directory of the resources, whose entries are types; pe_c_resource_directory_at returns the others.
+ * PE_C_NOTHING where pe_c_resource_leaves returns it. In permissive mode one whose entries are not all inside the data has
+ * none.
+ * Errors: those of pe_c_resource_leaves. */
+uint32_t pe_c_resource_root(const pe_c_view *view, pe_c_resource_directory *out) PE_C_RESULT(1, 2);
+
 /* Returns the directory at an offset of a tree, which is that of a walk over leaves: at 0 the root, whose entries are types,
  * else one to which an entry leads. A hostile tree may lead to a directory again, or many times: bound what you follow.
  * Errors: PE_C_SHORT where the tree is not inside the bytes, or the directory or its entries are not inside the tree. */
@@ -2921,13 +2927,13 @@ enum {
 
 /* Writes the text of a GUID, the first 16 of these bytes, as those of pe_c_key.
  * Errors: PE_C_SHORT where there are fewer; PE_C_ROOM. */
-uint32_t pe_c_guid_text(const uint8_t *guid, size_t guid_length, uint32_t form, uint8_t *room, size_t room_length,
+uint32_t pe_c_guid_text(const uint8_t *guid, size_t guid_length, uint32_t form, char *room, size_t room_length,
                         uint64_t *written) PE_C_RESULT(6);
 
 /* Writes the text of a range in UTF-16 as UTF-8. U+FFFD stands for a surrogate without a partner, zeros in the text are
  * characters, and an odd byte at the end is left out.
  * Errors: PE_C_SHORT where the range is not inside the bytes; PE_C_ROOM. */
-uint32_t pe_c_utf16_text(const uint8_t *bytes, size_t length, const pe_c_range *range, uint8_t *room, size_t room_length,
+uint32_t pe_c_utf16_text(const uint8_t *bytes, size_t length, const pe_c_range *range, char *room, size_t room_length,
                          uint64_t *written) PE_C_RESULT(3, 6);
 
 /* A text in the bytes. */

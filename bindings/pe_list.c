@@ -353,13 +353,13 @@ static int show_key(image *it)
         printf("none\n");
         return FINE;
     }
-    uint8_t guid[33] = "";
+    char guid[33] = "";
     uint64_t written = 0;
     if (result == PE_C_DONE)
         result = pe_c_guid_text(key.guid, sizeof key.guid, PE_C_GUID_DIGITS, guid, sizeof guid, &written);
     if (result != PE_C_DONE)
         return refused(it, result, "");
-    printf("key %s%" PRIX32 " ", (const char *)guid, key.age);
+    printf("key %s%" PRIX32 " ", guid, key.age);
     show_name(it->bytes + key.name.offset, key.name.length);
     putchar('\n');
     return FINE;
@@ -375,10 +375,10 @@ static const char *const names[] = {
 /* Prints a text in UTF-16 up to the first zero: a version text has at most 32,767 code units, of up to 3 bytes in UTF-8. */
 static void show_units(const image *it, const pe_c_range *units)
 {
-    static uint8_t text[3 * 32767 + 1];
+    static char text[3 * 32767 + 1];
     uint64_t written = 0;
     if (pe_c_utf16_text(BYTES(it), units, text, sizeof text, &written) == PE_C_DONE)
-        show_name(text, written);
+        show_name((const uint8_t *)text, written);
 }
 
 static int show_version(image *it)

@@ -153,6 +153,11 @@ def own_parameters(call):
     return {*FILE, *OF_IMAGE, *(OF_PROCESS if OF_PROCESS[0] in names else ())} & set(names)
 
 
+def js_type(parameter):
+    """The type of a parameter in the JavaScript, where characters are bytes too."""
+    return "uint8_t" if parameter.type == "char" else parameter.type
+
+
 def js_parameters(call):
     """The parameters of a call: of each its name, its type and its way: "own" for what the JavaScript passes itself, "in", "moved"
     or "out" for another pointer, "" for a number; "refusal" for what is filled where the call refuses, and "next" for a number
@@ -165,7 +170,7 @@ def js_parameters(call):
             rows[-1].append(True)
             rows.append([it.name, it.type, "length", rows[-1][0]])
         else:
-            rows.append([it.name, it.type, way])
+            rows.append([it.name, js_type(it), way])
     return rows
 
 
@@ -205,7 +210,7 @@ def kind_of(parameter):
     """The type of a parameter or of what a call makes."""
     if not parameter.is_pointer:
         return "bigint | number" if parameter.type in BIGINT else "number"
-    return {"uint64_t": "bigint", "uint32_t": "number", "uint8_t": "Uint8Array"}.get(parameter.type) or type_name(parameter.type)
+    return {"uint64_t": "bigint", "uint32_t": "number", "uint8_t": "Uint8Array"}.get(js_type(parameter)) or type_name(parameter.type)
 
 
 def call_type(call, header):
@@ -223,7 +228,7 @@ def call_type(call, header):
             continue
         kind = "bigint | number" if way == "next" else kind_of(own[name])
         kind = f"Given<{kind}>" if own[name].is_pointer and own[name].type not in WIDTHS else kind
-        given.append(f"{name}{'?' if array else ''}: {kind}{'[]' if array and own[name].type != 'uint8_t' else ''}")
+        given.append(f"{name}{'?' if array else ''}: {kind}{'[]' if array and js_type(own[name]) != 'uint8_t' else ''}")
     several = f"{{ {'; '.join(f'{it.name}: {kind_of(it)}' for it in made)} }}"
     result = several if len(made) > 1 else kind_of(made[0]) if made else "true"
     return f"  {call.name}: {{ given: {{ {'; '.join(given)} }}; made: {result} }};\n"

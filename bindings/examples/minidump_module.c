@@ -10,11 +10,11 @@
 
 static void show_key(const pe_c_view *view, const pe_c_key *key)
 {
-    uint8_t guid[33] = "";
+    char guid[33] = "";
     uint64_t written = 0;
     if (pe_c_guid_text(key->guid, sizeof key->guid, PE_C_GUID_DIGITS, guid, sizeof guid, &written) != PE_C_DONE)
         return;
-    printf("symbols %s%" PRIX32 " ", (const char *)guid, key->age);
+    printf("symbols %s%" PRIX32 " ", guid, key->age);
     show_name(view->bytes, &key->name);
     printf("\n");
 }

@@ -9,7 +9,7 @@
 
 static pe_c_view view;
 /* Three bytes of UTF-8 for each code unit of the longest text. */
-static uint8_t name[3 << 15];
+static char name[3 << 15];
 
 /* A version is four numbers of 16 bits in two of 32. */
 static void show_numbers(const char *what, uint32_t ms, uint32_t ls)
@@ -34,7 +34,7 @@ static uint32_t show_version(void)
     if (result == PE_C_DONE) {
         pe_c_range shown = {0, length};
         printf("name ");
-        show_name(name, &shown);
+        show_name((const uint8_t *)name, &shown);
         printf("\n");
     }
     return result;

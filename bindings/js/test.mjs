@@ -609,7 +609,9 @@ test('directories have fields of their own', () => {
   assert.deepEqual([fields.base, BigInt(fields.number_of_functions)], [table.ordinal_base, table.addresses.length / 4n]);
   assert.equal(exported.call('pe_c_offset', { rva: fields.name }), table.name.offset);
   const image = opened('resources'), { tree } = image.call('pe_c_resource_leaves');
-  const { entries, ...root } = image.call('pe_c_resource_directory_at', { tree, offset: 0 });
+  const first = image.call('pe_c_resource_root');
+  assert.deepEqual(image.call('pe_c_resource_directory_at', { tree, offset: 0 }), first);
+  const { entries, ...root } = first;
   const items = [];
   for (let item; (item = image.call('pe_c_next_resource_item', { tree, walk: entries }));) items.push(item);
   assert.equal(items.length, root.number_of_named_entries + root.number_of_id_entries);

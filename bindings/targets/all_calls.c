@@ -624,6 +624,7 @@ static void resources(const struct file *file)
     pe_c_version version = PE_C_EMPTY;
     pe_c_leaf_walk walk = PE_C_EMPTY;
     pe_c_resource_leaf leaf = PE_C_EMPTY;
+    pe_c_resource_directory root = PE_C_EMPTY;
     pe_c_failure failure = PE_C_EMPTY;
     CALL(pe_c_fixed_version, version, VIEW, &version);
     for (uint32_t name = 0; name <= PE_C_SPECIAL_BUILD + 1; name++)
@@ -631,6 +632,7 @@ static void resources(const struct file *file)
     CALL(pe_c_manifest, range, VIEW, &range);
     version_blocks(file);
     edits(file);
+    CALL(pe_c_resource_root, root, VIEW, &root);
     if (!IS_DONE(pe_c_resource_leaves, walk.leaves, VIEW, &walk.leaves))
         return;
     resource_directories(file, &walk.leaves.tree);
@@ -646,7 +648,7 @@ static void resources(const struct file *file)
 static void texts_of_bytes(const struct file *file)
 {
     for (size_t at = 0; at <= 64 && at <= file->length; at += 16) {
-        uint8_t room[200] = PE_C_EMPTY;
+        char room[200] = PE_C_EMPTY;
         uint64_t written = 0;
         pe_c_text_in_bytes text = PE_C_EMPTY;
         pe_c_range range = {at, file->length - at < 60 ? file->length - at : 60};

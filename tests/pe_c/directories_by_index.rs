@@ -2,7 +2,7 @@
 //! which of them maps an RVA: so each RVA that a call maps goes by the index, or the call returns what is in the other half.
 
 use super::clr::no_header;
-use super::directory_tables::NO_EXPORT_FIELDS;
+use super::directory_tables::{NO_EXPORT_FIELDS, NO_RESOURCE_DIRECTORY};
 use super::exports::with_exports;
 use super::load_config::UNTOUCHED as NO_CONFIG;
 use super::made::{
@@ -19,7 +19,7 @@ use crate::debug::{pe_c_debug_entries, pe_c_first_debug_entry, pe_c_symbol_key};
 use crate::debug_records::SymbolKey;
 use crate::delay_imports::pe_c_delay_imports;
 use crate::directory_failure::pe_c_directory_failure;
-use crate::directory_tables::pe_c_export_directory;
+use crate::directory_tables::{ResourceDirectory, pe_c_export_directory, pe_c_resource_root};
 use crate::export_addresses::{AddressTable, pe_c_export_addresses};
 use crate::exports::{Exports, pe_c_export_tables};
 use crate::guard_tables::{GuardEntries, pe_c_guard_table};
@@ -334,6 +334,15 @@ fn trees(rt: HostRuntime) -> Result<(), Fail> {
         trees,
         alike((DONE, [0x20, 142]), (DONE, [0x420, 142]), none)
     );
+    let roots = answers(&bytes, &image, |view| {
+        let mut out = ResourceDirectory {
+            entries: untouched(),
+            ..NO_RESOURCE_DIRECTORY
+        };
+        let answer = pe_c_resource_root(view, &mut out);
+        (answer, of_range(out.entries))
+    });
+    assert_eq!(rt; roots, alike((DONE, [0x30, 16]), (DONE, [0x430, 16]), none));
     Ok(())
 }
 

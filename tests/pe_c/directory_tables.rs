@@ -2,14 +2,15 @@
 
 use super::exports::with_exports;
 use super::made::{
-    MAPPED, OVER, PERMISSIVE, SHORT, STRICT, UNMAPPED, X64, directory, having, image, in_mode,
-    of_range, range, sections, view,
+    MAPPED, OVER, PERMISSIVE, RESOURCE_BOUNDS, SHORT, STRICT, UNMAPPED, X64, directory, having,
+    image, in_mode, of_range, range, sections, view,
 };
-use super::resource_leaves::with_tree;
+use super::resource_leaves::{of_size, with_tree};
 use crate::directory_tables::{
     ExportFields, ResourceDirectory, ResourceItem, pe_c_export_directory, pe_c_next_resource_item,
-    pe_c_resource_directory_at,
+    pe_c_resource_directory_at, pe_c_resource_root,
 };
+use crate::image::Image;
 use crate::ranges::Range;
 use crate::resource_leaves::ResourceName;
 use crate::results::{DONE, NOTHING};
@@ -116,17 +117,21 @@ type Numbers = ([u32; 2], [u16; 4], [u64; 2]);
 
 const NO_DIRECTORY: Numbers = ([1, 2], [3, 4, 5, 6], [7, 8]);
 
-fn directory_at(bytes: &[u8], tree: Range, offset: u32) -> (u32, Numbers) {
-    let mut out = ResourceDirectory {
-        characteristics: 1,
-        time_date_stamp: 2,
-        major_version: 3,
-        minor_version: 4,
-        number_of_named_entries: 5,
-        number_of_id_entries: 6,
-        entries: range(7, 8),
-    };
-    let answer = pe_c_resource_directory_at(bytes, &tree, offset, &mut out);
+/// What `out` is before each call.
+pub(crate) const NO_RESOURCE_DIRECTORY: ResourceDirectory = ResourceDirectory {
+    characteristics: 1,
+    time_date_stamp: 2,
+    major_version: 3,
+    minor_version: 4,
+    number_of_named_entries: 5,
+    number_of_id_entries: 6,
+    entries: Range {
+        offset: 7,
+        length: 8,
+    },
+};
+
+fn numbers_of(directory: ResourceDirectory) -> Numbers {
     let ResourceDirectory {
         characteristics,
         time_date_stamp,
@@ -135,7 +140,7 @@ fn directory_at(bytes: &[u8], tree: Range, offset: u32) -> (u32, Numbers) {
         number_of_named_entries,
         number_of_id_entries,
         entries,
-    } = out;
+    } = directory;
     let counts = [
         major_version,
         minor_version,
@@ -143,7 +148,54 @@ fn directory_at(bytes: &[u8], tree: Range, offset: u32) -> (u32, Numbers) {
         number_of_id_entries,
     ];
     let stamps = [characteristics, time_date_stamp];
-    (answer, (stamps, counts, of_range(entries)))
+    (stamps, counts, of_range(entries))
+}
+
+fn directory_at(bytes: &[u8], tree: Range, offset: u32) -> (u32, Numbers) {
+    let mut out = NO_RESOURCE_DIRECTORY;
+    let answer = pe_c_resource_directory_at(bytes, &tree, offset, &mut out);
+    (answer, numbers_of(out))
+}
+
+fn first_of(bytes: &[u8], image: &Image) -> (u32, Numbers) {
+    let mut out = NO_RESOURCE_DIRECTORY;
+    let answer = pe_c_resource_root(&view(bytes, image, &sections()), &mut out);
+    (answer, numbers_of(out))
+}
+
+#[test]
+fn first_directories(rt: HostRuntime) -> Result<(), Fail> {
+    let mut bytes = with_tree(rt.alloc())?;
+    put(&mut bytes, &[(0x20, &[0x44, 0x33, 0x22, 0x11])]);
+    let root = ([0x1122_3344, 0], [0, 0, 1, 1], [0x30, 16]);
+    let read = |image: &Image| first_of(&bytes, image);
+    for mode in [STRICT, PERMISSIVE] {
+        let found = read(&in_mode(&of_size(0x8E), mode));
+        assert_eq!(rt; found, (DONE, root));
+    }
+    let loaded = having(image(X64), 2, directory(0x20, 0x8E));
+    assert_eq!(rt; read(&in_mode(&loaded, MAPPED)), (DONE, root));
+    assert_eq!(rt; read(&image(X64)), (NOTHING, NO_DIRECTORY));
+    let far = having(image(X64), 2, directory(0x2000, 0x8E));
+    assert_eq!(rt; read(&far), (UNMAPPED, NO_DIRECTORY));
+    let cut = first_of(&bytes[..0x2F], &of_size(0x8E));
+    assert_eq!(rt; cut, (SHORT, NO_DIRECTORY));
+    assert_eq!(rt; read(&of_size(0x8F)), (RESOURCE_BOUNDS, NO_DIRECTORY));
+    Ok(())
+}
+
+/// Data of 15 bytes, and of all but the last byte of the entries: the directory then has none.
+#[test]
+fn first_directories_in_permissive_mode(rt: HostRuntime) -> Result<(), Fail> {
+    let bytes = with_tree(rt.alloc())?;
+    let without = ([0, 0], [0, 0, 1, 1], [0x30, 0]);
+    for (size, found) in [(15, (NOTHING, NO_DIRECTORY)), (31, (DONE, without))] {
+        let image = of_size(size);
+        let refused = first_of(&bytes, &in_mode(&image, STRICT));
+        assert_eq!(rt; refused, (RESOURCE_BOUNDS, NO_DIRECTORY));
+        assert_eq!(rt; first_of(&bytes, &in_mode(&image, PERMISSIVE)), found);
+    }
+    Ok(())
 }
 
 /// The root and the directory of its first entry; each is refused where its entries end past the tree by a byte.

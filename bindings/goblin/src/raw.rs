@@ -818,6 +818,7 @@ calls_of_an_image! {
     version_content: pe_c_version_blocks() -> Range;
     manifest: pe_c_manifest() -> Range;
     resource_leaves: pe_c_resource_leaves() -> sys::ResourceWalk;
+    resource_root: pe_c_resource_root() -> sys::ResourceDirectory;
     tls: pe_c_tls() -> sys::TlsDirectory;
     tls_callbacks: pe_c_tls_callbacks(tls: &sys::TlsDirectory) -> Range;
     next_tls_callback: pe_c_next_tls_callback(walk: &mut Range) -> u64;

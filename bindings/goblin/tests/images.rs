@@ -13,7 +13,7 @@ use goblin::pe::import::{Import, ImportData};
 use goblin::pe::load_config::LoadConfigData;
 use goblin::pe::options::{Limits, ParseMode, ParseOptions};
 use goblin::pe::relocation::RelocationData;
-use goblin::pe::resource::{ResourceEntry, ResourceString, IMAGE_RESOURCE_DATA_IS_DIRECTORY};
+use goblin::pe::resource::{ResourceData, ResourceEntry, ResourceString, IMAGE_RESOURCE_DATA_IS_DIRECTORY};
 use goblin::pe::section_table::SectionTable;
 use goblin::pe::utils::find_offset;
 use goblin::pe::{Coff, PE};
@@ -559,6 +559,28 @@ fn an_export_directory_has_its_numbers_and_its_table() {
     assert_eq!((found.name_rva, found.export_address_table_rva), (0, 0x80));
     use goblin::pe::export::ExportAddressTableEntry::{ExportRVA, ForwarderRVA};
     assert_eq!(data.export_address_table, [ExportRVA(0x1000), ForwarderRVA(0x90), ExportRVA(0)]);
+}
+
+#[test]
+fn the_first_resource_directory_has_its_numbers_also_without_its_entries() {
+    // Flags, time, version 4.3, three entries with a name and two with an id; each entry has an id and leads to a data entry.
+    let directory = [1, 0, 0, 0, 2, 0, 0, 0, 4, 0, 3, 0, 3, 0, 2, 0];
+    let bytes = made(0x100, &[(0x40, &directory), (0x50, &[7; 40])]);
+    let read = |size: u32, parse_mode| {
+        let place = DataDirectory { virtual_address: 0x40, size };
+        ResourceData::parse_with_opts(&bytes, place, &[], 0x200, &as_loaded().with_parse_mode(parse_mode))
+    };
+    for (size, parse_mode, entries) in
+        [(56, ParseMode::Strict, 5), (56, ParseMode::Permissive, 5), (55, ParseMode::Permissive, 0)]
+    {
+        let data = read(size, parse_mode).unwrap();
+        let found = data.image_resource_directory;
+        assert_eq!((found.characteristics, found.time_date_stamp), (1, 2));
+        assert_eq!((found.major_version, found.minor_version), (4, 3));
+        assert_eq!((found.number_of_named_entries, found.number_of_id_entries, data.count()), (3, 2, 5));
+        assert_eq!(data.entries().count(), entries);
+    }
+    assert!(read(55, ParseMode::Strict).is_err());
 }
 
 #[test]

@@ -30,7 +30,7 @@ IMAGES = os.environ["PE_C_IMAGES"]
 LISTS = ("sections", "imports", "exports", "delay_imports", "bound_imports", "debug_entries", "certificates", "resources",
          "relocations", "functions", "arm64_functions")
 RECORDS = ("headers", "rich_header", "overlay", "export_table", "symbol_key", "pdb20", "vc_features",
-           "extended_dll_characteristics", "repro", "pogo", "tls", "load_config", "clr_header", "clr_metadata")
+           "extended_dll_characteristics", "repro", "pogo", "tls", "load_config", "clr_header", "clr_metadata", "resource_root")
 
 
 def path_of(name):
@@ -88,6 +88,19 @@ class Values(unittest.TestCase):
         version, = made("resources").versions
         self.assertEqual((version.fixed.file_version_ms, version.fixed.file_version_ls), (3 << 16 | 11, 3150 << 16 | 1013))
         self.assertEqual(version.strings, {"040904b0": {"CompanyName": "Größe & Söhne \U0001F600", "ProductName": "made"}})
+
+    def test_the_first_directory_of_resources(self):
+        with made("resources") as image:
+            self.assertEqual(tuple(image.resource_root), (0, 0, 0, 0, 0, 2))
+            at = image.offset_of(image.headers.directories[2].virtual_address)
+        data = bytearray(bytes_of("resources"))
+        for fields in ((0x01020304, 0x05060708, 0x90A, 0xB0C, 1, 1), (0xFFFFFFFF, 0xFFFFFFFE, 0xFFFD, 0xFFFC, 0xFFFB, 0xFFFA)):
+            struct.pack_into("<IIHHHH", data, at, *fields)
+            self.assertEqual(tuple(pe_c.Image(data).resource_root), fields)
+        with self.assertRaises(pe_c.Error) as caught:
+            pe_c.Image(data, pe_c.Mode.STRICT).resource_root
+        self.assertEqual(caught.exception.kind, Kind.RESOURCE_BOUNDS)
+        self.assertIsNone(made("debug").resource_root)
 
     def test_unwinding(self):
         function, records = made("functions").unwind(0x5018)

@@ -81,11 +81,22 @@ class Gaps(unittest.TestCase):
     """Without pefile: what the table names is missing, and says why."""
 
     def test_a_missing_field_has_no_value(self):
-        directory = opened("resources").DIRECTORY_ENTRY_RESOURCE.struct
+        directory = opened("resources").DIRECTORY_ENTRY_RESOURCE.entries[0].directory.struct
         self.assertFalse(hasattr(directory, "TimeDateStamp"))
         with self.assertRaises(NotInPeC) as caught:
             directory.TimeDateStamp
-        self.assertEqual(caught.exception.reason, GAPS["IMAGE_RESOURCE_DIRECTORY.TimeDateStamp"])
+        self.assertEqual(caught.exception.reason, GAPS["IMAGE_RESOURCE_DIRECTORY below the first.TimeDateStamp"])
+
+    def test_the_first_resource_directory_has_each_field_of_the_file(self):
+        with open(os.path.join(IMAGES, "resources.bin"), "rb") as file:
+            data = bytearray(file.read())
+        pe = opened("resources")
+        at = pe.get_offset_from_rva(pe.OPTIONAL_HEADER.DATA_DIRECTORY[2].VirtualAddress)
+        numbers = (0x01020304, 0x05060708, 0x90A, 0xB0C, 0, 2)
+        struct.pack_into("<IIHHHH", data, at, *numbers)
+        directory = ours.PE(data=bytes(data)).DIRECTORY_ENTRY_RESOURCE.struct
+        fields = "Characteristics TimeDateStamp MajorVersion MinorVersion NumberOfNamedEntries NumberOfIdEntries".split()
+        self.assertEqual((directory.name, *(getattr(directory, it) for it in fields)), ("IMAGE_RESOURCE_DIRECTORY", *numbers))
 
     def test_the_export_directory_has_each_field_of_the_file(self):
         pe = opened("exports")

@@ -825,6 +825,7 @@ fn read_by_lies(bytes: &[u8], random: &mut Random, seen: &mut Seen) {
             pe_c_resource_leaf_failure
         );
     }
+    call_of_image!(pe_c_resource_root(), ResourceDirectory);
     for tree in [leaves.tree, range] {
         let directory = call!(pe_c_resource_directory_at(&tree, few % 64), ResourceDirectory);
         for lie in [directory.entries, range] {

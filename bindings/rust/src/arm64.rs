@@ -321,6 +321,9 @@ impl<'a> Arm64Record<'a> {
     }
 
     /// The epilog scopes. There are none where the record's header describes the one epilog.
+    ///
+    /// Functions may share a record of at most 65,535 scopes: to read those of every function of a hostile file of n bytes takes up to
+    /// 8,192 n steps, below 256 KiB n²/32, so read each record once, or bound the steps.
     pub fn scopes(&self) -> Arm64Scopes<'a> {
         Arm64Scopes(Walk::new(self.bytes, self.raw.scopes))
     }

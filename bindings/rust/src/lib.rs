@@ -27,7 +27,7 @@
 //! | base relocations | [`relocation_blocks`](Image::relocation_blocks) | [.reloc] |
 //! | .NET | [`clr`](Image::clr) | [ECMA-335], II.24 and II.25 |
 //! | resources | [`version`](Image::version), [`version_text`](Image::version_text), [`version_blocks`](Image::version_blocks), [`manifest`](Image::manifest) | [version information] |
-//! | | [`resource_leaves`](Image::resource_leaves); to change them [`ResourceEditor`] | [.rsrc] |
+//! | | [`resource_leaves`](Image::resource_leaves), [`resource_root`](Image::resource_root); to change them [`ResourceEditor`] | [.rsrc] |
 //! | other files | TE images [`Te`], COFF objects [`Coff`] | [PE Format] |
 //! | | minidumps [`Dump`], the stacks of one [`Stacks`] | |
 //!

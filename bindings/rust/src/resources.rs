@@ -177,8 +177,8 @@ impl ResourceLeaves<'_, '_> {
 /// use pe_c::{Image, Mode};
 ///
 /// let image = Image::parse(&bytes, Mode::Permissive)?;
-/// let leaves = image.resource_leaves()?.expect("the image has resources");
-/// for item in leaves.directory(0)?.items() {
+/// let root = image.resource_root()?.expect("the image has resources");
+/// for item in root.items() {
 ///     let item = item?;
 ///     println!("{:?}: {}", item.name, item.offset);
 /// }
@@ -210,6 +210,20 @@ shown! {
 }
 
 impl<'a> ResourceDirectory<'a> {
+    fn of(found: sys::ResourceDirectory, bytes: &'a [u8], tree: sys::Range) -> Self {
+        ResourceDirectory {
+            characteristics: found.characteristics,
+            time_date_stamp: found.time_date_stamp,
+            major_version: found.major_version,
+            minor_version: found.minor_version,
+            number_of_named_entries: found.number_of_named_entries,
+            number_of_id_entries: found.number_of_id_entries,
+            bytes,
+            tree,
+            entries: found.entries,
+        }
+    }
+
     /// The entries, in their order. An item is an error, and the last one: [`Error::SHORT`] where its name is not inside the tree.
     pub fn items(&self) -> ResourceItems<'a> {
         ResourceItems { bytes: self.bytes, tree: self.tree, left: self.entries }
@@ -257,26 +271,16 @@ impl FusedIterator for ResourceItems<'_> {}
 
 impl<'a> ResourceLeaves<'_, 'a> {
     /// The directory at an offset of the tree: at 0 the root, whose entries are types, else that of an [item](ResourceItem). A
-    /// hostile tree may lead to a directory again, so bound what you follow.
+    /// hostile tree may lead to a directory again, so bound what you follow. [`Image::resource_root`] returns the root also where
+    /// its entries are not all inside the tree.
     ///
     /// # Errors
     ///
     /// [`Error::SHORT`] where the directory or its entries are not inside the tree.
     pub fn directory(&self, offset: u32) -> Result<ResourceDirectory<'a>, Error> {
         let (bytes, tree) = (self.left.source.bytes(), self.tree);
-        let it = look(bytes, sys::pe_c_resource_directory_at, &tree, offset)?.ok_or(Error::SHORT)?;
-        let sys::ResourceDirectory { characteristics, time_date_stamp, major_version, minor_version, .. } = it;
-        Ok(ResourceDirectory {
-            characteristics,
-            time_date_stamp,
-            major_version,
-            minor_version,
-            number_of_named_entries: it.number_of_named_entries,
-            number_of_id_entries: it.number_of_id_entries,
-            bytes,
-            tree,
-            entries: it.entries,
-        })
+        let found = look(bytes, sys::pe_c_resource_directory_at, &tree, offset)?.ok_or(Error::SHORT)?;
+        Ok(ResourceDirectory::of(found, bytes, tree))
     }
 }
 
@@ -292,5 +296,18 @@ impl<'a> Image<'a> {
     pub fn resource_leaves(&self) -> Result<Option<ResourceLeaves<'_, 'a>>, Error> {
         let walk: Option<sys::ResourceWalk> = self.ask(sys::pe_c_resource_leaves)?;
         Ok(walk.map(|walk| ResourceLeaves { tree: walk.tree, left: ImageList::new(self, walk) }))
+    }
+
+    /// The first directory of the resources, whose entries are types; [`ResourceLeaves::directory`] returns the others. `None` where
+    /// [`resource_leaves`](Self::resource_leaves) is. In permissive mode one whose entries are not all inside the data has no
+    /// [items](ResourceDirectory::items).
+    ///
+    /// # Errors
+    ///
+    /// Those of [`resource_leaves`](Self::resource_leaves).
+    pub fn resource_root(&self) -> Result<Option<ResourceDirectory<'a>>, Error> {
+        let Some(found) = self.ask(sys::pe_c_resource_root)? else { return Ok(None) };
+        let leaves: Option<sys::ResourceWalk> = self.ask(sys::pe_c_resource_leaves)?;
+        Ok(leaves.map(|walk| ResourceDirectory::of(found, self.bytes(), walk.tree)))
     }
 }

@@ -3081,6 +3081,8 @@ calls_of_an_image! {
     pe_c_resource_leaves() -> ResourceWalk;
     /// Returns the next leaf.
     pe_c_next_resource_leaf(walk: *mut LeafWalk) -> ResourceLeaf;
+    /// Returns the first directory of the resource tree.
+    pe_c_resource_root() -> ResourceDirectory;
     /// Returns the TLS directory.
     pe_c_tls() -> TlsDirectory;
     /// Returns the callbacks of a TLS directory, as a walk.

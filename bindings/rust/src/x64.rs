@@ -233,6 +233,9 @@ impl<'a> UnwindRecord<'a> {
 
     /// The scope table in the data of an exception handler, or `None` where it is truncated. Only a handler such as
     /// `__C_specific_handler` has one: the caller knows it by the handler's RVA.
+    ///
+    /// Functions may share a record: to read the scopes of every function of a hostile file of n bytes takes up to n²/192 steps, so read
+    /// each record once, or bound the steps.
     pub fn scopes(&self) -> Option<Scopes<'a>> {
         let mut table = sys::Range::default();
         let (start, length) = (self.bytes.as_ptr(), self.bytes.len());

@@ -53,12 +53,13 @@ fn imports_of_many_sections() {
 }
 
 /// What calls for directories return of an image, and how many items each walk has.
-fn directories_of(bytes: &[u8]) -> [String; 13] {
+fn directories_of(bytes: &[u8]) -> [String; 14] {
     let image = Image::parse(bytes, Mode::Permissive).unwrap();
     [
         format!("{:?}", image.export_directory()),
         format!("{:?}", image.libraries().map(Iterator::count)),
         format!("{:?}", image.resource_leaves().map(|found| found.map(Iterator::count))),
+        format!("{:?}", image.resource_root().map(|found| found.map(|root| root.items().count()))),
         format!("{:?}", image.manifest()),
         format!("{:?}", image.version()),
         format!("{:?}", image.functions().map(|found| found.map(|table| table.iter().count()))),
@@ -74,7 +75,7 @@ fn directories_of(bytes: &[u8]) -> [String; 13] {
 
 #[test]
 fn directories_of_many_sections() {
-    let mut there = [false; 13];
+    let mut there = [false; 14];
     for (name, bytes) in made::all() {
         if Image::parse(&bytes, Mode::Permissive).unwrap().sections().len() != 1 {
             continue;
@@ -85,7 +86,7 @@ fn directories_of_many_sections() {
             *is_there |= part.starts_with("Ok(") && !["Ok(None)", "Ok(0)"].contains(&part.as_str());
         }
     }
-    assert_eq!(there, [true; 13]);
+    assert_eq!(there, [true; 14]);
 }
 
 /// What the steps of a walk return.

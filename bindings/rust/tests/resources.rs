@@ -6,7 +6,10 @@ mod made;
 
 use facts::as_loaded;
 use made::*;
-use pe_c::{BoundForwarder, Error, Image, Layout, LibraryForwarder, Mode, ResourceName, RichEntry, Text, VersionName};
+use pe_c::{
+    BoundForwarder, Error, Image, Layout, LibraryForwarder, Mode, ResourceDirectory, ResourceName, RichEntry, Text,
+    VersionName,
+};
 
 fn strict(bytes: &[u8]) -> Image<'_> {
     Image::parse(bytes, Mode::Strict).unwrap()
@@ -95,6 +98,60 @@ fn damaged_trees_are_refused() {
     let bytes = changed(with_named_resources(), 0xC8 + 8 * RESOURCES + 4, &[15]);
     assert_eq!(strict(&bytes).resource_leaves().unwrap_err(), Error::RESOURCE_BOUNDS);
     assert!(Image::parse(&bytes, Mode::Permissive).unwrap().resource_leaves().unwrap().is_none());
+}
+
+/// The fields of the first directory, each another number.
+#[test]
+fn the_root_has_fields_and_items() {
+    let root = OFFSET as usize + 8;
+    let bytes = changed(with_named_resources(), root, &[4, 3, 2, 1, 8, 7, 6, 5, 10, 9, 12, 11]);
+    let memory = as_loaded(&strict(&bytes));
+    for image in [strict(&bytes), Image::parse_as(&memory, Mode::Permissive, Layout::Mapped).unwrap()] {
+        let found = image.resource_root().unwrap().unwrap();
+        let fields = |it: ResourceDirectory| {
+            (it.characteristics, it.time_date_stamp, it.major_version, it.minor_version, it.number_of_named_entries)
+        };
+        assert_eq!(fields(found), (0x0102_0304, 0x0506_0708, 0x090A, 0x0B0C, 1));
+        assert_eq!(found.number_of_id_entries, 1);
+        let [first, second] = [ResourceName::Name(Text(b"A\0B\0")), ResourceName::Id(3)];
+        let items: Vec<_> = found.items().map(Result::unwrap).map(|it| (it.name, it.offset, it.is_directory)).collect();
+        assert_eq!(items, [(first, 0x20, true), (second, 0x68, false)]);
+        let leaves = image.resource_leaves().unwrap().unwrap();
+        let same = leaves.directory(0).unwrap();
+        assert_eq!((fields(same), same.number_of_id_entries), (fields(found), 1));
+        assert_eq!(format!("{same:?}"), format!("{found:?}"));
+    }
+    assert!(strict(&with_debug()).resource_root().unwrap().is_none());
+}
+
+#[test]
+fn a_root_that_is_truncated_has_no_items() {
+    let permissive = |bytes: &'_ [u8]| Image::parse(bytes, Mode::Permissive).map(|it| it.resource_root().map(|_| ()));
+    // More entries than the data has room for: 0x8E bytes have room for 15.
+    for (ids, is_whole) in [(14, true), (15, false), (0xFFFF, false)] {
+        let number = u16::to_le_bytes(ids);
+        let bytes = changed(with_named_resources(), OFFSET as usize + 8 + 14, &number);
+        let image = Image::parse(&bytes, Mode::Permissive).unwrap();
+        let found = image.resource_root().unwrap().unwrap();
+        assert_eq!((found.number_of_named_entries, found.number_of_id_entries), (1, ids));
+        assert_eq!(found.items().count() > 0, is_whole);
+        let leaves = image.resource_leaves().unwrap().unwrap();
+        assert_eq!(leaves.directory(0).err(), (!is_whole).then_some(Error::SHORT));
+        let refused = strict(&bytes).resource_root().err();
+        assert_eq!(refused, (!is_whole).then_some(Error::RESOURCE_BOUNDS));
+    }
+    let size = 0xC8 + 8 * RESOURCES + 4;
+    // Data that are shorter than a directory, and data that end past the end of the file.
+    let bytes = changed(with_named_resources(), size, &[15]);
+    assert_eq!(strict(&bytes).resource_root().err(), Some(Error::RESOURCE_BOUNDS));
+    assert!(Image::parse(&bytes, Mode::Permissive).unwrap().resource_root().unwrap().is_none());
+    let bytes = changed(with_named_resources(), size, &[0, 4]);
+    assert_eq!(strict(&bytes).resource_root().err(), Some(Error::RESOURCE_BOUNDS));
+    assert_eq!(permissive(&bytes).unwrap(), Err(Error::RESOURCE_BOUNDS));
+    // An RVA that no section covers.
+    let bytes = changed(with_named_resources(), size - 4, &[0, 0, 0x99, 0]);
+    assert_eq!(strict(&bytes).resource_root().err(), Some(Error::UNMAPPED));
+    assert_eq!(permissive(&bytes).unwrap(), Err(Error::UNMAPPED));
 }
 
 /// The entries are those that pefile prints.

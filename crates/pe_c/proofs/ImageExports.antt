@@ -21,7 +21,7 @@ use Rattle.pe_c.proofs.AddressEntries.{name_is, names_stand}
 use Rattle.pe_c.proofs.ExportParts.{tables_stand}
 use Rattle.pe_c.proofs.ExportRuns.{directory_in_turn}
 use Rattle.pe_c.proofs.ImageFields.{IsThere, Says, same_map, there}
-use Rattle.pe_c.proofs.ImageResources.{tested}
+use Rattle.pe_c.proofs.ResourceRoots.{tested}
 use Rattle.pe_c.specs.DirectoryTables.{export_directory_at, export_fields}
 use Rattle.pe_c.specs.ExportAddresses.{address_table, address_table_at, dll_name, text_range}
 use Rattle.pe_c.specs.Exports.{one_if_some, tables_at, walk_over}

@@ -33,21 +33,19 @@ use Rattle.pe_resource.specs.declared.content.ResourceDataEntry.{ResourceDataEnt
 use Rattle.pe_resource.specs.declared.directory.ImageResourceDirectory.{ImageResourceDirectory}
 use Rattle.pe_resource.specs.declared.version.VsFixedFileInfo.{VsFixedFileInfo}
 use Rattle.pe_c.proofs.ImageFields.{IsThere as HasDirectory, Says, part_of, plain, there}
+use Rattle.pe_c.proofs.ResourceRoots.{some_inside, tested}
+use Rattle.pe_c.specs.DirectoryTables.{root_at, root_of}
 use Rattle.pe_c.specs.ImageParts.{AreResources, AreResourcesBy, AreResourcesUnless, AreStrings, HasOption, IsVersionAt, IsVersionBy, is_left_out, resources_at}
 use Rattle.pe_c.specs.Images.{directory, is_absent, or_absent}
 use Rattle.pe_c.specs.Images as images
 use Rattle.pe_c.specs.Modes.{options_of}
 use Rattle.pe_c.specs.Ranges.{IsRange, range_of}
-use Rattle.pe_c.specs.ResourceLeaves.{leaves_start, walk_at}
+use Rattle.pe_c.specs.ResourceLeaves.{walk_at}
 use Rattle.pe_c.specs.Versions.{IsContentBy, IsContentOf, content_at, fixed_at, fixed_in, value_at}
+use Rattle.pe_c.specs.declared.directory_tables.ResourceDirectory.{ResourceDirectory}
 use Rattle.pe_c.specs.declared.image.Image.{Image}
-use Rattle.pe_c.specs.declared.resource_leaves.ResourceLeaves.{ResourceLeaves}
 
 -- ---- a content lies in the bytes
-
-pub tested : {X : Type 0} (t : Bool) (e : Refusal) (r s : X) → outcome ((t, e) ∷ []) r ≡ Ok s → (t ≡ true) × (r ≡ s)
-tested true e r s h = (refl, same_inside r s h)
-tested false e r s h = absurd cc
 
 file_within : (b : List ℕ) (size : ℕ) (at : Option ℕ) (r : ByteRange) → file_range b size at ≡ Ok r → IsWithin b r
 file_within b size None r h = absurd cc
@@ -113,9 +111,6 @@ record StandsAt (b : List ℕ) (size : ℕ) (at : Option ℕ) (d : FirstDirector
   itself : d.directory ≡ directory_of b p
   its_entries : d.entries ≡ entries (range b (p + 16) (8 * length d.entries))
 
-some_inside : {X : Type 0} (x y : X) → ◌≡◌ {A = Result (Option X) Refusal} (Ok (Some x)) (Ok (Some y)) → x ≡ y
-some_inside x y e = cc
-
 no_entries : (b : List ℕ) (p : ℕ) → entries [] ≡ entries (range b (p + 16) (8 * length (entries [])))
 no_entries b p =
     let none : length (entries []) ≡ 0 = entries_count [] in
@@ -174,23 +169,26 @@ first_stands o b d sections unit x e = at_offset o.parse_mode b d.size (section_
 
 -- ---- the resources of a tree
 
-together : (b : List ℕ) (d : FirstDirectoryView) (w : ResourceLeaves) (version : Result (Option VersionView) Refusal) (manifest : Result (Option ByteRange) Refusal) → d.directory ≡ directory_of b w.tree.offset →
-    d.entries ≡ entries (range b (w.tree.offset + w.types.offset) w.types.length) →
-    (resources_with d version (manifest >>= λ c. Ok (content_of b c)) >>= λ x. Ok (Some x)) ≡ resources_at b w version manifest
-together b d w (Err e) manifest same list = refl
-together b d w (Ok v) (Err e) same list = refl
-together b d w (Ok v) (Ok m) same list = rw (same, sym list) refl
+-- the first directory that the call returns
+abbrev root_by : List ℕ → ℕ → ℕ → FirstDirectoryView → ResourceDirectory
+root_by b p size d = root_of b (walk_at (range_of (record { offset = p; length = size })) (first_position d))
+
+together : (b : List ℕ) (d : FirstDirectoryView) (p size : ℕ) (version : Result (Option VersionView) Refusal) (manifest : Result (Option ByteRange) Refusal) → d.directory ≡ directory_of b p →
+    d.entries ≡ entries (range b (p + 16) (8 * length d.entries)) →
+    (resources_with d version (manifest >>= λ c. Ok (content_of b c)) >>= λ x. Ok (Some x)) ≡ resources_at b (root_by b p size d) version manifest
+together b d p size (Err e) manifest same list = refl
+together b d p size (Ok v) (Err e) same list = refl
+together b d p size (Ok v) (Ok m) same list = rw (same, sym list) refl
 
 tree_by : (b : List ℕ) (image : Image) (sections : List SectionTable) (d : FirstDirectoryView) (p : ℕ) (r : Result ResourceView Refusal) → is_absent (images.resource_directory image) ≡ false →
     first_directory (options_of image.mode) b (images.resource_directory image) sections image.file_alignment ≡ Ok (Some d) →
     StandsAt b (images.resource_directory image).size (section_map (options_of image.mode) sections image.file_alignment (images.resource_directory image).virtual_address) d p →
     AreIn (map_of (options_of image.mode) sections image.file_alignment) b d r →
-    AreResourcesBy b image sections (Ok (Some (walk_at (range_of (record { offset = p; length = (images.resource_directory image).size })) (first_position d)))) (r >>= λ x. Ok (Some x))
+    AreResourcesBy b image sections (Ok (Some (root_by b p (images.resource_directory image).size d))) (r >>= λ x. Ok (Some x))
 tree_by b image sections d p r h first stands are =
     let map = map_of (options_of image.mode) sections image.file_alignment in
     let version = are.2 in
     let manifest = are.3 in
-    let walk : ResourceLeaves = walk_at (range_of (record { offset = p; length = (images.resource_directory image).size })) (first_position d) in
     let content : Result (Option ByteRange) Refusal = version.1.0 in
     let is_content : (id : ℕ) (c : Result (Option ByteRange) Refusal) → IsContentRange map b d.bytes d.entries id c → IsContentOf b image (λ _. sections) image.mode id c = λ id c is.
     subst (λ (absent : Bool). IsContentBy absent (options_of image.mode) b image (λ _. sections) id c) (sym h)
@@ -202,14 +200,15 @@ tree_by b image sections d p r h first stands are =
       is_content 16 content version.1.1,
       subst (IsVersionAt b content) (sym of_version) (version_at b content (λ c is. content_within map b d.bytes version.1.1.0 c (sym is ∙ version.1.1.2))),
       is_content 24 manifest.0 manifest.1,
-      ap (λ (x : Result ResourceView Refusal). x >>= λ y. Ok (Some y)) (are.4 ∙ ap (resources_with d are.0) manifest.2) ∙ together b d walk are.0 manifest.0 stands.itself stands.its_entries,
+      ap (λ (x : Result ResourceView Refusal). x >>= λ y. Ok (Some y)) (are.4 ∙ ap (resources_with d are.0) manifest.2) ∙ together b d p (images.resource_directory image).size are.0 manifest.0 stands.itself stands.its_entries,
     )
 
--- the walk that the call returns where the directory is there
+-- what the call returns where the directory is there
 started : (b : List ℕ) (image : Image) (sections : List SectionTable) (q : Result (Option FirstDirectoryView) Refusal) → is_absent (images.resource_directory image) ≡ false →
     first_directory (options_of image.mode) b (images.resource_directory image) sections image.file_alignment ≡ q →
-    leaves_start b image sections
-    ≡ ((q >>= start_in (file_range b (images.resource_directory image).size (map_of (options_of image.mode) sections image.file_alignment (images.resource_directory image).virtual_address))) >>= λ found. Ok (option_map (λ x. walk_at (range_of x.0) x.1) found))
+    root_at b image sections
+    ≡ (((q >>= start_in (file_range b (images.resource_directory image).size (map_of (options_of image.mode) sections image.file_alignment (images.resource_directory image).virtual_address))) >>= λ found. Ok (option_map (λ x. walk_at (range_of x.0) x.1) found))
+    >>= λ walk. Ok (option_map (root_of b) walk))
 started b image sections q h first = rw h (rw first refl)
 
 held_range : (b : List ℕ) (size p : ℕ) (at : Option ℕ) → at ≡ Some p → p + size ≤ length b → file_range b size at ≡ Ok (record { offset = p; length = size })
@@ -217,15 +216,15 @@ held_range b size p at e h = rw e (rw (held_if_inside b p size h) refl)
 
 by_first : (b : List ℕ) (image : Image) (sections : List SectionTable) (q : Result (Option FirstDirectoryView) Refusal) (r : Result ResourceView Refusal) → is_absent (images.resource_directory image) ≡ false →
     first_directory (options_of image.mode) b (images.resource_directory image) sections image.file_alignment ≡ q →
-    IsOfFirst no_resources (AreIn (map_of (options_of image.mode) sections image.file_alignment) b) q r → AreResourcesBy b image sections (leaves_start b image sections) (r >>= λ x. Ok (Some x))
+    IsOfFirst no_resources (AreIn (map_of (options_of image.mode) sections image.file_alignment) b) q r → AreResourcesBy b image sections (root_at b image sections) (r >>= λ x. Ok (Some x))
 by_first b image sections (Err e) r h first is = rw (started b image sections (Err e) h first) (ap (λ (x : Result ResourceView Refusal). x >>= λ y. Ok (Some y)) is)
 by_first b image sections (Ok None) r h first is = rw (started b image sections (Ok None) h first) (ap (λ (x : Result ResourceView Refusal). x >>= λ y. Ok (Some y)) is)
 by_first b image sections (Ok (Some d)) r h first is =
     let found = first_stands (options_of image.mode) b (images.resource_directory image) sections image.file_alignment d first in
     let at = section_map (options_of image.mode) sections image.file_alignment (images.resource_directory image).virtual_address in
-    let walk : leaves_start b image sections ≡ Ok (Some (walk_at (range_of (record { offset = found.0; length = (images.resource_directory image).size })) (first_position d))) =
+    let root : root_at b image sections ≡ Ok (Some (root_by b found.0 (images.resource_directory image).size d)) =
     started b image sections (Ok (Some d)) h first ∙ rw (held_range b (images.resource_directory image).size found.0 at found.1.mapped_to found.1.within) refl in
-    subst (λ (w : Result (Option ResourceLeaves) Refusal). AreResourcesBy b image sections w (r >>= λ x. Ok (Some x))) (sym walk) (tree_by b image sections d found.0 r h first found.1 is)
+    subst (λ (w : Result (Option ResourceDirectory) Refusal). AreResourcesBy b image sections w (r >>= λ x. Ok (Some x))) (sym root) (tree_by b image sections d found.0 r h first found.1 is)
 
 -- options that calls do not read make no difference
 plain_resource : (o : ParseOptions) (b : List ℕ) (d : DataDirectory) (sections : List SectionTable) (unit : ℕ) (r : Result ResourceView Refusal) → IsResource o b d sections unit r → IsResource (plain o) b d sections unit r

@@ -191,7 +191,7 @@ with_sections law b o h sections r bytes small e is =
     let after : After b o h sections imports r =
     after_core law b o h sections imports r
     (subst (λ (q : Result CoreView Refusal). IsAfterCore b o (q >>= λ c. first_fields_demanded b o c >>= λ u. Ok c) r) (core_is b o h sections None) is) in
-    let headers = headers_are b o h e in
+    let headers = headers_are b o h bytes e in
     let whole : image_of_parts o.parse_mode (header_of b (headers_of h)) (image_info_of (mode_of o) h) sections (parts_of b o h sections after.0) ≡ image_of_parts o.parse_mode h (image_info_of (mode_of o) h) sections (parts_of b o h sections after.0) =
     ap (λ (x : HeaderView). image_of_parts o.parse_mode x (image_info_of (mode_of o) h) sections (parts_of b o h sections after.0)) headers.1 in
     (headers_of h, parts_of b o h sections after.0, headers.0, are_parts b o h sections after.0 bytes small after.1, after.2 ∙ sym (whole ∙ image_is b o h sections after.0))

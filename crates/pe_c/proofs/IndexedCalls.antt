@@ -24,6 +24,7 @@ use Rattle.pe_c.specs.Clr.{clr_header_at, clr_metadata_at}
 use Rattle.pe_c.specs.Debug.{debug_entries_range, first_entry}
 use Rattle.pe_c.specs.Directories.{callbacks_at, image_parts, table_at, tls_at, va_offset}
 use Rattle.pe_c.specs.DirectoryFailures.{directory_refusal}
+use Rattle.pe_c.specs.DirectoryTables.{root_at}
 use Rattle.pe_c.specs.GuardTables.{entries_of, guard_table_at, place_of}
 use Rattle.pe_c.specs.Images.{directory, is_absent, map_by, map_of_image, resource_directory}
 use Rattle.pe_c.specs.Modes.{options_of}
@@ -134,6 +135,12 @@ trees_alike b image s t e = let first = first_alike b image s t e in let same : 
 
 pub trees : SameByIndex image_tree 2
 trees = by_index image_tree 2 trees_alike
+
+roots_alike : Alike root_at 2
+roots_alike b image s t e = let walk = leaves_alike b image s t e in let same : root_at b image s ≡ root_at b image t = cc in same
+
+pub roots : SameByIndex root_at 2
+roots = by_index root_at 2 roots_alike
 
 -- ---- what is read at other RVAs
 

@@ -66,6 +66,7 @@ pub mod FrameRuns
 pub mod FilledLists
 pub mod ListRuns
 pub mod ResourceEdits
+pub mod ResourceRoots
 pub mod DumpEntries
 pub mod DumpRanges
 pub mod DumpStacks

@@ -13,15 +13,15 @@ use Rattle.pe_resource.specs.declared.version.VersionName.TheVariants as names
 use Rattle.pe_resource.specs.declared.version.VsFixedFileInfo.{VsFixedFileInfo}
 use Rattle.pe_c.proofs.OneParts.{one_range}
 use Rattle.pe_c.proofs.OneRun.{one_option}
+use Rattle.pe_c.specs.DirectoryTables.{root_at}
 use Rattle.pe_c.specs.ImageParts.{AreResources, AreResourcesBy, AreResourcesUnless, AreStrings, HasOption, IsVersionAt, IsVersionBy, is_left_out, resources_at}
 use Rattle.pe_c.specs.Images.{directory, is_absent, resource_directory}
 use Rattle.pe_c.specs.Modes.{options_of}
 use Rattle.pe_c.specs.Ranges.{IsRange, range_of}
-use Rattle.pe_c.specs.ResourceLeaves.{leaves_start}
 use Rattle.pe_c.specs.Versions.{IsContentBy, IsContentOf, fixed_in, text_in}
+use Rattle.pe_c.specs.declared.directory_tables.ResourceDirectory.{ResourceDirectory}
 use Rattle.pe_c.specs.declared.image.Image.{Image}
 use Rattle.pe_c.specs.declared.ranges.Range.{Range}
-use Rattle.pe_c.specs.declared.resource_leaves.ResourceLeaves.{ResourceLeaves}
 
 -- the law of pe_resource that the range of a resource is one
 abbrev pub OneContent : Type 0
@@ -70,19 +70,19 @@ one_version b (Ok (Some c)) x y g h = one_version_by b (range_of c) (fixed_in b 
 
 -- ---- all of them
 
-one_by : OneContent → (b : List ℕ) (image : Image) (sections : List SectionTable) (start : Result (Option ResourceLeaves) Refusal) (x y : Result (Option ResourceView) Refusal) →
+one_by : OneContent → (b : List ℕ) (image : Image) (sections : List SectionTable) (start : Result (Option ResourceDirectory) Refusal) (x y : Result (Option ResourceView) Refusal) →
     AreResourcesBy b image sections start x → AreResourcesBy b image sections start y → x ≡ y
 one_by law b image sections (Err e) x y g h = g ∙ sym h
 one_by law b image sections (Ok None) x y g h = g ∙ sym h
-one_by law b image sections (Ok (Some w)) x y g h =
+one_by law b image sections (Ok (Some root)) x y g h =
     let content : g.0 ≡ h.0 = one_content law b image sections 16 g.0 h.0 g.3 h.3 in
     let version : g.1 ≡ h.1 = one_version b g.0 g.1 h.1 g.4 (subst (λ (c : Result (Option ByteRange) Refusal). IsVersionAt b c h.1) (sym content) h.4) in
     let manifest : g.2 ≡ h.2 = one_content law b image sections 24 g.2 h.2 g.5 h.5 in
-    g.6 ∙ ap (λ (v : Result (Option VersionView) Refusal). resources_at b w v g.2) version ∙ ap (λ (m : Result (Option ByteRange) Refusal). resources_at b w h.1 m) manifest ∙ sym h.6
+    g.6 ∙ ap (λ (v : Result (Option VersionView) Refusal). resources_at b root v g.2) version ∙ ap (λ (m : Result (Option ByteRange) Refusal). resources_at b root h.1 m) manifest ∙ sym h.6
 
 one_unless : OneContent → (b : List ℕ) (image : Image) (sections : List SectionTable) (absent : Bool) (x y : Result (Option ResourceView) Refusal) → AreResourcesUnless absent b image sections x → AreResourcesUnless absent b image sections y → x ≡ y
 one_unless law b image sections true x y g h = g ∙ sym h
-one_unless law b image sections false x y g h = one_by law b image sections (leaves_start b image sections) x y g h
+one_unless law b image sections false x y g h = one_by law b image sections (root_at b image sections) x y g h
 
 pub one_resources : OneContent → (wanted : Bool) (b : List ℕ) (image : Image) (sections : List SectionTable) (x y : Result (Option ResourceView) Refusal) → AreResources wanted b image sections x → AreResources wanted b image sections y → x ≡ y
 one_resources law wanted b image sections x y g h = one_unless law b image sections (is_left_out wanted (directory image 2)) x y g h

@@ -1,23 +1,26 @@
 -- The tables that head a directory with fields of their own: that of exports, and each directory of a resource tree.
 use Rattle.std.specs.Prelude.{ℕ, ◌+◌, ◌*◌, List, Option, Some, None, Result, Ok, if◌then◌else◌}
+use Rattle.std.specs.Option.{option_map}
 use Rattle.pe_core.specs.Bytes.{record_at}
 use Rattle.pe_core.specs.Records as records
 use Rattle.pe_core.specs.Refusals.{Refusal, ◌>>=◌}
 use Rattle.pe_core.specs.SectionMap.{mapped}
 use Rattle.pe_core.specs.declared.export.ExportDirectoryTable.{ExportDirectoryTable}
+use Rattle.pe_core.specs.declared.section_table.SectionTable.{SectionTable}
 use Rattle.pe_resource.specs.Directories.{count, directory_of, entries_at}
 use Rattle.pe_resource.specs.ResourceEntries.{directory_offset, entry_at, is_directory}
 use Rattle.pe_resource.specs.declared.directory.ImageResourceDirectory.{ImageResourceDirectory}
 use Rattle.pe_resource.specs.declared.entry.ResourceEntry as trees
 use Rattle.pe_c.specs.Images.{export_directory, is_absent}
 use Rattle.pe_c.specs.Ranges.{bytes_at}
-use Rattle.pe_c.specs.ResourceLeaves.{name_in}
+use Rattle.pe_c.specs.ResourceLeaves.{leaves_start, name_in}
 use Rattle.pe_c.specs.Walks.{next_of}
 use Rattle.pe_c.specs.declared.directory_tables.ExportFields.{ExportFields}
 use Rattle.pe_c.specs.declared.directory_tables.ResourceDirectory.{ResourceDirectory}
 use Rattle.pe_c.specs.declared.directory_tables.ResourceItem.{ResourceItem}
 use Rattle.pe_c.specs.declared.image.Image.{Image}
 use Rattle.pe_c.specs.declared.ranges.Range.{Range}
+use Rattle.pe_c.specs.declared.resource_leaves.ResourceLeaves.{ResourceLeaves}
 use Rattle.pe_c.specs.declared.resource_leaves.ResourceName.{ResourceName}
 
 -- ---- exports
@@ -47,17 +50,21 @@ export_directory_at b image offset =
 
 -- ---- resources
 
--- a directory at p of the tree, which has its entries after its 16 bytes
-abbrev pub directory_reported : Range → ℕ → ImageResourceDirectory → ResourceDirectory
-directory_reported tree p d = record {
+-- a directory with the range of its entries
+abbrev pub directory_with : ImageResourceDirectory → Range → ResourceDirectory
+directory_with d entries = record {
   characteristics = d.characteristics;
   time_date_stamp = d.time_date_stamp;
   major_version = d.major_version;
   minor_version = d.minor_version;
   number_of_named_entries = d.number_of_named_entries;
   number_of_id_entries = d.number_of_id_entries;
-  entries = record { offset = tree.offset + (p + 16); length = 8 * count d };
+  entries = entries;
 }
+
+-- a directory at p of the tree, which has its entries after its 16 bytes
+abbrev pub directory_reported : Range → ℕ → ImageResourceDirectory → ResourceDirectory
+directory_reported tree p d = directory_with d (record { offset = tree.offset + (p + 16); length = 8 * count d })
 
 -- the directory at p of a tree, or `Short` where the tree does not lie in the bytes, or the directory or its entries not in the tree
 abbrev pub resource_directory_at : List ℕ → Range → ℕ → Result ResourceDirectory Refusal
@@ -66,6 +73,15 @@ resource_directory_at b tree p = do
   directory ← record_at d p 16 (directory_of d p)
   entries ← entries_at d (p + 16) directory
   Ok (directory_reported tree p directory)
+
+-- the first directory of the tree of a walk before its first leaf: it stands at the start of the data, and its entries, which follow
+-- its 16 bytes, are the types that the walk has left
+abbrev pub root_of : List ℕ → ResourceLeaves → ResourceDirectory
+root_of b w = directory_with (directory_of b w.tree.offset) (record { offset = w.tree.offset + 16; length = w.types.length })
+
+-- the first directory of an image's resources; without a walk there is none, or the same refusal
+abbrev pub root_at : List ℕ → Image → List SectionTable → Result (Option ResourceDirectory) Refusal
+root_at b image sections = leaves_start b image sections >>= λ walk. Ok (option_map (root_of b) walk)
 
 -- an entry by its name or id; where it leads counts from the start of the tree
 abbrev pub item_reported : trees.ResourceEntry → ResourceName → ResourceItem

@@ -1,13 +1,22 @@
--- The headers of an image, read of what `pe_c_headers` returns: each number is that of a field, the stub is a range, and the bytes
--- of the DOS header between its signature and its pointer, whose numbers are returned, stand at offset 2.
-use Rattle.std.specs.Prelude.{ℕ, ◌==◌, List, take, Option, Some, None, if◌then◌else◌}
-use Rattle.pe_core.specs.Bytes.{range}
+-- The headers of an image, read of what `pe_c_headers` returns: each number is that of a field, the bytes of the DOS header between
+-- its signature and its pointer are those of its numbers, and the stub is a range.
+use Rattle.std.specs.Prelude.{ℕ, ◌==◌, List, ◌∷◌, ◌++◌, take, Option, Some, None, if◌then◌else◌}
+use Rattle.std.specs.List.{flat_map}
+use Rattle.pe_core.specs.Bytes.{bytes_of, range}
 use Rattle.pe_core.specs.Header.{HeaderView, OptionalHeaderView}
 use Rattle.pe_core.specs.declared.optional_header.StandardFields.{StandardFields}
 use Rattle.pe_core.specs.declared.optional_header.WindowsFields.{WindowsFields}
 use Rattle.pe_c.specs.Coff.{coff_header_of}
+use Rattle.pe_c.specs.declared.headers.DosFields.{DosFields}
 use Rattle.pe_c.specs.declared.headers.Headers.{Headers}
 use Rattle.pe_c.specs.declared.headers.OptionalFields.{OptionalFields}
+
+-- the numbers of a DOS header between its signature and its pointer, in the order in which they stand, 16 bits each
+abbrev pub dos_numbers : DosFields → List ℕ
+dos_numbers x =
+    x.bytes_on_last_page ∷ x.pages_in_file ∷ x.relocations ∷ x.size_of_header_in_paragraphs ∷ x.minimum_extra_paragraphs
+    ∷ x.maximum_extra_paragraphs ∷ x.initial_relative_ss ∷ x.initial_sp ∷ x.checksum ∷ x.initial_ip ∷ x.initial_relative_cs
+    ∷ x.relocations_offset ∷ x.overlay_number ∷ (x.reserved ++ x.oem_id ∷ x.oem_information ∷ x.reserved2)
 
 abbrev pub standard_of : OptionalFields → StandardFields
 standard_of x = record {
@@ -53,10 +62,10 @@ optional_of x =
     if x.optional_offset == 0 then None
     else Some (record { standard_fields = standard_of x.optional; windows_fields = windows_of x.optional; data_directories = take x.optional.number_of_directories x.directories })
 
--- all headers
+-- all headers; of the bytes only the stub is read
 abbrev pub header_of : List ℕ → Headers → HeaderView
 header_of b x = record {
-  dos_header = record { signature = x.dos.signature; rest = range b 2 58; pe_pointer = x.dos.pe_pointer };
+  dos_header = record { signature = x.dos.signature; rest = flat_map (bytes_of 2) (dos_numbers x.dos); pe_pointer = x.dos.pe_pointer };
   dos_stub = range b x.dos_stub.offset x.dos_stub.length;
   signature = x.signature;
   coff_header = coff_header_of x.coff;

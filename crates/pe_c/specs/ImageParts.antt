@@ -14,34 +14,33 @@ use Rattle.pe_core.specs.declared.header.TheConstants.{COFF_MACHINE_ARM64, COFF_
 use Rattle.pe_core.specs.declared.section_table.SectionTable.{SectionTable}
 use Rattle.pe_directories.specs.DirectoryRefusals.{of_image}
 use Rattle.pe_records.specs.Certificates.{CertificateView}
-use Rattle.pe_resource.specs.Directories.{directory_of}
 use Rattle.pe_resource.specs.ResourceEntries.{entries}
 use Rattle.pe_resource.specs.Resources.{ResourceView, no_resources}
 use Rattle.pe_resource.specs.VersionFields.{FileStrings, VersionView, value_named}
+use Rattle.pe_resource.specs.declared.directory.ImageResourceDirectory.{ImageResourceDirectory}
 use Rattle.pe_resource.specs.declared.version.VersionName.{VersionName}
 use Rattle.pe_resource.specs.declared.version.VsFixedFileInfo.{VsFixedFileInfo}
 use Rattle.pe_unwind.specs.ExceptionTable.{ExceptionView}
 use Rattle.pe_c.specs.Certificates.{ReportsCertificate, StepsCertificates}
 use Rattle.pe_c.specs.Directories.{table_at}
-use Rattle.pe_c.specs.DirectoryTables.{export_directory_at, export_fields}
+use Rattle.pe_c.specs.DirectoryTables.{export_directory_at, export_fields, root_at}
 use Rattle.pe_c.specs.ExportAddresses.{address_table_at}
 use Rattle.pe_c.specs.Exports.{StepsExports, one_if_some, tables_at}
 use Rattle.pe_c.specs.Images.{directory, is_absent, map_of_image}
 use Rattle.pe_c.specs.Imports.{StepsImports, StepsLibraries, libraries_at}
 use Rattle.pe_c.specs.Parts.{HasTables, ReportsExport, ReportsImport, record_of}
 use Rattle.pe_c.specs.Ranges.{IsPart, IsRange, range_of}
-use Rattle.pe_c.specs.ResourceLeaves.{leaves_start}
 use Rattle.pe_c.specs.Runs.{ReturnsItems, ReturnsReported}
 use Rattle.pe_c.specs.Unwinding.{exception_table_at}
 use Rattle.pe_c.specs.Versions.{IsContentOf, fixed_in, text_in}
 use Rattle.pe_c.specs.declared.export_addresses.AddressTable.{AddressTable}
 use Rattle.pe_c.specs.declared.directory_tables.ExportFields.{ExportFields}
+use Rattle.pe_c.specs.declared.directory_tables.ResourceDirectory.{ResourceDirectory}
 use Rattle.pe_c.specs.declared.exports.Exports.{Exports}
 use Rattle.pe_c.specs.declared.image.Image.{Image}
 use Rattle.pe_c.specs.declared.imports.Libraries.{Libraries}
 use Rattle.pe_c.specs.declared.imports.Library.{Library}
 use Rattle.pe_c.specs.declared.ranges.Range.{Range}
-use Rattle.pe_c.specs.declared.resource_leaves.ResourceLeaves.{ResourceLeaves}
 
 -- ---- what a call returned, and what it is
 
@@ -174,29 +173,39 @@ IsVersionAt b (Err refusal) part = part ≡ Err refusal
 IsVersionAt b (Ok None) part = part ≡ Ok None
 IsVersionAt b (Ok (Some c)) part = IsVersionBy b (range_of c) (fixed_in b (range_of c)) part
 
--- the resources of a tree. The walk has its data and the range of its first entries; the first directory is the start of the
--- data, which `pe_c_resource_directory_at` returns where its entries lie in the tree
-abbrev pub resources_at : List ℕ → ResourceLeaves → Result (Option VersionView) Refusal → Result (Option ByteRange) Refusal → Result (Option ResourceView) Refusal
-resources_at b w version manifest = do
+-- a directory of the resource tree: its numbers are those of the field
+abbrev pub directory_read : ResourceDirectory → ImageResourceDirectory
+directory_read x = record {
+  characteristics = x.characteristics;
+  time_date_stamp = x.time_date_stamp;
+  major_version = x.major_version;
+  minor_version = x.minor_version;
+  number_of_named_entries = x.number_of_named_entries;
+  number_of_id_entries = x.number_of_id_entries;
+}
+
+-- the resources with this first directory: the range of its entries has their bytes
+abbrev pub resources_at : List ℕ → ResourceDirectory → Result (Option VersionView) Refusal → Result (Option ByteRange) Refusal → Result (Option ResourceView) Refusal
+resources_at b root version manifest = do
   v ← version
   m ← manifest
-  Ok (Some (record { directory = directory_of b w.tree.offset; first_entries = entries (range b (w.tree.offset + w.types.offset) w.types.length); version = v; manifest = option_map (bytes_in b) m }))
+  Ok (Some (record { directory = directory_read root; first_entries = entries (range b root.entries.offset root.entries.length); version = v; manifest = option_map (bytes_in b) m }))
 
--- by what `pe_c_resource_leaves` returns: the version information, then the manifest of `pe_c_manifest`. Data that permissive
+-- by what `pe_c_resource_root` returns: the version information, then the manifest of `pe_c_manifest`. Data that permissive
 -- mode finds too short for a directory are no resources
-abbrev pub AreResourcesBy : List ℕ → Image → List SectionTable → Result (Option ResourceLeaves) Refusal → Result (Option ResourceView) Refusal → Type 0
+abbrev pub AreResourcesBy : List ℕ → Image → List SectionTable → Result (Option ResourceDirectory) Refusal → Result (Option ResourceView) Refusal → Type 0
 AreResourcesBy b image sections (Err refusal) part = part ≡ Err refusal
 AreResourcesBy b image sections (Ok None) part = part ≡ Ok (Some no_resources)
-AreResourcesBy b image sections (Ok (Some w)) part =
+AreResourcesBy b image sections (Ok (Some root)) part =
     (content : Result (Option ByteRange) Refusal) × (version : Result (Option VersionView) Refusal) × (manifest : Result (Option ByteRange) Refusal)
     × IsContentOf b image (λ _. sections) image.mode 16 content
     × IsVersionAt b content version
     × IsContentOf b image (λ _. sections) image.mode 24 manifest
-    × (part ≡ resources_at b w version manifest)
+    × (part ≡ resources_at b root version manifest)
 
 abbrev pub AreResourcesUnless : Bool → List ℕ → Image → List SectionTable → Result (Option ResourceView) Refusal → Type 0
 AreResourcesUnless true b image sections part = part ≡ Ok None
-AreResourcesUnless false b image sections part = AreResourcesBy b image sections (leaves_start b image sections) part
+AreResourcesUnless false b image sections part = AreResourcesBy b image sections (root_at b image sections) part
 
 abbrev pub AreResources : Bool → List ℕ → Image → List SectionTable → Result (Option ResourceView) Refusal → Type 0
 AreResources wanted b image sections part = AreResourcesUnless (is_left_out wanted (directory image 2)) b image sections part

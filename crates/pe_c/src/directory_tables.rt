@@ -3,21 +3,23 @@
 //! https://learn.microsoft.com/windows/win32/debug/pe-format#export-directory-table,
 //! https://learn.microsoft.com/windows/win32/debug/pe-format#resource-directory-table
 
-ghost use Rattle.std.specs.Prelude.{◌≡◌, ◌+◌, ◌≤◌, ◌^◌, Some};
+ghost use Rattle.std.specs.Prelude.{◌≡◌, ◌+◌, ◌≤◌, ◌^◌, Some, length};
 ghost use Rattle.pe_core.specs.Refusals.{answer_by, answer_of};
-ghost use Rattle.pe_c.specs.DirectoryTables.{directory_reported, item_in, export_directory_at, export_fields, next_item_of, resource_directory_at};
+ghost use Rattle.pe_c.specs.DirectoryTables.{directory_with, item_in, export_directory_at, export_fields, next_item_of, resource_directory_at, root_at, root_of};
 ghost use Rattle.pe_c.specs.HandsOut.{HandsOut, HandsOutIf};
+ghost use Rattle.pe_c.specs.Ranges.{range_of};
+ghost use Rattle.pe_c.specs.ResourceLeaves.{walk_at};
 ghost use Rattle.pe_c.specs.Walks.{walk_of};
-ghost use Rattle.pe_c.specs.Views.{map_of};
+ghost use Rattle.pe_c.specs.Views.{directory_sections, map_of};
 
-use crate::image::{EXPORT_TABLE, directory, is_absent};
+use crate::image::{EXPORT_TABLE, RESOURCE_TABLE, directory, is_absent};
 use crate::ranges::{Range, slice_of};
-use crate::resource_leaves::{ResourceName, name_in};
+use crate::resource_leaves::{ResourceName, leaf_position, name_in};
 use crate::results::{hand_out, hand_out_some};
 use crate::view::View;
 use crate::walks::next_entry;
-use pe_core::{ExportDirectoryTable, Result, RvaMap, TableEntry, require_bytes};
-use pe_resource::{ImageResourceDirectory, ResourceEntry};
+use pe_core::{ByteRange, ExportDirectoryTable, Result, RvaMap, TableEntry, require_bytes};
+use pe_resource::{ImageResourceDirectory, LeafPosition, ResourceEntry};
 
 // Sizes in bytes.
 const SIZE_OF_EXPORT_DIRECTORY: usize = 40;
@@ -127,14 +129,9 @@ pub extern "C" fn pe_c_export_directory(view: &View, out: &mut ExportFields) -> 
     hand_out_some(export_directory_at(view), out)
 }
 
-/// A directory at an offset of a tree, whose entries lie in it.
-fn directory_reported(
-    tree: &Range,
-    offset: usize,
-    directory: &ImageResourceDirectory,
-) -> ResourceDirectory
-    requires { tree.now.offset + (offset + 16) ≤ 2 ^ 63 }
-    ensures { result ≡ directory_reported tree.now offset directory.now }
+/// A directory with the range of its entries.
+fn directory_with(directory: &ImageResourceDirectory, entries: Range) -> ResourceDirectory
+    ensures { result ≡ directory_with directory.now entries }
 {
     ResourceDirectory {
         characteristics: directory.characteristics,
@@ -143,10 +140,7 @@ fn directory_reported(
         minor_version: directory.minor_version,
         number_of_named_entries: directory.number_of_named_entries,
         number_of_id_entries: directory.number_of_id_entries,
-        entries: Range {
-            offset: tree.offset + (offset as u64 + 16),
-            length: directory.entries_size() as u64,
-        },
+        entries,
     }
 }
 
@@ -156,12 +150,13 @@ fn resource_directory_at(bytes: &[u8], tree: &Range, offset: usize) -> Result<Re
     let data = slice_of(bytes, tree)?;
     require_bytes(data, offset, SIZE_OF_RESOURCE_DIRECTORY)?;
     let directory = ImageResourceDirectory::at(data, offset);
-    require_bytes(
-        data,
-        offset + SIZE_OF_RESOURCE_DIRECTORY,
-        directory.entries_size(),
-    )?;
-    Ok(directory_reported(tree, offset, &directory))
+    let length = directory.entries_size();
+    require_bytes(data, offset + SIZE_OF_RESOURCE_DIRECTORY, length)?;
+    let entries = Range {
+        offset: tree.offset + (offset + SIZE_OF_RESOURCE_DIRECTORY) as u64,
+        length: length as u64,
+    };
+    Ok(directory_with(&directory, entries))
 }
 
 /// Returns the directory at an offset of a resource tree: at 0 the first, whose entries are types, else one to which an entry
@@ -178,6 +173,45 @@ pub extern "C" fn pe_c_resource_directory_at(
     ensures { HandsOut result out.old out.new (resource_directory_at bytes.now tree.now offset) }
 {
     hand_out(resource_directory_at(bytes, tree, offset as usize), out)
+}
+
+/// The first directory of the data at a range, before whose first leaf a walk stands at a position.
+fn root_of(bytes: &[u8], tree: ByteRange, position: &LeafPosition) -> ResourceDirectory
+    requires { tree.offset + 16 ≤ length bytes.now }
+    ensures { result ≡ root_of bytes.now (walk_at (range_of tree) position.now) }
+{
+    let entries = Range {
+        offset: (tree.offset + SIZE_OF_RESOURCE_DIRECTORY) as u64,
+        length: position.types.length as u64,
+    };
+    directory_with(&ImageResourceDirectory::at(bytes, tree.offset), entries)
+}
+
+#[tactic(auto, using(crate::proofs::ResourceRoots::root_is_there))]
+fn resource_root(view: &View) -> Result<Option<ResourceDirectory>>
+    ensures { answer_of result ≡ root_at view.now.bytes.now view.now.image.now
+        (directory_sections view.now 2) }
+{
+    let directory = directory(view.image, RESOURCE_TABLE);
+    if is_absent(directory) {
+        return Ok(None);
+    }
+    match leaf_position(view, directory)? {
+        Some((data, position)) => Ok(Some(root_of(view.bytes, data, &position))),
+        None => Ok(None),
+    }
+}
+
+/// Returns the first directory of the resources, whose entries are types: `NOTHING` where `pe_c_resource_leaves` returns it. In
+/// permissive mode one whose entries are not all in the data has none.
+///
+/// Errors: those of `pe_c_resource_leaves`.
+#[unsafe(no_mangle)]
+pub extern "C" fn pe_c_resource_root(view: &View, out: &mut ResourceDirectory) -> u32
+    ensures { HandsOutIf result out.old out.new (root_at view.now.bytes.now view.now.image.now
+        (directory_sections view.now 2)) }
+{
+    hand_out_some(resource_root(view), out)
 }
 
 /// An entry by its name or id, in the data of a tree that start at a file offset.

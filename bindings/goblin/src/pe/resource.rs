@@ -158,6 +158,19 @@ impl<'a> ImageResourceDirectory {
     }
 }
 
+impl From<sys::ResourceDirectory> for ImageResourceDirectory {
+    fn from(it: sys::ResourceDirectory) -> Self {
+        ImageResourceDirectory {
+            characteristics: it.characteristics,
+            time_date_stamp: it.time_date_stamp,
+            major_version: it.major_version,
+            minor_version: it.minor_version,
+            number_of_named_entries: it.number_of_named_entries,
+            number_of_id_entries: it.number_of_id_entries,
+        }
+    }
+}
+
 fn unmapped(what: &str, rva: u32) -> error::Error {
     error::Error::Malformed(format!("Cannot map {what} rva {rva:#x} into offset"))
 }
@@ -400,7 +413,7 @@ impl<'a> ResourceData<'a> {
         let manifest_data = manifest.map(|it| Ok::<_, error::Error>(ManifestData { data: view.slice(it)? }));
         let data = view.slice(leaves.tree)?;
         Ok(Some(ResourceData {
-            image_resource_directory: raw::resource_directory(data, 0)?,
+            image_resource_directory: view.resource_root()?.map(ImageResourceDirectory::from).unwrap_or_default(),
             version_info,
             manifest_data: manifest_data.transpose()?,
             data,

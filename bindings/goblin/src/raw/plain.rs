@@ -7,7 +7,9 @@
 //! - `bytes_at`, `part_at`, `from`: the bytes alone; `record`: a record of a type that the caller chooses, by scroll;
 //! - `text_up_to`: a text that another byte than zero ends, in a [`Strtab`](crate::strtab::Strtab) of a caller;
 //! - `fields_32`, `fields_64`, `dos_header`, `data_directory`: a header that stands alone; `pe_c_headers` reads those of an image;
-//! - `export_directory`: an export directory that stands alone; `pe_c_export_directory` reads that of an image.
+//! - `export_directory`: an export directory that stands alone; `pe_c_export_directory` reads that of an image;
+//! - `resource_directory`: a resource directory that stands alone, also one whose entries are truncated, which
+//!   `pe_c_resource_directory_at` refuses; `pe_c_resource_root` reads the first one of an image.
 //!
 //! Of an image or an object:
 //!
@@ -16,7 +18,6 @@
 //! - `address_table`: the slots of imports as they stand, which are addresses of another run, or the list of imports again;
 //! - `tls_slot`: what the loader wrote to the slot whose address `pe_c_tls` returns;
 //! - `word_at`: the words of an ARM64 record, whose fields `pe_c_arm64_unwind_record` returns, but not their reserved bits;
-//! - `resource_directory`: a directory of the tree, also where its entries are truncated: `pe_c_resource_directory_at` refuses it then;
 //! - `resource_entry`: both words of an entry as they stand: `pe_c_next_resource_item` reads the name of one that has a name, refuses the
 //!   entry where that is truncated, and returns the name in place of its offset, and of an id 16 bits;
 //! - `resource_data_entry`: a data entry at any depth: `pe_c_next_resource_leaf` returns those below a language, without the reserved word;

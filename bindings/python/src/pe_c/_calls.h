@@ -21,6 +21,7 @@ ONE(load_config, pe_c_load_config_directory, pe_c_load_config(VIEW, &item), ROW_
 ONE(clr_header, pe_c_cor20_header, pe_c_clr_header(VIEW, &item), ROW_OF(cor20_header))
 ONE(export_table, pe_c_address_table, pe_c_export_addresses(VIEW, &item), ROW_OF(address_table))
 ONE(export_directory, pe_c_export_fields, pe_c_export_directory(VIEW, &item), ROW_OF(export_fields))
+ONE(resource_root, pe_c_resource_directory, pe_c_resource_root(VIEW, &item), ROW_OF(resource_directory))
 ONE(fixed_version, pe_c_version, pe_c_fixed_version(VIEW, &item), ROW_OF(version))
 ONE(manifest, pe_c_range, pe_c_manifest(VIEW, &item), view_of(self, item))
 ONE(dump, pe_c_dump_info, pe_c_dump(BYTES, &item), ROW_OF(dump_info))
@@ -89,6 +90,7 @@ CONTEXT(dump_context_arm64, pe_c_arm64_context, pe_c_dump_context_arm64(BYTES, &
     {"clr_header", (PyCFunction)clr_header, METH_NOARGS, NULL}, \
     {"export_table", (PyCFunction)export_table, METH_NOARGS, NULL}, \
     {"export_directory", (PyCFunction)export_directory, METH_NOARGS, NULL}, \
+    {"resource_root", (PyCFunction)resource_root, METH_NOARGS, NULL}, \
     {"fixed_version", (PyCFunction)fixed_version, METH_NOARGS, NULL}, \
     {"manifest", (PyCFunction)manifest, METH_NOARGS, NULL}, \
     {"dump", (PyCFunction)dump, METH_NOARGS, NULL}, \

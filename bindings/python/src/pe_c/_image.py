@@ -11,8 +11,8 @@ from typing import TYPE_CHECKING, Any
 from . import _core
 from ._core import (AllHeaders, Arm64Function, Arm64Packed, Arm64Record, BoundLibrary, Certificate, Checksum, ClrHeader, DebugEntry,
                     DelayLibrary, EmbeddedPdb, Export, ExportDirectory, ExportTable, FixedVersion, Function, Headers, Library,
-                    LoadConfig, Metadata, Pdb20, PdbChecksum, Pogo, RelocationBlock, Repro, Resource, RichHeader, Section, Symbol,
-                    SymbolKey, Tls, UnwindRecord, VcFeatures, VersionBlock)
+                    LoadConfig, Metadata, Pdb20, PdbChecksum, Pogo, RelocationBlock, Repro, Resource, ResourceDirectory, RichHeader,
+                    Section, Symbol, SymbolKey, Tls, UnwindRecord, VcFeatures, VersionBlock)
 from ._kinds import Kind
 from ._ordinals import ORDINALS
 from ._part import SHOWN, Error, ImageWarning, Part, WarningKind, entropy_of, error_of, plain, shown
@@ -229,6 +229,12 @@ class Image(Reader):
     def export_directory(self) -> ExportDirectory | None:
         """The fields of the export directory, IMAGE_EXPORT_DIRECTORY."""
         row: ExportDirectory | None = self._one("export_directory")
+        return row
+
+    @property
+    def resource_root(self) -> ResourceDirectory | None:
+        """The fields of the first directory of the resources, IMAGE_RESOURCE_DIRECTORY."""
+        row: ResourceDirectory | None = self._one("resource_root")
         return row
 
     @property

@@ -14,11 +14,12 @@ from ._core import (
     Arm64StackFrame as Arm64StackFrame, ExportTable as ExportTable, Export as Export, ExportDirectory as
     ExportDirectory, Library as Library, Import as Import, DelayDescriptor as DelayDescriptor, DelayLibrary as
     DelayLibrary, DelayedFunction as DelayedFunction, BoundLibrary as BoundLibrary, BoundForwarder as BoundForwarder,
-    FixedVersion as FixedVersion, VersionBlock as VersionBlock, Resource as Resource, Tls as Tls, LoadConfig as
-    LoadConfig, GuardEntry as GuardEntry, RelocationBlock as RelocationBlock, Relocation as Relocation, ClrHeader as
-    ClrHeader, Metadata as Metadata, MetadataStream as MetadataStream, DumpHeader as DumpHeader, DumpLocation as
-    DumpLocation, DumpEntry as DumpEntry, DumpStack as DumpStack, DumpThread as DumpThread, DumpVersion as
-    DumpVersion, DumpModule as DumpModule, DumpThreadName as DumpThreadName, DumpUnloadedModule as DumpUnloadedModule,
-    DumpThreadInfo as DumpThreadInfo, DumpHandle as DumpHandle, DumpRegion as DumpRegion, DumpException as
-    DumpException, DumpSystem as DumpSystem, DumpTimes as DumpTimes, DumpPower as DumpPower, DumpProcess as
-    DumpProcess, DumpPiece as DumpPiece, Context as Context, Arm64Context as Arm64Context)
+    FixedVersion as FixedVersion, VersionBlock as VersionBlock, Resource as Resource, ResourceDirectory as
+    ResourceDirectory, Tls as Tls, LoadConfig as LoadConfig, GuardEntry as GuardEntry, RelocationBlock as
+    RelocationBlock, Relocation as Relocation, ClrHeader as ClrHeader, Metadata as Metadata, MetadataStream as
+    MetadataStream, DumpHeader as DumpHeader, DumpLocation as DumpLocation, DumpEntry as DumpEntry, DumpStack as
+    DumpStack, DumpThread as DumpThread, DumpVersion as DumpVersion, DumpModule as DumpModule, DumpThreadName as
+    DumpThreadName, DumpUnloadedModule as DumpUnloadedModule, DumpThreadInfo as DumpThreadInfo, DumpHandle as
+    DumpHandle, DumpRegion as DumpRegion, DumpException as DumpException, DumpSystem as DumpSystem, DumpTimes as
+    DumpTimes, DumpPower as DumpPower, DumpProcess as DumpProcess, DumpPiece as DumpPiece, Context as Context,
+    Arm64Context as Arm64Context)

@@ -72,6 +72,7 @@ static PyObject *row_version(Image *self, Rows *rows, const pe_c_version *it);
 static PyObject *row_version_block(Image *self, Rows *rows, const pe_c_version_block *it);
 static PyObject *version_children(Image *self, Rows *rows, const pe_c_version_block *it);
 static PyObject *row_resource_leaf(Image *self, Rows *rows, const pe_c_resource_leaf *it);
+static PyObject *row_resource_directory(Image *self, Rows *rows, const pe_c_resource_directory *it);
 static PyObject *row_tls_directory(Image *self, Rows *rows, const pe_c_tls_directory *it);
 static PyObject *tls_callbacks(Image *self, Rows *rows, const pe_c_tls_directory *it);
 static PyObject *row_load_config_directory(Image *self, Rows *rows, const pe_c_load_config_directory *it);
@@ -1596,6 +1597,30 @@ static PyObject *row_resource_leaf(Image *self, Rows *rows, const pe_c_resource_
     return filled(self, ROW_RESOURCE_LEAF, items, 9);
 }
 
+static PyStructSequence_Field row_resource_directory_fields[] = {
+    {"characteristics", "reserved"},
+    {"time_date_stamp", "seconds since the start of 1970, mostly 0"},
+    {"major_version", NULL},
+    {"minor_version", NULL},
+    {"number_of_named_entries", "which come first"},
+    {"number_of_id_entries", NULL},
+    {NULL, NULL}};
+
+static PyObject *row_resource_directory(Image *self, Rows *rows, const pe_c_resource_directory *it)
+{
+    if (!takes(rows, 0))
+        return NULL;
+    PyObject *items[] = {
+        N(it->characteristics),
+        N(it->time_date_stamp),
+        N(it->major_version),
+        N(it->minor_version),
+        N(it->number_of_named_entries),
+        N(it->number_of_id_entries),
+    };
+    return filled(self, ROW_RESOURCE_DIRECTORY, items, 6);
+}
+
 static PyStructSequence_Field row_tls_directory_fields[] = {
     {"callbacks", NULL},
     {"start_address_of_raw_data", "where the data starts of which each thread gets a copy"},
@@ -2331,6 +2356,7 @@ static const PyStructSequence_Desc row_kinds[] = {
     [ROW_VERSION] = {"pe_c._core.FixedVersion", "VS_FIXEDFILEINFO.", row_version_fields, 13},
     [ROW_VERSION_BLOCK] = {"pe_c._core.VersionBlock", "A block of version information, which is a tree of them. The first block, VS_VERSION_INFO, is all of it; its value is the fixed file information. It contains StringFileInfo, with a string table for each language, whose blocks are strings with any key; and VarFileInfo, with Translation, whose value is a language and a code page, uint16_t each, for each language of the file.", row_version_block_fields, 5},
     [ROW_RESOURCE_LEAF] = {"pe_c._core.Resource", NULL, row_resource_leaf_fields, 9},
+    [ROW_RESOURCE_DIRECTORY] = {"pe_c._core.ResourceDirectory", "A directory of the tree, IMAGE_RESOURCE_DIRECTORY.", row_resource_directory_fields, 6},
     [ROW_TLS_DIRECTORY] = {"pe_c._core.Tls", "IMAGE_TLS_DIRECTORY.", row_tls_directory_fields, 7},
     [ROW_LOAD_CONFIG_DIRECTORY] = {"pe_c._core.LoadConfig", "IMAGE_LOAD_CONFIG_DIRECTORY32 or IMAGE_LOAD_CONFIG_DIRECTORY64, up to the guard flags. A field that the structure is too short for, or the image, is 0, and so is the field of its name with has_, which else is 1. The addresses are virtual addresses, mostly 0 where there is nothing: less image->base one is an RVA, for pe_c_offset.", row_load_config_directory_fields, 13},
     [ROW_GUARD_ENTRY] = {"pe_c._core.GuardEntry", NULL, row_guard_entry_fields, 2},

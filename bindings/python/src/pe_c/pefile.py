@@ -489,13 +489,28 @@ def _named(value: int | str, **more: Any) -> ResourceDirEntryData:
 _ENTRY = "IMAGE_RESOURCE_DIRECTORY_ENTRY"
 
 
+_TREE = "IMAGE_RESOURCE_DIRECTORY"
+
+
 def _directory() -> ResourceDirData:
-    return ResourceDirData(struct=Structure("IMAGE_RESOURCE_DIRECTORY"), entries=[])
+    directory = Structure(f"{_TREE} below the first")
+    directory.name = _TREE
+    return ResourceDirData(struct=directory, entries=[])
+
+
+def _first_directory(pe: PE) -> ResourceDirData | None:
+    it = pe._value("resource_root")
+    return None if it is None else ResourceDirData(struct=Structure(
+        _TREE, None, Characteristics=it.characteristics, TimeDateStamp=it.time_date_stamp, MajorVersion=it.major_version,
+        MinorVersion=it.minor_version, NumberOfNamedEntries=it.number_of_named_entries,
+        NumberOfIdEntries=it.number_of_id_entries), entries=[])
 
 
 def _read_resources(pe: PE) -> ResourceDirData | None:
     """The tree of the leaves: types, names, languages."""
-    root = _directory()
+    root = _first_directory(pe)
+    if root is None:
+        return None
     types: dict[int | str, tuple[ResourceDirData, dict[int | str, ResourceDirData]]] = {}
     for leaf in pe._image.resources:
         if leaf.type not in types:

@@ -678,6 +678,7 @@ fn read_others_of(image: &Image, seen: &mut Seen) {
     for entry in seen.keep(image.guard_table(GuardTable::CfFunctions)).into_iter().flatten().take(most) {
         seen.item(entry);
     }
+    seen.keep(image.resource_root());
     if let Some(leaves) = seen.keep(image.resource_leaves()) {
         let Some(directory) = seen.item(leaves.directory(0)) else { return };
         seen.print(&directory.items());

@@ -9,6 +9,7 @@ ghost use Rattle.pe_c.specs.Clr.{clr_header_at, clr_metadata_at};
 ghost use Rattle.pe_c.specs.Debug.{debug_entries_range, first_entry};
 ghost use Rattle.pe_c.specs.Directories.{callbacks_at, table_at, tls_at};
 ghost use Rattle.pe_c.specs.DirectoryFailures.{directory_refusal};
+ghost use Rattle.pe_c.specs.DirectoryTables.{root_at};
 ghost use Rattle.pe_c.specs.GuardTables.{guard_table_at};
 ghost use Rattle.pe_c.specs.Images.{map_of_image};
 ghost use Rattle.pe_c.specs.LoadConfigs.{load_config_at, numbered_field_at};
@@ -55,6 +56,7 @@ pub fn directories_are_those_of_all_sections()
         SameByIndex (λ b image s. exception_table_at machine width b image s image.mode) 3 }
     ensures leaves { SameByIndex leaves_start 2 }
     ensures tree { SameByIndex image_tree 2 }
+    ensures root { SameByIndex root_at 2 }
 {}
 
 /// The same of calls that map more than the RVA of a directory: the callbacks of TLS, the metadata of a CLR header, the tables of the

@@ -1,4 +1,4 @@
-use Rattle.pe_c.proofs.IndexedCalls.{clr_headers, debug_entries, fields, first_entries, functions, leaves, load_configs, relocations, tables, tls, trees}
+use Rattle.pe_c.proofs.IndexedCalls.{clr_headers, debug_entries, fields, first_entries, functions, leaves, load_configs, relocations, roots, tables, tls, trees}
 use Rattle.pe_c.proofs.laws.indexes.directories_are_those_of_all_sections.Goals as goal
 
 pub returns-clause-tables : goal.returns-clause-tables
@@ -33,3 +33,6 @@ returns-clause-leaves c = leaves
 
 pub returns-clause-tree : goal.returns-clause-tree
 returns-clause-tree c = trees
+
+pub returns-clause-root : goal.returns-clause-root
+returns-clause-root c = roots
