@@ -96,6 +96,7 @@ pub mod OneImports
 pub mod OneDebugData
 pub mod OneResources
 pub mod OneImage
+pub mod LibrariesOfCalls
 pub mod ImageWriters
 pub mod NearMaps
 pub mod NearLists

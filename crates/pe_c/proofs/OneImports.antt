@@ -48,7 +48,7 @@ one_library b x r s g h =
     ∙ ap (λ (v : List ℕ). record r { import_directory_entry = s.import_directory_entry; name = v }) name
     ∙ ap (λ (v : List ℕ). record s { lookups = v }) list
 
-libraries_move : (offset : ℕ → Option ℕ) (w : ℕ) (b : List ℕ) → Moves (StepsLibraries offset w b)
+pub libraries_move : (offset : ℕ → Option ℕ) (w : ℕ) (b : List ℕ) → Moves (StepsLibraries offset w b)
 libraries_move offset w b walk = ((library_step offset w b walk).0, (library_step offset w b walk).1, refl)
 
 -- records and imports

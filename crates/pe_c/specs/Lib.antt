@@ -76,6 +76,7 @@ pub mod NamedSymbols
 pub mod ImageParts
 pub mod ImageDebug
 pub mod ImageOfCalls
+pub mod LibrariesOfCalls
 pub mod HeadersRead
 pub mod SectionWrites
 pub mod ImageWrites

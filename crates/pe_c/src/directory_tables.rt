@@ -187,7 +187,6 @@ fn root_of(bytes: &[u8], tree: ByteRange, position: &LeafPosition) -> ResourceDi
     directory_with(&ImageResourceDirectory::at(bytes, tree.offset), entries)
 }
 
-#[tactic(auto, using(crate::proofs::ResourceRoots::root_is_there))]
 fn resource_root(view: &View) -> Result<Option<ResourceDirectory>>
     ensures { answer_of result ≡ root_at view.now.bytes.now view.now.image.now
         (directory_sections view.now 2) }

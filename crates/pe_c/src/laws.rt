@@ -25,9 +25,10 @@ ghost use Rattle.pe_c.specs.Certificates.{StepsCertificates, ReportsCertificate,
 ghost use Rattle.pe_c.specs.DebugWalks.{StepsPogoEntries, entries_reported};
 ghost use Rattle.pe_c.specs.ExportAddresses.{address_table, addresses_in, exported_with, exported_at};
 ghost use Rattle.pe_c.specs.Exports.{StepsExports, count_of, tables_or_short, reported_entry, reported_from, walk_over, with_tables};
-ghost use Rattle.pe_c.specs.ImageOfCalls.{IsImageOfCalls};
-ghost use Rattle.pe_c.specs.Images.{map_of_image};
+ghost use Rattle.pe_c.specs.ImageOfCalls.{IsImageOfCalls, mode_of};
+ghost use Rattle.pe_c.specs.Images.{image_at, map_of_image};
 ghost use Rattle.pe_c.specs.Imports.{libraries_at};
+ghost use Rattle.pe_c.specs.LibrariesOfCalls.{AreLibrariesOfCalls};
 ghost use Rattle.pe_c.specs.Parts.{HasTables, ImportsInTurn, ReportsExport, ReportsLibraries, ReportsLibrariesUntil, import_records_at};
 ghost use Rattle.pe_c.specs.Modes.{options_of};
 ghost use Rattle.pe_c.specs.Plans.{HandsOutAfter, ReturnsInTurn, ReportsUnwindRecord, ending_of, plan_from};
@@ -58,10 +59,12 @@ ghost use Rattle.pe_core.specs.Exports.{ExportDataView, export_at, export_data_a
 ghost use Rattle.pe_core.specs.Header.{HeaderView};
 ghost use Rattle.pe_core.specs.Imports.{ImportRecordView};
 ghost use Rattle.pe_core.specs.Refusals.{CertificateTable, Memory, Refusal, outcome};
+ghost use Rattle.pe_core.specs.Sections.{sections_at};
 ghost use Rattle.pe_core.specs.declared.data_directories.DataDirectory.{DataDirectory};
 ghost use Rattle.pe_core.specs.declared.error.Error.{Error};
 ghost use Rattle.pe_core.specs.declared.section_table.SectionTable.{SectionTable};
 ghost use Rattle.pe_core.specs.declared.options.ParseOptions.{ParseOptions};
+ghost use Rattle.pe_image.specs.Core.{AreLibrariesOf};
 ghost use Rattle.pe_image.specs.Image.{ImageView, IsImage};
 ghost use Rattle.pe_plan.specs.Plans.{PlansFrom};
 ghost use Rattle.pe_records.specs.Certificates.{CertificateView, certificate_at};
@@ -96,6 +99,20 @@ pub fn image_of_calls()
     pe_image::laws::images_are_one();
     pe_resource::laws::resources::resources_have_an_answer();
     pe_resource::laws::resources::resources_have_one_answer();
+}
+
+/// The libraries of such an image, which `HasLibraries` of pe_image says of `PE`, are exactly the names of the libraries that all
+/// steps of `pe_c_next_library` return, sorted by their bytes, each once: none where the options leave the imports out, or there is
+/// no import directory. The image and its sections are those that `pe_c_image` and `pe_c_sections` return.
+pub fn libraries_of_calls()
+    ensures { (b : List ℕ) (o : ParseOptions) (image : Image) (sections : List SectionTable)
+        (x : ImageView) (libraries : List (List ℕ)) → AreBytes b → length b ≤ 2 ^ 63 →
+        image_at b (mode_of o) ≡ Ok image →
+        sections_at b image.sections_offset image.number_of_sections ≡ Ok sections →
+        IsImage b o (Ok x) → (AreLibrariesOf x.import_data libraries
+        ↔ AreLibrariesOfCalls b o image sections libraries) }
+{
+    pe_resource::laws::resources::resources_have_an_answer();
 }
 
 /// The ranges of an unwind record lie in the bytes, and are its codes and its handler's data.
