@@ -6,7 +6,7 @@ mod arguments;
 
 use arguments::number;
 use pe_core::{DataDirectory, ParseOptions};
-use pe_frame::{Registers, Stack, step};
+use pe_frame::{FunctionPlan, Registers, Stack, step};
 use pe_plan::UnwindPlan;
 use pe_unwind::ExceptionData;
 use std::alloc::Global;
@@ -49,7 +49,7 @@ fn main(rt: HostRuntime) -> io::Result<()> {
     let Ok(exceptions) = ExceptionData::parse_with_opts(&bytes, directory, &[], 1, &opts) else {
         return println!(rt; "refused");
     };
-    let Ok(Some(plan)) = UnwindPlan::of(rt.alloc(), &exceptions, 5, &[], &opts) else {
+    let Ok(Some(chain)) = UnwindPlan::of(rt.alloc(), &exceptions, 5, &[], &opts) else {
         return println!(rt; "no plan");
     };
     // Words of zeros: what the prologs pushed, and the return address.
@@ -65,9 +65,13 @@ fn main(rt: HostRuntime) -> io::Result<()> {
         xmm: [0; 16],
         rip: 5,
     };
+    let plan = FunctionPlan {
+        start: 0,
+        records: &chain,
+    };
     let mut moved = 0u64;
     for _ in 0..calls {
-        if let Ok(caller) = step(&plan, 0, 5, registers, &stack) {
+        if let Ok(caller) = step(plan, 5, registers, &stack) {
             moved = moved.wrapping_add(caller.general[4].wrapping_sub(0x1000));
         }
     }

@@ -63,6 +63,12 @@ fn after_body(sp: u64, frame: u64) -> Arm64Registers {
     registers
 }
 
+/// Where the functions start that have a record, which is passed beside it.
+const FUNCTION: Arm64RuntimeFunction = Arm64RuntimeFunction {
+    begin_address: 0x1000,
+    unwind_data: 0,
+};
+
 /// A step in a function with this record, at an offset in it.
 fn step_at(
     record: &[u8],
@@ -71,7 +77,13 @@ fn step_at(
     stack: &Stack<'_>,
 ) -> Result<Arm64Registers, FrameError> {
     let info = Arm64UnwindInfo::parse(record, 0).map_err(FrameError::Codes)?;
-    step_arm64(&info, 0x1000, 0x1000 + offset, registers, stack)
+    step_arm64(
+        &FUNCTION,
+        &info,
+        FUNCTION.begin_address + offset,
+        registers,
+        stack,
+    )
 }
 
 fn shown<T: Debug>(alloc: Global, value: &T) -> Result<String, AllocError> {
@@ -449,7 +461,13 @@ fn step_out_at(
     stack: &Stack<'_>,
 ) -> Result<(Arm64Registers, bool), FrameError> {
     let info = Arm64UnwindInfo::parse(record, 0).map_err(FrameError::Codes)?;
-    step_out_arm64(&info, 0x1000, 0x1000 + offset, registers, stack)
+    step_out_arm64(
+        &FUNCTION,
+        &info,
+        FUNCTION.begin_address + offset,
+        registers,
+        stack,
+    )
 }
 
 /// A `CONTEXT` record of winnt.h: `X` from 8 on, `Sp` at 100h, `Pc` at 108h, `V` from 110h on.

@@ -4,8 +4,8 @@ use crate::images::{image, with_byte, with_debug};
 use pe_core::{ByteRange, DataDirectory, Error, Header, ParseMode, ParseOptions, Reason, Result};
 use pe_records::{
     CodeviewPDB20DebugInfo, CodeviewPDB70DebugInfo, DebugData, EmbeddedPdb,
-    ExDllCharacteristicsInfo, IMAGE_DEBUG_TYPE_CODEVIEW, IMAGE_DEBUG_TYPE_REPRO,
-    ImageDebugDirectory, POGOEntryIterator, POGOInfo, POGOInfoEntry, PdbChecksum, ReproInfo,
+    ExDllCharacteristicsInfo, FirstDebugEntries, IMAGE_DEBUG_TYPE_CODEVIEW, IMAGE_DEBUG_TYPE_REPRO,
+    ImageDebugDirectory, ImageDebugDirectoryIterator, POGOEntryIterator, POGOInfo, POGOInfoEntry, PdbChecksum, ReproInfo,
     VCFeatureInfo,
 };
 use std::alloc::{AllocError, Global};
@@ -264,6 +264,40 @@ fn counts_a_cut_entry(rt: HostRuntime) -> std::result::Result<(), Fail> {
     assert_eq!(rt; entries.len(), 1);
     assert!(rt; matches!(entries.next(), Some(Err(Error::Short { .. }))));
     assert!(rt; entries.next().is_none() && entries.next().is_none());
+    Ok(())
+}
+
+/// One pass finds what a search for each type finds: whole entries alone, and of two of a type the first.
+#[test]
+fn first_entries_in_one_pass(rt: HostRuntime) -> std::result::Result<(), Fail> {
+    let bytes = five_entries(rt.alloc(), PDB70, 30)?;
+    let twice = with_byte(five_entries(rt.alloc(), PDB70, 30)?, 0x7C, 2);
+    for (table, fixup, found, pointer) in [
+        (&bytes[..140], 0, 5, 0x90),
+        (&bytes[..140], 0x91, 5, u32::MAX),
+        (&bytes[..139], 0, 4, 0x90),
+        (&twice[..140], 0, 4, 0x90),
+    ] {
+        let first = FirstDebugEntries::of_table(table, fixup);
+        let entries = ImageDebugDirectoryIterator::new(table, fixup);
+        let mut count = 0;
+        for (kept, data_type) in [
+            (first.codeview, 2),
+            (first.features, 12),
+            (first.characteristics, 20),
+            (first.repro, 16),
+            (first.pogo, 13),
+        ] {
+            assert_eq!(rt; kept, entries.find_type(data_type));
+            count += u32::from(kept.is_some());
+        }
+        assert_eq!(rt; count, found);
+        let codeview = first.codeview.ok_or("no entry")?;
+        assert_eq!(rt; (codeview.size_of_data, codeview.pointer_to_raw_data), (30, pointer));
+    }
+    let none = FirstDebugEntries::of_table(&[], 0);
+    assert!(rt; none.codeview.is_none() && none.features.is_none() && none.repro.is_none());
+    assert!(rt; none.characteristics.is_none() && none.pogo.is_none());
     Ok(())
 }
 

@@ -1,7 +1,9 @@
 //! Steps of a stack walk. Records and stacks are by hand, from the prologs of Microsoft's pages on x64: what is expected is
 //! the state before the prolog, with the return address popped.
 
-use pe_frame::{FrameError, Memory, Registers, Stack, leaf, step, step_with_code};
+use pe_frame::{
+    FrameError, FunctionPlan, Memory, Registers, Stack, Stopped, leaf, step, step_with_code,
+};
 use pe_unwind::UnwindInfo;
 use std::alloc::{AllocError, Global};
 use std::fmt::{Debug, Display};
@@ -70,7 +72,12 @@ fn step_at(
     stack: &Stack<'_>,
 ) -> Result<Registers, FrameError> {
     let info = UnwindInfo::parse(record, 0).map_err(FrameError::Codes)?;
-    step(&[info], 0x1000, 0x1000 + offset, registers, stack)
+    let records = [info];
+    let plan = FunctionPlan {
+        start: 0x1000,
+        records: &records,
+    };
+    step(plan, 0x1000 + offset, registers, stack)
 }
 
 pub fn shown<T: Debug>(alloc: Global, value: &T) -> Result<String, AllocError> {
@@ -218,9 +225,13 @@ fn undoes_chained_records_whole(rt: HostRuntime) -> Result<(), Fail> {
     };
     // At its start the part has saved nothing, and all of the function's own prolog has run.
     for (offset, rbx) in [(0, caller.general[RBX]), (5, 1)] {
-        let plan = [UnwindInfo::parse(&part, 0)?, UnwindInfo::parse(&root, 0)?];
+        let records = [UnwindInfo::parse(&part, 0)?, UnwindInfo::parse(&root, 0)?];
+        let plan = FunctionPlan {
+            start: 0x1100,
+            records: &records,
+        };
         let registers = changed(&[(RSP, ENTRY - 40), (RBX, rbx), (RDI, 2)]);
-        let found = step(&plan, 0x1100, 0x1100 + offset, registers, &stack);
+        let found = step(plan, 0x1100 + offset, registers, &stack);
         assert_eq!(rt; found?, caller);
     }
     Ok(())
@@ -384,7 +395,16 @@ fn step_in(
     stack: &Stack<'_>,
 ) -> Result<Registers, FrameError> {
     let info = UnwindInfo::parse(record, 0).map_err(FrameError::Codes)?;
-    step_with_code(&[info], 0x1000, 0x1000 + offset, code, registers, stack)
+    let records = [info];
+    let plan = FunctionPlan {
+        start: 0x1000,
+        records: &records,
+    };
+    let stopped = Stopped {
+        rva: 0x1000 + offset,
+        code,
+    };
+    step_with_code(plan, stopped, registers, stack)
 }
 
 /// push rbx; push rsi; push r14; sub rsp,32, whose instructions end at 1, 2, 4 and 8.
@@ -615,12 +635,17 @@ fn jumps_leave_the_function_or_stay(rt: HostRuntime) -> Result<(), Fail> {
         (0x110F, [0xE9, 0xEC, 0xFE, 0xFF, 0xFF], RETURN_ADDRESS),
         (0x1114, [0xE9, 0xE7, 0xFF, 0xFF, 0xFF], 0x77),
     ] {
-        let plan = [
+        let records = [
             UnwindInfo::parse(&part, 0)?,
             UnwindInfo::parse(&ONE_PUSH, 0)?,
         ];
+        let plan = FunctionPlan {
+            start: 0x1100,
+            records: &records,
+        };
+        let stopped = Stopped { rva, code: &code };
         let registers = changed(&[(RSP, ENTRY)]);
-        let found = step_with_code(&plan, 0x1100, rva, &code, registers, &stack)?;
+        let found = step_with_code(plan, stopped, registers, &stack)?;
         assert_eq!(rt; found.rip, rip);
     }
     Ok(())

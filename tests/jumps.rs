@@ -3,7 +3,9 @@
 
 use crate::frames::{bytes_of, shown};
 use pe_core::{DataDirectory, ParseOptions};
-use pe_frame::{FrameError, ImageFunctions, Registers, Stack, step_in_image};
+use pe_frame::{
+    FrameError, FunctionPlan, ImageFunctions, Registers, Stack, Stopped, step_in_image,
+};
 use pe_images::image;
 use pe_unwind::{ExceptionData, UnwindInfo};
 use std::alloc::{AllocError, Global};
@@ -102,8 +104,13 @@ fn step_at(
         rip: u64::from(rva),
     };
     registers.general[RSP] = rsp;
-    let plan = [UnwindInfo::parse(&bytes, record)?];
-    Ok(step_in_image(&functions, &plan, start, rva, code, registers, &stack))
+    let records = [UnwindInfo::parse(&bytes, record)?];
+    let plan = FunctionPlan {
+        start,
+        records: &records,
+    };
+    let stopped = Stopped { rva, code };
+    Ok(step_in_image(&functions, plan, stopped, registers, &stack))
 }
 
 const IN_HOT: (u32, usize) = (0x20, 0xC0);

@@ -2,7 +2,7 @@
 
 use crate::images::image;
 use crate::resources::flat;
-use pe_core::{ByteRange, DataDirectory, Error, ParseMode};
+use pe_core::{ByteRange, DataDirectory, Error, MappedBytes, ParseMode};
 use pe_resource::{LeafPosition, ResourceData, ResourceEntry, ResourceLeaves, ResourceTreeError};
 use std::alloc::{AllocError, Global};
 use std::test::Fail;
@@ -13,7 +13,8 @@ fn leaves(bytes: &[u8]) -> pe_core::Result<ResourceLeaves<'_>> {
         virtual_address: 0,
         size: bytes.len() as u32,
     };
-    ResourceData::leaves(bytes, directory, &[], 0, &flat(ParseMode::Strict))
+    let image = MappedBytes::new(bytes, &[], 0, &flat(ParseMode::Strict));
+    ResourceData::leaves(&image, directory)
 }
 
 /// A type with the name `AB`, whose name 1 has two languages, and a type with the id 3, which leads to a data entry. Each
@@ -164,7 +165,8 @@ fn position(bytes: &[u8], mode: ParseMode) -> pe_core::Result<Option<(ByteRange,
         virtual_address: 0,
         size: bytes.len() as u32,
     };
-    ResourceData::leaf_position(bytes, directory, &[], 0, &flat(mode))
+    let image = MappedBytes::new(bytes, &[], 0, &flat(mode));
+    ResourceData::leaf_position(&image, directory)
 }
 
 /// A walk in numbers, which is kept between two leaves, and goes on from there.
@@ -323,12 +325,12 @@ pub(crate) fn version_and_manifest(alloc: Global) -> std::result::Result<Vec<u8>
 #[test]
 fn contents_and_version_information(rt: HostRuntime) -> std::result::Result<(), Fail> {
     let bytes = version_and_manifest(rt.alloc())?;
-    let opts = flat(ParseMode::Strict);
+    let image = MappedBytes::new(&bytes, &[], 0, &flat(ParseMode::Strict));
     let mut walk = leaves(&bytes)?;
     let Some(Ok(version)) = walk.next() else {
         return Err("no version".into());
     };
-    let range = version.content_range(&bytes, &[], 0, &opts)?;
+    let range = version.content_range(&image)?;
     assert_eq!(rt;
         range,
         ByteRange {
@@ -337,14 +339,14 @@ fn contents_and_version_information(rt: HostRuntime) -> std::result::Result<(), 
         }
     );
     let info = version
-        .version_info(&bytes, &[], 0, &opts)?
+        .version_info(&image)?
         .ok_or("no version information")?;
     let comments = info.string_info.comments(rt.alloc())?.ok_or("no comments")?;
     assert_eq!(rt; comments.as_str(), "B");
     let Some(Ok(manifest)) = walk.next() else {
         return Err("no manifest".into());
     };
-    let range = manifest.content_range(&bytes, &[], 0, &opts)?;
+    let range = manifest.content_range(&image)?;
     assert_eq!(rt;
         range,
         ByteRange {
@@ -352,7 +354,7 @@ fn contents_and_version_information(rt: HostRuntime) -> std::result::Result<(), 
             length: 3
         }
     );
-    assert!(rt; manifest.version_info(&bytes, &[], 0, &opts)?.is_none());
+    assert!(rt; manifest.version_info(&image)?.is_none());
     assert!(rt; walk.next().is_none());
     Ok(())
 }

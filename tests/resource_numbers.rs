@@ -4,7 +4,8 @@ use crate::exports::one_section;
 use crate::images::{image, with_part};
 use crate::resources::{flat, push_string, version_alone};
 use pe_core::{
-    ByteRange, DataDirectory, Error, ParseMode, ParseOptions, Reason, Result, SectionTable,
+    ByteRange, DataDirectory, Error, MappedBytes, ParseMode, ParseOptions, Reason, Result,
+    SectionTable,
 };
 use pe_resource::{
     ImageResourceDirectory, ResourceData, ResourceString, ResourceStringIterator, VersionName,
@@ -41,7 +42,9 @@ fn range_of(
         size,
     };
     let opts = ParseOptions::default().with_parse_mode(mode);
-    ResourceData::content_range(bytes, directory, 24, &one_section(), 0x200, &opts)
+    let sections = one_section();
+    let image = MappedBytes::new(bytes, &sections, 0x200, &opts);
+    ResourceData::content_range(&image, directory, 24)
 }
 
 /// The address of the directory is reported, and that of the bytes of a data entry.
@@ -115,7 +118,8 @@ fn ends_of_entries(rt: HostRuntime) -> std::result::Result<(), Fail> {
                 virtual_address: 0,
                 size,
             };
-            let refused = ResourceData::content_range(&bytes, directory, 24, &[], 0, &opts);
+            let image = MappedBytes::new(&bytes, &[], 0, &opts);
+            let refused = ResourceData::content_range(&image, directory, 24);
             // shows: pe_resource/src/resource.rt first_entries ResourceBounds
             assert!(rt;
                 matches!(refused, Err(Error::Malformed(Reason::ResourceBounds(reported))) if reported == end),

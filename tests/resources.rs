@@ -2,7 +2,7 @@
 
 use crate::images::image;
 use linked_list_allocator::LocalHeap;
-use pe_core::{DataDirectory, Error, ParseMode, ParseOptions, Reason, Result};
+use pe_core::{DataDirectory, Error, MappedBytes, ParseMode, ParseOptions, Reason, Result};
 use pe_resource::{
     ByteRange, ImageResourceDirectory, RT_MANIFEST, RT_VERSION, ResourceData, ResourceEntry,
     StringFileInfo, VersionField, VersionName, VsFixedFileInfo,
@@ -148,12 +148,13 @@ fn ranges_of_contents(rt: HostRuntime) -> std::result::Result<(), Fail> {
     );
     let bytes = version_and_manifest(rt.alloc(), 0xEB, &[])?;
     for mode in MODES {
+        let image = MappedBytes::new(&bytes, &[], 0, &flat(mode));
         for (id, range) in [
             (RT_MANIFEST, Some(manifest)),
             (RT_VERSION, Some(version)),
             (9, None),
         ] {
-            let found = ResourceData::content_range(&bytes, directory, id, &[], 0, &flat(mode))?;
+            let found = ResourceData::content_range(&image, directory, id)?;
             assert_eq!(rt; found, range);
         }
     }
@@ -167,8 +168,8 @@ fn ranges_of_contents(rt: HostRuntime) -> std::result::Result<(), Fail> {
     assert_eq!(rt; VersionName::Comments.value_range(strings)?, Some(comments));
     assert_eq!(rt; VersionName::FileVersion.value_range(strings)?, None);
     let bytes = version_and_manifest(rt.alloc(), 0xEB, &[(0x72, &[0xFF, 0xFF])])?;
-    let opts = flat(ParseMode::Strict);
-    let found = ResourceData::content_range(&bytes, directory, RT_MANIFEST, &[], 0, &opts)?;
+    let image = MappedBytes::new(&bytes, &[], 0, &flat(ParseMode::Strict));
+    let found = ResourceData::content_range(&image, directory, RT_MANIFEST)?;
     assert_eq!(rt; found, Some(manifest));
     let strings = bytes.as_slice().get(0x70..0xE8).ok_or("cut")?;
     let refused = VersionName::Comments.value_range(strings);

@@ -3,7 +3,7 @@
 //! 0x110, and the header of the resource section at 0x1A8. The checksum that is expected is pefile's of the same bytes.
 
 use crate::images::with_part;
-use pe_core::{DataDirectory, Header, ParseMode, ParseOptions};
+use pe_core::{DataDirectory, Header, MappedBytes, ParseMode, ParseOptions};
 use pe_edit::{Leaves, Resource, ResourceKey};
 use pe_images::{headers_alone, put};
 use pe_resource::ResourceData;
@@ -129,12 +129,13 @@ fn the_leaf_is_read(rt: HostRuntime) -> Result<(), Fail> {
         size: 0x60,
     };
     let opts = ParseOptions::default().with_parse_mode(ParseMode::Strict);
-    let mut walk = ResourceData::leaves(&out, directory, &sections, 0x200, &opts)?;
+    let image = MappedBytes::new(&out, &sections, 0x200, &opts);
+    let mut walk = ResourceData::leaves(&image, directory)?;
     let Some(Ok(leaf)) = walk.next() else {
         return Err("no leaf".into());
     };
     assert_eq!(rt; leaf.name.id(), Some(7));
-    let range = leaf.content_range(&out, &sections, 0x200, &opts)?;
+    let range = leaf.content_range(&image)?;
     assert_eq!(rt; range.of(&out), b"abc".as_slice());
     assert!(rt; walk.next().is_none());
     Ok(())

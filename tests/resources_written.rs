@@ -3,7 +3,7 @@
 
 use crate::images::image;
 use crate::resources::flat;
-use pe_core::{DataDirectory, Error, ParseMode, Reason};
+use pe_core::{DataDirectory, Error, MappedBytes, ParseMode, Reason};
 use pe_edit::{EditError, Leaves, Resource, ResourceKey, section_len, write_section};
 use pe_resource::ResourceData;
 use std::alloc::Global;
@@ -134,7 +134,8 @@ fn an_empty_last_content_is_mapped(rt: HostRuntime) -> Result<(), Fail> {
         size: length as u32,
     };
     let opts = flat(ParseMode::Strict);
-    let mut walk = ResourceData::leaves(&out, directory, &[], 0, &opts)?;
+    let image = MappedBytes::new(&out, &[], 0, &opts);
+    let mut walk = ResourceData::leaves(&image, directory)?;
     let Some(Ok(leaf)) = walk.next() else {
         return Err("no leaf".into());
     };
@@ -244,8 +245,9 @@ fn as_many_leaves_as_there_are_types(rt: HostRuntime) -> Result<(), Fail> {
         size: length as u32,
     };
     let opts = flat(ParseMode::Strict);
+    let image = MappedBytes::new(&out, &[], 0, &opts);
     let mut count = 0u32;
-    for item in ResourceData::leaves(&out, directory, &[], 0, &opts)? {
+    for item in ResourceData::leaves(&image, directory)? {
         let Ok(leaf) = item else {
             return Err("an item is an error".into());
         };

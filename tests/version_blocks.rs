@@ -3,7 +3,7 @@
 
 use crate::images::image;
 use crate::resources::flat;
-use pe_core::{Error, ParseMode};
+use pe_core::{Error, MappedBytes, ParseMode};
 use pe_resource::{
     ResourceDataEntry, ResourceEntry, ResourceLeaf, Translation, VersionBlock, VersionBlockError,
     VersionBlocks,
@@ -421,21 +421,13 @@ fn leaf(id: u32, offset_to_data: u32, size: u32) -> ResourceLeaf {
 #[test]
 fn of_a_leaf(rt: HostRuntime) -> std::result::Result<(), Fail> {
     let bytes = page(rt.alloc(), &[])?;
-    let opts = flat(ParseMode::Strict);
-    let whole = leaf(16, 0, 296).version_block(&bytes, &[], 0, &opts)?;
+    let image = MappedBytes::new(&bytes, &[], 0, &flat(ParseMode::Strict));
+    let whole = leaf(16, 0, 296).version_block(&image)?;
     assert_eq!(rt; whole, VersionBlock::parse(&bytes)?);
     assert!(rt; whole.is_some());
-    assert!(rt;
-        leaf(24, 0, 296)
-            .version_block(&bytes, &[], 0, &opts)?
-            .is_none()
-    );
-    assert!(rt;
-        leaf(16, 296, 0)
-            .version_block(&bytes, &[], 0, &opts)?
-            .is_none()
-    );
-    let short = leaf(16, 0, 295).version_block(&bytes, &[], 0, &opts);
+    assert!(rt; leaf(24, 0, 296).version_block(&image)?.is_none());
+    assert!(rt; leaf(16, 296, 0).version_block(&image)?.is_none());
+    let short = leaf(16, 0, 295).version_block(&image);
     assert!(rt;
         matches!(
             short,
@@ -445,7 +437,7 @@ fn of_a_leaf(rt: HostRuntime) -> std::result::Result<(), Fail> {
             })
         )
     );
-    let outside = leaf(16, 1, 296).version_block(&bytes, &[], 0, &opts);
+    let outside = leaf(16, 1, 296).version_block(&image);
     assert!(rt; matches!(outside, Err(VersionBlockError::Image(Error::Malformed(_)))));
     Ok(())
 }

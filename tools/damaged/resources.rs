@@ -3,8 +3,9 @@
 use crate::images::alignment_of;
 use crate::walk::{Found, Walk};
 use pe_image::{
-    DataDirectory, LeafPosition, PE, ParseOptions, ResourceData, ResourceEntry, ResourceLeaf,
-    ResourceStringIterator, ResourceTreeError, StringFileInfo, VsFixedFileInfo, find_offset,
+    DataDirectory, LeafPosition, MappedBytes, PE, ParseOptions, ResourceData, ResourceEntry,
+    ResourceLeaf, ResourceStringIterator, ResourceTreeError, StringFileInfo, VsFixedFileInfo,
+    find_offset,
 };
 use std::alloc::{AllocError, Global};
 
@@ -120,13 +121,12 @@ fn refuse(walk: &mut Walk, error: &ResourceTreeError) {
     }
 }
 
-fn walk_leaf(walk: &mut Walk, image: &PE, opts: &ParseOptions, leaf: &ResourceLeaf) {
+fn walk_leaf(walk: &mut Walk, image: &MappedBytes<'_, '_>, leaf: &ResourceLeaf) {
     walk.found(Found::Leaf);
     for entry in [leaf.resource_type, leaf.name, leaf.language] {
         walk.number(entry.value());
     }
-    let (bytes, alignment) = (walk.bytes, alignment_of(image));
-    let answer = leaf.content_range(bytes, &image.sections, alignment, opts);
+    let answer = leaf.content_range(image);
     let Some(range) = walk.given(answer) else {
         return;
     };
@@ -135,15 +135,14 @@ fn walk_leaf(walk: &mut Walk, image: &PE, opts: &ParseOptions, leaf: &ResourceLe
         "a content has another length than its entry says",
     );
     let end = range.offset.saturating_add(range.length);
-    match bytes.get(range.offset..end) {
+    match image.bytes.get(range.offset..end) {
         Some(content) => walk.bytes_made(content),
         None => walk.check(false, "a content is outside the file"),
     }
 }
 
-fn walk_version(walk: &mut Walk, image: &PE, opts: &ParseOptions, leaf: &ResourceLeaf) {
-    let alignment = alignment_of(image);
-    let answer = leaf.version_info(walk.bytes, &image.sections, alignment, opts);
+fn walk_version(walk: &mut Walk, image: &MappedBytes<'_, '_>, leaf: &ResourceLeaf) {
+    let answer = leaf.version_info(image);
     if let Some(version) = walk.given(answer).flatten() {
         walk.found(Found::LeafVersion);
         walk.flag(version.fixed_info.is_some());
@@ -151,11 +150,9 @@ fn walk_version(walk: &mut Walk, image: &PE, opts: &ParseOptions, leaf: &Resourc
 }
 
 /// All leaves, and that the same walk in numbers has the same items.
-fn walk_leaves(walk: &mut Walk, image: &PE, opts: &ParseOptions, directory: DataDirectory) {
-    let (bytes, alignment) = (walk.bytes, alignment_of(image));
-    let sections = &image.sections;
-    let leaves = ResourceData::leaves(bytes, directory, sections, alignment, opts);
-    let start = ResourceData::leaf_position(bytes, directory, sections, alignment, opts);
+fn walk_leaves(walk: &mut Walk, image: &MappedBytes<'_, '_>, directory: DataDirectory) {
+    let leaves = ResourceData::leaves(image, directory);
+    let start = ResourceData::leaf_position(image, directory);
     walk.check(leaves.is_ok() == start.is_ok(), "a tree is read in one way alone");
     let (Some(mut leaves), Ok(start)) = (walk.given(leaves), start) else {
         return;
@@ -170,9 +167,9 @@ fn walk_leaves(walk: &mut Walk, image: &PE, opts: &ParseOptions, directory: Data
         match (leaves.next(), position.next(data)) {
             (Some(Ok(leaf)), Some(Ok(other))) => {
                 walk.check(leaf == other, "a walk in numbers has another leaf");
-                walk_leaf(walk, image, opts, &leaf);
+                walk_leaf(walk, image, &leaf);
                 if versions < MOST_VERSIONS {
-                    walk_version(walk, image, opts, &leaf);
+                    walk_version(walk, image, &leaf);
                     versions = versions.wrapping_add(1);
                 }
             }
@@ -233,7 +230,8 @@ fn walk_tree(
         walk.number_if_any(found.map(|entry| entry.value()));
     }
     walk_strings(walk, alloc, data)?;
-    walk_leaves(walk, image, opts, directory);
+    let mapped = MappedBytes::new(bytes, &image.sections, alignment_of(image), opts);
+    walk_leaves(walk, &mapped, directory);
     Ok(())
 }
 

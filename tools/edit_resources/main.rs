@@ -7,7 +7,7 @@
 //! of the file and the number of leaves, or `refused` and why.
 #![tactic(auto)]
 
-use pe_core::{ByteRange, Header, ParseMode, ParseOptions, SectionTable};
+use pe_core::{ByteRange, Header, MappedBytes, ParseMode, ParseOptions, SectionTable};
 use pe_edit::{Leaves, Resource, ResourceKey};
 use pe_resource::{ResourceData, ResourceEntry, ResourceLeaf};
 use pe_rewrite::{edited_len, write_edited};
@@ -50,13 +50,14 @@ fn resources_of<'a>(alloc: Global, bytes: &'a [u8], header: &Header<'a>) -> pe_c
     };
     let sections: Vec<SectionTable> = header.sections(alloc, bytes)?;
     let alignment = optional_header.windows_fields.file_alignment;
-    let walk = ResourceData::leaves(bytes, directory, &sections, alignment, &opts)?;
+    let image = MappedBytes::new(bytes, &sections, alignment, &opts);
+    let walk = ResourceData::leaves(&image, directory)?;
     let data = walk.data();
     for item in walk {
         let Ok(leaf) = item else {
             continue;
         };
-        let range = leaf.content_range(bytes, &sections, alignment, &opts)?;
+        let range = leaf.content_range(&image)?;
         resources.push(resource_of(&leaf, data, bytes, range)?)?;
     }
     Ok(resources)

@@ -1,8 +1,8 @@
 //! All leaves of the resource tree of an image, by the resource directory alone.
 
-use crate::resource_data::{Parts, parts};
+use crate::resource_data::parts;
 use crate::resources::{show_fixed, show_strings};
-use pe_core::{ParseMode, ParseOptions};
+use pe_core::{MappedBytes, ParseMode, ParseOptions};
 use pe_resource::{
     ResourceData, ResourceEntry, ResourceLeaf, ResourceTreeError, VersionBlock, VersionBlocks,
 };
@@ -19,11 +19,9 @@ fn show_name(rt: &HostRuntime, what: &str, entry: ResourceEntry, data: &[u8]) ->
 
 fn show_leaf(
     rt: &HostRuntime,
-    bytes: &[u8],
+    image: &MappedBytes<'_, '_>,
     data: &[u8],
-    it: &Parts,
     leaf: &ResourceLeaf,
-    opts: &ParseOptions,
 ) -> io::Result<()> {
     show_name(rt, "type", leaf.resource_type, data)?;
     show_name(rt, "name", leaf.name, data)?;
@@ -31,11 +29,11 @@ fn show_leaf(
     let (rva, size) = (leaf.data_entry.offset_to_data, leaf.data_entry.size);
     let (code_page, reserved) = (leaf.data_entry.code_page, leaf.data_entry.reserved);
     println!(rt; "leaf {rva} {size} {code_page} {reserved}")?;
-    match leaf.content_range(bytes, &it.sections, it.alignment, opts) {
+    match leaf.content_range(image) {
         Ok(range) => println!(rt; "range {} {}", range.offset, range.length)?,
         Err(error) => println!(rt; "range refused {error:?}")?,
     }
-    match leaf.version_info(bytes, &it.sections, it.alignment, opts) {
+    match leaf.version_info(image) {
         Ok(Some(version)) => {
             if let Some(info) = version.fixed_info {
                 show_fixed(rt, info)?;
@@ -45,7 +43,7 @@ fn show_leaf(
         Ok(None) => {}
         Err(error) => println!(rt; "version refused {error:?}")?,
     }
-    match leaf.version_block(bytes, &it.sections, it.alignment, opts) {
+    match leaf.version_block(image) {
         Ok(Some(root)) => show_root(rt, &root),
         Ok(None) => Ok(()),
         Err(error) => println!(rt; "block refused {error:?}"),
@@ -111,12 +109,13 @@ pub fn show_resource_leaves(rt: &HostRuntime, bytes: &[u8]) -> io::Result<()> {
     };
     for mode in [ParseMode::Strict, ParseMode::Permissive] {
         let opts = ParseOptions::default().with_parse_mode(mode);
-        match ResourceData::leaves(bytes, it.directory, &it.sections, it.alignment, &opts) {
+        let image = MappedBytes::new(bytes, &it.sections, it.alignment, &opts);
+        match ResourceData::leaves(&image, it.directory) {
             Ok(leaves) => {
                 let data = leaves.data();
                 for item in leaves.take(100000) {
                     match item {
-                        Ok(leaf) => show_leaf(rt, bytes, data, &it, &leaf, &opts)?,
+                        Ok(leaf) => show_leaf(rt, &image, data, &leaf)?,
                         Err(ResourceTreeError::NotDirectory(at)) => println!(rt;
                             "item NotDirectory {at}"
                         )?,

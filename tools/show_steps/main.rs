@@ -13,8 +13,8 @@
 
 use pe_core::{slice_at, u32_at, u64_at};
 use pe_frame::{
-    Arm64Registers, FrameError, ImageFunctions, Registers, Stack, leaf, leaf_arm64, step, step_arm64, step_arm64_packed,
-    step_in_image,
+    Arm64Registers, FrameError, FunctionPlan, ImageFunctions, Registers, Stack, Stopped, leaf, leaf_arm64, step, step_arm64,
+    step_arm64_packed, step_in_image,
 };
 use pe_image::{Error, ExceptionData, PE, ParseMode, ParseOptions};
 use pe_plan::UnwindPlan;
@@ -66,9 +66,12 @@ fn caller(
     let records =
         UnwindPlan::of_function(rt.alloc(), exceptions, function, &image.sections, &opts)
             .map_err(FrameError::Codes)?;
-    let start = function.begin_address;
+    let plan = FunctionPlan {
+        start: function.begin_address,
+        records: &records,
+    };
     if code.is_empty() {
-        step(&records, start, rva, registers, stack)
+        step(plan, rva, registers, stack)
     } else {
         let map = exceptions.section_map(&image.sections, &opts);
         let functions = ImageFunctions {
@@ -76,7 +79,7 @@ fn caller(
             map: &map,
         };
         let (caller, _) =
-            step_in_image(&functions, &records, start, rva, code, registers, stack)?;
+            step_in_image(&functions, plan, Stopped { rva, code }, registers, stack)?;
         Ok(caller)
     }
 }
@@ -157,7 +160,7 @@ fn arm64_caller(
     match exceptions.get_unwind_info_arm64_with_opts(function, sections, &opts) {
         Some(info) => {
             let info = info.map_err(FrameError::Codes)?;
-            step_arm64(&info, function.begin_address, rva, registers, stack)
+            step_arm64(&function, &info, rva, registers, stack)
         }
         None => step_arm64_packed(&function, rva, registers, stack),
     }

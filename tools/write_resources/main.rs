@@ -5,7 +5,7 @@
 //! Prints the RVA that it is written for, its length and the number of leaves, or `refused` and why.
 #![tactic(auto)]
 
-use pe_core::{ByteRange, Header, ParseMode, ParseOptions, SectionTable};
+use pe_core::{ByteRange, Header, MappedBytes, ParseMode, ParseOptions, SectionTable};
 use pe_edit::{EditError, Leaves, Resource, ResourceKey, section_len, write_section};
 use pe_resource::{ResourceData, ResourceEntry, ResourceLeaf};
 use std::alloc::Global;
@@ -48,13 +48,14 @@ fn resources_of<'a>(alloc: Global, bytes: &'a [u8]) -> Result<(Vec<Resource<'a>>
     };
     let sections: Vec<SectionTable> = header.sections(alloc, bytes)?;
     let alignment = optional_header.windows_fields.file_alignment;
-    let walk = ResourceData::leaves(bytes, directory, &sections, alignment, &opts)?;
+    let image = MappedBytes::new(bytes, &sections, alignment, &opts);
+    let walk = ResourceData::leaves(&image, directory)?;
     let data = walk.data();
     for item in walk {
         let Ok(leaf) = item else {
             continue;
         };
-        let range = leaf.content_range(bytes, &sections, alignment, &opts)?;
+        let range = leaf.content_range(&image)?;
         resources.push(resource_of(&leaf, data, bytes, range)?).map_err(pe_core::Error::from)?;
     }
     Ok((resources, directory.virtual_address))

@@ -195,16 +195,28 @@ fn mark_if<W: WalkRecord>(ascend: bool, walk: &mut W)
     }
 }
 
+/// A process as a caller passes it.
+#[derive(Clone, Copy)]
+pub struct ProcessView<'a> {
+    /// Its modules.
+    pub modules: &'a [ModuleView<'a>],
+    /// Bytes of its memory.
+    pub memory: &'a [u8],
+    /// Where each of them is.
+    pub pieces: &'a [MemoryPiece],
+}
+
 /// The next frame of a walk over what a caller passes.
-pub fn next_frame_over<W: WalkRecord>(
-    modules: &[ModuleView<'_>],
-    memory: &[u8],
-    pieces: &[MemoryPiece],
-    walk: &mut W,
-) -> u32
+pub fn next_frame_over<W: WalkRecord>(process: &ProcessView<'_>, walk: &mut W) -> u32
     ensures { HandsOutFrame W.Frame.Calls W.records
-        modules.now memory.now pieces.now result walk.old walk.new }
+        process.now.modules.now process.now.memory.now process.now.pieces.now
+        result walk.old walk.new }
 {
+    let ProcessView {
+        modules,
+        memory,
+        pieces,
+    } = *process;
     let modules = match ViewedModules::new(modules) {
         Ok(modules) => modules,
         Err(error) => return number_of(&error),
@@ -223,16 +235,20 @@ pub fn next_frame_over<W: WalkRecord>(
 
 /// The next frames of a walk over what a caller passes, and how many there are.
 pub fn next_frames_over<W: WalkRecord>(
-    modules: &[ModuleView<'_>],
-    memory: &[u8],
-    pieces: &[MemoryPiece],
+    process: &ProcessView<'_>,
     walk: &mut W,
     frames: &mut [W],
     count: &mut u64,
 ) -> u32
-    ensures { HandsOutFrames W.Frame.Calls W.records modules.now memory.now pieces.now
+    ensures { HandsOutFrames W.Frame.Calls W.records
+        process.now.modules.now process.now.memory.now process.now.pieces.now
         result (frames.old, count.old) (frames.new, count.new) walk.old walk.new }
 {
+    let ProcessView {
+        modules,
+        memory,
+        pieces,
+    } = *process;
     let modules = match ViewedModules::new(modules) {
         Ok(modules) => modules,
         Err(error) => return number_of(&error),

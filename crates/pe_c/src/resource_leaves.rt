@@ -21,7 +21,7 @@ use crate::ranges::{NO_BYTES, Range, range_of, slice_of};
 use crate::results::{DONE, NOTHING, hand_out_leaf, number_of, options};
 use crate::version::range_by;
 use crate::view::{View, sections_of};
-use pe_core::{ByteRange, DataDirectory, Result};
+use pe_core::{ByteRange, DataDirectory, MappedBytes, Result};
 use pe_resource::{LeafPosition, ResourceData, ResourceEntry, ResourceTreeError};
 
 /// What names a type, a resource or a language: an id, or a name.
@@ -219,7 +219,8 @@ pub fn leaf_position(
     let alignment = view.image.file_alignment;
     let opts = options(view.image.mode);
     let sections = sections_of(view, directory.virtual_address);
-    ResourceData::leaf_position(view.bytes, directory, sections, alignment, &opts)
+    let image = MappedBytes::new(view.bytes, sections, alignment, &opts);
+    ResourceData::leaf_position(&image, directory)
 }
 
 /// Returns a walk over the leaves of the resource tree: `NOTHING` where the directory is absent, and in permissive mode where

@@ -17,7 +17,7 @@ use crate::results::{
 use crate::view::View;
 use pe_core::{ByteRange, Result, RvaMap};
 use pe_frame::{
-    FrameError, ImageFunctions, Memory, MemoryList, MemoryPiece, Registers,
+    FrameError, ImageFunctions, Memory, MemoryList, MemoryPiece, Registers, Stopped,
     step_in_function_in_place,
 };
 use pe_unwind::{ExceptionData, RuntimeFunction};
@@ -262,8 +262,12 @@ fn step_of<R: RvaMap, M: Memory>(
     ensures { StepsOf functions.now.exceptions.now (R.offset functions.now.map.now) code.now
         (M.word memory.now) frame.old (HandsOutLeftOr result frame.old frame.new) }
 {
-    let (function, rva, mut caller) = (frame.function, frame.rva, registers_of(&frame.registers));
-    match step_in_function_in_place(functions, function, rva, code, &mut caller, memory) {
+    let stopped = Stopped {
+        rva: frame.rva,
+        code,
+    };
+    let (function, mut caller) = (frame.function, registers_of(&frame.registers));
+    match step_in_function_in_place(functions, function, stopped, &mut caller, memory) {
         Ok(Some(left)) => put_caller(left, &caller, frame),
         Ok(None) => LONG_CHAIN,
         Err(error) => number_of(&error),

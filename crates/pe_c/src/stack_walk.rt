@@ -16,8 +16,8 @@ ghost use Rattle.pe_c.specs.StackWalks.{after_frame, stack_walks};
 ghost use Rattle.pe_c.specs.WalkModules.{exceptions_of, has_table, module_of, module_with, modules_of, view_base, view_size, viewed};
 
 use crate::frame_calls::{
-    WalkRecord, error_of_end, next_frame_over, next_frames_over, number_of_end, number_of_way,
-    way_of,
+    ProcessView, WalkRecord, error_of_end, next_frame_over, next_frames_over, number_of_end,
+    number_of_way, way_of,
 };
 use crate::ranges::Range;
 use crate::results::options;
@@ -388,7 +388,12 @@ pub extern "C" fn pe_c_next_frame(
     ensures { HandsOutFrame Calls stack_walks
         modules.now memory.now pieces.now result walk.old walk.new }
 {
-    next_frame_over(modules, memory, pieces, walk)
+    let process = ProcessView {
+        modules,
+        memory,
+        pieces,
+    };
+    next_frame_over(&process, walk)
 }
 
 /// Fills `frames` with the next frames of a stack walk on x64: each is the walk as `pe_c_next_frame` leaves it after a frame. Sets
@@ -410,5 +415,10 @@ pub extern "C" fn pe_c_next_frames(
     ensures { HandsOutFrames Calls stack_walks modules.now memory.now pieces.now result
         (frames.old, count.old) (frames.new, count.new) walk.old walk.new }
 {
-    next_frames_over(modules, memory, pieces, walk, frames, count)
+    let process = ProcessView {
+        modules,
+        memory,
+        pieces,
+    };
+    next_frames_over(&process, walk, frames, count)
 }

@@ -19,7 +19,7 @@ use crate::image::{RESOURCE_TABLE, directory, is_absent};
 use crate::ranges::{Range, some_range};
 use crate::results::{NOTHING, hand_out_some, number_of, options};
 use crate::view::{View, sections_of};
-use pe_core::{ByteRange, DataDirectory, Result, SectionTable, require_bytes};
+use pe_core::{ByteRange, DataDirectory, MappedBytes, Result, SectionTable, require_bytes};
 use pe_resource::{
     RT_MANIFEST, RT_VERSION, ResourceData, ResourceDataEntry, VersionName, VsFixedFileInfo,
 };
@@ -35,7 +35,8 @@ pub fn range_by(
     ensures within { IfOk result (IsWithin view.now.bytes.now) }
 {
     let opts = options(view.image.mode);
-    entry.content_range(view.bytes, sections, view.image.file_alignment, &opts)
+    let image = MappedBytes::new(view.bytes, sections, view.image.file_alignment, &opts);
+    entry.content_range(&image)
 }
 
 /// The same, if there is a data entry.
@@ -62,7 +63,8 @@ fn data_entry(view: &View, directory: DataDirectory, id: u16) -> Result<Option<R
     let sections = sections_of(view, directory.virtual_address);
     let alignment = view.image.file_alignment;
     let opts = options(view.image.mode);
-    ResourceData::data_entry(view.bytes, directory, id, sections, alignment, &opts)
+    let image = MappedBytes::new(view.bytes, sections, alignment, &opts);
+    ResourceData::data_entry(&image, directory, id)
 }
 
 /// The range of the content of the first resource with an id, if the image has resources and this one.

@@ -31,27 +31,43 @@ const SIB: u8 = 4;
 
 const NO_BASE: u8 = 5;
 
+/// How an operand names a place: the mode of its ModRM byte, and the number of the register from which it counts.
+#[derive(Clone, Copy)]
+struct Operand {
+    mode: u8,
+    base: u8,
+}
+
 /// How many bytes of displacement an operand has.
-fn displacement(mode: u8, base: u8) -> usize
-    ensures { result ≡ displacement mode base }
+fn displacement(operand: Operand) -> usize
+    ensures { result ≡ displacement operand.mode operand.base }
 {
-    match mode {
-        0 if base == NO_BASE => 4,
+    match operand.mode {
+        0 if operand.base == NO_BASE => 4,
         1 => 1,
         2 => 4,
         _ => 0,
     }
 }
 
+/// The bytes that say what an operand is.
+#[derive(Clone, Copy)]
+struct OperandBytes {
+    modrm: u8,
+    sib: u8,
+}
+
 /// The size of an instruction with an operand, from its opcode of one byte on.
-fn operand_size(modrm: u8, sib: u8) -> usize
-    ensures { result ≡ operand_size modrm sib }
+fn operand_size(bytes: OperandBytes) -> usize
+    ensures { result ≡ operand_size bytes.modrm bytes.sib }
 {
-    let (mode, register) = (modrm / 64, modrm % 8);
+    let (mode, register) = (bytes.modrm / 64, bytes.modrm % 8);
     if mode != MODE_REGISTER && register == SIB {
-        3 + displacement(mode, sib % 8)
+        let base = bytes.sib % 8;
+        3 + displacement(Operand { mode, base })
     } else {
-        2 + displacement(mode, register)
+        let base = register;
+        2 + displacement(Operand { mode, base })
     }
 }
 
@@ -62,8 +78,9 @@ fn is_operand_call(code: &[u8]) -> bool
     if code.len() < 2 || code[0] != CALL_OPERAND || code[1] / 8 % 8 != CALL_REG {
         return false;
     }
+    let modrm = code[1];
     let sib = if code.len() == 2 { 0 } else { code[2] };
-    code.len() == operand_size(code[1], sib)
+    code.len() == operand_size(OperandBytes { modrm, sib })
 }
 
 /// Whether the bytes are a `call` by the distance of its target.

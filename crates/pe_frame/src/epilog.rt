@@ -20,6 +20,7 @@ ghost use Rattle.pe_frame.specs.InPlace.{changed};
 
 use crate::error::FrameError;
 use crate::memory::Memory;
+use crate::plan::FunctionPlan;
 use crate::registers::{RSP, Registers};
 use crate::undo::{INTEGER_REGISTERS, pop, pop_and_drop, raise, undo};
 use pe_core::{u8_at, u16_at, u32_at};
@@ -276,11 +277,11 @@ fn after_pops(code: &[u8]) -> &[u8]
 }
 
 /// A jump of so many bytes, by a number that counts from its end. The code ends at an RVA.
-fn jump_of(end: u64, code: &[u8], size: u64, number: u64) -> Instruction
+fn jump_of(end: u64, code: &[u8], size: u8, number: u64) -> Instruction
     ensures { Some result ≡ jump_of end code.now size number }
 {
     let start = end.saturating_sub(code.len() as u64);
-    Instruction::Jump(start.wrapping_add(size).wrapping_add(number))
+    Instruction::Jump(start.wrapping_add(u64::from(size)).wrapping_add(number))
 }
 
 /// Whether a mode of ModRM says a register, or memory without a number that is added to a register.
@@ -382,12 +383,13 @@ fn lies_in_parents(plan: &[UnwindInfo<'_>], rva: u64) -> bool
     false
 }
 
-/// The RVA where the function starts, of which the first record may be a part that starts at `start`.
-fn function_start(plan: &[UnwindInfo<'_>], start: u32) -> u32
-    ensures { result ≡ function_start start (map unwind_view plan.now) }
+/// The RVA where the function starts, of which the first record may be that of a part.
+fn function_start(plan: FunctionPlan<'_, '_>) -> u32
+    ensures { result ≡ function_start plan.entry.start
+        (map unwind_view plan.entry.records.now) }
 {
-    let mut found = start;
-    for info in plan {
+    let mut found = plan.start;
+    for info in plan.records {
         if let Some(parent) = info.chained_info {
             found = parent.begin_address;
         }
@@ -396,13 +398,15 @@ fn function_start(plan: &[UnwindInfo<'_>], start: u32) -> u32
 }
 
 /// Whether an instruction leaves the function: a jump to an RVA may stay in it. One to its start calls it anew.
-fn leaves(plan: &[UnwindInfo<'_>], start: u32, end: u64, instruction: Instruction) -> bool
-    ensures { result ≡ leaves (map unwind_view plan.now) start end instruction }
+fn leaves(plan: FunctionPlan<'_, '_>, end: u64, instruction: Instruction) -> bool
+    ensures { result ≡ leaves (map unwind_view plan.entry.records.now)
+        plan.entry.start end instruction }
 {
+    let FunctionPlan { start, records } = plan;
     match instruction {
         Instruction::Jump(rva) => {
-            rva == u64::from(function_start(plan, start))
-                || !(u64::from(start) <= rva && rva < end || lies_in_parents(plan, rva))
+            rva == u64::from(function_start(plan))
+                || !(u64::from(start) <= rva && rva < end || lies_in_parents(records, rva))
         }
         _ => true,
     }
@@ -430,18 +434,17 @@ fn restores(trim: Option<Instruction>, code: &[u8]) -> bool
 }
 
 /// What is left of an epilog after the instruction that frees the stack.
-fn with_rest<'a>(
-    plan: &[UnwindInfo<'_>],
-    start: u32,
+fn with_rest<'c>(
+    plan: FunctionPlan<'_, '_>,
     end: u64,
     trim: Option<Instruction>,
-    code: &'a [u8],
-) -> Option<Tail<'a>>
+    code: &'c [u8],
+) -> Option<Tail<'c>>
     ensures { option_map instructions_of result ≡ with_rest
-        (map unwind_view plan.now) start end (alone trim) code.now }
+        (map unwind_view plan.entry.records.now) plan.entry.start end (alone trim) code.now }
 {
     match exit_at(restores(trim, code), end, after_pops(code)) {
-        Some(exit) if leaves(plan, start, end, exit) => Some(Tail {
+        Some(exit) if leaves(plan, end, exit) => Some(Tail {
             trim,
             pops: code,
             exit,
@@ -450,22 +453,17 @@ fn with_rest<'a>(
     }
 }
 
-/// What is left of an epilog where the code starts, if it is in one. The function starts and ends at these RVAs. Out of line, as
-/// few frames are in an epilog.
+/// What is left of an epilog where the code starts, if it is in one. The function ends at this RVA. Out of line, as few frames are
+/// in an epilog.
 #[inline(never)]
 #[tactic(auto, using(std::proofs::lemmas::List::take_rest))]
-pub(crate) fn tail_at<'a>(
-    plan: &[UnwindInfo<'_>],
-    start: u32,
-    end: u64,
-    code: &'a [u8],
-) -> Option<Tail<'a>>
+pub(crate) fn tail_at<'c>(plan: FunctionPlan<'_, '_>, end: u64, code: &'c [u8]) -> Option<Tail<'c>>
     ensures { option_map instructions_of result ≡ tail_at
-        (map unwind_view plan.now) start end code.now }
+        (map unwind_view plan.entry.records.now) plan.entry.start end code.now }
 {
-    match trim_at(frame_register_of(plan), code) {
-        Some((trim, size)) => with_rest(plan, start, end, Some(trim), &code[size..]),
-        None => with_rest(plan, start, end, None, code),
+    match trim_at(frame_register_of(plan.records), code) {
+        Some((trim, size)) => with_rest(plan, end, Some(trim), &code[size..]),
+        None => with_rest(plan, end, None, code),
     }
 }
 

@@ -25,6 +25,7 @@ ghost use Rattle.pe_frame.specs.Tails.{instructions_of};
 use crate::epilog::{Tail, execute_tail, tail_at};
 use crate::error::FrameError;
 use crate::memory::Memory;
+use crate::plan::{FunctionPlan, Stopped};
 use crate::record::enter;
 use crate::registers::{RSP, Registers};
 use crate::undo::pop;
@@ -157,24 +158,21 @@ fn caller<M: Memory>(
     registers_alone(undo_function(plan, offset, registers, memory))
 }
 
-/// What is left of an epilog at an RVA, from which on the function has this code. In the prolog there is none. Callers have no
-/// code, which is tested first: that test is inlined, and the search is not.
+/// What is left of an epilog where a function stopped. In the prolog there is none. Callers have no code, which is tested first:
+/// that test is inlined, and the search is not.
 #[inline(always)]
-pub(crate) fn epilog_at<'a>(
-    plan: &[UnwindInfo<'_>],
-    start: u32,
-    rva: u32,
-    code: &'a [u8],
-) -> Option<Tail<'a>>
+pub(crate) fn epilog_at<'c>(plan: FunctionPlan<'_, '_>, stopped: Stopped<'c>) -> Option<Tail<'c>>
     ensures { option_map instructions_of result ≡ epilog_at
-        (map unwind_view plan.now) start rva code.now }
+        (map unwind_view plan.entry.records.now) plan.entry.start
+        stopped.entry.rva stopped.entry.code.now }
 {
+    let Stopped { rva, code } = stopped;
     if code.is_empty() {
         return None;
     }
-    match limit_of(plan, rva.saturating_sub(start)) {
+    match limit_of(plan.records, rva.saturating_sub(plan.start)) {
         Some(_) => None,
-        None => tail_at(plan, start, u64::from(rva) + code.len() as u64, code),
+        None => tail_at(plan, u64::from(rva) + code.len() as u64, code),
     }
 }
 
@@ -195,11 +193,10 @@ pub(crate) fn run_out<M: Memory>(
 
 /// The registers of a function's caller, from those inside the function.
 ///
-/// `plan` has the function's unwind records, as `UnwindPlan::of` of pe_plan returns them; `start` is the `begin_address` of
-/// the function that lookup found, `rva` the instruction pointer less the image base. At or after the end of the prolog all
-/// codes of the first record are undone, inside of it those that end at or before `rva`. The records to which it is chained
-/// are undone whole. Epilogs are not recognized: in one of them the result is wrong. [`step_with_code`] recognizes them by the
-/// function's bytes.
+/// `plan` has the function's unwind records and its start, `rva` is the instruction pointer less the image base. At or after the
+/// end of the prolog all codes of the first record are undone, inside of it those that end at or before `rva`. The records to
+/// which it is chained are undone whole. Epilogs are not recognized: in one of them the result is wrong. [`step_with_code`]
+/// recognizes them by the function's bytes.
 ///
 /// **A walk.** In the top frame `rva` is the instruction that is about to run: look the function up by it. In each other frame
 /// it is a return address, which may lie after the end of the function if the call is its last instruction: look up by
@@ -214,46 +211,48 @@ pub(crate) fn run_out<M: Memory>(
 /// `Address` for the return address, and last `NotRising`. Nothing is popped, nor is the stack pointer compared, if a machine
 /// frame was undone.
 pub fn step<M: Memory>(
-    plan: &[UnwindInfo<'_>],
-    start: u32,
+    plan: FunctionPlan<'_, '_>,
     rva: u32,
     registers: Registers,
     memory: &M,
 ) -> Result<Registers, FrameError>
     ensures exact { Steps (M.word memory.now)
-        (map unwind_view plan.now) (rva - start) registers result }
+        (map unwind_view plan.entry.records.now) (rva - plan.entry.start) registers result }
     ensures undoes { (p : Part) (parts : List Part) →
-        map unwind_view plan.now ≡ infos (p ∷ parts) → AreFrames (M.word memory.now) (p ∷ parts)
-        (limit_of (infos (p ∷ parts)) (rva - start)) registers → (u : Registers) × (result ≡ Ok u)
-        × IsCaller (p ∷ parts) (limit_of (infos (p ∷ parts)) (rva - start)) registers u }
+        map unwind_view plan.entry.records.now ≡ infos (p ∷ parts) → AreFrames (M.word memory.now) (p ∷ parts)
+        (limit_of (infos (p ∷ parts)) (rva - plan.entry.start)) registers →
+        (u : Registers) × (result ≡ Ok u)
+        × IsCaller (p ∷ parts) (limit_of (infos (p ∷ parts)) (rva - plan.entry.start)) registers u }
 {
-    caller(plan, rva.saturating_sub(start), registers, memory)
+    let offset = rva.saturating_sub(plan.start);
+    caller(plan.records, offset, registers, memory)
 }
 
 /// The registers of a function's caller, as [`step_with_code`] returns them, and whether an interrupt left them: a machine
 /// frame was undone, as none is in an epilog. Then `rip` is that of the instruction that is about to run, and no return address.
 pub fn step_out<M: Memory>(
-    plan: &[UnwindInfo<'_>],
-    start: u32,
-    rva: u32,
-    code: &[u8],
+    plan: FunctionPlan<'_, '_>,
+    stopped: Stopped<'_>,
     registers: Registers,
     memory: &M,
 ) -> Result<(Registers, bool), FrameError>
-    ensures { StepsOut (M.word memory.now)
-        (map unwind_view plan.now) start rva code.now registers result }
+    ensures { StepsOut (M.word memory.now) (map unwind_view plan.entry.records.now)
+        plan.entry.start stopped.entry.rva stopped.entry.code.now registers result }
 {
-    match epilog_at(plan, start, rva, code) {
+    match epilog_at(plan, stopped) {
         Some(tail) => leave_function(&tail, registers, memory),
-        None => undo_function(plan, rva.saturating_sub(start), registers, memory),
+        None => {
+            let offset = stopped.rva.saturating_sub(plan.start);
+            undo_function(plan.records, offset, registers, memory)
+        }
     }
 }
 
 /// The registers of a function's caller, from those inside the function, in its epilogs too.
 ///
-/// As [`step`], with the function's bytes from `rva` to its end in `code`. After the prolog, if they start with what is left
-/// of an epilog, that is run in place of undoing codes: what frees the stack, then at most 16 pops, then the instruction that
-/// leaves the function.
+/// As [`step`], with the function's bytes from `rva` to its end. After the prolog, if they start with what is left of an epilog,
+/// that is run in place of undoing codes: what frees the stack, then at most 16 pops, then the instruction that leaves the
+/// function.
 ///
 /// | instruction | bytes |
 /// |---|---|
@@ -266,8 +265,8 @@ pub fn step_out<M: Memory>(
 /// | `jmp` by an import | FF 25 id |
 /// | `jmp` by a register or plain memory, after one of the first three lines | FF /4, 41 FF /4, with mode 0 or 3 |
 ///
-/// The function is the bytes from `start` to the end of `code`, and the entries to which its records are chained: a jump into
-/// one of them does not leave it, except to the start of the last, or to `start` where there is none: there the function calls
+/// The function is the bytes from its start to the end of its code, and the entries to which its records are chained: a jump into
+/// one of them does not leave it, except to the start of the last, or to its own where there is none: there the function calls
 /// itself in place of returning. Any other jump by a register or memory counts as that of a switch, which stays in it. The
 /// function to which a jump leaves is taken for one that has just been entered: [`step_in_image`](crate::step_in_image) looks it
 /// up.
@@ -278,17 +277,15 @@ pub fn step_out<M: Memory>(
 /// `step`.
 #[tactic(auto, using(crate::proofs::StepsOut::registers_of_step_with_code))]
 pub fn step_with_code<M: Memory>(
-    plan: &[UnwindInfo<'_>],
-    start: u32,
-    rva: u32,
-    code: &[u8],
+    plan: FunctionPlan<'_, '_>,
+    stopped: Stopped<'_>,
     registers: Registers,
     memory: &M,
 ) -> Result<Registers, FrameError>
-    ensures { StepsWithCode (M.word memory.now)
-        (map unwind_view plan.now) start rva code.now registers result }
+    ensures { StepsWithCode (M.word memory.now) (map unwind_view plan.entry.records.now)
+        plan.entry.start stopped.entry.rva stopped.entry.code.now registers result }
 {
-    registers_alone(step_out(plan, start, rva, code, registers, memory))
+    registers_alone(step_out(plan, stopped, registers, memory))
 }
 
 /// The registers of the caller of a leaf function: one without unwind data, which changes no nonvolatile register and leaves

@@ -13,6 +13,7 @@ ghost use Rattle.pe_frame.specs.InPlace.{changed_with};
 use crate::error::FrameError;
 use crate::jump::{ImageFunctions, record_of, step_in_image, step_in_place};
 use crate::memory::Memory;
+use crate::plan::{FunctionPlan, Stopped};
 use crate::registers::Registers;
 use pe_core::{Result, RvaMap};
 use pe_plan::read_plan;
@@ -21,25 +22,37 @@ use pe_unwind::{RuntimeFunction, UnwindInfo};
 use std::array::repeat;
 use std::slice;
 
+/// A function that lookup found in an image.
+#[derive(Drop)]
+struct FoundFunction<'f, 'a, R> {
+    functions: &'f ImageFunctions<'a, R>,
+    function: RuntimeFunction,
+}
+
 /// A step by the records of a function, if an array has room for them.
 fn step_in_room<'a, R: RvaMap, M: Memory>(
-    functions: &ImageFunctions<'a, R>,
-    function: RuntimeFunction,
+    found: &FoundFunction<'_, 'a, R>,
     room: &mut [UnwindInfo<'a>],
-    rva: u32,
-    code: &[u8],
+    stopped: Stopped<'_>,
     registers: Registers,
     memory: &M,
 ) -> Result<Option<std::result::Result<(Registers, bool), FrameError>>>
-    ensures { (n : ℕ) → length room.old ≡ n → StepsUpTo n functions.now.exceptions.now
-        (R.offset functions.now.map.now) (M.word memory.now) function rva code.now
-        registers (answer_of result) }
+    ensures { (n : ℕ) → length room.old ≡ n → StepsUpTo n found.now.functions.now.exceptions.now
+        (R.offset found.now.functions.now.map.now) (M.word memory.now) found.now.function
+        stopped.entry.rva stopped.entry.code.now registers (answer_of result) }
 {
+    let FoundFunction {
+        functions,
+        function,
+    } = *found;
     let ImageFunctions { exceptions, map } = *functions;
     match read_plan(exceptions, function, map, room) {
         Ok(Some(count)) => {
-            let (records, start) = (&room[..count], function.begin_address);
-            let left = step_in_image(functions, records, start, rva, code, registers, memory);
+            let plan = FunctionPlan {
+                start: function.begin_address,
+                records: &room[..count],
+            };
+            let left = step_in_image(functions, plan, stopped, registers, memory);
             Ok(Some(left))
         }
         Ok(None) => Ok(None),
@@ -50,85 +63,85 @@ fn step_in_room<'a, R: RvaMap, M: Memory>(
 /// The same in room for two records, which any record fills. Out of line, so that no other step pays for the room.
 #[inline(never)]
 fn step_in_2<'a, R: RvaMap, M: Memory>(
-    functions: &ImageFunctions<'a, R>,
-    function: RuntimeFunction,
+    found: &FoundFunction<'_, 'a, R>,
     info: UnwindInfo<'a>,
-    rva: u32,
-    code: &[u8],
+    stopped: Stopped<'_>,
     registers: Registers,
     memory: &M,
 ) -> Result<Option<std::result::Result<(Registers, bool), FrameError>>>
-    ensures { StepsUpTo 2 functions.now.exceptions.now (R.offset functions.now.map.now)
-        (M.word memory.now) function rva code.now registers (answer_of result) }
+    ensures { StepsUpTo 2 found.now.functions.now.exceptions.now
+        (R.offset found.now.functions.now.map.now) (M.word memory.now)
+        found.now.function stopped.entry.rva stopped.entry.code.now registers
+        (answer_of result) }
 {
     clones_are_their_originals();
     let mut room: [UnwindInfo<'_>; 2] = repeat(info);
-    step_in_room(functions, function, &mut room, rva, code, registers, memory)
+    step_in_room(found, &mut room, stopped, registers, memory)
 }
 
 /// The same in room for eight.
 #[inline(never)]
 fn step_in_8<'a, R: RvaMap, M: Memory>(
-    functions: &ImageFunctions<'a, R>,
-    function: RuntimeFunction,
+    found: &FoundFunction<'_, 'a, R>,
     info: UnwindInfo<'a>,
-    rva: u32,
-    code: &[u8],
+    stopped: Stopped<'_>,
     registers: Registers,
     memory: &M,
 ) -> Result<Option<std::result::Result<(Registers, bool), FrameError>>>
-    ensures { StepsUpTo 8 functions.now.exceptions.now (R.offset functions.now.map.now)
-        (M.word memory.now) function rva code.now registers (answer_of result) }
+    ensures { StepsUpTo 8 found.now.functions.now.exceptions.now
+        (R.offset found.now.functions.now.map.now) (M.word memory.now)
+        found.now.function stopped.entry.rva stopped.entry.code.now registers
+        (answer_of result) }
 {
     clones_are_their_originals();
     let mut room: [UnwindInfo<'_>; 8] = repeat(info);
-    step_in_room(functions, function, &mut room, rva, code, registers, memory)
+    step_in_room(found, &mut room, stopped, registers, memory)
 }
 
 /// The same in room for as many as are undone at all.
 #[inline(never)]
 #[tactic(auto, using(crate::proofs::FunctionSteps::of_all_room))]
 fn step_in_32<'a, R: RvaMap, M: Memory>(
-    functions: &ImageFunctions<'a, R>,
-    function: RuntimeFunction,
+    found: &FoundFunction<'_, 'a, R>,
     info: UnwindInfo<'a>,
-    rva: u32,
-    code: &[u8],
+    stopped: Stopped<'_>,
     registers: Registers,
     memory: &M,
 ) -> Result<Option<std::result::Result<(Registers, bool), FrameError>>>
-    ensures { StepsInFunction functions.now.exceptions.now (R.offset functions.now.map.now)
-        (M.word memory.now) function rva code.now registers (answer_of result) }
+    ensures { StepsInFunction found.now.functions.now.exceptions.now
+        (R.offset found.now.functions.now.map.now) (M.word memory.now)
+        found.now.function stopped.entry.rva stopped.entry.code.now registers
+        (answer_of result) }
 {
     clones_are_their_originals();
     let mut room: [UnwindInfo<'_>; 32] = repeat(info);
-    step_in_room(functions, function, &mut room, rva, code, registers, memory)
+    step_in_room(found, &mut room, stopped, registers, memory)
 }
 
 /// A step by the records of a function of which more than two are chained.
 #[tactic(auto, using(crate::proofs::FunctionSteps::of_plan, crate::proofs::FunctionSteps::of_refusal, pe_plan::proofs::ShortPlans::refused_at_once))]
 fn step_in_longer<R: RvaMap, M: Memory>(
-    functions: &ImageFunctions<'_, R>,
-    function: RuntimeFunction,
-    rva: u32,
-    code: &[u8],
+    found: &FoundFunction<'_, '_, R>,
+    stopped: Stopped<'_>,
     registers: Registers,
     memory: &M,
 ) -> Result<Option<std::result::Result<(Registers, bool), FrameError>>>
-    ensures { StepsInFunction functions.now.exceptions.now (R.offset functions.now.map.now)
-        (M.word memory.now) function rva code.now registers (answer_of result) }
+    ensures { StepsInFunction found.now.functions.now.exceptions.now
+        (R.offset found.now.functions.now.map.now) (M.word memory.now)
+        found.now.function stopped.entry.rva stopped.entry.code.now registers
+        (answer_of result) }
 {
-    let info = match record_of(functions, function) {
+    let info = match record_of(found.functions, found.function) {
         Ok(info) => info,
         Err(error) => return Err(error),
     };
-    match step_in_8(functions, function, info, rva, code, registers, memory) {
+    match step_in_8(found, info, stopped, registers, memory) {
         Ok(Some(left)) => return Ok(Some(left)),
         Ok(None) => {}
         Err(error) => return Err(error),
     }
-    match record_of(functions, function) {
-        Ok(info) => step_in_32(functions, function, info, rva, code, registers, memory),
+    match record_of(found.functions, found.function) {
+        Ok(info) => step_in_32(found, info, stopped, registers, memory),
         Err(error) => Err(error),
     }
 }
@@ -136,20 +149,20 @@ fn step_in_longer<R: RvaMap, M: Memory>(
 /// A step by the records of a function that are chained. The room grows with their number, as does the time to fill it.
 #[tactic(auto, using(crate::proofs::FunctionSteps::of_plan, crate::proofs::FunctionSteps::of_refusal))]
 fn step_in_chained<'a, R: RvaMap, M: Memory>(
-    functions: &ImageFunctions<'a, R>,
-    function: RuntimeFunction,
+    found: &FoundFunction<'_, 'a, R>,
     info: UnwindInfo<'a>,
-    rva: u32,
-    code: &[u8],
+    stopped: Stopped<'_>,
     registers: Registers,
     memory: &M,
 ) -> Result<Option<std::result::Result<(Registers, bool), FrameError>>>
-    ensures { StepsInFunction functions.now.exceptions.now (R.offset functions.now.map.now)
-        (M.word memory.now) function rva code.now registers (answer_of result) }
+    ensures { StepsInFunction found.now.functions.now.exceptions.now
+        (R.offset found.now.functions.now.map.now) (M.word memory.now)
+        found.now.function stopped.entry.rva stopped.entry.code.now registers
+        (answer_of result) }
 {
-    match step_in_2(functions, function, info, rva, code, registers, memory) {
+    match step_in_2(found, info, stopped, registers, memory) {
         Ok(Some(left)) => Ok(Some(left)),
-        Ok(None) => step_in_longer(functions, function, rva, code, registers, memory),
+        Ok(None) => step_in_longer(found, stopped, registers, memory),
         Err(error) => Err(error),
     }
 }
@@ -162,23 +175,30 @@ fn step_in_chained<'a, R: RvaMap, M: Memory>(
 pub fn step_in_function<R: RvaMap, M: Memory>(
     functions: &ImageFunctions<'_, R>,
     function: RuntimeFunction,
-    rva: u32,
-    code: &[u8],
+    stopped: Stopped<'_>,
     registers: Registers,
     memory: &M,
 ) -> Result<Option<std::result::Result<(Registers, bool), FrameError>>>
     ensures { StepsInFunction functions.now.exceptions.now (R.offset functions.now.map.now)
-        (M.word memory.now) function rva code.now registers (answer_of result) }
+        (M.word memory.now) function stopped.entry.rva stopped.entry.code.now
+        registers (answer_of result) }
 {
     let info = match record_of(functions, function) {
         Ok(info) => info,
         Err(error) => return Err(error),
     };
     if info.chained_info.is_some() {
-        return step_in_chained(functions, function, info, rva, code, registers, memory);
+        let found = FoundFunction {
+            functions,
+            function,
+        };
+        return step_in_chained(&found, info, stopped, registers, memory);
     }
-    let (records, start) = (slice::from_ref(&info), function.begin_address);
-    let left = step_in_image(functions, records, start, rva, code, registers, memory);
+    let plan = FunctionPlan {
+        start: function.begin_address,
+        records: slice::from_ref(&info),
+    };
+    let left = step_in_image(functions, plan, stopped, registers, memory);
     Ok(Some(left))
 }
 
@@ -202,19 +222,18 @@ fn put(
 #[inline(never)]
 #[tactic(auto, using(crate::proofs::FunctionSteps::of_left, crate::proofs::FunctionSteps::of_none))]
 fn chained_in_place<'a, R: RvaMap, M: Memory>(
-    functions: &ImageFunctions<'a, R>,
-    function: RuntimeFunction,
+    found: &FoundFunction<'_, 'a, R>,
     info: UnwindInfo<'a>,
-    rva: u32,
-    code: &[u8],
+    stopped: Stopped<'_>,
     registers: &mut Registers,
     memory: &M,
 ) -> Result<Option<std::result::Result<bool, FrameError>>>
-    ensures { StepsInFunction functions.now.exceptions.now (R.offset functions.now.map.now)
-        (M.word memory.now) function rva code.now registers.old
+    ensures { StepsInFunction found.now.functions.now.exceptions.now
+        (R.offset found.now.functions.now.map.now) (M.word memory.now)
+        found.now.function stopped.entry.rva stopped.entry.code.now registers.old
         (answer_by (option_map (λ left. changed_with left registers.new)) result) }
 {
-    match step_in_chained(functions, function, info, rva, code, *registers, memory) {
+    match step_in_chained(found, info, stopped, *registers, memory) {
         Ok(Some(left)) => Ok(Some(put(left, registers))),
         Ok(None) => Ok(None),
         Err(error) => Err(error),
@@ -229,13 +248,12 @@ fn chained_in_place<'a, R: RvaMap, M: Memory>(
 pub fn step_in_function_in_place<R: RvaMap, M: Memory>(
     functions: &ImageFunctions<'_, R>,
     function: RuntimeFunction,
-    rva: u32,
-    code: &[u8],
+    stopped: Stopped<'_>,
     registers: &mut Registers,
     memory: &M,
 ) -> Result<Option<std::result::Result<bool, FrameError>>>
     ensures { StepsInFunction functions.now.exceptions.now (R.offset functions.now.map.now)
-        (M.word memory.now) function rva code.now registers.old
+        (M.word memory.now) function stopped.entry.rva stopped.entry.code.now registers.old
         (answer_by (option_map (λ left. changed_with left registers.new)) result) }
 {
     let info = match record_of(functions, function) {
@@ -243,9 +261,16 @@ pub fn step_in_function_in_place<R: RvaMap, M: Memory>(
         Err(error) => return Err(error),
     };
     if info.chained_info.is_some() {
-        return chained_in_place(functions, function, info, rva, code, registers, memory);
+        let found = FoundFunction {
+            functions,
+            function,
+        };
+        return chained_in_place(&found, info, stopped, registers, memory);
     }
-    let (records, start) = (slice::from_ref(&info), function.begin_address);
-    let left = step_in_place(functions, records, start, rva, code, registers, memory);
+    let plan = FunctionPlan {
+        start: function.begin_address,
+        records: slice::from_ref(&info),
+    };
+    let left = step_in_place(functions, plan, stopped, registers, memory);
     Ok(Some(left))
 }

@@ -20,6 +20,7 @@ use crate::epilog::{Tail, execute_before_exit, target_of};
 use crate::error::FrameError;
 use crate::frame::{epilog_at, require_rising, run_out, undo_function_in_place};
 use crate::memory::Memory;
+use crate::plan::{FunctionPlan, Stopped};
 use crate::registers::{RSP, Registers};
 use pe_core::RvaMap;
 use pe_plan::ShortPlan;
@@ -118,21 +119,28 @@ fn leave_to<M: Memory>(
     risen_out(stack_pointer, left, registers)
 }
 
+/// Where a jump leads: an RVA in a function.
+#[derive(Clone, Copy)]
+struct Target {
+    rva: u32,
+    function: RuntimeFunction,
+}
+
 /// The same of a jump into a function of which records are chained. Out of line, as the room for them is large.
 #[inline(never)]
 fn leave_for_chained<R: RvaMap, M: Memory>(
     functions: &ImageFunctions<'_, R>,
-    rva: u32,
-    function: RuntimeFunction,
+    target: Target,
     tail: &Tail<'_>,
     registers: &mut Registers,
     memory: &M,
 ) -> Result<bool, FrameError>
-    ensures { LeavesForFound functions.now.exceptions.now (R.offset functions.now.map.now) rva
-        (Some function) (M.word memory.now) (instructions_of tail.now) registers.old
+    ensures { LeavesForFound functions.now.exceptions.now (R.offset functions.now.map.now)
+        target.rva (Some target.function) (M.word memory.now) (instructions_of tail.now) registers.old
         (changed_with result registers.new) }
 {
     let ImageFunctions { exceptions, map } = *functions;
+    let Target { rva, function } = target;
     match ShortPlan::of_function(exceptions, function, map) {
         Ok(Some(plan)) => {
             let offset = rva.saturating_sub(function.begin_address);
@@ -147,22 +155,22 @@ fn leave_for_chained<R: RvaMap, M: Memory>(
 /// if the records of the function cannot be read or are too many.
 fn leave_for_function<R: RvaMap, M: Memory>(
     functions: &ImageFunctions<'_, R>,
-    rva: u32,
-    function: RuntimeFunction,
+    target: Target,
     tail: &Tail<'_>,
     registers: &mut Registers,
     memory: &M,
 ) -> Result<bool, FrameError>
-    ensures { LeavesForFound functions.now.exceptions.now (R.offset functions.now.map.now) rva
-        (Some function) (M.word memory.now) (instructions_of tail.now) registers.old
+    ensures { LeavesForFound functions.now.exceptions.now (R.offset functions.now.map.now)
+        target.rva (Some target.function) (M.word memory.now) (instructions_of tail.now) registers.old
         (changed_with result registers.new) }
 {
+    let Target { rva, function } = target;
     let info = match record_of(functions, function) {
         Ok(info) => info,
         Err(_) => return run_out(tail, registers, memory),
     };
     if info.chained_info.is_some() {
-        return leave_for_chained(functions, rva, function, tail, registers, memory);
+        return leave_for_chained(functions, target, tail, registers, memory);
     }
     let offset = rva.saturating_sub(function.begin_address);
     leave_to(slice::from_ref(&info), offset, tail, registers, memory)
@@ -182,7 +190,10 @@ fn leave_for_rva<R: RvaMap, M: Memory>(
 {
     let mut table = functions.exceptions.table();
     match search(&mut table, rva) {
-        Some(function) => { leave_for_function(functions, rva, function, tail, registers, memory) }
+        Some(function) => {
+            let target = Target { rva, function };
+            leave_for_function(functions, target, tail, registers, memory)
+        }
         None => run_out(tail, registers, memory),
     }
 }
@@ -211,20 +222,22 @@ fn leave_in_place<R: RvaMap, M: Memory>(
 #[inline(always)]
 pub(crate) fn step_in_place<R: RvaMap, M: Memory>(
     functions: &ImageFunctions<'_, R>,
-    plan: &[UnwindInfo<'_>],
-    start: u32,
-    rva: u32,
-    code: &[u8],
+    plan: FunctionPlan<'_, '_>,
+    stopped: Stopped<'_>,
     registers: &mut Registers,
     memory: &M,
 ) -> Result<bool, FrameError>
     ensures { StepsInImage functions.now.exceptions.now (R.offset functions.now.map.now)
-        (M.word memory.now) (map unwind_view plan.now) start rva code.now registers.old
+        (M.word memory.now) (map unwind_view plan.entry.records.now) plan.entry.start
+        stopped.entry.rva stopped.entry.code.now registers.old
         (changed_with result registers.new) }
 {
-    match epilog_at(plan, start, rva, code) {
+    match epilog_at(plan, stopped) {
         Some(tail) => leave_in_place(functions, &tail, registers, memory),
-        None => undo_function_in_place(plan, rva.saturating_sub(start), registers, memory),
+        None => {
+            let offset = stopped.rva.saturating_sub(plan.start);
+            undo_function_in_place(plan.records, offset, registers, memory)
+        }
     }
 }
 
@@ -238,18 +251,17 @@ pub(crate) fn step_in_place<R: RvaMap, M: Memory>(
 /// stack pointer is not above that of the function.
 pub fn step_in_image<R: RvaMap, M: Memory>(
     functions: &ImageFunctions<'_, R>,
-    plan: &[UnwindInfo<'_>],
-    start: u32,
-    rva: u32,
-    code: &[u8],
+    plan: FunctionPlan<'_, '_>,
+    stopped: Stopped<'_>,
     registers: Registers,
     memory: &M,
 ) -> Result<(Registers, bool), FrameError>
     ensures { StepsInImage functions.now.exceptions.now (R.offset functions.now.map.now)
-        (M.word memory.now) (map unwind_view plan.now) start rva code.now registers result }
+        (M.word memory.now) (map unwind_view plan.entry.records.now) plan.entry.start
+        stopped.entry.rva stopped.entry.code.now registers result }
 {
     let mut current = registers;
-    match step_in_place(functions, plan, start, rva, code, &mut current, memory) {
+    match step_in_place(functions, plan, stopped, &mut current, memory) {
         Ok(is_interrupted) => Ok((current, is_interrupted)),
         Err(error) => Err(error),
     }

@@ -14,6 +14,7 @@ use crate::section_index::{IndexEntry, sections_by};
 use crate::section_search::section_started;
 use pe_core::{ParseOptions, RvaMap, SectionTable, slice_at};
 use pe_unwind::ExceptionData;
+use std::ops::Range;
 
 /// `IMAGE_SCN_MEM_EXECUTE`: the section is executable.
 const MEM_EXECUTE: u32 = 0x2000_0000;
@@ -22,7 +23,7 @@ const MEM_EXECUTE: u32 = 0x2000_0000;
 const SIZE_OF_CALL_ARM64: u32 = 4;
 
 /// How many bytes a call may have, the sizes that are seen most first.
-const CALL_SIZES: [u32; 7] = [5, 6, 2, 3, 4, 7, 8];
+const CALL_SIZES: [u8; 7] = [5, 6, 2, 3, 4, 7, 8];
 
 /// A module of a process on x64 or ARM64: an image, and the addresses where it is loaded.
 #[derive(Clone, Copy)]
@@ -93,11 +94,11 @@ impl<'a> Module<'a> {
         sections_by(self.sections, self.index, u64::from(rva))
     }
 
-    /// The code from an RVA up to another, by the section map of the module's exception data. Empty where it is not all in
-    /// the image.
-    pub(crate) fn code(&self, exceptions: &ExceptionData<'a>, rva: u32, end: u32) -> &'a [u8]
-        ensures { result.now ≡ code_in self.now exceptions.now rva end }
+    /// The code at these RVAs, by the section map of the module's exception data. Empty where it is not all in the image.
+    pub(crate) fn code(&self, exceptions: &ExceptionData<'a>, rvas: Range<u32>) -> &'a [u8]
+        ensures { result.now ≡ code_in self.now exceptions.now rvas.start rvas.end }
     {
+        let Range { start: rva, end } = rvas;
         let map = exceptions.section_map(self.sections_of(rva), &self.opts);
         match map.find(rva as usize) {
             Some(offset) => match slice_at(self.bytes, offset, end.saturating_sub(rva) as usize) {
@@ -118,14 +119,15 @@ impl<'a> Module<'a> {
     }
 
     /// Whether the bytes before an RVA are a call of so many bytes.
-    fn follows_call(&self, exceptions: &ExceptionData<'a>, rva: u32, size: u32) -> bool
+    fn follows_call(&self, exceptions: &ExceptionData<'a>, rva: u32, size: u8) -> bool
         ensures { result ≡ follows_call self.now exceptions.now rva size }
     {
-        size <= rva && is_call(self.code(exceptions, rva - size, rva))
+        let size = u32::from(size);
+        size <= rva && is_call(self.code(exceptions, rva - size..rva))
     }
 
     /// Whether the bytes before an RVA are a call of one of these sizes.
-    fn follows_any(&self, exceptions: &ExceptionData<'a>, rva: u32, sizes: &[u32]) -> bool
+    fn follows_any(&self, exceptions: &ExceptionData<'a>, rva: u32, sizes: &[u8]) -> bool
         ensures { result ≡ list_any (follows_call self.now exceptions.now rva) sizes.now }
     {
         sizes
@@ -154,7 +156,7 @@ impl<'a> Module<'a> {
             return false;
         };
         let (size, rva) = (SIZE_OF_CALL_ARM64, self.rva_of(address));
-        size <= rva && is_call_arm64(self.code(exceptions, rva - size, rva))
+        size <= rva && is_call_arm64(self.code(exceptions, rva - size..rva))
     }
 
     /// Whether the section that halving finds of an RVA is executable, and has it.

@@ -112,20 +112,28 @@ fn frame_base_of(
     }
 }
 
+/// How the codes of a record are undone.
+#[derive(Clone, Copy)]
+struct RecordFrame {
+    /// Up to which offset they have run. `None` where all have.
+    limit: Option<u32>,
+    /// From where its saves count.
+    base: u64,
+}
+
 /// Makes the registers those before a code, if it has run.
 #[inline(always)]
 fn undo_code<M: Memory>(
     code: UnwindCode,
-    limit: Option<u32>,
-    base: u64,
+    frame: RecordFrame,
     registers: &mut Registers,
     memory: &M,
 ) -> Result<(), FrameError>
     ensures { changed result registers.new
-        ≡ undone_code (M.word memory.now) base limit code registers.old }
+        ≡ undone_code (M.word memory.now) frame.base frame.limit code registers.old }
 {
-    if has_run(limit, code) {
-        undo(code.operation, base, registers, memory)
+    if has_run(frame.limit, code) {
+        undo(code.operation, frame.base, registers, memory)
     } else {
         Ok(())
     }
@@ -134,21 +142,20 @@ fn undo_code<M: Memory>(
 /// Makes the registers those before the codes of a record that have run. The survey has found that none is invalid.
 fn undo_codes<M: Memory>(
     info: &UnwindInfo<'_>,
-    limit: Option<u32>,
-    base: u64,
+    frame: RecordFrame,
     registers: &mut Registers,
     memory: &M,
 ) -> Result<(), FrameError>
     ensures { (codes : List UnwindCode) → AreItems (code_stream (unwind_view info.now))
         (map Ok codes) → changed result registers.new
-        ≡ undone_all (M.word memory.now) base (ran limit codes) registers.old }
+        ≡ undone_all (M.word memory.now) frame.base (ran frame.limit codes) registers.old }
 {
     for item in info.unwind_codes() {
         let code = match item {
             Ok(code) => code,
             Err(refusal) => return Err(FrameError::Codes(refusal)),
         };
-        undo_code(code, limit, base, registers, memory)?;
+        undo_code(code, frame, registers, memory)?;
     }
     Ok(())
 }
@@ -167,7 +174,7 @@ fn enter_in_prolog<M: Memory>(
 {
     let survey = survey_codes(info, limit)?;
     let base = frame_base_of(info, survey, registers)?;
-    undo_codes(info, limit, base, registers, memory)?;
+    undo_codes(info, RecordFrame { limit, base }, registers, memory)?;
     Ok(survey.is_interrupted)
 }
 
@@ -191,16 +198,15 @@ fn expected_base(info: &UnwindInfo<'_>, limit: Option<u32>, registers: &Register
 fn undo_next<M: Memory>(
     left: Result<(), FrameError>,
     code: UnwindCode,
-    limit: Option<u32>,
-    base: u64,
+    frame: RecordFrame,
     registers: &mut Registers,
     memory: &M,
 ) -> Result<(), FrameError>
     ensures { changed result registers.new ≡ undone_next
-        (M.word memory.now) base limit code (changed left registers.old) }
+        (M.word memory.now) frame.base frame.limit code (changed left registers.old) }
 {
     match left {
-        Ok(()) => undo_code(code, limit, base, registers, memory),
+        Ok(()) => undo_code(code, frame, registers, memory),
         Err(error) => Err(error),
     }
 }
@@ -209,13 +215,12 @@ fn undo_next<M: Memory>(
 /// the others are surveyed alone, as an invalid code is reported first.
 fn undo_surveyed<M: Memory>(
     info: &UnwindInfo<'_>,
-    limit: Option<u32>,
-    base: u64,
+    frame: RecordFrame,
     registers: &mut Registers,
     memory: &M,
 ) -> Result<(Survey, Result<(), FrameError>), FrameError>
-    ensures { SurveysUndone (M.word memory.now) base limit (unwind_view info.now) registers.old
-        (surveyed_changes result registers.new) }
+    ensures { SurveysUndone (M.word memory.now) frame.base frame.limit (unwind_view info.now)
+        registers.old (surveyed_changes result registers.new) }
 {
     let mut survey = Survey {
         sets_frame_register: false,
@@ -226,8 +231,8 @@ fn undo_surveyed<M: Memory>(
     for item in info.unwind_codes() {
         match item {
             Ok(code) => {
-                survey = survey.survey_with(code, limit);
-                left = undo_next(left, code, limit, base, registers, memory);
+                survey = survey.survey_with(code, frame.limit);
+                left = undo_next(left, code, frame, registers, memory);
             }
             Err(error) => return Err(FrameError::Codes(error)),
         }
@@ -239,16 +244,16 @@ fn undo_surveyed<M: Memory>(
 #[tactic(auto, using(crate::proofs::Records::enters_at_once))]
 fn enter_at_once<M: Memory>(
     info: &UnwindInfo<'_>,
-    limit: Option<u32>,
-    base: u64,
+    frame: RecordFrame,
     registers: &mut Registers,
     memory: &M,
 ) -> Result<bool, FrameError>
-    requires { IsExpectedBase limit (frame_register_in (unwind_view info.now)) registers.old base }
-    ensures { Enters (M.word memory.now) limit (unwind_view info.now) registers.old
+    requires { IsExpectedBase frame.limit (frame_register_in (unwind_view info.now))
+        registers.old frame.base }
+    ensures { Enters (M.word memory.now) frame.limit (unwind_view info.now) registers.old
         (changed_with result registers.new) }
 {
-    let (survey, left) = match undo_surveyed(info, limit, base, registers, memory) {
+    let (survey, left) = match undo_surveyed(info, frame, registers, memory) {
         Ok(surveyed) => surveyed,
         Err(error) => return Err(error),
     };
@@ -272,7 +277,7 @@ pub(crate) fn enter<M: Memory>(
         (changed_with result registers.new) }
 {
     match expected_base(info, limit, registers) {
-        Some(base) => enter_at_once(info, limit, base, registers, memory),
+        Some(base) => enter_at_once(info, RecordFrame { limit, base }, registers, memory),
         None => enter_in_prolog(info, limit, registers, memory),
     }
 }

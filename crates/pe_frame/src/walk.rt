@@ -25,6 +25,7 @@ use crate::function_step::step_in_function_in_place;
 use crate::jump::ImageFunctions;
 use crate::memory::{Memory, SIZE_OF_WORD};
 use crate::modules::{Module, ModuleMap, Modules};
+use crate::plan::Stopped;
 use crate::position::{WalkFrame, WalkPosition};
 use crate::process::{CallSites, LoadedModules};
 use crate::registers::{RSP, Registers};
@@ -311,7 +312,7 @@ fn code_of_frame<'a>(found: &FrameFunction<'a>, frame: &StackFrame, rva: u32) ->
     }
     found
         .module
-        .code(found.exceptions, rva, found.function.end_address)
+        .code(found.exceptions, rva..found.function.end_address)
 }
 
 /// Makes a frame what a step left of it, whose registers are those of the caller.
@@ -365,8 +366,8 @@ fn caller_by_records<L: CallSites, M: Memory>(
         exceptions,
         map: &map,
     };
-    let caller = &mut frame.registers;
-    let left = match step_in_function_in_place(&functions, function, rva, code, caller, memory) {
+    let (stopped, caller) = (Stopped { rva, code }, &mut frame.registers);
+    let left = match step_in_function_in_place(&functions, function, stopped, caller, memory) {
         Ok(Some(left)) => left,
         Ok(None) => return Err(WalkEnd::LongChain),
         Err(error) => return Err(WalkEnd::Records(error)),

@@ -45,6 +45,7 @@ pub use pe_core::ImportDirectoryEntry;
 pub use pe_core::MAGIC_32;
 pub use pe_core::MAGIC_64;
 pub use pe_core::MOST_DIRECTORIES;
+pub use pe_core::MappedBytes;
 pub use pe_core::OptionalHeader;
 pub use pe_core::PE_MAGIC;
 pub use pe_core::ParseMode;

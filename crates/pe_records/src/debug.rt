@@ -41,7 +41,7 @@ pub use constants::{
     IMAGE_DLLCHARACTERISTICS_EX_FORWARD_CFI_COMPAT,
     IMAGE_DLLCHARACTERISTICS_EX_HOTPATCH_COMPATIBLE, POGO_SIGNATURE_SIZE,
 };
-use first_entries::FirstEntries;
+pub use first_entries::FirstDebugEntries;
 pub use managed::{EMBEDDED_PDB_MAGIC, EmbeddedPdb, PdbChecksum};
 use pe_core::{
     ByteRange, DataDirectory, Error, ParseMode, ParseOptions, Reason, Result, SectionTable,
@@ -239,7 +239,7 @@ impl<'a> DebugData<'a> {
         ensures { ReturnsAs debug_view result
             (records opts.now bytes.entry.now rva_offset table.entry.now) }
     {
-        let first = FirstEntries::of_table(table, rva_offset);
+        let first = FirstDebugEntries::of_table(table, rva_offset);
         Ok(DebugData {
             table,
             rva_offset,

@@ -6,15 +6,13 @@ ghost use Rattle.std.specs.Prelude.{◌≡◌, ◌+◌, ◌≤◌, length, IfOk,
 ghost use Rattle.std.specs.Option.{option_map};
 ghost use Rattle.pe_core.specs.Offsets.{IsWithin};
 ghost use Rattle.pe_core.specs.Refusals.{Returns, answer_of, answer_by};
-ghost use Rattle.pe_resource.specs.Contents.{map_of, IsLeaf, data_entry_at, data_entry_in, file_range, named_range, range_in, IsContentRange, IsContent, IsDataEntry};
+ghost use Rattle.pe_core.specs.SectionMap.{offset_in};
+ghost use Rattle.pe_resource.specs.Contents.{IsLeaf, data_entry_at, data_entry_in, file_range, named_range, range_in, IsContentRange, IsContent, IsDataEntry};
 ghost use Rattle.pe_resource.specs.ResourceEntries.{entries_left, with_id};
 
 use crate::directory::ResourceEntryIterator;
 use crate::entry::walk;
-use pe_core::{
-    ByteRange, Error, ParseOptions, Reason, Result, SectionTable, mapped_offset, read_u32,
-    require_bytes,
-};
+use pe_core::{ByteRange, Error, MappedBytes, Reason, Result, read_u32, require_bytes};
 
 /// The size of a data entry in bytes.
 pub(crate) const SIZE_OF_DATA_ENTRY: usize = 16;
@@ -48,25 +46,19 @@ impl ResourceDataEntry {
         }
     }
 
-    /// Returns the file range of the content. `pe` is the whole file. Errors, in order: `Unmapped` if its RVA is not mapped;
-    /// `ResourceBounds` if it is not in the file.
-    pub fn content_range(
-        &self,
-        pe: &[u8],
-        sections: &[SectionTable],
-        file_alignment: u32,
-        opts: &ParseOptions,
-    ) -> Result<ByteRange>
-        ensures range { Returns result (file_range pe.now self.now.size (map_of
-            opts.now sections.now file_alignment self.now.offset_to_data)) }
-        ensures within { IfOk result (IsWithin pe.now) }
+    /// Returns the file range of the content. `image` is the whole file and its section map. Errors, in order: `Unmapped` if its
+    /// RVA is not mapped; `ResourceBounds` if it is not in the file.
+    pub fn content_range(&self, image: &MappedBytes<'_, '_>) -> Result<ByteRange>
+        ensures range { Returns result (file_range image.now.bytes.now self.now.size
+            (offset_in image.now.map self.now.offset_to_data)) }
+        ensures within { IfOk result (IsWithin image.now.bytes.now) }
     {
         let ResourceDataEntry {
             offset_to_data,
             size,
             ..
         } = *self;
-        file_range(pe, offset_to_data, size, sections, file_alignment, opts)
+        file_range(image, offset_to_data, size)
     }
 }
 
@@ -109,21 +101,14 @@ pub(crate) fn data_entry(
 }
 
 /// The file range of `size` bytes at an RVA. `Unmapped`, or `ResourceBounds` if the bytes are not in the file.
-pub(crate) fn file_range(
-    pe: &[u8],
-    address: u32,
-    size: u32,
-    sections: &[SectionTable],
-    file_alignment: u32,
-    opts: &ParseOptions,
-) -> Result<ByteRange>
+pub(crate) fn file_range(image: &MappedBytes<'_, '_>, address: u32, size: u32) -> Result<ByteRange>
     ensures range { Returns result
-        (file_range pe.now size (map_of opts.now sections.now file_alignment address)) }
-    ensures within { IfOk result (IsWithin pe.now) }
+        (file_range image.now.bytes.now size (offset_in image.now.map address)) }
+    ensures within { IfOk result (IsWithin image.now.bytes.now) }
 {
-    let offset = mapped_offset(address, sections, file_alignment, opts)?;
+    let offset = image.map.offset_of(address)?;
     let length = size as usize;
-    if pe.len() < length || pe.len() - length < offset {
+    if image.bytes.len() < length || image.bytes.len() - length < offset {
         let end = (offset as u64).saturating_add(length as u64);
         return Err(Error::Malformed(Reason::ResourceBounds(end)));
     }
@@ -132,66 +117,46 @@ pub(crate) fn file_range(
 
 /// The file range of the content of the data entry at `offset`.
 #[tactic(auto, unfolding(crate::specs::Contents::named_range))]
-fn named_range(
-    pe: &[u8],
-    bytes: &[u8],
-    offset: u32,
-    sections: &[SectionTable],
-    file_alignment: u32,
-    opts: &ParseOptions,
-) -> Result<ByteRange>
+fn named_range(image: &MappedBytes<'_, '_>, bytes: &[u8], offset: u32) -> Result<ByteRange>
     ensures range { Returns result
-        (named_range (map_of opts.now sections.now file_alignment) pe.now bytes.now offset) }
-    ensures within { IfOk result (IsWithin pe.now) }
+        (named_range (offset_in image.now.map) image.now.bytes.now bytes.now offset) }
+    ensures within { IfOk result (IsWithin image.now.bytes.now) }
 {
     let offset = offset as usize;
     require_bytes(bytes, offset, SIZE_OF_DATA_ENTRY)?;
     let entry = ResourceDataEntry::at(bytes, offset);
-    file_range(
-        pe,
-        entry.offset_to_data,
-        entry.size,
-        sections,
-        file_alignment,
-        opts,
-    )
+    file_range(image, entry.offset_to_data, entry.size)
 }
 
 /// The file range of the content of the first entry with this id.
 pub(crate) fn content_range(
-    pe: &[u8],
+    image: &MappedBytes<'_, '_>,
     bytes: &[u8],
     it: ResourceEntryIterator,
     id: u16,
-    sections: &[SectionTable],
-    file_alignment: u32,
-    opts: &ParseOptions,
 ) -> Result<Option<ByteRange>>
-    ensures range { IsContentRange (map_of opts.now sections.now file_alignment) pe.now bytes.now
+    ensures range { IsContentRange (offset_in image.now.map) image.now.bytes.now bytes.now
         (entries_left it.entry) id (answer_of result) }
-    ensures within { IfOk result (λ r. IfSome r (IsWithin pe.now)) }
+    ensures within { IfOk result (λ r. IfSome r (IsWithin image.now.bytes.now)) }
 {
     match leaf(bytes, it, id)? {
         None => Ok(None),
-        Some(offset) => Ok(Some(named_range(pe, bytes, offset, sections, file_alignment, opts)?)),
+        Some(offset) => Ok(Some(named_range(image, bytes, offset)?)),
     }
 }
 
 /// The content of the first entry with this id.
 pub(crate) fn content<'a>(
-    pe: &'a [u8],
+    image: &MappedBytes<'a, '_>,
     bytes: &[u8],
     it: ResourceEntryIterator,
     id: u16,
-    sections: &[SectionTable],
-    file_alignment: u32,
-    opts: &ParseOptions,
 ) -> Result<Option<&'a [u8]>>
-    ensures { IsContent (map_of opts.now sections.now file_alignment) pe.entry.now bytes.now
+    ensures { IsContent (offset_in image.now.map) image.now.bytes.now bytes.now
         (entries_left it.entry) id (answer_by (option_map (λ s. s.now)) result) }
 {
-    match content_range(pe, bytes, it, id, sections, file_alignment, opts)? {
+    match content_range(image, bytes, it, id)? {
         None => Ok(None),
-        Some(range) => Ok(Some(range.of(pe))),
+        Some(range) => Ok(Some(range.of(image.bytes))),
     }
 }

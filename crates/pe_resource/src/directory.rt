@@ -12,7 +12,7 @@ ghost use Rattle.pe_resource.specs.ResourceEntries.{entries_left};
 use crate::constants::RESOURCE_ENTRY_SIZE;
 use crate::entry::ResourceEntry;
 use pe_core::{
-    DataDirectory, ParseOptions, Result, SectionTable, WholeEntries, mapped_offset, read_u16,
+    DataDirectory, MappedBytes, ParseOptions, Result, SectionTable, WholeEntries, read_u16,
     read_u32, require_bytes, slice_at,
 };
 
@@ -75,7 +75,6 @@ impl ImageResourceDirectory {
 
     /// Reads the first resource directory: that at the RVA of `data_directory`. `bytes` is the whole file.
     /// Errors, in this order: `Unmapped` if the RVA is not mapped; `Short` if the 16 bytes are truncated.
-    #[tactic(auto, unfolding(crate::specs::Directories::directory_at))]
     pub fn parse_with_opts(
         bytes: &[u8],
         data_directory: DataDirectory,
@@ -86,14 +85,22 @@ impl ImageResourceDirectory {
         ensures { Returns result
             (directory_at opts.now bytes.now data_directory sections.now file_alignment) }
     {
-        let offset = mapped_offset(
-            data_directory.virtual_address,
-            sections,
-            file_alignment,
-            opts,
-        )?;
-        require_bytes(bytes, offset, SIZE_OF_DIRECTORY)?;
-        Ok(ImageResourceDirectory::at(bytes, offset))
+        let image = MappedBytes::new(bytes, sections, file_alignment, opts);
+        ImageResourceDirectory::of_image(&image, data_directory)
+    }
+
+    /// Reads the first resource directory of an image: `parse_with_opts`.
+    #[tactic(auto, unfolding(crate::specs::Directories::directory_at))]
+    pub(crate) fn of_image(
+        image: &MappedBytes<'_, '_>,
+        data_directory: DataDirectory,
+    ) -> Result<ImageResourceDirectory>
+        ensures { Returns result (directory_at image.now.map.opts image.now.bytes.now
+            data_directory image.now.map.sections image.now.map.alignment) }
+    {
+        let offset = image.map.offset_of(data_directory.virtual_address)?;
+        require_bytes(image.bytes, offset, SIZE_OF_DIRECTORY)?;
+        Ok(ImageResourceDirectory::at(image.bytes, offset))
     }
 
     /// The number of entries: the sum of both counts, at most 65,535.

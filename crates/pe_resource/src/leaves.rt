@@ -14,8 +14,9 @@ ghost use Rattle.std.specs.Option.{MatchOption, option_map};
 ghost use Rattle.std.specs.Iterator.{YieldsFirstBy, item_count};
 ghost use Rattle.pe_core.specs.Offsets.{IsWithin, bytes_in};
 ghost use Rattle.pe_core.specs.Refusals.{Returns, ReturnsAs};
+ghost use Rattle.pe_core.specs.SectionMap.{offset_in};
 ghost use Rattle.pe_core.specs.declared.byte_range.ByteRange.{ByteRange};
-ghost use Rattle.pe_resource.specs.Contents.{map_of, file_range};
+ghost use Rattle.pe_resource.specs.Contents.{file_range};
 ghost use Rattle.pe_resource.specs.LeafPositions.{first_below, in_type, others, range_below, split_table};
 ghost use Rattle.pe_resource.specs.ResourceEntries.{entries, entries_left};
 ghost use Rattle.pe_resource.specs.Leaves.{TreeReturns, tree_answer, table_below, leaf_of, leaves_of_name, leaves_of_type, tree_leaves, leaves_left, walk_view, name_units, content_of_type, leaf_version};
@@ -31,8 +32,8 @@ use crate::version::VersionInfo;
 use crate::version_block::VersionBlock;
 use crate::version_block_error::VersionBlockError;
 use pe_core::{
-    ByteRange, EntryWithId, ParseOptions, Result, SectionTable, TableEntry, WholeEntries, read_u16,
-    require_bytes, slice_at,
+    ByteRange, EntryWithId, MappedBytes, Result, TableEntry, WholeEntries, read_u16, require_bytes,
+    slice_at,
 };
 
 /// A leaf of a resource tree: a resource in one language.
@@ -49,72 +50,49 @@ pub struct ResourceLeaf {
 }
 
 impl ResourceLeaf {
-    /// Returns the file range of the content. `pe` is the whole file. Errors, in order: `Unmapped` if its RVA is not mapped;
-    /// `ResourceBounds` if it is not in the file.
-    pub fn content_range(
-        &self,
-        pe: &[u8],
-        sections: &[SectionTable],
-        file_alignment: u32,
-        opts: &ParseOptions,
-    ) -> Result<ByteRange>
-        ensures range { Returns result (file_range pe.now self.now.data_entry.size (map_of
-            opts.now sections.now file_alignment self.now.data_entry.offset_to_data)) }
-        ensures within { IfOk result (IsWithin pe.now) }
+    /// Returns the file range of the content. `image` is the whole file and its section map. Errors, in order: `Unmapped` if its
+    /// RVA is not mapped; `ResourceBounds` if it is not in the file.
+    pub fn content_range(&self, image: &MappedBytes<'_, '_>) -> Result<ByteRange>
+        ensures range { Returns result (file_range image.now.bytes.now self.now.data_entry.size
+            (offset_in image.now.map self.now.data_entry.offset_to_data)) }
+        ensures within { IfOk result (IsWithin image.now.bytes.now) }
     {
-        self.data_entry
-            .content_range(pe, sections, file_alignment, opts)
+        self.data_entry.content_range(image)
     }
 
     /// The content, if the type has this id.
-    fn content_of_type<'a>(
-        &self,
-        pe: &'a [u8],
-        id: u16,
-        sections: &[SectionTable],
-        file_alignment: u32,
-        opts: &ParseOptions,
-    ) -> Result<Option<&'a [u8]>>
-        ensures { ReturnsAs (option_map (λ s. s.now)) result (content_of_type
-            (map_of opts.now sections.now file_alignment) pe.entry.now id self.now) }
+    fn content_of_type<'a>(&self, image: &MappedBytes<'a, '_>, id: u16) -> Result<Option<&'a [u8]>>
+        ensures { ReturnsAs (option_map (λ s. s.now)) result
+            (content_of_type (offset_in image.now.map) image.now.bytes.now id self.now) }
     {
         if !self.resource_type.has_id(id) {
             return Ok(None);
         }
-        let range = self.content_range(pe, sections, file_alignment, opts)?;
-        Ok(Some(range.of(pe)))
+        let range = self.content_range(image)?;
+        Ok(Some(range.of(image.bytes)))
     }
 
-    /// Reads the version information in the content. `None` unless the type is `RT_VERSION`. Errors, in order: those of
-    /// `content_range`; those of `VersionInfo::of_strings`.
-    pub fn version_info<'a>(
-        &self,
-        pe: &'a [u8],
-        sections: &[SectionTable],
-        file_alignment: u32,
-        opts: &ParseOptions,
-    ) -> Result<Option<VersionInfo<'a>>>
-        ensures { ReturnsAs (option_map version_view) result (leaf_version
-            (map_of opts.now sections.now file_alignment) pe.entry.now self.now) }
+    /// Reads the version information in the content. `image` is the whole file and its section map. `None` unless the type is
+    /// `RT_VERSION`. Errors, in order: those of `content_range`; those of `VersionInfo::of_strings`.
+    pub fn version_info<'a>(&self, image: &MappedBytes<'a, '_>) -> Result<Option<VersionInfo<'a>>>
+        ensures { ReturnsAs (option_map version_view) result
+            (leaf_version (offset_in image.now.map) image.now.bytes.now self.now) }
     {
-        let content = self.content_of_type(pe, RT_VERSION, sections, file_alignment, opts)?;
+        let content = self.content_of_type(image, RT_VERSION)?;
         VersionInfo::of_content(content)
     }
 
-    /// Reads the block that the content is, the root of all strings and languages in it. `None` unless the type is
-    /// `RT_VERSION`, and if the content is empty or starts with a length of 0. Errors, in order: `Image` with those of
-    /// `content_range`; those of `VersionBlock::parse`.
+    /// Reads the block that the content is, the root of all strings and languages in it. `image` is the whole file and its
+    /// section map. `None` unless the type is `RT_VERSION`, and if the content is empty or starts with a length of 0. Errors, in
+    /// order: `Image` with those of `content_range`; those of `VersionBlock::parse`.
     pub fn version_block<'a>(
         &self,
-        pe: &'a [u8],
-        sections: &[SectionTable],
-        file_alignment: u32,
-        opts: &ParseOptions,
+        image: &MappedBytes<'a, '_>,
     ) -> std::result::Result<Option<VersionBlock<'a>>, VersionBlockError>
-        ensures { BlockReturns (option_map block_view) result (leaf_block
-            (map_of opts.now sections.now file_alignment) pe.entry.now self.now) }
+        ensures { BlockReturns (option_map block_view) result
+            (leaf_block (offset_in image.now.map) image.now.bytes.now self.now) }
     {
-        let data = self.content_of_type(pe, RT_VERSION, sections, file_alignment, opts)?;
+        let data = self.content_of_type(image, RT_VERSION)?;
         VersionBlock::of_content(data)
     }
 }

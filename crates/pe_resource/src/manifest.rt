@@ -4,6 +4,7 @@
 ghost use Rattle.std.specs.Prelude.{◌≡◌, ◌≢◌, Err};
 ghost use Rattle.std.specs.Option.{option_map};
 ghost use Rattle.pe_core.specs.Refusals.{Memory, answer_by};
+ghost use Rattle.pe_core.specs.SectionMap.{offset_in};
 ghost use Rattle.pe_resource.specs.Contents.{map_of, IsContent};
 ghost use Rattle.pe_resource.specs.ResourceEntries.{entries_left};
 ghost use Rattle.pe_resource.specs.Resources.{manifest_view};
@@ -11,7 +12,7 @@ ghost use Rattle.pe_resource.specs.Resources.{manifest_view};
 use crate::constants::RT_MANIFEST;
 use crate::content::content;
 use crate::directory::ResourceEntryIterator;
-use pe_core::{ParseOptions, Result, SectionTable};
+use pe_core::{MappedBytes, ParseOptions, Result, SectionTable};
 use std::alloc::Allocator;
 
 /// The manifest of an image: mostly XML in UTF-8.
@@ -24,17 +25,14 @@ pub struct ManifestData<'a> {
 impl<'a> ManifestData<'a> {
     /// The manifest: the content of the first entry with the id `RT_MANIFEST`.
     pub(crate) fn of_entries(
-        pe: &'a [u8],
+        image: &MappedBytes<'a, '_>,
         bytes: &[u8],
         it: ResourceEntryIterator,
-        sections: &[SectionTable],
-        file_alignment: u32,
-        opts: &ParseOptions,
     ) -> Result<Option<ManifestData<'a>>>
-        ensures { IsContent (map_of opts.now sections.now file_alignment) pe.entry.now bytes.now
+        ensures { IsContent (offset_in image.now.map) image.now.bytes.now bytes.now
             (entries_left it.entry) 24 (answer_by (option_map manifest_view) result) }
     {
-        let content = content(pe, bytes, it, RT_MANIFEST, sections, file_alignment, opts)?;
+        let content = content(image, bytes, it, RT_MANIFEST)?;
         Ok(content.map(|bytes| ManifestData { bytes }))
     }
 
@@ -59,6 +57,7 @@ impl<'a> ManifestData<'a> {
             (entries_left it.entry) 24 (answer_by (option_map manifest_view) result) }
         ensures no_memory { answer_by (option_map manifest_view) result ≢ Err Memory }
     {
-        ManifestData::of_entries(pe, bytes, it, sections, file_alignment, opts)
+        let image = MappedBytes::new(pe, sections, file_alignment, opts);
+        ManifestData::of_entries(&image, bytes, it)
     }
 }

@@ -7,7 +7,8 @@ ghost use Rattle.std.specs.Option.{option_map};
 ghost use Rattle.pe_core.specs.Options.{default_options};
 ghost use Rattle.pe_core.specs.Offsets.{IsWithin, StandAt};
 ghost use Rattle.pe_core.specs.Refusals.{Returns, ReturnsAs, Memory, answer_of, answer_by};
-ghost use Rattle.pe_resource.specs.Contents.{map_of, file_range};
+ghost use Rattle.pe_core.specs.SectionMap.{offset_in};
+ghost use Rattle.pe_resource.specs.Contents.{file_range};
 ghost use Rattle.pe_resource.specs.Directories.{count};
 ghost use Rattle.pe_resource.specs.LeafPositions.{IsPlaced, first_position, leaf_start, leaves_at, tree_at, tree_view};
 ghost use Rattle.pe_resource.specs.Leaves.{walk_view, resource_tree, tree_leaves};
@@ -21,8 +22,8 @@ use crate::leaves::ResourceLeaves;
 use crate::manifest::ManifestData;
 use crate::version::VersionInfo;
 use pe_core::{
-    ByteRange, DataDirectory, Error, ParseMode, ParseOptions, Reason, Result, SectionTable,
-    slice_at,
+    ByteRange, DataDirectory, Error, MappedBytes, ParseMode, ParseOptions, Reason, Result,
+    SectionTable, slice_at,
 };
 use std::alloc::Allocator;
 
@@ -96,32 +97,20 @@ impl<'a> FirstDirectory<'a> {
     /// Reads the first directory. `None` if the data is shorter than a directory.
     #[tactic(auto, unfolding(crate::specs::Resources::first_directory))]
     fn parse(
-        bytes: &'a [u8],
+        image: &MappedBytes<'a, '_>,
         data_directory: DataDirectory,
-        sections: &[SectionTable],
-        file_alignment: u32,
-        opts: &ParseOptions,
     ) -> Result<Option<FirstDirectory<'a>>>
         ensures first { ReturnsAs (option_map first_directory_view) result
-            (first_directory opts.now bytes.entry.now data_directory sections.now file_alignment) }
-        ensures place { IfOk result (λ d. IfSome d (IsPlaced bytes.entry.now
-            (file_range bytes.entry.now data_directory.size (map_of
-            opts.now sections.now file_alignment data_directory.virtual_address)))) }
+            (first_directory image.now.map.opts image.now.bytes.now data_directory
+            image.now.map.sections image.now.map.alignment) }
+        ensures place { IfOk result (λ d. IfSome d (IsPlaced image.now.bytes.now
+            (file_range image.now.bytes.now data_directory.size
+            (offset_in image.now.map data_directory.virtual_address)))) }
     {
-        let directory = ImageResourceDirectory::parse_with_opts(
-            bytes,
-            data_directory,
-            sections,
-            file_alignment,
-            opts,
-        )?;
-        let DataDirectory {
-            virtual_address,
-            size,
-        } = data_directory;
-        let range = file_range(bytes, virtual_address, size, sections, file_alignment, opts)?;
-        let data = range.of(bytes);
-        match first_entries(data, range.offset, &directory, opts.parse_mode)? {
+        let directory = ImageResourceDirectory::of_image(image, data_directory)?;
+        let range = file_range(image, data_directory.virtual_address, data_directory.size)?;
+        let data = range.of(image.bytes);
+        match first_entries(data, range.offset, &directory, image.map.opts().parse_mode)? {
             None => Ok(None),
             Some(table) => Ok(Some(FirstDirectory {
                 directory,
@@ -206,96 +195,86 @@ impl<'a> ResourceData<'a> {
             data_directory sections.now file_alignment (answer_by resource_view result) }
         ensures no_memory { answer_by resource_view result ≢ Err Memory }
     {
-        ResourceData::of_directory(bytes, data_directory, sections, file_alignment, opts)
+        let image = MappedBytes::new(bytes, sections, file_alignment, opts);
+        ResourceData::of_directory(&image, data_directory)
     }
 
     /// Returns the file range of the content of the first resource with this id, such as `RT_VERSION` or `RT_MANIFEST`:
-    /// the content that the walk over directories from the first entry with this id leads to. `bytes` is the whole
-    /// file. `None` without such an entry, if the walk ends at a directory, and in permissive mode if the data is
+    /// the content that the walk over directories from the first entry with this id leads to. `image` is the whole file and
+    /// its section map. `None` without such an entry, if the walk ends at a directory, and in permissive mode if the data is
     /// shorter than a directory.
     ///
     /// Errors, in this order: those of `parse_with_opts` for the first directory, its data and its entries; of the
     /// walk, `Short` and `ResourceCycle`; of the data entry, `Short` if it is truncated, `Unmapped` if its RVA is not
     /// mapped, `ResourceBounds` if its content is not in the file. Other resources cause no errors.
     pub fn content_range(
-        bytes: &[u8],
+        image: &MappedBytes<'_, '_>,
         data_directory: DataDirectory,
         id: u16,
-        sections: &[SectionTable],
-        file_alignment: u32,
-        opts: &ParseOptions,
     ) -> Result<Option<ByteRange>>
-        ensures range { IsResourceRange
-            opts.now bytes.now data_directory id sections.now file_alignment (answer_of result) }
-        ensures within { IfOk result (λ r. IfSome r (IsWithin bytes.now)) }
+        ensures range { IsResourceRange image.now.map.opts image.now.bytes.now data_directory id
+            image.now.map.sections image.now.map.alignment (answer_of result) }
+        ensures within { IfOk result (λ r. IfSome r (IsWithin image.now.bytes.now)) }
     {
-        match FirstDirectory::parse(bytes, data_directory, sections, file_alignment, opts)? {
+        match FirstDirectory::parse(image, data_directory)? {
             None => Ok(None),
-            Some(first) => {
-                let it = first.entries();
-                content_range(bytes, first.bytes, it, id, sections, file_alignment, opts)
-            }
+            Some(first) => content_range(image, first.bytes, first.entries(), id),
         }
     }
 
-    /// Returns the data entry of the content that `content_range` returns the range of: what is read before its RVA is mapped. A
-    /// caller that has an index of its sections passes those that may map the RVA of the directory, and then to
-    /// `ResourceDataEntry::content_range` those that may map the content's. Errors: those of `content_range` but for the last two.
+    /// Returns the data entry of the content that `content_range` returns the range of: what is read before its RVA is mapped.
+    /// `image` is the whole file and its section map. A caller whose own index finds the sections that may map an RVA passes
+    /// here a map of those for the RVA of the directory, and to `ResourceDataEntry::content_range` one of those for the
+    /// content's. Errors: those of `content_range` but for the last two.
     pub fn data_entry(
-        bytes: &[u8],
+        image: &MappedBytes<'_, '_>,
         data_directory: DataDirectory,
         id: u16,
-        sections: &[SectionTable],
-        file_alignment: u32,
-        opts: &ParseOptions,
     ) -> Result<Option<ResourceDataEntry>>
-        ensures { IsResourceEntry
-            opts.now bytes.now data_directory id sections.now file_alignment (answer_of result) }
+        ensures { IsResourceEntry image.now.map.opts image.now.bytes.now data_directory id
+            image.now.map.sections image.now.map.alignment (answer_of result) }
     {
-        match FirstDirectory::parse(bytes, data_directory, sections, file_alignment, opts)? {
+        match FirstDirectory::parse(image, data_directory)? {
             None => Ok(None),
             Some(first) => data_entry(first.bytes, first.entries(), id),
         }
     }
 
-    /// Returns a walk over all leaves of the resource tree, in the order of the entries of its directories. `bytes` is the
-    /// whole file. In permissive mode it has no items if the data is shorter than a directory. Errors: those of
-    /// `parse_with_opts` for the first directory, its data and its entries, in this order.
+    /// Returns a walk over all leaves of the resource tree, in the order of the entries of its directories. `image` is the
+    /// whole file and its section map. In permissive mode it has no items if the data is shorter than a directory. Errors:
+    /// those of `parse_with_opts` for the first directory, its data and its entries, in this order.
     pub fn leaves(
-        bytes: &'a [u8],
+        image: &MappedBytes<'a, '_>,
         data_directory: DataDirectory,
-        sections: &[SectionTable],
-        file_alignment: u32,
-        opts: &ParseOptions,
     ) -> Result<ResourceLeaves<'a>>
-        ensures { ReturnsAs walk_view result (resource_tree
-            opts.now bytes.entry.now data_directory sections.now file_alignment) }
+        ensures { ReturnsAs walk_view result (resource_tree image.now.map.opts image.now.bytes.now
+            data_directory image.now.map.sections image.now.map.alignment) }
     {
-        match FirstDirectory::parse(bytes, data_directory, sections, file_alignment, opts)? {
+        match FirstDirectory::parse(image, data_directory)? {
             None => Ok(ResourceLeaves::empty()),
             Some(first) => Ok(ResourceLeaves::of_table(first.bytes, first.table)),
         }
     }
 
     /// Returns where the data of the resource directory is in the file, and the position before the first leaf of the tree:
-    /// what `leaves` walks over, in numbers. `None` in permissive mode if the data is shorter than a directory. Errors: those
-    /// of `leaves`.
+    /// what `leaves` walks over, in numbers. `image` is the whole file and its section map. `None` in permissive mode if the
+    /// data is shorter than a directory. Errors: those of `leaves`.
     pub fn leaf_position(
-        bytes: &[u8],
+        image: &MappedBytes<'_, '_>,
         data_directory: DataDirectory,
-        sections: &[SectionTable],
-        file_alignment: u32,
-        opts: &ParseOptions,
     ) -> Result<Option<(ByteRange, LeafPosition)>>
-        ensures tree { ReturnsAs (option_map (tree_view bytes.now)) result
-            (tree_at opts.now bytes.now data_directory sections.now file_alignment) }
-        ensures place { IfOk result (λ x. IfSome x (λ x. file_range bytes.now data_directory.size
-            (map_of opts.now sections.now file_alignment data_directory.virtual_address) ≡ Ok x.0)) }
-        ensures within { IfOk result (λ x. IfSome x (λ x. IsWithin bytes.now x.0)) }
-        ensures value { Returns result
-            (leaf_start opts.now bytes.now data_directory sections.now file_alignment) }
+        ensures tree { ReturnsAs (option_map (tree_view image.now.bytes.now)) result (tree_at
+            image.now.map.opts image.now.bytes.now data_directory
+            image.now.map.sections image.now.map.alignment) }
+        ensures place { IfOk result (λ x. IfSome x (λ x.
+            file_range image.now.bytes.now data_directory.size
+            (offset_in image.now.map data_directory.virtual_address) ≡ Ok x.0)) }
+        ensures within { IfOk result (λ x. IfSome x (λ x. IsWithin image.now.bytes.now x.0)) }
+        ensures value { Returns result (leaf_start
+            image.now.map.opts image.now.bytes.now data_directory
+            image.now.map.sections image.now.map.alignment) }
     {
-        match FirstDirectory::parse(bytes, data_directory, sections, file_alignment, opts)? {
+        match FirstDirectory::parse(image, data_directory)? {
             None => Ok(None),
             Some(first) => Ok(Some((first.range, first.position()))),
         }
@@ -303,36 +282,27 @@ impl<'a> ResourceData<'a> {
 
     /// Reads the resources: `parse_with_opts`.
     fn of_directory(
-        bytes: &'a [u8],
+        image: &MappedBytes<'a, '_>,
         data_directory: DataDirectory,
-        sections: &[SectionTable],
-        file_alignment: u32,
-        opts: &ParseOptions,
     ) -> Result<ResourceData<'a>>
-        ensures { IsResource opts.now bytes.entry.now data_directory sections.now file_alignment
-            (answer_by resource_view result) }
+        ensures { IsResource image.now.map.opts image.now.bytes.now data_directory
+            image.now.map.sections image.now.map.alignment (answer_by resource_view result) }
     {
-        match FirstDirectory::parse(bytes, data_directory, sections, file_alignment, opts)? {
+        match FirstDirectory::parse(image, data_directory)? {
             None => Ok(ResourceData::default()),
-            Some(first) => ResourceData::of_first(bytes, first, sections, file_alignment, opts),
+            Some(first) => ResourceData::of_first(image, first),
         }
     }
 
     /// Reads the version information and the manifest of a first directory.
-    fn of_first(
-        bytes: &'a [u8],
-        first: FirstDirectory<'a>,
-        sections: &[SectionTable],
-        file_alignment: u32,
-        opts: &ParseOptions,
-    ) -> Result<ResourceData<'a>>
-        ensures { AreResources (map_of opts.now sections.now file_alignment) bytes.entry.now
+    fn of_first(image: &MappedBytes<'a, '_>, first: FirstDirectory<'a>) -> Result<ResourceData<'a>>
+        ensures { AreResources (offset_in image.now.map) image.now.bytes.now
             (first_directory_view first.entry) (answer_by resource_view result) }
     {
         let data = first.bytes;
         let it = first.entries();
-        let version = VersionInfo::of_entries(bytes, data, it, sections, file_alignment, opts)?;
-        let manifest = ManifestData::of_entries(bytes, data, it, sections, file_alignment, opts)?;
+        let version = VersionInfo::of_entries(image, data, it)?;
+        let manifest = ManifestData::of_entries(image, data, it)?;
         Ok(ResourceData {
             image_resource_directory: first.directory,
             version_info: version,

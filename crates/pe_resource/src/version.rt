@@ -7,6 +7,7 @@ ghost use Rattle.std.specs.Prelude.{All, Ok, map, slice_index_or, [], ◌<◌, �
 ghost use Rattle.std.specs.Option.{option_map};
 ghost use Rattle.pe_core.specs.Offsets.{IsWithin};
 ghost use Rattle.pe_core.specs.Refusals.{Returns, ReturnsAs, Memory, answer_by};
+ghost use Rattle.pe_core.specs.SectionMap.{offset_in};
 ghost use Rattle.pe_resource.specs.Contents.{map_of, content_of, version_of_content, IsVersion};
 ghost use Rattle.pe_resource.specs.ResourceEntries.{entries_left};
 ghost use Rattle.pe_resource.specs.VersionFields.{version_of_halves, high_half, low_half, version_text, fixed_info_at, fixed_info_in, fixed_info_of, version_key, file_strings, file_strings_view, ReturnsText, version_view, version_in, value_range_in};
@@ -16,7 +17,7 @@ use crate::constants::{RT_VERSION, VS_FFI_SIGNATURE, VS_VERSION_INFO_KEY};
 use crate::content::content;
 use crate::directory::ResourceEntryIterator;
 use crate::string::{text_of, value_ranges};
-use pe_core::{ByteRange, Error, ParseOptions, Result, SectionTable, read_u32};
+use pe_core::{ByteRange, Error, MappedBytes, ParseOptions, Result, SectionTable, read_u32};
 use std::alloc::{AllocError, Allocator};
 
 /// The size of the fixed file information in bytes.
@@ -522,17 +523,14 @@ impl<'a> VersionInfo<'a> {
 
     /// The version information: the content of the first entry with the id `RT_VERSION`.
     pub(crate) fn of_entries(
-        pe: &'a [u8],
+        image: &MappedBytes<'a, '_>,
         bytes: &[u8],
         it: ResourceEntryIterator,
-        sections: &[SectionTable],
-        file_alignment: u32,
-        opts: &ParseOptions,
     ) -> Result<Option<VersionInfo<'a>>>
-        ensures { IsVersion (map_of opts.now sections.now file_alignment) pe.entry.now bytes.now
+        ensures { IsVersion (offset_in image.now.map) image.now.bytes.now bytes.now
             (entries_left it.entry) (answer_by (option_map version_view) result) }
     {
-        let content = content(pe, bytes, it, RT_VERSION, sections, file_alignment, opts)?;
+        let content = content(image, bytes, it, RT_VERSION)?;
         VersionInfo::of_content(content)
     }
 
@@ -559,6 +557,7 @@ impl<'a> VersionInfo<'a> {
             bytes.entry.now (entries_left it.entry) (answer_by (option_map version_view) result) }
         ensures no_memory { answer_by (option_map version_view) result ≢ Err Memory }
     {
-        VersionInfo::of_entries(pe, bytes, it, sections, file_alignment, opts)
+        let image = MappedBytes::new(pe, sections, file_alignment, opts);
+        VersionInfo::of_entries(&image, bytes, it)
     }
 }

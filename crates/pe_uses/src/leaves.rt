@@ -1,6 +1,6 @@
 //! All resources of a type.
 
-use pe_core::{ByteRange, Header, ParseMode, ParseOptions, Result};
+use pe_core::{ByteRange, Header, MappedBytes, ParseMode, ParseOptions, Result};
 use pe_resource::ResourceData;
 use std::alloc::Global;
 
@@ -18,14 +18,15 @@ pub fn contents_of_type(alloc: Global, bytes: &[u8], id: u16) -> Result<Vec<Byte
     };
     let sections = header.sections(alloc, bytes)?;
     let alignment = optional_header.windows_fields.file_alignment;
-    for item in ResourceData::leaves(bytes, directory, &sections, alignment, &opts)?.take(100_000) {
+    let image = MappedBytes::new(bytes, &sections, alignment, &opts);
+    for item in ResourceData::leaves(&image, directory)?.take(100_000) {
         let Ok(leaf) = item else {
             continue;
         };
         if leaf.resource_type.id() != Some(id) {
             continue;
         }
-        if let Ok(range) = leaf.content_range(bytes, &sections, alignment, &opts) {
+        if let Ok(range) = leaf.content_range(&image) {
             ranges.push(range)?;
         }
     }

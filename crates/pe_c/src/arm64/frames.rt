@@ -141,10 +141,9 @@ fn step_by_data<M: Memory>(image: &View<'_>, memory: &M, frame: &mut Arm64StackF
         Ok(info) => info,
         Err(error) => return number_of(&error),
     };
-    let (start, rva) = (function.begin_address, frame.rva);
-    let registers = registers_of(&frame.registers);
+    let (rva, registers) = (frame.rva, registers_of(&frame.registers));
     let left = match info {
-        Some(info) => step_out_arm64(&info, start, rva, registers, memory),
+        Some(info) => step_out_arm64(&function, &info, rva, registers, memory),
         None => step_out_packed(&function, rva, registers, memory),
     };
     hand_out_left(left, frame)

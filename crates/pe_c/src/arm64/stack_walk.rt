@@ -8,8 +8,8 @@ ghost use Rattle.pe_c.specs.FrameCalls.{HandsOutFrame, HandsOutFrames};
 
 use crate::arm64::frames::{Arm64FrameRegisters, flat_registers, registers_of};
 use crate::frame_calls::{
-    WalkRecord, error_of_end, next_frame_over, next_frames_over, number_of_end, number_of_way,
-    way_of,
+    ProcessView, WalkRecord, error_of_end, next_frame_over, next_frames_over, number_of_end,
+    number_of_way, way_of,
 };
 use crate::stack_walk::ModuleView;
 use pe_frame::{Arm64StackFrame, MemoryPiece, WalkEnd, WalkPosition};
@@ -105,7 +105,12 @@ pub extern "C" fn pe_c_next_arm64_frame(
     ensures { HandsOutFrame Calls arm64_stack_walks
         modules.now memory.now pieces.now result walk.old walk.new }
 {
-    next_frame_over(modules, memory, pieces, walk)
+    let process = ProcessView {
+        modules,
+        memory,
+        pieces,
+    };
+    next_frame_over(&process, walk)
 }
 
 /// As `pe_c_next_frames` on ARM64.
@@ -123,5 +128,10 @@ pub extern "C" fn pe_c_next_arm64_frames(
     ensures { HandsOutFrames Calls arm64_stack_walks modules.now memory.now pieces.now result
         (frames.old, count.old) (frames.new, count.new) walk.old walk.new }
 {
-    next_frames_over(modules, memory, pieces, walk, frames, count)
+    let process = ProcessView {
+        modules,
+        memory,
+        pieces,
+    };
+    next_frames_over(&process, walk, frames, count)
 }

@@ -89,11 +89,18 @@ pub(crate) fn codes_from(codes: &[u8], index: u32) -> &[u8]
     }
 }
 
-/// Whether a place is in an epilog with so many codes, or at its return.
-pub(crate) fn is_in_epilog(place: usize, start: usize, codes: usize) -> bool
-    ensures { result ≡ (nat_le start place && nat_le (place - start) codes) }
+/// The instructions of an epilog: how many of the function are before it, and how many it has without its return.
+#[derive(Clone, Copy)]
+pub(crate) struct EpilogPlaces {
+    pub(crate) start: usize,
+    pub(crate) length: usize,
+}
+
+/// Whether a place is in an epilog, or at its return.
+pub(crate) fn is_in_epilog(place: usize, epilog: EpilogPlaces) -> bool
+    ensures { result ≡ (nat_le epilog.start place && nat_le (place - epilog.start) epilog.length) }
 {
-    start <= place && place - start <= codes
+    epilog.start <= place && place - epilog.start <= epilog.length
 }
 
 /// How many instructions of a function of so many are before an epilog with so many codes.

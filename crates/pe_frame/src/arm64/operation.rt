@@ -100,10 +100,32 @@ pub(crate) fn register_after(register: Arm64Register, count: u64) -> Option<Arm6
     }
 }
 
-/// A register was stored.
-fn save(register: Arm64Register, offset: u32, moved: u32) -> Option<Arm64Operation>
-    ensures { result ≡ save register offset moved }
+/// Where registers were stored: so far above the stack pointer, after that moved so far down.
+#[derive(Clone, Copy)]
+struct Place {
+    offset: u32,
+    moved: u32,
+}
+
+/// So far above a stack pointer that did not move.
+fn above(offset: u32) -> Place
+    ensures { result ≡ record { offset = offset; moved = 0 } }
 {
+    Place { offset, moved: 0 }
+}
+
+/// At a stack pointer that moved so far down.
+fn lowered(moved: u32) -> Place
+    ensures { result ≡ record { offset = 0; moved = moved } }
+{
+    Place { offset: 0, moved }
+}
+
+/// A register was stored.
+fn save(register: Arm64Register, place: Place) -> Option<Arm64Operation>
+    ensures { result ≡ save register place.offset place.moved }
+{
+    let Place { offset, moved } = place;
     if is_register(register) {
         Some(Arm64Operation::Save {
             register,
@@ -116,9 +138,10 @@ fn save(register: Arm64Register, offset: u32, moved: u32) -> Option<Arm64Operati
 }
 
 /// A register and the next one were stored.
-fn save_pair(first: Arm64Register, offset: u32, moved: u32) -> Option<Arm64Operation>
-    ensures { result ≡ save_pair first offset moved }
+fn save_pair(first: Arm64Register, place: Place) -> Option<Arm64Operation>
+    ensures { result ≡ save_pair first place.offset place.moved }
 {
+    let Place { offset, moved } = place;
     match register_after(first, 1) {
         Some(second) => Some(Arm64Operation::SavePair {
             first,
@@ -156,14 +179,14 @@ fn float_operation(code: Arm64UnwindCode) -> Option<Arm64Operation>
         Arm64UnwindCode::SaveFRegPair {
             first_reg,
             offset_bytes,
-        } => save_pair(float(first_reg), offset_bytes, 0),
+        } => save_pair(float(first_reg), above(offset_bytes)),
         Arm64UnwindCode::SaveFRegPairPreindexed {
             first_reg,
             offset_bytes,
-        } => save_pair(float(first_reg), 0, offset_bytes),
-        Arm64UnwindCode::SaveFReg { reg, offset_bytes } => save(float(reg), offset_bytes, 0),
+        } => save_pair(float(first_reg), lowered(offset_bytes)),
+        Arm64UnwindCode::SaveFReg { reg, offset_bytes } => save(float(reg), above(offset_bytes)),
         Arm64UnwindCode::SaveFRegPreindexed { reg, offset_bytes } => {
-            save(float(reg), 0, offset_bytes)
+            save(float(reg), lowered(offset_bytes))
         }
         _ => None,
     }
@@ -175,27 +198,27 @@ fn save_operation(code: Arm64UnwindCode) -> Option<Arm64Operation>
 {
     match code {
         Arm64UnwindCode::SaveR19R20Preindexed { offset_bytes } => {
-            save_pair(Arm64Register::X(19), 0, offset_bytes)
+            save_pair(Arm64Register::X(19), lowered(offset_bytes))
         }
         Arm64UnwindCode::SaveFpLr { offset_bytes } => {
-            save_pair(Arm64Register::X(29), offset_bytes, 0)
+            save_pair(Arm64Register::X(29), above(offset_bytes))
         }
         Arm64UnwindCode::SaveFpLrPreindexed { offset_bytes } => {
-            save_pair(Arm64Register::X(29), 0, offset_bytes)
+            save_pair(Arm64Register::X(29), lowered(offset_bytes))
         }
         Arm64UnwindCode::SaveRegPair {
             first_reg,
             offset_bytes,
-        } => save_pair(Arm64Register::X(first_reg), offset_bytes, 0),
+        } => save_pair(Arm64Register::X(first_reg), above(offset_bytes)),
         Arm64UnwindCode::SaveRegPairPreindexed {
             first_reg,
             offset_bytes,
-        } => save_pair(Arm64Register::X(first_reg), 0, offset_bytes),
+        } => save_pair(Arm64Register::X(first_reg), lowered(offset_bytes)),
         Arm64UnwindCode::SaveReg { reg, offset_bytes } => {
-            save(Arm64Register::X(reg), offset_bytes, 0)
+            save(Arm64Register::X(reg), above(offset_bytes))
         }
         Arm64UnwindCode::SaveRegPreindexed { reg, offset_bytes } => {
-            save(Arm64Register::X(reg), 0, offset_bytes)
+            save(Arm64Register::X(reg), lowered(offset_bytes))
         }
         Arm64UnwindCode::SaveLrPair {
             first_reg,
@@ -210,10 +233,18 @@ const INTEGER: u8 = 0;
 
 const VECTOR: u8 = 2;
 
-/// The register of some kind that is restored from a slot with this number.
-fn any_register(kind: u8, number: u8) -> Option<Arm64Register>
-    ensures { result ≡ any_register kind number }
+/// A register of `save_any_reg`, by its kind and its number there.
+#[derive(Clone, Copy)]
+struct AnyRegister {
+    kind: u8,
+    number: u8,
+}
+
+/// The register that is restored from a slot with this one.
+fn any_register(register: AnyRegister) -> Option<Arm64Register>
+    ensures { result ≡ any_register register.kind register.number }
 {
+    let AnyRegister { kind, number } = register;
     if kind == INTEGER {
         return Some(Arm64Register::X(number));
     }
@@ -244,12 +275,13 @@ fn any_operation(
         return None;
     }
     let second = if pair {
-        any_register(kind, number + 1)
+        let number = number + 1;
+        any_register(AnyRegister { kind, number })
     } else {
         None
     };
     Some(Arm64Operation::SaveEach {
-        first: any_register(kind, number),
+        first: any_register(AnyRegister { kind, number }),
         second,
         offset,
         apart: if kind == VECTOR { 16 } else { 8 },

@@ -14,7 +14,8 @@ ghost use Rattle.pe_frame.specs.Arm64Machine.{IsArm64Caller};
 
 use super::entry::{Arm64Entry, entry_of};
 use super::epilog::{
-    Arm64Epilog, SIZE_OF_INSTRUCTION, codes_from, epilog_after, epilog_start, is_in_epilog,
+    Arm64Epilog, EpilogPlaces, SIZE_OF_INSTRUCTION, codes_from, epilog_after, epilog_start,
+    is_in_epilog,
 };
 use super::packed::{epilog_codes, has_ended, is_canonical, packed_codes, packed_length};
 use super::record::{after_codes, prolog_length, require_codes, undo_codes, undo_each};
@@ -82,7 +83,7 @@ fn caller_after<M: Memory>(
     let length = prolog_length(rest);
     let count = info.header.function_length() / SIZE_OF_INSTRUCTION;
     let start = epilog_start(count, epilog.start, length);
-    if is_in_epilog(place as usize, start, length) {
+    if is_in_epilog(place as usize, EpilogPlaces { start, length }) {
         let left = after_codes(rest, (place as usize).saturating_sub(start));
         return caller_by_codes(left, registers, memory);
     }
@@ -115,22 +116,22 @@ pub(crate) fn caller<M: Memory>(
 ///
 /// As [`step_arm64`], which says what is refused.
 pub fn step_out_arm64<M: Memory>(
+    function: &Arm64RuntimeFunction,
     info: &Arm64UnwindInfo<'_>,
-    start: u32,
     rva: u32,
     registers: Arm64Registers,
     memory: &M,
 ) -> Result<(Arm64Registers, bool), FrameError>
     ensures { StepsOutArm64 (M.word memory.now)
-        (info_view info.now) ((rva - start) / 4) registers result }
+        (info_view info.now) ((rva - function.now.begin_address) / 4) registers result }
 {
-    let offset = rva.saturating_sub(start);
+    let offset = rva.saturating_sub(function.begin_address);
     caller(info, offset / SIZE_OF_INSTRUCTION, registers, memory)
 }
 
 /// The registers of a function's caller, from those inside the function, by its unwind record.
 ///
-/// `info` is the record of the function, `start` its `begin_address`, `rva` the instruction pointer less the image base. After
+/// `info` is the record of the function, `rva` the instruction pointer less the image base. After
 /// the prolog all codes of the record are undone, inside of it those of the instructions before `rva`. In an epilog that the
 /// record describes, and at its return, the codes of the epilog are undone whose instructions have not run: it is the last scope
 /// that starts at or before `rva`, or the only epilog, at the end of the function. The caller goes on at the link register;
@@ -153,21 +154,22 @@ pub fn step_out_arm64<M: Memory>(
 /// unless the first code after it that is another one saves a pair.
 #[tactic(auto, using(crate::proofs::Arm64Streams::registers_of_arm64_step))]
 pub fn step_arm64<M: Memory>(
+    function: &Arm64RuntimeFunction,
     info: &Arm64UnwindInfo<'_>,
-    start: u32,
     rva: u32,
     registers: Arm64Registers,
     memory: &M,
 ) -> Result<Arm64Registers, FrameError>
     ensures exact { StepsArm64 (M.word memory.now)
-        (info_view info.now) ((rva - start) / 4) registers result }
+        (info_view info.now) ((rva - function.now.begin_address) / 4) registers result }
     ensures undoes { (p : Arm64Part) (stand : ℕ) →
-        Leaves (info_view info.now) ((rva - start) / 4) (Ok (ran_arm64 stand p.codes)) →
+        Leaves (info_view info.now) ((rva - function.now.begin_address) / 4)
+        (Ok (ran_arm64 stand p.codes)) →
         IsArm64Frame p stand (M.word memory.now) registers →
         (u : Arm64Registers) × (result ≡ Ok u)
         × IsArm64Caller (effects_at stand p) p.entry registers u }
 {
-    registers_alone(step_out_arm64(info, start, rva, registers, memory))
+    registers_alone(step_out_arm64(function, info, rva, registers, memory))
 }
 
 /// The registers of the caller, where these codes are left to be undone, none of which is `save_next`.
@@ -199,7 +201,11 @@ fn packed_caller_after<M: Memory>(
     let of_epilog = list.as_slice();
     let count = function.function_length() / SIZE_OF_INSTRUCTION;
     let start = epilog_start(count, None, of_epilog.len());
-    if is_in_epilog(place as usize, start, of_epilog.len()) {
+    let places = EpilogPlaces {
+        start,
+        length: of_epilog.len(),
+    };
+    if is_in_epilog(place as usize, places) {
         let left = &of_epilog[(place as usize).saturating_sub(start)..];
         return caller_by_list(left, registers, memory);
     }

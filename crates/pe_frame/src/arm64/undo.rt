@@ -12,7 +12,7 @@ use super::operation::{Arm64Operation, Arm64Register, operation_of, register_aft
 use super::registers::{Arm64Registers, FRAME_POINTER, LINK_REGISTER};
 use crate::error::FrameError;
 use crate::memory::{Memory, SIZE_OF_WORD};
-use crate::undo::{above, number};
+use crate::undo::{Bytes, above, number};
 use pe_unwind::Arm64UnwindCode;
 
 /// The weight of bit 55, which is set in addresses of the system; how many addresses the 48 bits below a signature have; and
@@ -50,7 +50,7 @@ fn raise(by: u32, registers: &mut Arm64Registers) -> Result<(), FrameError>
     ensures { (m : ℕ → Option ℕ) →
         changed result registers.new ≡ reverted_all m (Lower by ∷ []) registers.old }
 {
-    registers.sp = above(registers.sp, u64::from(by))?;
+    registers.sp = above(registers.sp, Bytes(u64::from(by)))?;
     Ok(())
 }
 
@@ -99,7 +99,7 @@ pub(crate) fn load<M: Memory>(
     ensures { changed result registers.new
         ≡ reverted (M.word memory.now) (Store register offset) registers.old }
 {
-    let value = number(memory, above(registers.sp, offset)?)?;
+    let value = number(memory, above(registers.sp, Bytes(offset))?)?;
     put(register, value, registers);
     Ok(())
 }
@@ -122,37 +122,41 @@ fn undo_pair<M: Memory>(
     raise(moved, registers)
 }
 
-/// Loads a register from a slot, if the slot has one that is restored.
-fn load_some<M: Memory>(
+/// A slot so many bytes above the stack pointer, and the register that is restored from it, if one is.
+#[derive(Clone, Copy)]
+struct Slot {
     register: Option<Arm64Register>,
     offset: u64,
+}
+
+/// Loads the register of a slot.
+fn load_some<M: Memory>(
+    slot: Slot,
     registers: &mut Arm64Registers,
     memory: &M,
 ) -> Result<(), FrameError>
     ensures { changed result registers.new
-        ≡ reverted_all (M.word memory.now) (store_some register offset) registers.old }
+        ≡ reverted_all (M.word memory.now) (store_some slot.register slot.offset) registers.old }
 {
-    match register {
-        Some(register) => load(register, offset, registers, memory),
+    match slot.register {
+        Some(register) => load(register, slot.offset, registers, memory),
         None => Ok(()),
     }
 }
 
-/// The same from two slots.
+/// The same of two slots.
 fn load_each<M: Memory>(
-    slots: (Option<Arm64Register>, Option<Arm64Register>),
-    offset: u64,
-    apart: u64,
+    first: Slot,
+    second: Slot,
     registers: &mut Arm64Registers,
     memory: &M,
 ) -> Result<(), FrameError>
-    requires room { offset < 2 ^ 40 }
-    requires near { apart < 2 ^ 40 }
     ensures { changed result registers.new ≡ reverted_all (M.word memory.now)
-        (store_some slots.0 offset ++ store_some slots.1 (offset + apart)) registers.old }
+        (store_some first.register first.offset ++ store_some second.register second.offset)
+        registers.old }
 {
-    load_some(slots.0, offset, registers, memory)?;
-    load_some(slots.1, offset + apart, registers, memory)
+    load_some(first, registers, memory)?;
+    load_some(second, registers, memory)
 }
 
 /// Makes the registers those before an operation.
@@ -190,14 +194,15 @@ pub(crate) fn undo_operation<M: Memory>(
             offset,
             apart,
         } => {
-            let slots = (first, second);
-            load_each(
-                slots,
-                u64::from(offset),
-                u64::from(apart),
-                registers,
-                memory,
-            )
+            let first = Slot {
+                register: first,
+                offset: u64::from(offset),
+            };
+            let second = Slot {
+                register: second,
+                offset: first.offset + u64::from(apart),
+            };
+            load_each(first, second, registers, memory)
         }
         Arm64Operation::SetFrame(offset) => lower_to_frame(offset, registers),
         Arm64Operation::Sign => {

@@ -235,28 +235,40 @@ fn place_of(module: &Module<'_>, function: &Arm64RuntimeFunction, frame: &Arm64S
     offset / SIZE_OF_INSTRUCTION + if frame.has_called { 1 } else { 0 }
 }
 
+/// The function of a frame, as lookup found it.
+#[derive(Clone, Copy)]
+struct FrameFunction<'a> {
+    module: &'a Module<'a>,
+    exceptions: &'a ExceptionData<'a>,
+    function: Arm64RuntimeFunction,
+}
+
 /// The frame of the caller, by the unwind data of the function that lookup found.
 fn caller_by_records<L: CallSites, M: Memory>(
     modules: &L,
-    module: &Module<'_>,
-    exceptions: &ExceptionData<'_>,
-    function: &Arm64RuntimeFunction,
+    found: &FrameFunction<'_>,
     frame: &Arm64StackFrame,
     memory: &M,
 ) -> Result<Arm64StackFrame, WalkEnd>
-    requires { lookup_address frame.now ≤ module.now.base + module.now.size }
+    requires { lookup_address frame.now ≤ found.now.module.now.base + found.now.module.now.size }
     ensures { CallsByInfo
         (record { memory = M.word memory.now; modules = L.list modules.now })
-        module.now function.now frame.now
-        (info_by (map_of_module module.now exceptions.now) exceptions.now.content function.now)
+        found.now.module.now found.now.function frame.now
+        (info_by (map_of_module found.now.module.now found.now.exceptions.now)
+        found.now.exceptions.now.content found.now.function)
         result }
 {
-    let place = place_of(module, function, frame);
+    let FrameFunction {
+        module,
+        exceptions,
+        function,
+    } = *found;
+    let place = place_of(module, &function, frame);
     let registers = frame.registers;
     let map = ModuleMap { module, exceptions };
-    match exceptions.get_unwind_info_arm64_with_map(*function, &map) {
+    match exceptions.get_unwind_info_arm64_with_map(function, &map) {
         None => {
-            let left = step_out_packed(function, place, registers, memory);
+            let left = step_out_packed(&function, place, registers, memory);
             frame_after(modules, frame, left)
         }
         Some(Ok(info)) => frame_after(modules, frame, caller(&info, place, registers, memory)),
@@ -281,7 +293,12 @@ pub fn caller_in_module_arm64<L: CallSites, M: Memory>(
     let rva = module.rva_of(frame.lookup_address());
     match exceptions.find_function_arm64_with_map(rva, &ModuleMap { module, exceptions }) {
         Ok(Some(function)) => {
-            caller_by_records(modules, module, exceptions, &function, frame, memory)
+            let found = FrameFunction {
+                module,
+                exceptions,
+                function,
+            };
+            caller_by_records(modules, &found, frame, memory)
         }
         Ok(None) => caller_of_leaf(modules, frame, memory),
         Err(error) => Err(WalkEnd::Records(error)),

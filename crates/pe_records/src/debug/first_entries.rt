@@ -1,5 +1,5 @@
-//! The entries from which the records of debug data are read: the first whole entry of each type. One pass over the
-//! table finds them all.
+//! The entries from which the records of debug data are read: the first whole entry of each of five types. One pass over
+//! the table finds them all, where `find_type` of the iterator makes one for each type.
 
 ghost use Rattle.std.specs.Prelude.{◌≡◌, ◌==◌, [], ◌∷◌};
 ghost use Rattle.std.specs.Option.{option_or};
@@ -13,14 +13,20 @@ use crate::debug::constants::{
     IMAGE_DEBUG_TYPE_POGO, IMAGE_DEBUG_TYPE_REPRO, IMAGE_DEBUG_TYPE_VC_FEATURE,
 };
 
-/// The first whole entry of each type whose record is read.
-#[derive(Clone, Copy)]
-pub(crate) struct FirstEntries {
-    pub(crate) codeview: Option<ImageDebugDirectory>,
-    pub(crate) features: Option<ImageDebugDirectory>,
-    pub(crate) characteristics: Option<ImageDebugDirectory>,
-    pub(crate) repro: Option<ImageDebugDirectory>,
-    pub(crate) pogo: Option<ImageDebugDirectory>,
+/// The first whole entry of each type whose record `DebugData` reads. A field is `None` without such an entry. What the
+/// entries lead to is not read, so a caller can read each record with a result of its own.
+#[derive(Clone, Copy, Debug)]
+pub struct FirstDebugEntries {
+    /// The first entry of `IMAGE_DEBUG_TYPE_CODEVIEW`: its record names the PDB, in the form of PDB 7.0 or PDB 2.0.
+    pub codeview: Option<ImageDebugDirectory>,
+    /// The first entry of `IMAGE_DEBUG_TYPE_VC_FEATURE`.
+    pub features: Option<ImageDebugDirectory>,
+    /// The first entry of `IMAGE_DEBUG_TYPE_EX_DLLCHARACTERISTICS`.
+    pub characteristics: Option<ImageDebugDirectory>,
+    /// The first entry of `IMAGE_DEBUG_TYPE_REPRO`.
+    pub repro: Option<ImageDebugDirectory>,
+    /// The first entry of `IMAGE_DEBUG_TYPE_POGO`.
+    pub pogo: Option<ImageDebugDirectory>,
 }
 
 /// Keeps the entry if it has the type and none is kept so far.
@@ -33,10 +39,12 @@ fn keep_first(kept: &mut Option<ImageDebugDirectory>, entry: &ImageDebugDirector
     }
 }
 
-impl FirstEntries {
-    /// The first entries of a table, whose entries are read once, from the first to the last.
+impl FirstDebugEntries {
+    /// The first entries of a table, the bytes at `DebugData::table_range`. Each of its entries is read once, from the
+    /// first to the last, and a truncated last one is none. `fixup` is subtracted from the RVA and the file offset in each
+    /// entry, modulo 2^32: pass 0, or for a TE image `TeHeader::rva_offset`.
     #[tactic(auto, unfolding(crate::specs::DebugDirectory::whole_debug_entries, pe_core::specs::Rows::each))]
-    pub(crate) fn of_table(table: &[u8], fixup: u32) -> FirstEntries
+    pub fn of_table(table: &[u8], fixup: u32) -> FirstDebugEntries
         ensures codeview { result.codeview ≡ first_of_type fixup IMAGE_DEBUG_TYPE_CODEVIEW table.now }
         ensures features { result.features ≡ first_of_type fixup IMAGE_DEBUG_TYPE_VC_FEATURE table.now }
         ensures characteristics { result.characteristics
@@ -61,7 +69,7 @@ impl FirstEntries {
             keep_first(&mut repro, &entry, IMAGE_DEBUG_TYPE_REPRO);
             keep_first(&mut pogo, &entry, IMAGE_DEBUG_TYPE_POGO);
         }
-        FirstEntries {
+        FirstDebugEntries {
             codeview,
             features,
             characteristics,

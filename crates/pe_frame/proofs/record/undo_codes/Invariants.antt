@@ -10,5 +10,5 @@ abbrev pub invariant-loop-item : goal.invariant-loop-item
 invariant-loop-item g l =
     (codes : List UnwindCode) → AreItems (code_stream (unwind_view l.info)) (map Ok codes) →
     (rest : List UnwindCode) × AreItems (stream_of l.item-iterator) (map Ok rest)
-    × (undone_all (g.M.Memory.word l.memory) l.base (ran l.limit rest) l.registers
-    ≡ undone_all (g.M.Memory.word l.memory) l.base (ran l.limit codes) l.fn.registers)
+    × (undone_all (g.M.Memory.word l.memory) l.frame.base (ran l.frame.limit rest) l.registers
+    ≡ undone_all (g.M.Memory.word l.memory) l.frame.base (ran l.frame.limit codes) l.fn.registers)

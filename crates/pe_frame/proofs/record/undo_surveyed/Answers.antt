@@ -14,7 +14,7 @@ loop-item-preserved g c rest are =
       inv.0,
       inv.1,
       inv.2
-          ∙ undone_more (g.M.Memory.word c.args.memory.now) c.args.base c.args.limit c.loop-item.survey c.survey_with-survey.result (changed c.loop-item.left c.loop-item.registers)
+          ∙ undone_more (g.M.Memory.word c.args.memory.now) c.args.frame.base c.args.frame.limit c.loop-item.survey c.survey_with-survey.result (changed c.loop-item.left c.loop-item.registers)
           (changed c.undo_next-left.result c.undo_next-left.new.registers) c.in-Ok.code rest c.survey_with-survey.ensures c.undo_next-left.ensures,
     )
 
@@ -28,4 +28,4 @@ pub returns : goal.returns
 returns g c =
     let steps = subst (λ (r : Option (Result UnwindCode Error)). ReturnsCode (stream_of c.loop-item.item-iterator) r (stream_of c.next.new.self)) c.in-None.is c.next.ensures.steps in
     let inv = c.loop-item.invariant [] (none_left _ _ steps) in
-    (known_codes inv.0, (inv.0, inv.1, refl), sym (inv.2 ∙ undone_none (g.M.Memory.word c.args.memory.now) c.args.base c.args.limit c.loop-item.survey (changed c.loop-item.left c.loop-item.registers)))
+    (known_codes inv.0, (inv.0, inv.1, refl), sym (inv.2 ∙ undone_none (g.M.Memory.word c.args.memory.now) c.args.frame.base c.args.frame.limit c.loop-item.survey (changed c.loop-item.left c.loop-item.registers)))

@@ -14,5 +14,5 @@ abbrev pub invariant-loop-item : goal.invariant-loop-item
 invariant-loop-item g l =
     (rest : List (Result UnwindCode Error)) → AreItems (stream_of l.item-iterator) rest →
     (all : List (Result UnwindCode Error)) × AreItems (code_stream (unwind_view l.info)) all
-    × (all_undone (g.M.Memory.word l.memory) l.base l.limit nothing_known (Ok l.fn.registers) (known_codes all)
-    ≡ all_undone (g.M.Memory.word l.memory) l.base l.limit l.survey (changed l.left l.registers) (known_codes rest))
+    × (all_undone (g.M.Memory.word l.memory) l.frame.base l.frame.limit nothing_known (Ok l.fn.registers) (known_codes all)
+    ≡ all_undone (g.M.Memory.word l.memory) l.frame.base l.frame.limit l.survey (changed l.left l.registers) (known_codes rest))

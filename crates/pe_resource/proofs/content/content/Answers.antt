@@ -14,9 +14,9 @@ returns-in_err-content_range c =
 pub returns-in-None : goal.returns-in-None
 returns-in-None c =
     content_given _ _ _ (entries_left c.args.it) c.args.id c.in_ok-content_range.field-0 _ c.in_ok-content_range.ensures.range
-    (ap (content_of c.args.pe.now) (sym c.in-None.is))
+    (ap (content_of c.args.image.now.bytes.now) (sym c.in-None.is))
 
 pub returns-in-Some : goal.returns-in-Some
 returns-in-Some c =
     content_given _ _ _ (entries_left c.args.it) c.args.id c.in_ok-content_range.field-0 _ c.in_ok-content_range.ensures.range
-    (ap (λ b. Some b) c.of.ensures ∙ ap (content_of c.args.pe.now) (sym c.in-Some.is))
+    (ap (λ b. Some b) c.of.ensures ∙ ap (content_of c.args.image.now.bytes.now) (sym c.in-Some.is))

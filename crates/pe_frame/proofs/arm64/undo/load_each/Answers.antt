@@ -1,4 +1,4 @@
-use Rattle.std.proofs.Common.{◌+◌, Ok, Err, refl}
+use Rattle.std.proofs.Common.{Ok, Err, refl}
 use Rattle.std.proofs.lemmas.Result.{err_from_is_err_and}
 use Rattle.pe_frame.specs.Arm64Operations.{store_some}
 use Rattle.pe_frame.specs.InPlace.{changed}
@@ -9,10 +9,10 @@ pub returns : goal.returns
 returns g c =
     let m = g.M.Memory.word c.args.memory.now in
     let one = c.load_some.new.registers in
-    both_reverted m (store_some c.args.slots.0 c.args.offset) (store_some c.args.slots.1 (c.args.offset + c.args.apart)) c.args.registers.now one (Ok one) (changed c.load_some-2.result c.load_some-2.new.registers) c.in_ok-load_some.ensures refl c.load_some-2.ensures
+    both_reverted m (store_some c.args.first.register c.args.first.offset) (store_some c.args.second.register c.args.second.offset) c.args.registers.now one (Ok one) (changed c.load_some-2.result c.load_some-2.new.registers) c.in_ok-load_some.ensures refl c.load_some-2.ensures
 
 pub returns-in_err-load_some : goal.returns-in_err-load_some
 returns-in_err-load_some g c =
     let m = g.M.Memory.word c.args.memory.now in
     let p = err_from_is_err_and c.from_residual.result c.from_residual.ensures.1 in
-    rw (p.1, p.2) (first_refused m (store_some c.args.slots.0 c.args.offset) (store_some c.args.slots.1 (c.args.offset + c.args.apart)) c.args.registers.now c.in_err-load_some.field-0.0 (Err c.in_err-load_some.field-0.0) c.in_err-load_some.ensures refl)
+    rw (p.1, p.2) (first_refused m (store_some c.args.first.register c.args.first.offset) (store_some c.args.second.register c.args.second.offset) c.args.registers.now c.in_err-load_some.field-0.0 (Err c.in_err-load_some.field-0.0) c.in_err-load_some.ensures refl)

@@ -9,6 +9,6 @@ use Rattle.pe_frame.proofs.arm64.undo.load_some.Goals as goal
 pub returns-in-Some : goal.returns-in-Some
 returns-in-Some g c =
     let m = g.M.Memory.word c.args.memory.now in
-    let o = c.args.offset in
+    let o = c.args.slot.offset in
     let regs = c.args.registers.now in
     c.load.ensures ∙ (one_store m c.in-Some.register o regs ∙ ap (λ (r : Option Arm64Register). reverted_all m (store_some r o) regs) (sym c.in-Some.is))

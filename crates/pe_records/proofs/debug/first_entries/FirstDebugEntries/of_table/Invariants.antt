@@ -2,7 +2,7 @@ use Rattle.std.proofs.Common.{◌≡◌, ◌*◌, ◌==◌}
 use Rattle.std.specs.List.{find}
 use Rattle.pe_core.specs.Rows.{each}
 use Rattle.pe_records.specs.DebugDirectory.{debug_entry_at}
-use Rattle.pe_records.proofs.debug.first_entries.FirstEntries.of_table.Given as goal
+use Rattle.pe_records.proofs.debug.first_entries.FirstDebugEntries.of_table.Given as goal
 
 abbrev pub invariant-loop-i : goal.invariant-loop-i
 invariant-loop-i l = record {

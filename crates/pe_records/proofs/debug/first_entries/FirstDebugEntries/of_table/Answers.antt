@@ -2,7 +2,7 @@ use Rattle.std.proofs.Common.{ℕ, ◌*◌, ◌==◌}
 use Rattle.pe_records.specs.declared.debug.ImageDebugDirectory.{ImageDebugDirectory}
 use Rattle.pe_records.proofs.FirstEntries.{one_further}
 use Rattle.pe_records.specs.DebugDirectory.{debug_entry_at}
-use Rattle.pe_records.proofs.debug.first_entries.FirstEntries.of_table.Goals as goal
+use Rattle.pe_records.proofs.debug.first_entries.FirstDebugEntries.of_table.Goals as goal
 
 pub loop-i-preserved : goal.loop-i-preserved
 loop-i-preserved c =
