@@ -318,7 +318,7 @@ pub fn walks_report_the_imports()
 /// A walk over exports returns, one a step and in their order, the exports that the entries of its name table have from
 /// its next index on, and then nothing. So the walk over an export directory returns exactly the exports that the
 /// directory lists. Where entries are left of tables that are not inside the bytes it returns one error alone.
-#[tactic(auto, using(crate::proofs::ExportRuns::exports_in_turn, crate::proofs::ExportRuns::directory_in_turn, crate::proofs::ExportRuns::lies_once))]
+#[tactic(auto, using(crate::proofs::ExportRuns::exports_in_turn, crate::proofs::ExportRuns::lies_once))]
 pub fn walks_give_the_exports()
     ensures entries { (offset : ℕ → Option ℕ) (b : List ℕ) (walk : Exports) (d : ExportDataView) →
         tables_or_short b walk ≡ Ok d → ReturnsItems (StepsExports offset b) walk
