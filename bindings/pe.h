@@ -1994,6 +1994,7 @@ typedef struct {
     pe_c_range ordinals;            /* for each name the index of its RVA in `addresses`, 2 bytes each */
     pe_c_range addresses;           /* RVAs of what is exported, 4 bytes each */
     uint64_t next;                  /* index of the next name */
+    pe_c_directory directory;       /* the export directory: an RVA inside it is that of a forwarder's text */
 } pe_c_exports;
 
 /* A walk over exports, step by step. It starts as PE_C_EMPTY with what pe_c_export_tables returns. */
@@ -2008,7 +2009,8 @@ typedef struct {
     uint32_t rva;                   /* RVA of what is exported */
     uint32_t has_offset;             /* 1 where the RVA is mapped, else 0 */
     uint32_t index;                 /* index in the table of RVAs, for pe_c_export_at */
-    uint32_t spare;                 /* 0 */
+    uint32_t is_forwarder;          /* 1 where the RVA lies in the export directory, else 0: what stands at `offset` is then a
+                                       text that names another DLL's export, which pe_c_export_at returns */
 } pe_c_export;
 
 /* The table of RVAs, which has all exports by their index, also those without a name. */
@@ -2044,8 +2046,8 @@ typedef struct {
     uint32_t address_of_name_ordinals;  /* RVA of the table of indices */
 } pe_c_export_fields;
 
-PE_C_SIZE(pe_c_exports, 56);
-PE_C_SIZE(pe_c_export_walk, 64);
+PE_C_SIZE(pe_c_exports, 64);
+PE_C_SIZE(pe_c_export_walk, 72);
 PE_C_SIZE(pe_c_export, 40);
 PE_C_SIZE(pe_c_address_table, 48);
 PE_C_SIZE(pe_c_exported, 32);

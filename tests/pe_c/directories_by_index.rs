@@ -215,13 +215,14 @@ fn tables_by(view: &View<'_>) -> (u32, [[u64; 2]; 3]) {
         ordinals: untouched(),
         addresses: untouched(),
         next: 7,
+        directory: directory(8, 9),
     };
     let answer = pe_c_export_tables(view, &mut out);
     let Exports {
         names,
         ordinals,
         addresses,
-        next: _,
+        ..
     } = out;
     (
         answer,

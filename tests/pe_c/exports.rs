@@ -8,7 +8,10 @@ use crate::export_addresses::{AddressTable, Exported, pe_c_export_addresses, pe_
 use crate::exports::{Export, ExportWalk, Exports, pe_c_export_tables, pe_c_next_export};
 use crate::image::Image;
 use crate::kept_sections::NO_SECTIONS;
+use crate::lists::exports::{pe_c_list_exports, pe_c_list_exports_together};
+use crate::ranges::Range;
 use crate::results::{DONE, NOTHING};
+use pe_core::DataDirectory;
 use pe_images::{image as bytes_of, put};
 use std::alloc::Global;
 use std::test::Fail;
@@ -42,8 +45,8 @@ fn with_directory(virtual_address: u32) -> Image {
     having(image(X64), 0, directory(virtual_address, 1))
 }
 
-/// The ranges of names, ordinals and addresses, and the next index.
-type Walk = ([u64; 2], [u64; 2], [u64; 2], u64);
+/// The ranges of names, ordinals and addresses, the next index, and the RVA and size of the directory.
+type Walk = ([u64; 2], [u64; 2], [u64; 2], u64, [u32; 2]);
 
 fn of_walk(walk: Exports) -> Walk {
     let Exports {
@@ -51,14 +54,19 @@ fn of_walk(walk: Exports) -> Walk {
         ordinals,
         addresses,
         next,
+        directory,
     } = walk;
     (
         of_range(names),
         of_range(ordinals),
         of_range(addresses),
         next,
+        [directory.virtual_address, directory.size],
     )
 }
+
+/// The directory of the image.
+const DIRECTORY: [u32; 2] = [0x1010, 1];
 
 pub(crate) fn walk_over(next: u64) -> Exports {
     Exports {
@@ -66,10 +74,11 @@ pub(crate) fn walk_over(next: u64) -> Exports {
         ordinals: range(0x80, 12),
         addresses: range(0x50, 12),
         next,
+        directory: directory(0x1010, 1),
     }
 }
 
-const UNTOUCHED_WALK: Walk = ([1, 2], [3, 4], [5, 6], 7);
+const UNTOUCHED_WALK: Walk = ([1, 2], [3, 4], [5, 6], 7, [8, 9]);
 
 fn tables_of(bytes: &[u8], image: &Image, mode: u32) -> (u32, Walk) {
     let mut out = Exports {
@@ -77,6 +86,7 @@ fn tables_of(bytes: &[u8], image: &Image, mode: u32) -> (u32, Walk) {
         ordinals: range(3, 4),
         addresses: range(5, 6),
         next: 7,
+        directory: directory(8, 9),
     };
     let answer = pe_c_export_tables(&view(bytes, &in_mode(image, mode), &sections()), &mut out);
     (answer, of_walk(out))
@@ -98,7 +108,7 @@ fn tables_of_exports(rt: HostRuntime) -> Result<(), Fail> {
     put(&mut bytes, &[(0x24, &[0]), (0x28, &[0]), (0x2F, &[0xFF])]);
     assert_eq!(rt;
         tables_of(&bytes, &image, STRICT),
-        (DONE, (OVER, OVER, OVER, 0))
+        (DONE, (OVER, OVER, OVER, 0, DIRECTORY))
     );
     Ok(())
 }
@@ -165,7 +175,7 @@ fn step(bytes: &[u8], mode: u32, walk: &mut ExportWalk) -> (u32, Fields, Walk) {
         rva: 4,
         has_offset: 5,
         index: 6,
-        spare: 7,
+        is_forwarder: 7,
     };
     let answer = pe_c_next_export(
         &view(bytes, &in_mode(&image(X64), mode), &sections()),
@@ -213,7 +223,11 @@ fn exports_of_cut_tables(rt: HostRuntime) -> Result<(), Fail> {
         names: range(0x60, 19),
         ..walk_over(1)
     });
-    let want = (NOTHING, NO_EXPORT, ([0x60, 19], [0x80, 12], [0x50, 12], 4));
+    let want = (
+        NOTHING,
+        NO_EXPORT,
+        ([0x60, 19], [0x80, 12], [0x50, 12], 4, DIRECTORY),
+    );
     assert_eq!(rt; step(&bytes, STRICT, &mut names), want);
     let mut ordinals = from(Exports {
         ordinals: range(0x80, 9),
@@ -231,7 +245,7 @@ fn exports_of_cut_tables(rt: HostRuntime) -> Result<(), Fail> {
     let want = (
         DONE,
         ([0xA0, 1], 8, 0x1008, 1),
-        ([0x60, 24], [0x80, 12], [0x50, 7], 5),
+        ([0x60, 24], [0x80, 12], [0x50, 7], 5, DIRECTORY),
     );
     assert_eq!(rt; step(&bytes, STRICT, &mut addresses), want);
     Ok(())
@@ -241,7 +255,7 @@ fn exports_of_cut_tables(rt: HostRuntime) -> Result<(), Fail> {
 #[test]
 fn walks_that_lie(rt: HostRuntime) -> Result<(), Fail> {
     let bytes = with_exports(rt.alloc())?;
-    let (_, ordinals, addresses, _) = of_walk(walk_over(0));
+    let (_, ordinals, addresses, _, _) = of_walk(walk_over(0));
     for lie in lies(0xB0) {
         let mut walk = from(Exports {
             names: lie,
@@ -252,20 +266,32 @@ fn walks_that_lie(rt: HostRuntime) -> Result<(), Fail> {
         } else {
             (SHORT, OVER)
         };
-        let want = (number, NO_EXPORT, (names, ordinals, addresses, 0));
+        let want = (
+            number,
+            NO_EXPORT,
+            (names, ordinals, addresses, 0, DIRECTORY),
+        );
         assert_eq!(rt; step(&bytes, STRICT, &mut walk), want);
         assert_eq!(rt; step(&bytes, STRICT, &mut walk).0, NOTHING);
         let mut walk = from(Exports {
             ordinals: lie,
             ..walk_over(5)
         });
-        let want = (SHORT, NO_EXPORT, (OVER, of_range(lie), addresses, 5));
+        let want = (
+            SHORT,
+            NO_EXPORT,
+            (OVER, of_range(lie), addresses, 5, DIRECTORY),
+        );
         assert_eq!(rt; step(&bytes, STRICT, &mut walk), want);
         let mut walk = from(Exports {
             addresses: lie,
             ..walk_over(5)
         });
-        let want = (SHORT, NO_EXPORT, (OVER, ordinals, of_range(lie), 5));
+        let want = (
+            SHORT,
+            NO_EXPORT,
+            (OVER, ordinals, of_range(lie), 5, DIRECTORY),
+        );
         assert_eq!(rt; step(&bytes, STRICT, &mut walk), want);
         assert_eq!(rt; step(&bytes, STRICT, &mut walk).0, NOTHING);
     }
@@ -273,6 +299,100 @@ fn walks_that_lie(rt: HostRuntime) -> Result<(), Fail> {
         let mut walk = from(walk_over(next));
         let want = (NOTHING, NO_EXPORT, of_walk(walk_over(next)));
         assert_eq!(rt; step(&bytes, STRICT, &mut walk), want);
+    }
+    Ok(())
+}
+
+const UNTOUCHED: Export = Export {
+    name: Range {
+        offset: 1,
+        length: 2,
+    },
+    offset: 3,
+    rva: 4,
+    has_offset: 5,
+    index: 6,
+    is_forwarder: 7,
+};
+
+/// Name, offset, RVA, whether it is a forwarder.
+type Named = ([u64; 2], u64, u32, u32);
+
+fn of_export(export: &Export) -> Named {
+    (
+        of_range(export.name),
+        export.offset,
+        export.rva,
+        export.is_forwarder,
+    )
+}
+
+/// The last export by a walk and by both lists, with the walks after them.
+fn last_export(bytes: &[u8], directory: DataDirectory) -> [(u32, Named, Walk); 3] {
+    let (image, sections) = (image(X64), sections());
+    let view = view(bytes, &image, &sections);
+    let start = Exports {
+        directory,
+        ..walk_over(1)
+    };
+    let mut step = UNTOUCHED;
+    let mut walk = from(start);
+    let answer = pe_c_next_export(&view, &mut walk, &mut step);
+    let (mut one, mut listed, mut written) = (start, [UNTOUCHED; 1], 77);
+    let first = pe_c_list_exports(&view, &mut one, &mut listed, &mut written);
+    let (mut other, mut together) = (start, [UNTOUCHED; 1]);
+    let second = pe_c_list_exports_together(
+        &view,
+        &mut other,
+        &mut [],
+        &mut together,
+        &mut written,
+    );
+    [
+        (answer, of_export(&step), of_walk(walk.exports)),
+        (first, of_export(&listed[0]), of_walk(one)),
+        (second, of_export(&together[0]), of_walk(other)),
+    ]
+}
+
+/// An export by its name is a forwarder from the directory's first byte to its last, also in a directory that passes the end of
+/// all RVAs, and its index is that of the text.
+#[test]
+fn forwarders_by_name(rt: HostRuntime) -> Result<(), Fail> {
+    let mut bytes = with_exports(rt.alloc())?;
+    put(&mut bytes, &[(8, b"A.#7\0")]);
+    for (virtual_address, size, is_forwarder) in [
+        // Before the directory, at its start, at its last byte and after it.
+        (0x1009, 0x20, 0),
+        (0x1008, 0x20, 1),
+        (0x1000, 9, 1),
+        (0x1000, 8, 0),
+        // A directory of that byte, of none, and others at both ends.
+        (0x1008, 1, 1),
+        (0x1008, 0, 0),
+        (0, 0, 0),
+        (0, 0x1009, 1),
+        (0x1000, u32::MAX, 1),
+        (u32::MAX, u32::MAX, 0),
+    ] {
+        let directory = directory(virtual_address, size);
+        let after = Exports {
+            directory,
+            ..walk_over(5)
+        };
+        let export = ([0xA0, 1], 8, 0x1008, is_forwarder);
+        assert_eq!(rt;
+            last_export(&bytes, directory),
+            [(DONE, export, of_walk(after)); 3],
+            "{virtual_address:#x} {size:#x}"
+        );
+        let (_, table) = table_at(&bytes, &with_directory(0x1010));
+        let table = AddressTable { directory, ..table };
+        let text = if is_forwarder == 1 { [8, 4] } else { OVER };
+        assert_eq!(rt;
+            exported(&bytes, &table, 0),
+            (DONE, text, [1, 0x1008, u64::from(is_forwarder)])
+        );
     }
     Ok(())
 }

@@ -6,7 +6,7 @@ use super::exports::from as from_exports;
 use super::imports::{NO_IMPORT, NO_LIBRARY, from_import, from_library};
 use super::made::{
     DIRECTORY_VA_BELOW_BASE, FUNCTION_CYCLE, FUNCTION_LINK, LEFT_ENTRY, MAPPED, OVER,
-    TREE_NOT_DIRECTORY, UNMAPPED, X64, image, in_mode, of_range, range, section, view,
+    TREE_NOT_DIRECTORY, UNMAPPED, X64, directory, image, in_mode, of_range, range, section, view,
 };
 use super::near_map::{NO_EXPORT, any_rva, any_section, next};
 use super::plan::plan_from;
@@ -195,6 +195,7 @@ fn exports(view: &View, keeps: Keeps) -> [Step; 6] {
         ordinals: range(0x60, 10),
         addresses: range(0x70, 12),
         next: 0,
+        directory: directory(0, 0),
     });
     walk.kept = at_start(keeps);
     let (mut out, mut steps) = (NO_EXPORT, [NO_STEP; 6]);
@@ -862,6 +863,7 @@ fn any_sections_change_nothing(rt: HostRuntime) -> Result<(), Fail> {
             ordinals: range(0xA0, 40),
             addresses: range(80, 80),
             next: 0,
+            directory: directory(0, 0),
         });
         loop {
             let mut alone = from_exports(walk.exports);

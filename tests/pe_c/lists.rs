@@ -384,7 +384,7 @@ const NO_EXPORT: Export = Export {
     rva: 4,
     has_offset: 5,
     index: 6,
-    spare: 7,
+    is_forwarder: 7,
 };
 
 #[test]

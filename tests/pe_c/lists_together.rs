@@ -1,7 +1,7 @@
 //! Lists whose names are read together in a room of the caller: whatever the room has, they are those that are read by themselves.
 
 use super::made::{
-    IMPORT_NAME, OVER, SHORT, STRING_TABLE, X64, image, of_range, range, sections, view,
+    IMPORT_NAME, OVER, SHORT, STRING_TABLE, X64, directory, image, of_range, range, sections, view,
 };
 use crate::coff::{Symbol, SymbolWalk};
 use crate::exports::{Export, Exports};
@@ -67,7 +67,7 @@ const NO_EXPORT: Export = Export {
     rva: 4,
     has_offset: 5,
     index: 6,
-    spare: 7,
+    is_forwarder: 7,
 };
 
 fn exports() -> Exports {
@@ -76,6 +76,7 @@ fn exports() -> Exports {
         ordinals: range(0x50, 18),
         addresses: range(0x68, 4),
         next: 0,
+        directory: directory(0x1008, 1),
     }
 }
 
@@ -103,6 +104,7 @@ fn exports_together(rt: HostRuntime) -> Result<(), Fail> {
         for i in 0..6 {
             assert_eq!(rt; of_range(entries[i].name), want[i]);
             assert_eq!(rt; (entries[i].rva, entries[i].offset), (0x1008, 8));
+            assert_eq!(rt; entries[i].is_forwarder, 1);
         }
         assert_eq!(rt; entries[6].rva, 4);
         // What the other call lists, one a call.

@@ -3,7 +3,7 @@
 
 use super::exports::from as from_export;
 use super::imports::from_import;
-use super::made::{self, MAPPED, STRICT, X64, image, in_mode, of_range, range};
+use super::made::{self, MAPPED, STRICT, X64, directory, image, in_mode, of_range, range};
 use crate::exports::{Export, Exports, pe_c_next_export};
 use crate::image::{Image, pe_c_offset};
 use crate::imports::{Import, Imports, pe_c_next_import};
@@ -211,16 +211,17 @@ fn with_names(alloc: Global) -> Result<Vec<u8>, AllocError> {
     )
 }
 
-/// The name's range, the RVA, its offset and whether it has one.
-fn of_export(export: &Export) -> ([u64; 2], u32, u64, u32) {
+/// The name's range, the RVA, its offset, whether it has one and whether it is a forwarder.
+fn of_export(export: &Export) -> ([u64; 2], u32, u64, u32, u32) {
     let Export {
         name,
         rva,
         offset,
         has_offset,
+        is_forwarder,
         ..
     } = *export;
-    (of_range(name), rva, offset, has_offset)
+    (of_range(name), rva, offset, has_offset, is_forwarder)
 }
 
 pub(crate) const NO_EXPORT: Export = Export {
@@ -232,7 +233,7 @@ pub(crate) const NO_EXPORT: Export = Export {
     rva: 0,
     has_offset: 0,
     index: 0,
-    spare: 0,
+    is_forwarder: 0,
 };
 
 const NO_IMPORT: Import = Import {
@@ -251,10 +252,10 @@ fn exports_in_overlapping_sections(rt: HostRuntime) -> Result<(), Fail> {
     let (image, sections) = (aligned(0x200, STRICT), one_in_another());
     let view = made::view(&bytes, &image, &sections);
     let wanted = [
-        ([0x480, 4], 0x3280, 0x780, 1),
-        ([0x280, 2], 0x2F82, 0x482, 1),
-        ([0x780, 3], 0x3084, 0x284, 1),
-        ([0x490, 1], 0x9000, 0, 0),
+        ([0x480, 4], 0x3280, 0x780, 1, 1),
+        ([0x280, 2], 0x2F82, 0x482, 1, 0),
+        ([0x780, 3], 0x3084, 0x284, 1, 1),
+        ([0x490, 1], 0x9000, 0, 0, 0),
     ];
     for room in [1, 3, 4] {
         let start = Exports {
@@ -262,6 +263,7 @@ fn exports_in_overlapping_sections(rt: HostRuntime) -> Result<(), Fail> {
             ordinals: range(0x60, 8),
             addresses: range(0x70, 16),
             next: 0,
+            directory: directory(0x3084, 0x200),
         };
         let (mut walk, mut steps) = (start, from_export(start));
         let (mut entries, mut step, mut written) = ([NO_EXPORT; 4], NO_EXPORT, 0);

@@ -484,7 +484,7 @@ fn read_by_lies(bytes: &[u8], random: &mut Random, seen: &mut Seen) {
     list!(pe_c_list_arm64_functions(&range; index), Arm64Function);
     list!(pe_c_list_codes(; sys::Walk { left: range, version: few as u8 % 4, frame_register: 5, spare: [1; 6] }), Code);
     list!(pe_c_list_arm64_codes(; sys::Arm64Walk { left: range, offset: index }), Arm64Code);
-    let names = sys::Exports { names: range, ordinals: range, addresses: range, next: index };
+    let names = sys::Exports { names: range, ordinals: range, addresses: range, next: index, directory };
     list!(pe_c_list_exports(; names), Export);
     let table = sys::AddressTable { addresses: range, directory, ordinal_base: few, ..sys::AddressTable::default() };
     list!(pe_c_list_export_addresses(&table; index), Exported);

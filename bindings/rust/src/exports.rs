@@ -24,9 +24,12 @@ pub struct Export<'a> {
     pub offset: Option<u64>,
     /// Its index in the table of RVAs: [`AddressTable::get`] has its ordinal and forwarder.
     pub index: u32,
+    /// The RVA lies in the export directory. What stands at `offset` is then a text that names another DLL's export, such as
+    /// `NTDLL.RtlAllocateHeap`, which [`AddressTable::get`] returns.
+    pub is_forwarder: bool,
 }
 
-shown! { Export<'_> { name: shown::Text, rva, offset, index } }
+shown! { Export<'_> { name: shown::Text, rva, offset, index, is_forwarder } }
 
 /// The exports of an image, in the order of the name table.
 ///
@@ -142,7 +145,7 @@ impl<'a> Iterator for Exports<'_, 'a> {
         let offset = (found.has_offset != 0).then_some(found.offset);
         Some(bytes_of(found.name, self.image.bytes()).map(|name| {
             let sys::Export { rva, index, .. } = found;
-            Export { name, rva, offset, index }
+            Export { name, rva, offset, index, is_forwarder: found.is_forwarder != 0 }
         }))
     }
 }

@@ -852,7 +852,7 @@ Arm64StackWalk, 368 {
 });
 record!(
 /// Where a walk over exports stands.
-Exports, 56 {
+Exports, 64 {
     /// RVAs of names, 4 bytes each.
     names: Range,
     /// For each name the index of its RVA in `addresses`, 2 bytes each.
@@ -861,10 +861,12 @@ Exports, 56 {
     addresses: Range,
     /// Index of the next name.
     next: u64,
+    /// The export directory: an RVA inside it is that of a forwarder's text.
+    directory: Directory,
 });
 record!(
 /// A walk over exports, step by step.
-ExportWalk, 64 {
+ExportWalk, 72 {
     /// Where it stands.
     exports: Exports,
     /// The sections of its last RVAs.
@@ -883,8 +885,8 @@ Export, 40 {
     has_offset: u32,
     /// Index in the table of RVAs.
     index: u32,
-    /// 0.
-    spare: u32,
+    /// 1 where the RVA lies in the export directory, else 0.
+    is_forwarder: u32,
 });
 record!(
 /// The export directory's table of RVAs. See [`AddressTable`](crate::AddressTable).

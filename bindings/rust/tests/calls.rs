@@ -712,6 +712,31 @@ fn exports_are_listed() {
     assert!(strict(SMALL).exports().unwrap().next().is_none());
 }
 
+/// An export with a name is a forwarder from the first byte of the export directory to the last, and its text is that of its index.
+#[test]
+fn exports_by_name_may_be_forwarders() {
+    let mut bytes = with_exports();
+    let fields = strict(&bytes).export_directory().unwrap().unwrap();
+    let directory = strict(&bytes).info().directory(DirectoryIndex::Export).unwrap();
+    // the name `second` leads to the last entry of the address table
+    bytes[offset(fields.address_of_name_ordinals) as usize + 2] = 3;
+    let image = strict(&bytes);
+    let found: Vec<_> = image.exports().unwrap().map(Result::unwrap).collect();
+    let flags: Vec<_> = found.iter().map(|it| (it.name, it.index, it.is_forwarder)).collect();
+    assert_eq!(flags, [(b"first".as_slice(), 1, false), (b"second", 3, true)]);
+    let text = b"NTDLL.RtlFree".as_slice();
+    let table = image.export_addresses().unwrap().unwrap();
+    assert_eq!(table.get(u64::from(found[1].index)).unwrap().forwarder, Some(text));
+    assert!(bytes[found[1].offset.unwrap() as usize..].starts_with(text));
+    let entry = offset(fields.address_of_functions) as usize + 12;
+    let (start, end) = (directory.virtual_address, directory.virtual_address + directory.size);
+    for (rva, is_forwarder) in [(start - 1, false), (start, true), (end - 1, true), (end, false)] {
+        bytes[entry..entry + 4].copy_from_slice(&rva.to_le_bytes());
+        let found = strict(&bytes).exports().unwrap().last().unwrap().map(|it| (it.rva, it.is_forwarder));
+        assert_eq!(found, Ok((rva, is_forwarder)));
+    }
+}
+
 /// All exports by their index: those with names, an ordinal that is not used, and a forwarder without a name.
 #[test]
 fn exports_have_ordinals_and_forwarders() {

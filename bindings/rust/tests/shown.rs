@@ -60,7 +60,10 @@ fn long_names_and_many_sections_are_cut() {
     let image = permissive(&bytes);
     let export = image.exports().unwrap().next().unwrap().unwrap();
     let cut = format!("\"{}\".. <1048576 bytes>", "\\u{1}".repeat(256));
-    assert_eq!(format!("{export:?}"), format!("Export {{ name: {cut}, rva: 4100, offset: Some(1028), index: 0 }}"));
+    assert_eq!(
+        format!("{export:?}"),
+        format!("Export {{ name: {cut}, rva: 4100, offset: Some(1028), index: 0, is_forwarder: false }}")
+    );
     let import = image.imports().unwrap().next().unwrap().unwrap();
     assert_eq!((import.library.len(), import.import.name.unwrap().len()), (MEBIBYTE, MEBIBYTE));
     assert!(format!("{import:?}").len() <= MOST_PRINTED);

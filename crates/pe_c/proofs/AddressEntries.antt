@@ -4,7 +4,7 @@ use Rattle.std.specs.Prelude.{◌==◌, if◌then◌else◌}
 use Rattle.std.specs.Option.{option_and_then, option_map}
 use Rattle.pe_core.specs.Bytes.{holds, le, record_at}
 use Rattle.pe_core.specs.ExportAddresses.{AddressesView, address_at, address_with, forwarder_text, lies_in}
-use Rattle.pe_core.specs.Exports.{ExportDataView, export_data_at, image_name, named_export, table_at, table_entry, text_at_address}
+use Rattle.pe_core.specs.Exports.{ExportDataView, ExportView, export_data_at, image_name, named_export, table_at, table_entry, text_at_address}
 use Rattle.pe_core.specs.Records.{export_directory}
 use Rattle.pe_core.specs.Refusals.{Refusal, ◌>>=◌}
 use Rattle.pe_core.specs.SectionMap.{mapped}
@@ -13,7 +13,7 @@ use Rattle.pe_core.specs.declared.data_directories.DataDirectory.{DataDirectory}
 use Rattle.pe_core.specs.declared.export_addresses.ExportAddress.{ExportAddress}
 use Rattle.pe_core.specs.declared.export.ExportDirectoryTable.{ExportDirectoryTable}
 use Rattle.pe_c.specs.ExportAddresses.{address_table, addresses_in, exported_with, exported_at, text_range}
-use Rattle.pe_c.specs.Exports.{export_reported, index_at, reported_entry}
+use Rattle.pe_c.specs.Exports.{export_reported, index_at, one_if, reported_entry}
 use Rattle.pe_c.specs.Ranges.{IsPart, IsRange, bytes_at, or_no_bytes}
 use Rattle.pe_c.specs.declared.export_addresses.AddressTable.{AddressTable}
 use Rattle.pe_c.specs.declared.export_addresses.Exported.{Exported}
@@ -61,47 +61,62 @@ names_stand offset b rva directory d e =
     (part_unless offset b d.directory.name_rva (d.directory.name_rva == 0))
 
 pub addresses_stand : (offset : ℕ → Option ℕ) (b : List ℕ) (rva : ℕ) (directory : DataDirectory) (d : ExportDataView) → export_data_at offset b rva ≡ Ok d → IsRange b (address_table offset b directory d).addresses d.addresses
-addresses_stand offset b rva directory d e = (tables_stand offset b rva d e).addresses
+addresses_stand offset b rva directory d e = (tables_stand offset b rva directory d e).addresses
 
 -- ---- the entry of a named export
 
-by_rva : (f : ℕ → ℕ → Exported) (offset : ℕ → Option ℕ) (d : ExportDataView) (p k : ℕ) (name : List ℕ) (rva : Option ℕ) (x : Export) → table_entry 4 d.addresses k ≡ rva →
-    option_map (export_reported p k) (option_map (λ r. record { name = name; rva = r; offset = offset r }) rva) ≡ Some x →
+by_rva : (f : ℕ → ℕ → Exported) (g : DataDirectory) (offset : ℕ → Option ℕ) (d : ExportDataView) (p k : ℕ) (name : List ℕ) (rva : Option ℕ) (x : Export) → table_entry 4 d.addresses k ≡ rva →
+    option_map (export_reported g p k) (option_map (λ r. record { name = name; rva = r; offset = offset r }) rva) ≡ Some x →
     option_map (f x.index) (table_entry 4 d.addresses x.index) ≡ Some (f x.index x.rva)
-by_rva f offset d p k name None x h e = absurd cc
-by_rva f offset d p k name (Some r) x h e =
-    let is : export_reported p k (record { name = name; rva = r; offset = offset r }) ≡ x = cc in
+by_rva f g offset d p k name None x h e = absurd cc
+by_rva f g offset d p k name (Some r) x h e =
+    let is : export_reported g p k (record { name = name; rva = r; offset = offset r }) ≡ x = cc in
     let index : k ≡ x.index = ap (λ (y : Export). y.index) is in
     let rva : r ≡ x.rva = ap (λ (y : Export). y.rva) is in
     let entry : table_entry 4 d.addresses x.index ≡ Some x.rva = subst (λ (n : ℕ). table_entry 4 d.addresses n ≡ Some x.rva) index (h ∙ ap (λ (n : ℕ). Some n) rva) in
     ap (λ (o : Option ℕ). option_map (f x.index) o) entry
 
-by_index : (f : ℕ → ℕ → Exported) (offset : ℕ → Option ℕ) (d : ExportDataView) (p k : ℕ) (name : List ℕ) (there : Bool) (x : Export) →
-    option_map (export_reported p k) (option_map (λ r. record { name = name; rva = r; offset = offset r }) (option_and_then (table_entry 4 d.addresses) (if there then Some k else None))) ≡ Some x →
+by_index : (f : ℕ → ℕ → Exported) (g : DataDirectory) (offset : ℕ → Option ℕ) (d : ExportDataView) (p k : ℕ) (name : List ℕ) (there : Bool) (x : Export) →
+    option_map (export_reported g p k) (option_map (λ r. record { name = name; rva = r; offset = offset r }) (option_and_then (table_entry 4 d.addresses) (if there then Some k else None))) ≡ Some x →
     option_map (f x.index) (table_entry 4 d.addresses x.index) ≡ Some (f x.index x.rva)
-by_index f offset d p k name true x e = by_rva f offset d p k name (table_entry 4 d.addresses k) x refl e
-by_index f offset d p k name false x e = absurd cc
+by_index f g offset d p k name true x e = by_rva f g offset d p k name (table_entry 4 d.addresses k) x refl e
+by_index f g offset d p k name false x e = absurd cc
 
-by_name : (f : ℕ → ℕ → Exported) (offset : ℕ → Option ℕ) (d : ExportDataView) (p i : ℕ) (name : Option (List ℕ)) (x : Export) →
-    option_map (export_reported p (index_at d i)) (option_and_then (named_export offset d i) name) ≡ Some x →
+by_name : (f : ℕ → ℕ → Exported) (g : DataDirectory) (offset : ℕ → Option ℕ) (d : ExportDataView) (p i : ℕ) (name : Option (List ℕ)) (x : Export) →
+    option_map (export_reported g p (index_at d i)) (option_and_then (named_export offset d i) name) ≡ Some x →
     option_map (f x.index) (table_entry 4 d.addresses x.index) ≡ Some (f x.index x.rva)
-by_name f offset d p i None x e = absurd cc
-by_name f offset d p i (Some name) x e = by_index f offset d p (index_at d i) name (holds d.ordinals (2 * i) 2) x e
+by_name f g offset d p i None x e = absurd cc
+by_name f g offset d p i (Some name) x e = by_index f g offset d p (index_at d i) name (holds d.ordinals (2 * i) 2) x e
 
-by_place : (f : ℕ → ℕ → Exported) (offset : ℕ → Option ℕ) (b : List ℕ) (d : ExportDataView) (i : ℕ) (at : Option ℕ) (x : Export) →
-    option_and_then (λ p. option_map (export_reported p (index_at d i)) (option_and_then (named_export offset d i) (text_at b p))) at ≡ Some x →
+by_place : (f : ℕ → ℕ → Exported) (g : DataDirectory) (offset : ℕ → Option ℕ) (b : List ℕ) (d : ExportDataView) (i : ℕ) (at : Option ℕ) (x : Export) →
+    option_and_then (λ p. option_map (export_reported g p (index_at d i)) (option_and_then (named_export offset d i) (text_at b p))) at ≡ Some x →
     option_map (f x.index) (table_entry 4 d.addresses x.index) ≡ Some (f x.index x.rva)
-by_place f offset b d i None x e = absurd cc
-by_place f offset b d i (Some p) x e = by_name f offset d p i (text_at b p) x e
+by_place f g offset b d i None x e = absurd cc
+by_place f g offset b d i (Some p) x e = by_name f g offset d p i (text_at b p) x e
 
 mapped_twice : (g : ExportAddress → Exported) (h : ℕ → ExportAddress) (o : Option ℕ) → option_map g (option_map h o) ≡ option_map (λ n. g (h n)) o
 mapped_twice g h None = refl
 mapped_twice g h (Some n) = refl
 
-pub entries : (offset : ℕ → Option ℕ) (b : List ℕ) (d : ExportDataView) (t : AddressTable) (i : ℕ) (x : Export) →
-    bytes_at b t.addresses ≡ Ok d.addresses → reported_entry offset b d i ≡ Some x →
+pub entries : (offset : ℕ → Option ℕ) (b : List ℕ) (g : DataDirectory) (d : ExportDataView) (t : AddressTable) (i : ℕ) (x : Export) →
+    bytes_at b t.addresses ≡ Ok d.addresses → reported_entry offset b g d i ≡ Some x →
     exported_at offset b t x.index ≡ Ok (Some (exported_with offset b (address_with (addresses_in t d.addresses) x.index x.rva)))
-entries offset b d t i x there e =
+entries offset b g d t i x there e =
     let f : ℕ → ℕ → Exported = λ k r. exported_with offset b (address_with (addresses_in t d.addresses) k r) in
     ap (λ (r : Result (List ℕ) Refusal). r >>= λ table. Ok (option_map (exported_with offset b) (address_at (addresses_in t table) x.index))) there
-    ∙ ap (λ (o : Option Exported). Ok o) (mapped_twice (exported_with offset b) (address_with (addresses_in t d.addresses) x.index) (table_entry 4 d.addresses x.index) ∙ by_place f offset b d i (offset (le d.names (4 * i) 4)) x e)
+    ∙ ap (λ (o : Option Exported). Ok o) (mapped_twice (exported_with offset b) (address_with (addresses_in t d.addresses) x.index) (table_entry 4 d.addresses x.index) ∙ by_place f g offset b d i (offset (le d.names (4 * i) 4)) x e)
+
+-- ---- whether a named export is a forwarder
+
+flag_of : (g : DataDirectory) (p k : ℕ) (e : Option ExportView) (x : Export) → option_map (export_reported g p k) e ≡ Some x → x.is_forwarder ≡ one_if (lies_in g x.rva)
+flag_of g p k None x h = absurd cc
+flag_of g p k (Some e) x h = let is : export_reported g p k e ≡ x = cc in subst (λ (y : Export). y.is_forwarder ≡ one_if (lies_in g y.rva)) is refl
+
+flag_at : (offset : ℕ → Option ℕ) (b : List ℕ) (g : DataDirectory) (d : ExportDataView) (i : ℕ) (at : Option ℕ) (x : Export) →
+    option_and_then (λ p. option_map (export_reported g p (index_at d i)) (option_and_then (named_export offset d i) (text_at b p))) at ≡ Some x → x.is_forwarder ≡ one_if (lies_in g x.rva)
+flag_at offset b g d i None x e = absurd cc
+flag_at offset b g d i (Some p) x e = flag_of g p (index_at d i) (option_and_then (named_export offset d i) (text_at b p)) x e
+
+pub named_forwarders : (offset : ℕ → Option ℕ) (b : List ℕ) (d : ExportDataView) (t : AddressTable) (i : ℕ) (x : Export) → reported_entry offset b t.directory d i ≡ Some x →
+    x.is_forwarder ≡ (exported_with offset b (address_with (addresses_in t d.addresses) x.index x.rva)).is_forwarder
+named_forwarders offset b d t i x e = flag_at offset b t.directory d i (offset (le d.names (4 * i) 4)) x e

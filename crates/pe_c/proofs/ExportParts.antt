@@ -13,6 +13,7 @@ use Rattle.pe_core.specs.Records.{export_directory}
 use Rattle.pe_core.specs.Refusals.{◌>>=◌}
 use Rattle.pe_core.specs.SectionMap.{mapped}
 use Rattle.pe_core.specs.Text.{text_at, text_of, text_to_zero}
+use Rattle.pe_core.specs.declared.data_directories.DataDirectory.{DataDirectory}
 use Rattle.pe_core.specs.declared.export.ExportDirectoryTable.{ExportDirectoryTable}
 use Rattle.pe_c.specs.Exports.{export_reported, index_at, reported_entry, walk_over, with_tables}
 use Rattle.pe_c.specs.Parts.{HasTables, ReportsExport}
@@ -42,27 +43,27 @@ text_stands b p name e = text_by b p name (position (λ c. c == 0) (drop p b)) r
 
 -- ---- exports
 
-by_address : (offset : ℕ → Option ℕ) (b : List ℕ) (p k : ℕ) (name : List ℕ) (rva : Option ℕ) → text_at b p ≡ Some name →
+by_address : (offset : ℕ → Option ℕ) (b : List ℕ) (directory : DataDirectory) (p k : ℕ) (name : List ℕ) (rva : Option ℕ) → text_at b p ≡ Some name →
     ReportsExport b
-    (option_map (export_reported p k) (option_map (λ r. record { name = name; rva = r; offset = offset r }) rva))
+    (option_map (export_reported directory p k) (option_map (λ r. record { name = name; rva = r; offset = offset r }) rva))
     (option_map (λ r. record { name = name; rva = r; offset = offset r }) rva)
-by_address offset b p k name None e = tt
-by_address offset b p k name (Some rva) e = (text_stands b p name e, refl, refl, refl)
+by_address offset b directory p k name None e = tt
+by_address offset b directory p k name (Some rva) e = (text_stands b p name e, refl, refl, refl)
 
-by_text : (offset : ℕ → Option ℕ) (b : List ℕ) (d : ExportDataView) (i p k : ℕ) (name : Option (List ℕ)) → text_at b p ≡ name →
-    ReportsExport b (option_map (export_reported p k) (option_and_then (named_export offset d i) name)) (option_and_then (named_export offset d i) name)
-by_text offset b d i p k None e = tt
-by_text offset b d i p k (Some name) e = by_address offset b p k name (option_and_then (table_entry 4 d.addresses) (table_entry 2 d.ordinals i)) e
+by_text : (offset : ℕ → Option ℕ) (b : List ℕ) (directory : DataDirectory) (d : ExportDataView) (i p k : ℕ) (name : Option (List ℕ)) → text_at b p ≡ name →
+    ReportsExport b (option_map (export_reported directory p k) (option_and_then (named_export offset d i) name)) (option_and_then (named_export offset d i) name)
+by_text offset b directory d i p k None e = tt
+by_text offset b directory d i p k (Some name) e = by_address offset b directory p k name (option_and_then (table_entry 4 d.addresses) (table_entry 2 d.ordinals i)) e
 
-by_offset : (offset : ℕ → Option ℕ) (b : List ℕ) (d : ExportDataView) (i k : ℕ) (at : Option ℕ) →
+by_offset : (offset : ℕ → Option ℕ) (b : List ℕ) (directory : DataDirectory) (d : ExportDataView) (i k : ℕ) (at : Option ℕ) →
     ReportsExport b
-    (option_and_then (λ p. option_map (export_reported p k) (option_and_then (named_export offset d i) (text_at b p))) at)
+    (option_and_then (λ p. option_map (export_reported directory p k) (option_and_then (named_export offset d i) (text_at b p))) at)
     (option_and_then (named_export offset d i) (option_and_then (text_at b) at))
-by_offset offset b d i k None = tt
-by_offset offset b d i k (Some p) = by_text offset b d i p k (text_at b p) refl
+by_offset offset b directory d i k None = tt
+by_offset offset b directory d i k (Some p) = by_text offset b directory d i p k (text_at b p) refl
 
-pub reports : (offset : ℕ → Option ℕ) (b : List ℕ) (d : ExportDataView) (i : ℕ) → ReportsExport b (reported_entry offset b (with_tables d.names d.ordinals d.addresses) i) (export_at offset b d i)
-reports offset b d i = by_offset offset b d i (index_at d i) (offset (le d.names (4 * i) 4))
+pub reports : (offset : ℕ → Option ℕ) (b : List ℕ) (directory : DataDirectory) (d : ExportDataView) (i : ℕ) → ReportsExport b (reported_entry offset b directory (with_tables d.names d.ordinals d.addresses) i) (export_at offset b d i)
+reports offset b directory d i = by_offset offset b directory d i (index_at d i) (offset (le d.names (4 * i) 4))
 
 -- ---- tables
 
@@ -75,16 +76,16 @@ table_by : (offset : ℕ → Option ℕ) (b : List ℕ) (rva n : ℕ) (none : Bo
 table_by offset b rva n true t e = let same : [] ≡ t = cc in subst (IsRange b no_bytes) same (record { inside = omega arith; same = refl })
 table_by offset b rva n false t e = table_mapped b n (offset rva) t e
 
-pub tables_stand : (offset : ℕ → Option ℕ) (b : List ℕ) (rva : ℕ) (d : ExportDataView) → export_data_at offset b rva ≡ Ok d → HasTables b (walk_over offset d) d
+pub tables_stand : (offset : ℕ → Option ℕ) (b : List ℕ) (rva : ℕ) (directory : DataDirectory) (d : ExportDataView) → export_data_at offset b rva ≡ Ok d → HasTables b (walk_over offset directory d) d
 unfolding export_data_at
-tables_stand offset b rva d e =
+tables_stand offset b rva directory d e =
     let p = given (mapped (offset rva)) _ d e in
-    let directory = given (record_at b p.0 40 (export_directory b p.0)) _ d p.2 in
-    let t : ExportDirectoryTable = directory.0 in
-    let addresses = given (table_at offset b t.address_table_rva (4 * t.address_table_entries)) _ d directory.2 in
+    let fields = given (record_at b p.0 40 (export_directory b p.0)) _ d p.2 in
+    let t : ExportDirectoryTable = fields.0 in
+    let addresses = given (table_at offset b t.address_table_rva (4 * t.address_table_entries)) _ d fields.2 in
     let names = given (table_at offset b t.name_pointer_rva (4 * t.number_of_name_pointers)) _ d addresses.2 in
     let ordinals = given (table_at offset b t.ordinal_table_rva (2 * t.number_of_name_pointers)) _ d names.2 in
-    subst (λ (x : ExportDataView). HasTables b (walk_over offset x) x) (same_inside _ d ordinals.2) (record {
+    subst (λ (x : ExportDataView). HasTables b (walk_over offset directory x) x) (same_inside _ d ordinals.2) (record {
       names = table_by offset b t.name_pointer_rva (4 * t.number_of_name_pointers) (4 * t.number_of_name_pointers == 0) names.0 names.1;
       ordinals = table_by offset b t.ordinal_table_rva (2 * t.number_of_name_pointers) (2 * t.number_of_name_pointers == 0) ordinals.0 ordinals.1;
       addresses = table_by offset b t.address_table_rva (4 * t.address_table_entries) (4 * t.address_table_entries == 0) addresses.0 addresses.1;

@@ -80,7 +80,7 @@ unfolding address_table_at
 table_by b image sections d h e = rw h (rw e refl)
 
 walk_by : (b : List ℕ) (image : Image) (sections : List SectionTable) → is_absent (export_directory image) ≡ false →
-    tables_at b image (map_of_image image sections) ≡ (export_data_at (map_of_image image sections) b (export_directory image).virtual_address >>= λ d. Ok (Some (walk_over (map_of_image image sections) d)))
+    tables_at b image (map_of_image image sections) ≡ (export_data_at (map_of_image image sections) b (export_directory image).virtual_address >>= λ d. Ok (Some (walk_over (map_of_image image sections) (export_directory image) d)))
 unfolding tables_at
 walk_by b image sections h = rw h refl
 
@@ -90,7 +90,7 @@ no_walk b image sections h = rw h refl
 
 by_data : (b : List ℕ) (image : Image) (sections : List SectionTable) (q : Result ExportDataView Refusal) → is_absent (export_directory image) ≡ false →
     export_data_at (map_of_image image sections) b (export_directory image).virtual_address ≡ q →
-    AreExportsBy b image sections (q >>= λ d. Ok (Some (walk_over (map_of_image image sections) d))) (value_or_none q) (exports_of (map_of_image image sections) b (value_or_none q))
+    AreExportsBy b image sections (q >>= λ d. Ok (Some (walk_over (map_of_image image sections) (export_directory image) d))) (value_or_none q) (exports_of (map_of_image image sections) b (value_or_none q))
 by_data b image sections (Err refusal) h e = (refl, refl)
 by_data b image sections (Ok d) h e =
     let offset = map_of_image image sections in
@@ -98,11 +98,11 @@ by_data b image sections (Ok d) h e =
       d,
       refl,
       record {
-        tables = tables_stand offset b rva d e;
+        tables = tables_stand offset b rva (export_directory image) d e;
         name = (address_table offset b (export_directory image) d, table_by b image sections d h e, names_stand offset b rva (export_directory image) d e, has_name offset b rva d e);
         numbers = numbers_stand b image offset d h e;
       },
-      directory_in_turn offset b rva d e,
+      directory_in_turn offset b rva (export_directory image) d e,
     )
 
 exports_by : (b : List ℕ) (image : Image) (sections : List SectionTable) (d : Option DataDirectory) → IsThere d → export_directory image ≡ or_absent d →
@@ -114,7 +114,7 @@ exports_by b image sections (Some d) h e =
     let at : export_data_at offset b (export_directory image).virtual_address ≡ export_data_at offset b d.virtual_address = ap (λ (x : DataDirectory). export_data_at offset b x.virtual_address) e in
     subst (λ (r : Result (Option Exports) Refusal). AreExportsBy b image sections r (value_or_none (export_data_at offset b d.virtual_address)) (exports_of offset b (value_or_none (export_data_at offset b d.virtual_address))))
     (sym (walk_by b image sections there))
-    (subst (λ (q : Result ExportDataView Refusal). AreExportsBy b image sections (export_data_at offset b (export_directory image).virtual_address >>= λ d. Ok (Some (walk_over offset d))) (value_or_none q) (exports_of offset b (value_or_none q)))
+    (subst (λ (q : Result ExportDataView Refusal). AreExportsBy b image sections (export_data_at offset b (export_directory image).virtual_address >>= λ d. Ok (Some (walk_over offset (export_directory image) d))) (value_or_none q) (exports_of offset b (value_or_none q)))
     at
     (by_data b image sections (export_data_at offset b (export_directory image).virtual_address) there refl))
 

@@ -141,9 +141,9 @@ moves_over : (offset : ℕ → Option ℕ) (b : List ℕ) (w : Exports) (d : Res
     (answer : Result (Option Export) Refusal) × (next : Exports) × StepsOverExports offset b d w answer next
 moves_over offset b w (Err refusal) h = (Err refusal, record w { names = no_bytes }, (refl, refl))
 moves_over offset b w (Ok d) h =
-    let found = finds (reported_entry offset b d) (count_of w - w.next) w.next in
+    let found = finds (reported_entry offset b w.directory d) (count_of w - w.next) w.next in
     let all : w.next + (count_of w - w.next) ≡ count_of w = omega (arith, h) in
-    (_, exports_after w found.0, (found.0, subst (λ (end : ℕ). FindsNext (reported_entry offset b d) w.next end found.0) all found.1, refl, refl))
+    (_, exports_after w found.0, (found.0, subst (λ (end : ℕ). FindsNext (reported_entry offset b w.directory d) w.next end found.0) all found.1, refl, refl))
 
 moves_if : (offset : ℕ → Option ℕ) (b : List ℕ) (w : Exports) (test : Bool) → nat_le (count_of w) w.next ≡ test → (answer : Result (Option Export) Refusal) × (next : Exports) × StepsExportsIf test offset b w answer next
 moves_if offset b w true e = (Ok None, w, (refl, refl))

@@ -1,5 +1,5 @@
 -- The address table of an export directory: every export by its index, also those without a name.
-use Rattle.std.specs.Prelude.{ℕ, ◌*◌, ◌==◌, Bool, true, false, List, [], length, Option, Some, None, Result, Ok, if◌then◌else◌}
+use Rattle.std.specs.Prelude.{ℕ, ◌*◌, ◌==◌, List, [], length, Option, Some, None, Result, Ok, if◌then◌else◌}
 use Rattle.std.specs.Option.{option_and_then, option_map}
 use Rattle.pe_core.specs.ExportAddresses.{AddressesView, address_at}
 use Rattle.pe_core.specs.Exports.{ExportDataView, export_data_at}
@@ -7,7 +7,7 @@ use Rattle.pe_core.specs.Refusals.{Refusal, ◌>>=◌}
 use Rattle.pe_core.specs.Text.{text_at}
 use Rattle.pe_core.specs.declared.data_directories.DataDirectory.{DataDirectory}
 use Rattle.pe_core.specs.declared.export_addresses.ExportAddress.{ExportAddress}
-use Rattle.pe_c.specs.Exports.{export_table, one_if_some}
+use Rattle.pe_c.specs.Exports.{export_table, one_if, one_if_some}
 use Rattle.pe_c.specs.Images.{export_directory, is_absent}
 use Rattle.pe_c.specs.Ranges.{bytes_at, or_no_bytes}
 use Rattle.pe_c.specs.declared.export_addresses.AddressTable.{AddressTable}
@@ -42,11 +42,6 @@ unfoldable pub address_table_at : List ℕ → Image → (ℕ → Option ℕ) �
 address_table_at b image offset =
     if is_absent (export_directory image) then Ok None
     else export_data_at offset b (export_directory image).virtual_address >>= λ d. Ok (Some (address_table offset b (export_directory image) d))
-
--- 1 or 0
-abbrev pub one_if : Bool → ℕ
-one_if true = 1
-one_if false = 0
 
 -- the entry of an export: its numbers, and the range of a forwarder's text
 abbrev pub exported_with : (ℕ → Option ℕ) → List ℕ → ExportAddress → Exported

@@ -3,9 +3,11 @@ use Rattle.std.specs.Prelude.{◌≡◌, ℕ, ◌+◌, ◌*◌, ◌/◌, ◌-◌
 use Rattle.std.specs.List.{filter_map, range_with_len}
 use Rattle.std.specs.Option.{option_map, option_and_then}
 use Rattle.pe_core.specs.Bytes.{le}
+use Rattle.pe_core.specs.ExportAddresses.{lies_in}
 use Rattle.pe_core.specs.Exports.{ExportDataView, ExportView, export_data_at, named_export}
 use Rattle.pe_core.specs.Refusals.{Refusal, ◌>>=◌}
 use Rattle.pe_core.specs.Text.{text_at}
+use Rattle.pe_core.specs.declared.data_directories.DataDirectory.{DataDirectory}
 use Rattle.pe_c.specs.declared.exports.Export.{Export}
 use Rattle.pe_c.specs.declared.exports.Exports.{Exports}
 use Rattle.pe_c.specs.declared.exports.Tables.{Tables}
@@ -22,19 +24,20 @@ abbrev pub export_table : (ℕ → Option ℕ) → ℕ → ℕ → Range
 export_table offset rva n = if n == 0 then no_bytes else range_from n (offset rva)
 
 -- a walk over the exports of a directory, at its start
-abbrev pub walk_over : (ℕ → Option ℕ) → ExportDataView → Exports
-walk_over offset d = record {
+abbrev pub walk_over : (ℕ → Option ℕ) → DataDirectory → ExportDataView → Exports
+walk_over offset directory d = record {
   names = export_table offset d.directory.name_pointer_rva (4 * d.directory.number_of_name_pointers);
   ordinals = export_table offset d.directory.ordinal_table_rva (2 * d.directory.number_of_name_pointers);
   addresses = export_table offset d.directory.address_table_rva (4 * d.directory.address_table_entries);
   next = 0;
+  directory = directory;
 }
 
 -- the tables of an image's export directory as a walk, if it has one; or what refuses it
 unfoldable pub tables_at : List ℕ → Image → (ℕ → Option ℕ) → Result (Option Exports) Refusal
 tables_at b image offset =
     if is_absent (export_directory image) then Ok None
-    else export_data_at offset b (export_directory image).virtual_address >>= λ d. Ok (Some (walk_over offset d))
+    else export_data_at offset b (export_directory image).virtual_address >>= λ d. Ok (Some (walk_over offset (export_directory image) d))
 
 -- ---- the walk
 
@@ -82,17 +85,29 @@ abbrev pub one_if_some : {X : Type 0} → Option X → ℕ
 one_if_some None = 0
 one_if_some (Some x) = 1
 
--- an export whose name is at offset p, with its index in the address table
-abbrev pub export_reported : ℕ → ℕ → ExportView → Export
-export_reported p index e = record { name = record { offset = p; length = length e.name }; offset = or_zero e.offset; rva = e.rva; has_offset = one_if_some e.offset; index = index; spare = 0 }
+-- 1 or 0
+abbrev pub one_if : Bool → ℕ
+one_if c = if c then 1 else 0
+
+-- an export whose name is at offset p, with its index in the address table; it is a forwarder if its RVA lies in this directory
+abbrev pub export_reported : DataDirectory → ℕ → ℕ → ExportView → Export
+export_reported directory p index e = record {
+  name = record { offset = p; length = length e.name };
+  offset = or_zero e.offset;
+  rva = e.rva;
+  has_offset = one_if_some e.offset;
+  index = index;
+  is_forwarder = one_if (lies_in directory e.rva);
+}
 
 -- the index in the address table that entry i of the ordinal table has
 abbrev pub index_at : ExportDataView → ℕ → ℕ
 index_at d i = le d.ordinals (2 * i) 2
 
--- the export of entry i of the name table, if its name is mapped and is text, and its ordinal is in the address table
-abbrev pub reported_entry : (ℕ → Option ℕ) → List ℕ → ExportDataView → ℕ → Option Export
-reported_entry offset b d i = option_and_then (λ p. option_map (export_reported p (index_at d i)) (option_and_then (named_export offset d i) (text_at b p))) (offset (le d.names (4 * i) 4))
+-- the export of entry i of the name table, if its name is mapped and is text, and its ordinal is in the address table; the export
+-- directory tells which are forwarders
+abbrev pub reported_entry : (ℕ → Option ℕ) → List ℕ → DataDirectory → ExportDataView → ℕ → Option Export
+reported_entry offset b directory d i = option_and_then (λ p. option_map (export_reported directory p (index_at d i)) (option_and_then (named_export offset d i) (text_at b p))) (offset (le d.names (4 * i) 4))
 
 -- the exports of the entries from one index up to another, in their order; an entry may have none
 abbrev pub reported_from : (ℕ → Option Export) → ℕ → ℕ → List Export
@@ -119,7 +134,7 @@ exports_after w (Some x) = record w { next = x.1 }
 -- a step over the entries that are left of these tables
 abbrev pub StepsOverExports : (ℕ → Option ℕ) → List ℕ → Result ExportDataView Refusal → Exports → Result (Option Export) Refusal → Exports → Type 0
 StepsOverExports offset b (Ok d) w answer new =
-    (found : Option (Export × ℕ)) × FindsNext (reported_entry offset b d) w.next (count_of w) found × (answer ≡ Ok (option_map (λ x. x.0) found)) × (new ≡ exports_after w found)
+    (found : Option (Export × ℕ)) × FindsNext (reported_entry offset b w.directory d) w.next (count_of w) found × (answer ≡ Ok (option_map (λ x. x.0) found)) × (new ≡ exports_after w found)
 StepsOverExports offset b (Err refusal) w answer new = (answer ≡ Err refusal) × (new ≡ record w { names = no_bytes })
 
 -- a step, by whether the walk is at its end

@@ -1,12 +1,13 @@
 //! Exports. The export directory has three tables: the RVAs of what is exported, the RVAs of names, and for each name
-//! the index of its RVA in the first table. A walk returns the exports that have a name; `export_addresses` has all of
-//! them by their index, and says which are forwarders.
+//! the index of its RVA in the first table. A walk returns the exports that have a name, and says which are forwarders;
+//! `export_addresses` has all of them by their index, with the texts of forwarders.
 //! https://learn.microsoft.com/windows/win32/debug/pe-format#the-edata-section-image-only
 
 ghost use Rattle.std.specs.Prelude.{◌≡◌, ◌+◌, ◌*◌, ◌/◌, ◌≤◌, length};
 ghost use Rattle.pe_core.specs.Exports.{export_data_at, export_data_view};
 ghost use Rattle.pe_core.specs.Refusals.{ReturnsAs, answer_of};
 ghost use Rattle.pe_c.specs.HandsOut.{HandsOutIf};
+ghost use Rattle.pe_c.specs.Images.{export_directory};
 ghost use Rattle.pe_c.specs.Exports.{HandsOutExport, FindsNext, StepsExports, export_table, tables_at, tables_or_short, reported_entry, view_of, walk_over};
 ghost use Rattle.pe_c.specs.KeptSections.{ChangeNothing, KeepsOn, map_kept};
 ghost use Rattle.pe_c.specs.Views.{map_of};
@@ -19,7 +20,7 @@ use crate::ranges::{NO_BYTES, Range, range_from, slice_of};
 use crate::results::hand_out_some;
 use crate::text_runs::{Run, TextCosts, end_of_next};
 use crate::view::{View, map_by};
-use pe_core::{DataDirectory, ExportData, Result, read_u32, u16_at, u32_at};
+use pe_core::{DataDirectory, ExportData, Result, lies_in, read_u32, u16_at, u32_at};
 
 /// Where a walk over the exports of an image stands: the tables of its export directory, and the index of the next name.
 #[repr(C)]
@@ -33,6 +34,8 @@ pub struct Exports {
     pub addresses: Range,
     /// Index of the next name.
     pub next: u64,
+    /// The export directory: an RVA inside it is that of a forwarder's text.
+    pub directory: DataDirectory,
 }
 
 /// A walk over exports step by step.
@@ -59,8 +62,9 @@ pub struct Export {
     pub has_offset: u32,
     /// Index in the address table: plus the ordinal base it is the ordinal.
     pub index: u32,
-    /// 0.
-    pub spare: u32,
+    /// 1 where the RVA lies in the export directory, else 0: what stands at `offset` is then a text that names another DLL's
+    /// export, as `NTDLL.RtlAllocateHeap`, which `pe_c_export_at` returns.
+    pub is_forwarder: u32,
 }
 
 /// The range of a table of so many bytes at an RVA. An empty table needs no mapped RVA.
@@ -75,17 +79,18 @@ pub fn export_table(view: &View, rva: u32, size: u64) -> Range
 }
 
 fn walk_over(view: &View, export_data: &ExportData) -> Exports
-    ensures { result ≡ walk_over (map_of view.now)
+    ensures { result ≡ walk_over (map_of view.now) (export_directory view.now.image.now)
         (export_data_view export_data.now) }
 {
-    let directory = &export_data.directory;
-    let names = u64::from(directory.number_of_name_pointers);
-    let addresses = u64::from(directory.address_table_entries);
+    let fields = &export_data.directory;
+    let names = u64::from(fields.number_of_name_pointers);
+    let addresses = u64::from(fields.address_table_entries);
     Exports {
-        names: export_table(view, directory.name_pointer_rva, 4 * names),
-        ordinals: export_table(view, directory.ordinal_table_rva, 2 * names),
-        addresses: export_table(view, directory.address_table_rva, 4 * addresses),
+        names: export_table(view, fields.name_pointer_rva, 4 * names),
+        ordinals: export_table(view, fields.ordinal_table_rva, 2 * names),
+        addresses: export_table(view, fields.address_table_rva, 4 * addresses),
         next: 0,
+        directory: directory(view.image, EXPORT_TABLE),
     }
 }
 
@@ -133,16 +138,17 @@ pub struct Tables<'a> {
 }
 
 /// The export of entry `i` of the name table, if its name is mapped and is text, and its ordinal is in the address
-/// table.
+/// table. The export directory tells which are forwarders.
 fn reported_entry(
     names: &NamedView<'_>,
     kept: KeptSections,
     tables: &Tables<'_>,
+    directory: DataDirectory,
     i: usize,
 ) -> Option<Export>
     requires { 4 * i + 4 ≤ length tables.now.names.now }
     ensures { result ≡ reported_entry (map_kept names.now.view.now kept)
-        names.now.view.now.bytes.now (view_of tables.now) i }
+        names.now.view.now.bytes.now directory (view_of tables.now) i }
 {
     let name_rva = read_u32(tables.names, 4 * i);
     let offset = map_kept(names.view, kept, u64::from(name_rva))?;
@@ -159,7 +165,7 @@ fn reported_entry(
         rva,
         has_offset: u32::from(exported.is_some()),
         index: u32::from(ordinal),
-        spare: 0,
+        is_forwarder: u32::from(lies_in(directory, rva)),
     })
 }
 
@@ -168,14 +174,15 @@ fn find_next(
     names: &NamedView<'_>,
     kept: KeptSections,
     tables: &Tables<'_>,
+    directory: DataDirectory,
     from: usize,
 ) -> Option<(Export, u64)>
-    ensures { FindsNext (reported_entry
-        (map_kept names.now.view.now kept) names.now.view.now.bytes.now (view_of tables.now))
+    ensures { FindsNext (reported_entry (map_kept names.now.view.now kept)
+        names.now.view.now.bytes.now directory (view_of tables.now))
         from (length tables.now.names.now / 4) result }
 {
     for i in from..tables.names.len() / 4 {
-        if let Some(export) = reported_entry(names, kept, tables, i) {
+        if let Some(export) = reported_entry(names, kept, tables, directory, i) {
             return Some((export, i as u64 + 1));
         }
     }
@@ -250,7 +257,7 @@ pub fn step(names: &NamedView<'_>, kept: KeptSections, walk: &mut Exports) -> Re
             return Err(error);
         }
     };
-    match find_next(names, kept, &tables, walk.next as usize) {
+    match find_next(names, kept, &tables, walk.directory, walk.next as usize) {
         Some((export, next)) => {
             walk.next = next;
             Ok(Some(export))

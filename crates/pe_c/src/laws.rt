@@ -278,16 +278,18 @@ pub fn ranges_of_digests_are_what_they_cover()
 /// name table is the export that the entry has.
 #[tactic(auto, using(crate::proofs::ExportParts::reports))]
 pub fn walks_report_the_exports()
-    ensures tables { (offset : ℕ → Option ℕ) (b : List ℕ) (rva : ℕ) (d : ExportDataView) →
-        export_data_at offset b rva ≡ Ok d → HasTables b (walk_over offset d) d }
-    ensures exports { (offset : ℕ → Option ℕ) (b : List ℕ) (d : ExportDataView) (i : ℕ) →
-        ReportsExport b (reported_entry offset b (with_tables d.names d.ordinals d.addresses) i)
+    ensures tables { (offset : ℕ → Option ℕ) (b : List ℕ) (rva : ℕ) (directory : DataDirectory)
+        (d : ExportDataView) → export_data_at offset b rva ≡ Ok d →
+        HasTables b (walk_over offset directory d) d }
+    ensures exports { (offset : ℕ → Option ℕ) (b : List ℕ) (directory : DataDirectory)
+        (d : ExportDataView) (i : ℕ) → ReportsExport b
+        (reported_entry offset b directory (with_tables d.names d.ordinals d.addresses) i)
         (export_at offset b d i) }
 {}
 
 /// The address table of an export directory has the range of the directory's addresses and that of its name, and each of
 /// its entries that of a forwarder's text. The index that a walk over exports returns with a name is that of the entry
-/// which has the export's RVA.
+/// which has the export's RVA; where both were read of one directory, the two say the same of whether it is a forwarder.
 #[tactic(auto, using(crate::proofs::AddressEntries::entries))]
 pub fn exports_by_index_are_those_by_name()
     ensures addresses { (offset : ℕ → Option ℕ) (b : List ℕ) (rva : ℕ) (directory : DataDirectory)
@@ -299,10 +301,15 @@ pub fn exports_by_index_are_those_by_name()
     ensures forwarders { (offset : ℕ → Option ℕ) (b : List ℕ) (t : AddressesView) (i rva : ℕ) →
         IsPart b (exported_with offset b (address_with t i rva)).forwarder
         (forwarder_text offset b t.directory rva) }
-    ensures named { (offset : ℕ → Option ℕ) (b : List ℕ) (d : ExportDataView) (t : AddressTable)
-        (i : ℕ) (x : Export) → bytes_at b t.addresses ≡ Ok d.addresses →
-        reported_entry offset b d i ≡ Some x → exported_at offset b t x.index ≡ Ok (Some
+    ensures named { (offset : ℕ → Option ℕ) (b : List ℕ) (directory : DataDirectory)
+        (d : ExportDataView) (t : AddressTable) (i : ℕ) (x : Export) →
+        bytes_at b t.addresses ≡ Ok d.addresses →
+        reported_entry offset b directory d i ≡ Some x → exported_at offset b t x.index ≡ Ok (Some
         (exported_with offset b (address_with (addresses_in t d.addresses) x.index x.rva))) }
+    ensures named_forwarders { (offset : ℕ → Option ℕ) (b : List ℕ) (d : ExportDataView)
+        (t : AddressTable) (i : ℕ) (x : Export) →
+        reported_entry offset b t.directory d i ≡ Some x → x.is_forwarder ≡ (exported_with offset b
+        (address_with (addresses_in t d.addresses) x.index x.rva)).is_forwarder }
 {}
 
 /// A walk over the libraries of an image returns, one a step and in their order, the records of its import directory,
@@ -328,14 +335,15 @@ pub fn walks_report_the_imports()
 /// A walk over exports returns, one a step and in their order, the exports that the entries of its name table have from
 /// its next index on, and then nothing. So the walk over an export directory returns exactly the exports that the
 /// directory lists. Where entries are left of tables that are not inside the bytes it returns one error alone.
-#[tactic(auto, using(crate::proofs::ExportRuns::exports_in_turn, crate::proofs::ExportRuns::directory_in_turn, crate::proofs::ExportRuns::lies_once))]
+#[tactic(auto, using(crate::proofs::ExportRuns::exports_in_turn, crate::proofs::ExportRuns::lies_once))]
 pub fn walks_give_the_exports()
     ensures entries { (offset : ℕ → Option ℕ) (b : List ℕ) (walk : Exports) (d : ExportDataView) →
         tables_or_short b walk ≡ Ok d → ReturnsItems (StepsExports offset b) walk
-        (map (λ x. Ok x) (reported_from (reported_entry offset b d) walk.next (count_of walk))) }
-    ensures directory { (offset : ℕ → Option ℕ) (b : List ℕ) (rva : ℕ) (d : ExportDataView) →
-        export_data_at offset b rva ≡ Ok d → (reported : List Export)
-        × ReturnsItems (StepsExports offset b) (walk_over offset d) (map (λ x. Ok x) reported)
+        (map (λ x. Ok x)
+        (reported_from (reported_entry offset b walk.directory d) walk.next (count_of walk))) }
+    ensures directory { (offset : ℕ → Option ℕ) (b : List ℕ) (rva : ℕ) (directory : DataDirectory)
+        (d : ExportDataView) → export_data_at offset b rva ≡ Ok d → (reported : List Export)
+        × ReturnsItems (StepsExports offset b) (walk_over offset directory d) (map (λ x. Ok x) reported)
         × AllZip (λ x e. ReportsExport b (Some x) (Some e)) reported (exports offset b d) }
     ensures outside { (offset : ℕ → Option ℕ) (b : List ℕ) (walk : Exports) (refusal : Refusal) →
         walk.next < count_of walk → tables_or_short b walk ≡ Err refusal →

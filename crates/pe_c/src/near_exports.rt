@@ -9,7 +9,7 @@ use crate::exports::{Export, Exports, Tables};
 use crate::named_view::NamedView;
 use crate::near_map::{Window, map_near};
 use crate::ranges::Range;
-use pe_core::{read_u32, u16_at, u32_at};
+use pe_core::{DataDirectory, lies_in, read_u32, u16_at, u32_at};
 
 /// The RVAs near the last name, and near what was exported last.
 #[derive(Clone, Copy)]
@@ -34,13 +34,14 @@ pub struct NearExports<'a> {
 fn near_entry(
     names: &NamedView<'_>,
     tables: &Tables<'_>,
+    directory: DataDirectory,
     i: usize,
     windows: &mut ExportWindows,
 ) -> Option<Export>
     requires entry { 4 * i + 4 ≤ length tables.now.names.now }
     requires near { AreNear (map_of names.now.view.now) windows.old }
     ensures entry { result ≡ reported_entry
-        (map_of names.now.view.now) names.now.view.now.bytes.now (view_of tables.now) i }
+        (map_of names.now.view.now) names.now.view.now.bytes.now directory (view_of tables.now) i }
     ensures near { AreNear (map_of names.now.view.now) windows.new }
 {
     let name_rva = read_u32(tables.names, 4 * i);
@@ -58,7 +59,7 @@ fn near_entry(
         rva,
         has_offset: u32::from(exported.is_some()),
         index: u32::from(ordinal),
-        spare: 0,
+        is_forwarder: u32::from(lies_in(directory, rva)),
     })
 }
 
@@ -67,16 +68,17 @@ fn near_entry(
 pub fn find_near(
     names: &NamedView<'_>,
     tables: &Tables<'_>,
+    directory: DataDirectory,
     from: usize,
     windows: &mut ExportWindows,
 ) -> Option<(Export, u64)>
     requires { AreNear (map_of names.now.view.now) windows.old }
-    ensures found { FindsNext (reported_entry (map_of names.now.view.now) names.now.view.now.bytes.now (view_of tables.now))
+    ensures found { FindsNext (reported_entry (map_of names.now.view.now) names.now.view.now.bytes.now directory (view_of tables.now))
         from (length tables.now.names.now / 4) result }
     ensures near { AreNear (map_of names.now.view.now) windows.new }
 {
     for i in from..tables.names.len() / 4 {
-        if let Some(export) = near_entry(names, tables, i, windows) {
+        if let Some(export) = near_entry(names, tables, directory, i, windows) {
             return Some((export, i as u64 + 1));
         }
     }

@@ -560,7 +560,8 @@ static void add_named(Image *self, Rows *rows, const pe_c_exports *all, const pe
     pe_c_export named = PE_C_EMPTY;
     pe_c_exported item = PE_C_EMPTY;
     for (uint64_t i = 0; goes_on(rows) && i < all->names.length / 4; i++) {
-        walk.exports = (pe_c_exports){{all->names.offset + 4 * i, 4}, {all->ordinals.offset + 2 * i, 2}, all->addresses, 0};
+        walk.exports = (pe_c_exports){{all->names.offset + 4 * i, 4}, {all->ordinals.offset + 2 * i, 2}, all->addresses, 0,
+                                      all->directory};
         uint32_t result = pe_c_next_export(VIEW, &walk, &named);
         if (result != PE_C_DONE && result != PE_C_NOTHING)
             rows->result = result;

@@ -47,7 +47,13 @@ fn next_near(near: &mut NearExports<'_>) -> Option<Export>
     if count <= walk.next {
         return None;
     }
-    let (export, next) = match find_near(&names, &tables, walk.next as usize, &mut windows) {
+    let (export, next) = match find_near(
+        &names,
+        &tables,
+        walk.directory,
+        walk.next as usize,
+        &mut windows,
+    ) {
         Some((export, next)) => (Some(export), next),
         None => (None, count),
     };

@@ -9,3 +9,6 @@ returns-clause-name c = entries.names_stand
 
 pub returns-clause-forwarders : goal.returns-clause-forwarders
 returns-clause-forwarders c = entries.forwarders
+
+pub returns-clause-named_forwarders : goal.returns-clause-named_forwarders
+returns-clause-named_forwarders c = entries.named_forwarders
