@@ -10,7 +10,7 @@ use crate::outcome::Outcome;
 use crate::plan::plan;
 use crate::report::report;
 use crate::rewrite::rewrite;
-use crate::{Source, Target, advice_on, outcome_of};
+use crate::{Job, Source, Target, advice_on, outcome_of};
 use pe_image::{Error, ParseMode, ParseOptions};
 use pe_images::{
     put, with_every_directory, with_every_directory_and_records, with_every_directory_of_arm64,
@@ -117,7 +117,11 @@ fn check_refused(
         path: IMAGE,
         bytes: b"MZ",
     };
-    let outcome = outcome_of(&system, source, asked.target(), answer, &out, "");
+    let job = Job {
+        source,
+        target: asked.target(),
+    };
+    let outcome = outcome_of(&system, job, answer, &out, "");
     assert_eq!(rt; outcome, Outcome::Refused);
     assert_eq!(rt; outcome.status(), 1);
     assert_eq!(rt; system.complaints.into_inner().as_slice(), LINE_OF_MEMORY);

@@ -117,6 +117,13 @@ enum Target<'a> {
     File(&'a str),
 }
 
+/// What an engine works on: the file that it reads, and where its text goes.
+#[derive(Clone, Copy)]
+struct Job<'a> {
+    source: Source<'a>,
+    target: Target<'a>,
+}
+
 /// Prints why a text was not written whole.
 fn say_unwritten<R: Eprint>(rt: &R, path: &str, target: Target, cause: Option<&io::Error>) {
     let _ = match (target, cause) {
@@ -138,8 +145,7 @@ fn say_unwritten<R: Eprint>(rt: &R, path: &str, target: Target, cause: Option<&i
 /// The outcome of an engine's result. A failure is one line on standard error.
 fn outcome_of<R: Eprint, W: io::Write>(
     rt: &R,
-    source: Source,
-    target: Target,
+    job: Job,
     engine_result: Result<(), ReportError>,
     out: &CountedOut<W>,
     advice: &str,
@@ -149,11 +155,11 @@ fn outcome_of<R: Eprint, W: io::Write>(
     match engine_result {
         Ok(()) => Outcome::Done,
         Err(ReportError::Parse(refusal)) => {
-            say_refused(rt, source, &refusal, advice);
+            say_refused(rt, job.source, &refusal, advice);
             Outcome::Refused
         }
         Err(ReportError::Write) => {
-            say_unwritten(rt, source.path, target, out.cause());
+            say_unwritten(rt, job.source.path, job.target, out.cause());
             Outcome::FileError
         }
     }
@@ -191,7 +197,11 @@ fn list<R: Print + Eprint + AllocGlobal>(rt: &R, source: Source, mode: ParseMode
         // The image is read once more, in permissive mode, to know whether the option helps.
         Err(ReportError::Parse(_)) => advice_on(rt.alloc(), source.bytes, mode).unwrap_or(""),
     };
-    outcome_of(rt, source, Target::Output, engine_result, &out, advice)
+    let job = Job {
+        source,
+        target: Target::Output,
+    };
+    outcome_of(rt, job, engine_result, &out, advice)
 }
 
 /// Shows the function that covers an RVA of the image in a file.
@@ -200,7 +210,11 @@ fn at<R: Print + Eprint + AllocGlobal>(rt: &R, source: Source, rva: u32) -> Outc
 {
     let mut out = CountedOut::new(io::writer(rt));
     let engine_result = find(rt.alloc(), source.bytes, rva, &mut out);
-    outcome_of(rt, source, Target::Output, engine_result, &out, "")
+    let job = Job {
+        source,
+        target: Target::Output,
+    };
+    outcome_of(rt, job, engine_result, &out, "")
 }
 
 /// Shows the function that covers an RVA of the image in a file, and its records up to the root of their chain.
@@ -209,7 +223,11 @@ fn chain_at<R: Print + Eprint + AllocGlobal>(rt: &R, source: Source, rva: u32) -
 {
     let mut out = CountedOut::new(io::writer(rt));
     let engine_result = plan(rt.alloc(), source.bytes, rva, &mut out);
-    outcome_of(rt, source, Target::Output, engine_result, &out, "")
+    let job = Job {
+        source,
+        target: Target::Output,
+    };
+    outcome_of(rt, job, engine_result, &out, "")
 }
 
 /// Writes the image in a file anew, to a file that must not exist. That file is made once the image's file is read, and
@@ -226,7 +244,11 @@ fn rewrite_to<R: Files + Eprint + AllocGlobal>(rt: &R, source: Source, target: &
     };
     let mut out = CountedOut::new(file);
     let engine_result = rewrite(rt.alloc(), source.bytes, &mut out);
-    outcome_of(rt, source, Target::File(target), engine_result, &out, "")
+    let job = Job {
+        source,
+        target: Target::File(target),
+    };
+    outcome_of(rt, job, engine_result, &out, "")
 }
 
 /// Reads the file of a command, and runs the command on its bytes.
