@@ -5,8 +5,8 @@ use pe_core::{ByteRange, DataDirectory, Error, Header, ParseMode, ParseOptions, 
 use pe_records::{
     CodeviewPDB20DebugInfo, CodeviewPDB70DebugInfo, DebugData, EmbeddedPdb,
     ExDllCharacteristicsInfo, FirstDebugEntries, IMAGE_DEBUG_TYPE_CODEVIEW, IMAGE_DEBUG_TYPE_REPRO,
-    ImageDebugDirectory, ImageDebugDirectoryIterator, POGOEntryIterator, POGOInfo, POGOInfoEntry, PdbChecksum, ReproInfo,
-    VCFeatureInfo,
+    ImageDebugDirectory, ImageDebugDirectoryIterator, POGOEntryIterator, POGOInfo, POGOInfoEntry,
+    PdbChecksum, ReproInfo, VCFeatureInfo,
 };
 use std::alloc::{AllocError, Global};
 use std::test::Fail;
@@ -293,7 +293,10 @@ fn first_entries_in_one_pass(rt: HostRuntime) -> std::result::Result<(), Fail> {
         }
         assert_eq!(rt; count, found);
         let codeview = first.codeview.ok_or("no entry")?;
-        assert_eq!(rt; (codeview.size_of_data, codeview.pointer_to_raw_data), (30, pointer));
+        assert_eq!(rt;
+            (codeview.size_of_data, codeview.pointer_to_raw_data),
+            (30, pointer)
+        );
     }
     let none = FirstDebugEntries::of_table(&[], 0);
     assert!(rt; none.codeview.is_none() && none.features.is_none() && none.repro.is_none());
