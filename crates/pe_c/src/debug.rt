@@ -7,8 +7,9 @@
 
 ghost use Rattle.std.specs.Prelude.{◌≡◌, IfOk};
 ghost use Rattle.pe_core.specs.Offsets.{IsWithin};
-ghost use Rattle.pe_core.specs.Refusals.{Returns, answer_of};
+ghost use Rattle.pe_core.specs.Refusals.{Returns, ReturnsAs, answer_of};
 ghost use Rattle.pe_records.specs.DebugDirectory.{directory_range};
+ghost use Rattle.pe_records.specs.DebugRecords.{of_entry};
 ghost use Rattle.pe_records.specs.declared.debug.constants.TheConstants.{IMAGE_DEBUG_TYPE_CODEVIEW, IMAGE_DEBUG_TYPE_EX_DLLCHARACTERISTICS, IMAGE_DEBUG_TYPE_POGO, IMAGE_DEBUG_TYPE_REPRO, IMAGE_DEBUG_TYPE_VC_FEATURE};
 ghost use Rattle.pe_c.specs.Debug.{characteristics_of, debug_entries_range, features_of, first_entry, key_of, pdb20_of, pogo_of, read_first, repro_of};
 ghost use Rattle.pe_c.specs.HandsOut.{HandsOutIf};
@@ -21,16 +22,17 @@ use crate::debug_records::{
 };
 use crate::image::{DEBUG_TABLE, directory, is_absent};
 use crate::ranges::{Range, range_of};
-use crate::results::{DONE, hand_out_some, options};
+use crate::results::{DONE, hand_out_some, number_of, options};
 use crate::view::{View, sections_of};
 use pe_core::{ByteRange, DataDirectory, Result};
 use pe_records::{
-    DebugData, IMAGE_DEBUG_TYPE_CODEVIEW, IMAGE_DEBUG_TYPE_EX_DLLCHARACTERISTICS,
-    IMAGE_DEBUG_TYPE_POGO, IMAGE_DEBUG_TYPE_REPRO, IMAGE_DEBUG_TYPE_VC_FEATURE,
-    ImageDebugDirectory, ImageDebugDirectoryIterator, VCFeatureInfo,
+    DebugData, FirstDebugEntries, IMAGE_DEBUG_TYPE_CODEVIEW,
+    IMAGE_DEBUG_TYPE_EX_DLLCHARACTERISTICS, IMAGE_DEBUG_TYPE_POGO, IMAGE_DEBUG_TYPE_REPRO,
+    IMAGE_DEBUG_TYPE_VC_FEATURE, ImageDebugDirectory, ImageDebugDirectoryIterator, VCFeatureInfo,
 };
 
 /// The range of the entries of a debug directory.
+#[inline(always)]
 fn entries_at(view: &View, directory: DataDirectory) -> Result<ByteRange>
     ensures range { Returns result (directory_range (options_of view.now.image.now.mode)
         view.now.bytes.now directory (may_map view.now directory.virtual_address)
@@ -73,6 +75,7 @@ pub extern "C" fn pe_c_debug_entries(view: &View, out: &mut Range) -> u32
 }
 
 #[tactic(auto, unfolding(crate::specs::Debug::first_entry, pe_records::specs::DebugDirectory::directory_table))]
+#[inline(always)]
 fn first_entry(view: &View, data_type: u32) -> Result<Option<ImageDebugDirectory>>
     ensures { answer_of result ≡ first_entry view.now.bytes.now view.now.image.now
         (directory_sections view.now 6) data_type }
@@ -83,6 +86,39 @@ fn first_entry(view: &View, data_type: u32) -> Result<Option<ImageDebugDirectory
     }
     let range = entries_at(view, directory)?;
     Ok(ImageDebugDirectoryIterator::new(range.of(view.bytes), 0).find_type(data_type))
+}
+
+/// The first entry of each type, of one pass over the entries. Without a debug directory there is none of any type.
+#[tactic(auto, unfolding(crate::specs::Debug::first_entry, pe_records::specs::DebugDirectory::directory_table))]
+fn first_entries(view: &View) -> Result<FirstDebugEntries>
+    ensures codeview { ReturnsAs (λ first. first.codeview) result
+        (first_entry view.now.bytes.now view.now.image.now (directory_sections view.now 6)
+        IMAGE_DEBUG_TYPE_CODEVIEW) }
+    ensures features { ReturnsAs (λ first. first.features) result
+        (first_entry view.now.bytes.now view.now.image.now (directory_sections view.now 6)
+        IMAGE_DEBUG_TYPE_VC_FEATURE) }
+    ensures characteristics { ReturnsAs (λ first. first.characteristics) result
+        (first_entry view.now.bytes.now view.now.image.now (directory_sections view.now 6)
+        IMAGE_DEBUG_TYPE_EX_DLLCHARACTERISTICS) }
+    ensures repro { ReturnsAs (λ first. first.repro) result
+        (first_entry view.now.bytes.now view.now.image.now (directory_sections view.now 6)
+        IMAGE_DEBUG_TYPE_REPRO) }
+    ensures pogo { ReturnsAs (λ first. first.pogo) result
+        (first_entry view.now.bytes.now view.now.image.now (directory_sections view.now 6)
+        IMAGE_DEBUG_TYPE_POGO) }
+{
+    let directory = directory(view.image, DEBUG_TABLE);
+    if is_absent(directory) {
+        return Ok(FirstDebugEntries {
+            codeview: None,
+            features: None,
+            characteristics: None,
+            repro: None,
+            pogo: None,
+        });
+    }
+    let range = entries_at(view, directory)?;
+    Ok(FirstDebugEntries::of_table(range.of(view.bytes), 0))
 }
 
 /// Returns the first entry of a type, `IMAGE_DEBUG_TYPE_` of winnt.h, in the debug directory: `NOTHING` where there is
@@ -119,22 +155,38 @@ pub struct DebugRecords {
     pub features: VCFeatureInfo,
     /// Those of `pe_c_debug_characteristics`.
     pub characteristics: u32,
+    /// The result of `key`.
     pub key_result: u32,
+    /// The result of `pdb20`.
     pub pdb20_result: u32,
+    /// The result of `repro`.
     pub repro_result: u32,
+    /// The result of `pogo`.
     pub pogo_result: u32,
+    /// The result of `features`.
     pub features_result: u32,
+    /// The result of `characteristics`.
     pub characteristics_result: u32,
 }
 
+/// The symbol key of an entry, if there is one. Inlined, as what it calls: a key is read without copies.
+#[inline(always)]
+fn key_at(view: &View, entry: Option<ImageDebugDirectory>) -> Result<Option<SymbolKey>>
+    ensures { answer_of result
+        ≡ of_entry (key_of view.now.bytes.now view.now.image.now.mode) entry }
+{
+    match entry {
+        Some(entry) => key_of(view.bytes, view.image.mode, &entry),
+        None => Ok(None),
+    }
+}
+
+#[inline(always)]
 fn first_key(view: &View) -> Result<Option<SymbolKey>>
     ensures { answer_of result ≡ read_first key_of IMAGE_DEBUG_TYPE_CODEVIEW view.now.bytes.now
         view.now.image.now (directory_sections view.now 6) }
 {
-    match first_entry(view, IMAGE_DEBUG_TYPE_CODEVIEW)? {
-        Some(entry) => key_of(view.bytes, view.image.mode, &entry),
-        None => Ok(None),
-    }
+    key_at(view, first_entry(view, IMAGE_DEBUG_TYPE_CODEVIEW)?)
 }
 
 /// Returns the key under which a symbol server files an image's symbols, of the first CodeView entry: `NOTHING` where
@@ -150,14 +202,22 @@ pub extern "C" fn pe_c_symbol_key(view: &View, out: &mut SymbolKey) -> u32
     hand_out_some(first_key(view), out)
 }
 
+/// The record of PDB 2.0 of an entry, if there is one.
+fn pdb20_at(view: &View, entry: Option<ImageDebugDirectory>) -> Result<Option<Pdb20>>
+    ensures { answer_of result
+        ≡ of_entry (pdb20_of view.now.bytes.now view.now.image.now.mode) entry }
+{
+    match entry {
+        Some(entry) => pdb20_of(view.bytes, view.image.mode, &entry),
+        None => Ok(None),
+    }
+}
+
 fn first_pdb20(view: &View) -> Result<Option<Pdb20>>
     ensures { answer_of result ≡ read_first pdb20_of IMAGE_DEBUG_TYPE_CODEVIEW view.now.bytes.now
         view.now.image.now (directory_sections view.now 6) }
 {
-    match first_entry(view, IMAGE_DEBUG_TYPE_CODEVIEW)? {
-        Some(entry) => pdb20_of(view.bytes, view.image.mode, &entry),
-        None => Ok(None),
-    }
+    pdb20_at(view, first_entry(view, IMAGE_DEBUG_TYPE_CODEVIEW)?)
 }
 
 /// Reads the record of the first CodeView entry: `NOTHING` where there is no such entry, or its record is not one of
@@ -173,15 +233,23 @@ pub extern "C" fn pe_c_debug_pdb20(view: &View, out: &mut Pdb20) -> u32
     hand_out_some(first_pdb20(view), out)
 }
 
+/// The counts of VC features of an entry, if there is one.
+fn features_at(view: &View, entry: Option<ImageDebugDirectory>) -> Result<Option<VCFeatureInfo>>
+    ensures { answer_of result
+        ≡ of_entry (features_of view.now.bytes.now view.now.image.now.mode) entry }
+{
+    match entry {
+        Some(entry) => features_of(view.bytes, view.image.mode, &entry),
+        None => Ok(None),
+    }
+}
+
 fn first_features(view: &View) -> Result<Option<VCFeatureInfo>>
     ensures { answer_of result
         ≡ read_first features_of IMAGE_DEBUG_TYPE_VC_FEATURE view.now.bytes.now view.now.image.now
         (directory_sections view.now 6) }
 {
-    match first_entry(view, IMAGE_DEBUG_TYPE_VC_FEATURE)? {
-        Some(entry) => features_of(view.bytes, view.image.mode, &entry),
-        None => Ok(None),
-    }
+    features_at(view, first_entry(view, IMAGE_DEBUG_TYPE_VC_FEATURE)?)
 }
 
 /// Reads the record of the first VC feature entry: `NOTHING` where there is no such entry.
@@ -196,15 +264,26 @@ pub extern "C" fn pe_c_debug_vc_features(view: &View, out: &mut VCFeatureInfo) -
     hand_out_some(first_features(view), out)
 }
 
+/// The extended DLL characteristics of an entry, if there is one.
+fn characteristics_at(view: &View, entry: Option<ImageDebugDirectory>) -> Result<Option<u32>>
+    ensures { answer_of result
+        ≡ of_entry (characteristics_of view.now.bytes.now view.now.image.now.mode) entry }
+{
+    match entry {
+        Some(entry) => characteristics_of(view.bytes, view.image.mode, &entry),
+        None => Ok(None),
+    }
+}
+
 fn first_characteristics(view: &View) -> Result<Option<u32>>
     ensures { answer_of result
         ≡ read_first characteristics_of IMAGE_DEBUG_TYPE_EX_DLLCHARACTERISTICS view.now.bytes.now
         view.now.image.now (directory_sections view.now 6) }
 {
-    match first_entry(view, IMAGE_DEBUG_TYPE_EX_DLLCHARACTERISTICS)? {
-        Some(entry) => characteristics_of(view.bytes, view.image.mode, &entry),
-        None => Ok(None),
-    }
+    characteristics_at(
+        view,
+        first_entry(view, IMAGE_DEBUG_TYPE_EX_DLLCHARACTERISTICS)?,
+    )
 }
 
 /// Reads the extended DLL characteristics, `IMAGE_DLLCHARACTERISTICS_EX_` flags, of the first entry that has them:
@@ -220,14 +299,22 @@ pub extern "C" fn pe_c_debug_characteristics(view: &View, out: &mut u32) -> u32
     hand_out_some(first_characteristics(view), out)
 }
 
+/// The Repro record of an entry, if there is one.
+fn repro_at(view: &View, entry: Option<ImageDebugDirectory>) -> Result<Option<Repro>>
+    ensures { answer_of result
+        ≡ of_entry (repro_of view.now.bytes.now view.now.image.now.mode) entry }
+{
+    match entry {
+        Some(entry) => repro_of(view.bytes, view.image.mode, &entry),
+        None => Ok(None),
+    }
+}
+
 fn first_repro(view: &View) -> Result<Option<Repro>>
     ensures { answer_of result ≡ read_first repro_of IMAGE_DEBUG_TYPE_REPRO view.now.bytes.now
         view.now.image.now (directory_sections view.now 6) }
 {
-    match first_entry(view, IMAGE_DEBUG_TYPE_REPRO)? {
-        Some(entry) => repro_of(view.bytes, view.image.mode, &entry),
-        None => Ok(None),
-    }
+    repro_at(view, first_entry(view, IMAGE_DEBUG_TYPE_REPRO)?)
 }
 
 /// Reads the record of the first Repro entry: `NOTHING` where there is no such entry.
@@ -242,14 +329,22 @@ pub extern "C" fn pe_c_debug_repro(view: &View, out: &mut Repro) -> u32
     hand_out_some(first_repro(view), out)
 }
 
+/// The POGO record of an entry, if there is one.
+fn pogo_at(view: &View, entry: Option<ImageDebugDirectory>) -> Result<Option<Pogo>>
+    ensures { answer_of result
+        ≡ of_entry (pogo_of view.now.bytes.now view.now.image.now.mode) entry }
+{
+    match entry {
+        Some(entry) => pogo_of(view.bytes, view.image.mode, &entry),
+        None => Ok(None),
+    }
+}
+
 fn first_pogo(view: &View) -> Result<Option<Pogo>>
     ensures { answer_of result ≡ read_first pogo_of IMAGE_DEBUG_TYPE_POGO view.now.bytes.now
         view.now.image.now (directory_sections view.now 6) }
 {
-    match first_entry(view, IMAGE_DEBUG_TYPE_POGO)? {
-        Some(entry) => pogo_of(view.bytes, view.image.mode, &entry),
-        None => Ok(None),
-    }
+    pogo_at(view, first_entry(view, IMAGE_DEBUG_TYPE_POGO)?)
 }
 
 /// Reads the record of the first POGO entry: `NOTHING` where there is no such entry, or its record has another
@@ -265,8 +360,53 @@ pub extern "C" fn pe_c_debug_pogo(view: &View, out: &mut Pogo) -> u32
     hand_out_some(first_pogo(view), out)
 }
 
-/// Reads the record of the first entry of each type at once, as the calls above do. Always returns `DONE`: each record has a result of
-/// its own.
+/// Reads the record of each entry, with a result of its own.
+fn read_records(view: &View, first: &FirstDebugEntries, out: &mut DebugRecords)
+    ensures key { HandsOutIf out.new.key_result out.old.key out.new.key (of_entry
+        (key_of view.now.bytes.now view.now.image.now.mode) first.now.codeview) }
+    ensures pdb20 { HandsOutIf out.new.pdb20_result out.old.pdb20 out.new.pdb20 (of_entry
+        (pdb20_of view.now.bytes.now view.now.image.now.mode) first.now.codeview) }
+    ensures repro { HandsOutIf out.new.repro_result out.old.repro out.new.repro (of_entry
+        (repro_of view.now.bytes.now view.now.image.now.mode) first.now.repro) }
+    ensures pogo { HandsOutIf out.new.pogo_result out.old.pogo out.new.pogo (of_entry
+        (pogo_of view.now.bytes.now view.now.image.now.mode) first.now.pogo) }
+    ensures features { HandsOutIf out.new.features_result out.old.features out.new.features (of_entry
+        (features_of view.now.bytes.now view.now.image.now.mode) first.now.features) }
+    ensures characteristics { HandsOutIf out.new.characteristics_result out.old.characteristics out.new.characteristics (of_entry
+        (characteristics_of view.now.bytes.now view.now.image.now.mode) first.now.characteristics) }
+{
+    out.key_result = hand_out_some(key_at(view, first.codeview), &mut out.key);
+    out.pdb20_result = hand_out_some(pdb20_at(view, first.codeview), &mut out.pdb20);
+    out.repro_result = hand_out_some(repro_at(view, first.repro), &mut out.repro);
+    out.pogo_result = hand_out_some(pogo_at(view, first.pogo), &mut out.pogo);
+    out.features_result = hand_out_some(features_at(view, first.features), &mut out.features);
+    out.characteristics_result = hand_out_some(
+        characteristics_at(view, first.characteristics),
+        &mut out.characteristics,
+    );
+}
+
+/// Each result is the number of what refuses the table of entries, and each record is as it was.
+fn refuse_records(number: u32, out: &mut DebugRecords)
+    ensures { out.new ≡ record out.old {
+      key_result = number;
+      pdb20_result = number;
+      repro_result = number;
+      pogo_result = number;
+      features_result = number;
+      characteristics_result = number;
+    } }
+{
+    out.key_result = number;
+    out.pdb20_result = number;
+    out.repro_result = number;
+    out.pogo_result = number;
+    out.features_result = number;
+    out.characteristics_result = number;
+}
+
+/// Reads the record of the first entry of each type at once, as the calls above do, but by one pass over the entries. Always returns
+/// `DONE`: each record has a result of its own.
 #[unsafe(no_mangle)]
 pub extern "C" fn pe_c_debug_data(view: &View, out: &mut DebugRecords) -> u32
     ensures done { result ≡ DONE }
@@ -289,14 +429,9 @@ pub extern "C" fn pe_c_debug_data(view: &View, out: &mut DebugRecords) -> u32
         (read_first characteristics_of IMAGE_DEBUG_TYPE_EX_DLLCHARACTERISTICS view.now.bytes.now view.now.image.now
         (directory_sections view.now 6)) }
 {
-    out.key_result = hand_out_some(first_key(view), &mut out.key);
-    out.pdb20_result = hand_out_some(first_pdb20(view), &mut out.pdb20);
-    out.repro_result = hand_out_some(first_repro(view), &mut out.repro);
-    out.pogo_result = hand_out_some(first_pogo(view), &mut out.pogo);
-    out.features_result = hand_out_some(first_features(view), &mut out.features);
-    out.characteristics_result = hand_out_some(
-        first_characteristics(view),
-        &mut out.characteristics,
-    );
+    match first_entries(view) {
+        Ok(first) => read_records(view, &first, out),
+        Err(error) => refuse_records(number_of(&error), out),
+    }
     DONE
 }

@@ -110,6 +110,7 @@ const EMBEDDED_HEADER: u64 = 8;
 const LONGEST_RECORD: usize = 0xFFFF_FFFF;
 
 /// The range of a part, which follows so many bytes in the record of an entry.
+#[inline(always)]
 fn part_after(entry: &ImageDebugDirectory, mode: u32, header: u64, part: &[u8]) -> Range
     requires { header ≤ 2 ^ 63 }
     ensures { result ≡ part_after mode entry.now header part.now }
@@ -121,6 +122,7 @@ fn part_after(entry: &ImageDebugDirectory, mode: u32, header: u64, part: &[u8]) 
 }
 
 /// The symbol key of an entry's record.
+#[inline(always)]
 pub fn key_of(bytes: &[u8], mode: u32, entry: &ImageDebugDirectory) -> Result<Option<SymbolKey>>
     ensures { answer_of result ≡ key_of bytes.now mode entry.now }
 {

@@ -8,9 +8,9 @@ ghost use Rattle.pe_c.specs.Views.{map_of};
 ghost use Rattle.pe_c.specs.declared.results.TheConstants.{DONE};
 ghost use Rattle.pe_c.specs.declared.view.View.{View};
 
-/// By a view in a mode with `PE_C_MAPPED` each RVA is its own offset (`offsets`). So what calls read there of an image that `pe_c_map`
-/// wrote is what they read of the file: the bytes of each part whose RVAs the file's view maps one after the other, as those of a
-/// part in one section (`bytes`).
+/// By a view in a mode with `PE_C_MAPPED` each RVA is its own offset (`offsets`). After `pe_c_map` the room has there what the file has:
+/// where the file's view maps RVAs below `size_of_image` one after the other, as those of a part in one section, to bytes that the file
+/// has, the room has these bytes at the first of the RVAs (`bytes`).
 #[tactic(auto, using(crate::proofs::LoadedRooms::own_offset, crate::proofs::LoadedRooms::same_bytes))]
 pub fn mapped_images_are_read_as_files()
     ensures offsets { (v : View) (x : ℕ) → resolves v.image.now.mode ≡ false → map_of v x ≡ Some x }
