@@ -1,5 +1,5 @@
 -- The libraries of an image are those whose names the walk over libraries returns.
-use Rattle.std.proofs.Common.{◌≡◌, ℕ, ◌≤◌, ◌^◌, Bool, true, false, List, [], ◌∷◌, length, map, Option, Some, None, Result, Ok, Err, refl, sym, ap, subst, ◌∙◌}
+use Rattle.std.proofs.Common.{◌≡◌, ℕ, ◌≤◌, ◌^◌, Bool, true, false, List, [], ◌∷◌, length, map, Option, Some, None, Result, Ok, Err, sym, ap, subst}
 use Rattle.std.specs.Prelude.{◌==◌, ◌↔◌}
 use Rattle.std.specs.List.{AllZip}
 use Rattle.std.specs.Option.{option_map}
@@ -7,7 +7,7 @@ use Rattle.pe_core.proofs.Steps.{given, same_inside}
 use Rattle.pe_core.specs.Bytes.{AreBytes}
 use Rattle.pe_core.specs.Header.{HeaderView}
 use Rattle.pe_core.specs.Imports.{AreLibraries, ImportRecordView, ImportView, entry_size}
-use Rattle.pe_core.specs.Refusals.{Refusal, ◌>>=◌}
+use Rattle.pe_core.specs.Refusals.{Refusal}
 use Rattle.pe_core.specs.Sections.{sections_at}
 use Rattle.pe_core.specs.declared.options.ParseMode.{ParseMode}
 use Rattle.pe_core.specs.declared.options.ParseOptions.{ParseOptions}
