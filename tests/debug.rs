@@ -272,7 +272,7 @@ fn counts_a_cut_entry(rt: HostRuntime) -> std::result::Result<(), Fail> {
 fn first_entries_in_one_pass(rt: HostRuntime) -> std::result::Result<(), Fail> {
     let bytes = five_entries(rt.alloc(), PDB70, 30)?;
     let twice = with_byte(five_entries(rt.alloc(), PDB70, 30)?, 0x7C, 2);
-    for (table, fixup, found, pointer) in [
+    for (table, fixup, found, address) in [
         (&bytes[..140], 0, 5, 0x90),
         (&bytes[..140], 0x91, 5, u32::MAX),
         (&bytes[..139], 0, 4, 0x90),
@@ -294,8 +294,8 @@ fn first_entries_in_one_pass(rt: HostRuntime) -> std::result::Result<(), Fail> {
         assert_eq!(rt; count, found);
         let codeview = first.codeview.ok_or("no entry")?;
         assert_eq!(rt;
-            (codeview.size_of_data, codeview.pointer_to_raw_data),
-            (30, pointer)
+            (codeview.size_of_data, codeview.address_of_raw_data),
+            (30, address)
         );
     }
     let none = FirstDebugEntries::of_table(&[], 0);
