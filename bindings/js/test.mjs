@@ -606,8 +606,8 @@ test('each list of each image ends', () => {
 test('directories have fields of their own', () => {
   const exported = opened('exports'), table = exported.call('pe_c_export_addresses');
   const fields = exported.call('pe_c_export_directory');
-  const tables = exported.call('pe_c_export_tables'), [first] = exported.list('exports');
-  assert.deepEqual([tables.directory, first.is_forwarder], [table.directory, 0]);
+  const tables = exported.call('pe_c_export_tables'), [named] = exported.list('exports');
+  assert.deepEqual([tables.directory, named.is_forwarder], [table.directory, 0]);
   assert.deepEqual([fields.base, BigInt(fields.number_of_functions)], [table.ordinal_base, table.addresses.length / 4n]);
   assert.equal(exported.call('pe_c_offset', { rva: fields.name }), table.name.offset);
   const image = opened('resources'), { tree } = image.call('pe_c_resource_leaves');
