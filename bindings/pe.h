@@ -2009,8 +2009,8 @@ typedef struct {
     uint32_t rva;                   /* RVA of what is exported */
     uint32_t has_offset;             /* 1 where the RVA is mapped, else 0 */
     uint32_t index;                 /* index in the table of RVAs, for pe_c_export_at */
-    uint32_t is_forwarder;          /* 1 where the RVA lies in the export directory, else 0: what stands at `offset` is then a
-                                       text that names another DLL's export, which pe_c_export_at returns */
+    uint32_t is_forwarder;          /* 1 where the RVA lies in the export directory, else 0: it is then that of a text, which
+                                       names another DLL's export, and which pe_c_export_at returns where it is there */
 } pe_c_export;
 
 /* The table of RVAs, which has all exports by their index, also those without a name. */
@@ -2490,10 +2490,10 @@ uint32_t pe_c_resource_leaves(const pe_c_view *view, pe_c_resource_walk *out) PE
  * entry of a language PE_C_TREE_NOT_DATA, PE_C_SHORT of its data entry; PE_C_SHORT of a name. */
 uint32_t pe_c_next_resource_leaf(const pe_c_view *view, pe_c_leaf_walk *walk, pe_c_resource_leaf *out) PE_C_RESULT(1, 2, 3);
 
-/* Returns the first directory of the resources, whose entries are types; pe_c_resource_directory_at returns the others.
- * PE_C_NOTHING where pe_c_resource_leaves returns it. In permissive mode one whose entries are not all inside the data has
- * none.
- * Errors: those of pe_c_resource_leaves. */
+/* Returns the root of the resource tree, the directory whose entries are types; pe_c_resource_directory_at returns the
+ * others. PE_C_NOTHING where pe_c_resource_leaves returns it. In permissive mode the `entries` of a root are empty where they
+ * are not all inside the data, and its two numbers of entries are as they stand. The tree, which pe_c_next_resource_item
+ * takes, is that of pe_c_resource_leaves. Errors: those of pe_c_resource_leaves. */
 uint32_t pe_c_resource_root(const pe_c_view *view, pe_c_resource_directory *out) PE_C_RESULT(1, 2);
 
 /* Returns the directory at an offset of a tree, which is that of a walk over leaves: at 0 the root, whose entries are types,

@@ -608,6 +608,8 @@ test('directories have fields of their own', () => {
   const fields = exported.call('pe_c_export_directory');
   const tables = exported.call('pe_c_export_tables'), [named] = exported.list('exports');
   assert.deepEqual([tables.directory, named.is_forwarder], [table.directory, 0]);
+  const exports = { ...tables, directory: { ...tables.directory, virtual_address: named.rva, size: 1 } };
+  assert.equal([...exported.items('pe_c_next_export', { exports })][0].is_forwarder, 1);
   assert.deepEqual([fields.base, BigInt(fields.number_of_functions)], [table.ordinal_base, table.addresses.length / 4n]);
   assert.equal(exported.call('pe_c_offset', { rva: fields.name }), table.name.offset);
   const image = opened('resources'), { tree } = image.call('pe_c_resource_leaves');

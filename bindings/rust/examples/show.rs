@@ -2,8 +2,8 @@
 //! the program tools/show, so that the two can be compared: tools/compare_unwind, compare_debug and compare_resources run
 //! this one with `--show`.
 //!
-//! What no call returns is read from the bytes: three fields of an ARM64 record, and the first resource entries. Of the
-//! lines of `show tables` only those of exports, records and imports are there. A first line `strict` says that the image
+//! What no call returns is read from the bytes: three fields of an ARM64 record, and the words of the first resource
+//! entries. Of the lines of `show tables` only those of exports, records and imports are there. A first line `strict` says that the image
 //! is refused in strict mode; the lines after it are those of permissive mode.
 
 use pe_c::{

@@ -24,8 +24,8 @@ pub struct Export<'a> {
     pub offset: Option<u64>,
     /// Its index in the table of RVAs: [`AddressTable::get`] has its ordinal and forwarder.
     pub index: u32,
-    /// The RVA lies in the export directory. What stands at `offset` is then a text that names another DLL's export, such as
-    /// `NTDLL.RtlAllocateHeap`, which [`AddressTable::get`] returns.
+    /// The RVA lies in the export directory. It is then that of a text, which names another DLL's export, such as
+    /// `NTDLL.RtlAllocateHeap`, and which [`AddressTable::get`] returns where it is there.
     pub is_forwarder: bool,
 }
 
