@@ -214,6 +214,23 @@ pub struct PdbChecksum<'a> {
 
 shown! { PdbChecksum<'_> { algorithm: shown::Text, checksum: shown::Bytes } }
 
+/// The record of the first debug entry of each type, each with an error of its own: what [`Image::debug_records`] returns.
+#[derive(Clone, Copy, Debug)]
+pub struct DebugRecords<'a> {
+    /// What [`Image::symbol_key`] returns.
+    pub symbol_key: Result<Option<SymbolKey<'a>>, Error>,
+    /// What [`Image::pdb20`] returns.
+    pub pdb20: Result<Option<Pdb20<'a>>, Error>,
+    /// What [`Image::vc_features`] returns.
+    pub vc_features: Result<Option<VcFeatures>, Error>,
+    /// What [`Image::debug_characteristics`] returns.
+    pub debug_characteristics: Result<Option<u32>, Error>,
+    /// What [`Image::repro`] returns.
+    pub repro: Result<Option<Repro<'a>>, Error>,
+    /// What [`Image::pogo`] returns.
+    pub pogo: Result<Option<Pogo<'a>>, Error>,
+}
+
 pub(crate) fn key_of(key: sys::Key, bytes: &[u8]) -> Result<SymbolKey<'_>, Error> {
     Ok(SymbolKey { guid: Guid(key.guid), age: key.age, name_bytes: bytes_of(key.name, bytes)? })
 }
@@ -242,6 +259,15 @@ fn embedded_of(record: sys::EmbeddedPdb, bytes: &[u8]) -> Result<EmbeddedPdb<'_>
 
 fn checksum_of(record: sys::PdbChecksum, bytes: &[u8]) -> Result<PdbChecksum<'_>, Error> {
     Ok(PdbChecksum { algorithm: bytes_of(record.algorithm, bytes)?, checksum: bytes_of(record.checksum, bytes)? })
+}
+
+/// A record of numbers and ranges with the bytes of its ranges.
+fn record_in<'a, T, R>(
+    found: Result<Option<T>, Error>,
+    bytes: &'a [u8],
+    of: fn(T, &'a [u8]) -> Result<R, Error>,
+) -> Result<Option<R>, Error> {
+    found?.map(|record| of(record, bytes)).transpose()
 }
 
 /// A call that reads the record of an entry, in a mode.
@@ -287,6 +313,22 @@ impl<'a> Image<'a> {
         // SAFETY: the bytes and the entry are lent for the call, which writes `out` alone.
         let number = unsafe { call(bytes.as_ptr(), bytes.len(), self.info().mode, entry, &mut out) };
         returned(number, out)
+    }
+
+    /// The record of the first debug entry of each type, by one pass over the entries. An error of one is no error of another.
+    pub fn debug_records(&self) -> DebugRecords<'a> {
+        let (view, bytes, mut out) = (self.view(), self.bytes(), sys::DebugRecords::default());
+        // SAFETY: the view and what it leads to are lent for the call, which writes `out` alone.
+        let number = unsafe { sys::pe_c_debug_data(&view, &mut out) };
+        debug_assert_eq!(number, sys::DONE);
+        DebugRecords {
+            symbol_key: record_in(returned(out.key_result, out.key), bytes, key_of),
+            pdb20: record_in(returned(out.pdb20_result, out.pdb20), bytes, pdb20_of),
+            vc_features: returned(out.features_result, out.features),
+            debug_characteristics: returned(out.characteristics_result, out.characteristics),
+            repro: record_in(returned(out.repro_result, out.repro), bytes, repro_of),
+            pogo: record_in(returned(out.pogo_result, out.pogo), bytes, pogo_of),
+        }
     }
 
     /// The key by which a symbol server files the image's PDB: the CodeView record, if it is one of PDB 7.0.

@@ -135,7 +135,9 @@ pub use bound_imports::{
 pub use certificates::{Certificate, Certificates};
 pub use clr::{Clr, Metadata, MetadataStream, MetadataStreams};
 pub use coff::{Coff, NamedSymbol, Symbol, Symbols};
-pub use debug::{DebugEntries, EmbeddedPdb, Pdb20, PdbChecksum, Pogo, PogoEntries, PogoEntry, Repro, SymbolKey};
+pub use debug::{
+    DebugEntries, DebugRecords, EmbeddedPdb, Pdb20, PdbChecksum, Pogo, PogoEntries, PogoEntry, Repro, SymbolKey,
+};
 pub use delay_imports::{
     AllDelayedFunctions, DelayImport, DelayImports, DelayedFunction, DelayedFunctions, LibraryFunction,
 };

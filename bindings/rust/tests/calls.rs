@@ -243,6 +243,77 @@ fn debug_records_are_read() {
     assert_eq!(parts, [(0x1000, 16, b".text$mn".as_slice()), (0x2000, 8, b".bss".as_slice())]);
 }
 
+/// All records at once are what each is by itself, also where one is damaged, and where the table is.
+#[test]
+fn debug_records_are_read_at_once() {
+    fn check(bytes: &[u8], errors: usize) {
+        for mode in [Mode::Strict, Mode::Permissive] {
+            let image = Image::parse(bytes, mode).unwrap();
+            let all = image.debug_records();
+            assert_eq!(all.symbol_key, image.symbol_key());
+            assert_eq!(all.pdb20, image.pdb20());
+            assert_eq!(all.vc_features, image.vc_features());
+            assert_eq!(all.debug_characteristics, image.debug_characteristics());
+            assert_eq!(all.repro, image.repro());
+            assert_eq!(
+                all.pogo.map(|it| it.map(|it| it.entry_bytes)),
+                image.pogo().map(|it| it.map(|it| it.entry_bytes))
+            );
+            let refused = [
+                all.symbol_key.is_err(),
+                all.pdb20.is_err(),
+                all.vc_features.is_err(),
+                all.debug_characteristics.is_err(),
+                all.repro.is_err(),
+                all.pogo.is_err(),
+            ];
+            if mode == Mode::Strict {
+                assert_eq!(refused.iter().filter(|it| **it).count(), errors);
+            }
+        }
+    }
+    let bytes = with_debug();
+    check(&bytes, 0);
+    let all = strict(&bytes).debug_records();
+    assert_eq!(all.symbol_key.unwrap().unwrap().age, 1);
+    assert_eq!(all.vc_features.unwrap().unwrap().guard_count, 5);
+    assert_eq!((all.debug_characteristics, all.repro), (Ok(Some(0x41)), Ok(Some(Repro::Hash(b"hash")))));
+    assert_eq!(all.pogo.unwrap().unwrap().entry_bytes.len(), 36);
+    // the pointer of each record in turn, then the size of the whole table
+    let directory = strict(&bytes).info().directory(DirectoryIndex::Debug).unwrap();
+    for (entry, errors) in [2, 1, 1, 1, 1].into_iter().enumerate() {
+        let mut damaged = bytes.clone();
+        let pointer = offset(directory.virtual_address) as usize + 28 * entry + 24;
+        damaged[pointer..pointer + 4].copy_from_slice(&u32::MAX.to_le_bytes());
+        check(&damaged, errors);
+    }
+    check(&with_old_debug(), 0);
+    check(&with_imports(), 0);
+}
+
+/// A table of 150,000 entries is read once for all records, and not once for each of the six: the least of nine times.
+#[test]
+fn debug_records_are_read_in_one_pass() {
+    let mut made = Made::new(X64);
+    let size = 28 * 150_000;
+    made.size_of_image = 0x100_0000;
+    let table = made.put(&vec![0; size]);
+    made.directory(6, table, size as u32);
+    let bytes = made.image();
+    let image = strict(&bytes);
+    let least = |read: &dyn Fn()| {
+        let times = (0..9).map(|_| {
+            let start = std::time::Instant::now();
+            read();
+            start.elapsed()
+        });
+        times.min().unwrap()
+    };
+    let one = least(&|| assert_eq!(image.symbol_key(), Ok(None)));
+    let all = least(&|| assert!(matches!(image.debug_records().pogo, Ok(None))));
+    assert!(all < 4 * one, "{all:?} for all, {one:?} for one");
+}
+
 /// Each record is read from the entry of its type too, and as one of any other type where its bytes are one.
 #[test]
 fn records_of_debug_entries_are_read() {
