@@ -1,4 +1,4 @@
-//! What a step on x64 is told of a function: its records, and where it stopped.
+//! What a step on x64 takes of a function: its records, and where it stopped.
 
 use pe_unwind::UnwindInfo;
 
