@@ -87,7 +87,7 @@ static uint32_t (*const pe_c_abi)(void) __attribute__((used)) = pe_c_abi_4;
 
 /* ---- results
  *
- * The numbers are stable; new ones may be added. pe_c_text returns their texts. Calls return a uint32_t, since C leaves the
+ * The numbers are stable; new ones may be added. pe_c_message returns their texts. Calls return a uint32_t, since C leaves the
  * width of an enum open; debuggers show a number by its name where it is cast to this one. tools/make_errors writes it. */
 
 enum pe_c_result {
@@ -212,6 +212,129 @@ enum { PE_C_STRICT = 0, PE_C_PERMISSIVE = 1, PE_C_MAPPED = 2 };
  *     pe_c_text(result, text, sizeof text);
  *     printf("%s\n", text); */
 size_t pe_c_text(uint32_t number, char *room, size_t length);
+
+/* Returns the text of a result, that of pe_c_text, as a string constant: below 128 bytes, in ASCII, with a zero after it. The
+ * pointer stays good for as long as the program runs, in every thread, and may be kept, returned and passed on.
+ *
+ *     fprintf(stderr, "%s\n", pe_c_message(result));
+ *
+ * It is a function of this header and no call of the library, so it does not know the results that only a newer library has:
+ * those are "unknown result", as numbers are that no call returns. tools/make_errors writes its texts. */
+static inline const char *pe_c_message(uint32_t number)
+{
+    switch (number) {
+    case PE_C_DONE: return "done";
+    case PE_C_MEMORY: return "out of memory";
+    case PE_C_SHORT: return "truncated";
+    case PE_C_BAD_MAGIC: return "invalid magic number";
+    case PE_C_HEADER_POINTER: return "PE header offset lies inside the DOS header";
+    case PE_C_IMPORT_NAME: return "import name not NUL-terminated or not UTF-8";
+    case PE_C_STRING_TABLE: return "string table truncated, or string not NUL-terminated or not UTF-8";
+    case PE_C_CERTIFICATE_REVISION: return "invalid certificate revision";
+    case PE_C_CERTIFICATE_TYPE: return "invalid certificate type";
+    case PE_C_CERTIFICATE_SIZE: return "certificate truncated";
+    case PE_C_CERTIFICATE_TABLE: return "certificate table ends past the end of the file";
+    case PE_C_UNMAPPED: return "RVA maps to no file offset";
+    case PE_C_DEBUG_BOUNDS: return "debug directory ends past the end of the file";
+    case PE_C_DEBUG_SIZE: return "debug record too small";
+    case PE_C_DEBUG_DATA: return "debug record truncated";
+    case PE_C_POGO_SIZE: return "POGO record has no entries";
+    case PE_C_POGO_NAME: return "POGO entry truncated";
+    case PE_C_EXCEPTION_SIZE: return "exception directory size is not a multiple of the entry size";
+    case PE_C_EXCEPTION_OFFSET: return "exception directory is not aligned to 4 bytes";
+    case PE_C_EXCEPTION_BOUNDS: return "exception directory ends past the end of the file";
+    case PE_C_FUNCTION_INDEX: return "function index out of range";
+    case PE_C_FUNCTION_LINK: return "link leads to no function entry";
+    case PE_C_FUNCTION_CYCLE: return "loop in unwind links or chained records";
+    case PE_C_UNWIND_VERSION: return "unknown unwind record version";
+    case PE_C_UNWIND_CODE: return "invalid unwind code";
+    case PE_C_ARM64_VERSION: return "unknown ARM64 unwind record version";
+    case PE_C_ARM64_STREAM: return "invalid ARM64 unwind code stream";
+    case PE_C_ARM64_CUT: return "ARM64 unwind code truncated";
+    case PE_C_RESOURCE_BOUNDS: return "resource data ends past the bytes that hold it";
+    case PE_C_RESOURCE_CYCLE: return "loop in the resource tree";
+    case PE_C_RESOURCE_STRING: return "version string value missing, or its length above 32,767";
+    case PE_C_TE_SIZE: return "stripped size smaller than the TE header";
+    case PE_C_NO_OPTIONAL_HEADER: return "image has no optional header";
+    case PE_C_WRITE_ALIGNMENT: return "alignment cannot be written";
+    case PE_C_WRITE_SYMBOLS: return "images with COFF symbols cannot be written";
+    case PE_C_WRITE_OVERLAP: return "sections overlap in the file";
+    case PE_C_WRITE_SECTION: return "section data is not in the source bytes";
+    case PE_C_WRITE_FIT: return "write does not fit the buffer";
+    case PE_C_IMPORTS_LIMIT: return "image has more imports than the limit";
+    case PE_C_NOTHING: return "there is nothing of the kind";
+    case PE_C_ROOM: return "the array is too small";
+    case PE_C_MISSING: return "memory is missing";
+    case PE_C_BAD_ADDRESS: return "address and the offset of an unwind code do not fit 64 bits";
+    case PE_C_BAD_OPERATION: return "unwind operation cannot be undone";
+    case PE_C_NOT_RISING: return "stack pointer of the caller is not above that of the function";
+    case PE_C_LONG_CHAIN: return "more than 32 unwind records are chained";
+    case PE_C_SIGN_NO_DIRECTORY: return "image has no certificate directory";
+    case PE_C_SIGN_TABLE_NOT_LAST: return "certificate table ends before the end of the file";
+    case PE_C_SIGN_HEADERS: return "headers end after the start of the certificates or the end of the file";
+    case PE_C_SIGN_SECTION: return "section data ends after the start of the certificates or the end of the file";
+    case PE_C_SIGN_TABLE_OFFSET: return "certificate table is not aligned to 8 bytes";
+    case PE_C_SIGN_TOO_LARGE: return "image with the certificate has 2^32 bytes or more";
+    case PE_C_DIRECTORY_BLOCK_SIZE: return "base relocation block size below 8 or odd";
+    case PE_C_DIRECTORY_BLOCK_TRUNCATED: return "base relocation block truncated";
+    case PE_C_DIRECTORY_NO_ARGUMENT: return "base relocation has no argument";
+    case PE_C_DIRECTORY_VA_BELOW_BASE: return "virtual address below the image base";
+    case PE_C_DIRECTORY_CLR_HEADER_SIZE: return "CLR header smaller than 72 bytes";
+    case PE_C_DIRECTORY_STREAM_NAME: return "name of a metadata stream not NUL-terminated";
+    case PE_C_DIRECTORY_DELAY_IMPORT_NAME: return "name of a delay import not NUL-terminated or not UTF-8";
+    case PE_C_DIRECTORY_BOUND_IMPORT_NAME: return "name of a bound import not NUL-terminated or not UTF-8";
+    case PE_C_DIRECTORY_RELOCATION_KIND: return "base relocation of a type that is not applied";
+    case PE_C_DIRECTORY_RELOCATION_OUTSIDE: return "base relocation outside of the image";
+    case PE_C_TREE_NOT_DIRECTORY: return "resource data entry above the level of languages";
+    case PE_C_TREE_NOT_DATA: return "resource directory below the level of languages";
+    case PE_C_TREE_NO_ENTRIES: return "resource directory of names or languages has no entries";
+    case PE_C_EDIT_TOO_MANY: return "more than 65,535 resources";
+    case PE_C_EDIT_NAME: return "type or name of a resource has an odd number of bytes or is too long";
+    case PE_C_EDIT_ORDER: return "resource is not sorted after the one before it";
+    case PE_C_EDIT_TABLES_TOO_LARGE: return "directories and names of the resources have 2^31 bytes or more";
+    case PE_C_EDIT_TOO_LARGE: return "resource section ends at the RVA 2^32 or after it";
+    case PE_C_EDIT_NO_DIRECTORY: return "image has no resource directory";
+    case PE_C_EDIT_SIGNED: return "image has certificates, which have to be detached first";
+    case PE_C_EDIT_HEADERS: return "data directories end after the section table starts";
+    case PE_C_EDIT_ALIGNMENT: return "alignment of sections or of their data is too small or no power of two";
+    case PE_C_EDIT_NO_SECTION: return "no section starts at the RVA of the resource directory";
+    case PE_C_EDIT_SECTION: return "data of the sections are in the headers, truncated or not aligned";
+    case PE_C_EDIT_SHARED_SECTION: return "the entry point or another directory lies in the resource section";
+    case PE_C_EDIT_SYMBOLS: return "COFF symbols lie in the data of the resource section or at its end";
+    case PE_C_EDIT_OVERLAP: return "section shares bytes or pages with the resource section or headers, or is after it";
+    case PE_C_EDIT_NO_ROOM: return "resources do not fit into the data of their section or into the image in memory";
+    case PE_C_EDIT_RECORD: return "resource has a range outside of the array, or an id or language above 65,535";
+    case PE_C_EDIT_NAMES: return "names of the resources have more than 16 MiB";
+    case PE_C_BLOCK_KEY: return "key of a version block has an odd number of bytes, or a code unit of zero";
+    case PE_C_BLOCK_TEXT: return "text of a version block has an odd number of bytes";
+    case PE_C_BLOCK_TOO_LONG: return "version block has more than 65,535 bytes";
+    case PE_C_EDIT_NO_HEADER_ROOM: return "headers have no room for another section header";
+    case PE_C_EDIT_IMAGE_TOO_LARGE: return "image with the resources ends after 4 GB";
+    case PE_C_EDIT_DEBUG_DATA: return "debug entries or their data lie where the resources go";
+    case PE_C_SIGNATURE_TRUNCATED: return "element of a signature truncated before its content";
+    case PE_C_SIGNATURE_TAG_NUMBER: return "element of a signature has a tag number above 30";
+    case PE_C_SIGNATURE_INDEFINITE_LENGTH: return "element of a signature has an indefinite length";
+    case PE_C_SIGNATURE_LENGTH_OCTETS: return "length of an element of a signature has more than 4 octets after its first";
+    case PE_C_SIGNATURE_LENGTH_FORM: return "length of an element of a signature is not in its shortest form";
+    case PE_C_SIGNATURE_PAST_PARENT: return "element of a signature ends after its parent";
+    case PE_C_SIGNATURE_MISSING: return "element of a signature is missing";
+    case PE_C_SIGNATURE_TAG: return "element of a signature has another tag";
+    case PE_C_SIGNATURE_TRAILING: return "bytes follow the last field of an element of a signature";
+    case PE_C_SIGNATURE_CONTENT_TYPE: return "content of a signature has another type";
+    case PE_C_SIGNATURE_BAD_TIME: return "time of a signature is not in the form of RFC 5280";
+    case PE_C_DUMP_SIGNATURE: return "invalid signature of a minidump";
+    case PE_C_DUMP_VERSION: return "invalid version of a minidump";
+    case PE_C_DUMP_DIRECTORY: return "directory of the streams ends past the end of the file";
+    case PE_C_DUMP_LOCATION: return "location in a minidump ends past the end of the file";
+    case PE_C_DUMP_LIST_SIZE: return "number of entries of a list and the size of its stream do not agree";
+    case PE_C_DUMP_ENTRY_SIZE: return "entries of a list smaller than their fields";
+    case PE_C_DUMP_TEXT: return "string has an odd number of bytes";
+    case PE_C_DUMP_CONTEXT_SIZE: return "context smaller than its fields";
+    case PE_C_DUMP_CONTEXT_FLAGS: return "context without control or integer registers";
+    case PE_C_DUMP_MACHINE: return "context of another machine";
+    default: return "unknown result";
+    }
+}
 
 /* ---- the image
  *

@@ -1,5 +1,5 @@
 """What bindings/pe.h declares: its calls, its records with their layouts, its constants, its version and the number
-of its ABI.
+of its ABI; and its own functions, which are defined there and are no calls of the library.
 
 The header is C11 of a few plain forms, and a form that is not known is an error. All targets of the library are little-endian, with
 pointers of 64 bits, and a number is aligned to its width on each, so a record has one layout on all of them."""
@@ -80,12 +80,20 @@ class Header:
         with open(path, encoding="utf-8") as file:
             whole = file.read()
         text = re.sub(r"/\*.*?\*/", "", whole, flags=re.S)
+        self.functions, text = self.without_functions(text)
         self.version = re.search(r'^#define PE_C_VERSION "(.*)"$', text, re.M)[1]
         self.records = self.read_records(text)
         self.calls = self.read_calls(text)
         self.constants = self.read_constants(text)
         self.results = self.read_constants(re.search(r"\benum pe_c_result \{.*?\}", text, re.S)[0])
         self.abi = next(int(name.removeprefix("pe_c_abi_")) for name in self.calls if name.startswith("pe_c_abi_"))
+
+    @staticmethod
+    def without_functions(text):
+        """The names of the functions that the header defines, and the text without them. One of another form stays in the text, and
+        is refused there."""
+        form = r"^static inline const char \*(pe_c_\w+)\(uint32_t \w+\)\n\{\n(?:    .*\n)*\}\n"
+        return tuple(re.findall(form, text, re.M)), re.sub(form, "", text, flags=re.M)
 
     @staticmethod
     def read_records(text):
@@ -126,6 +134,8 @@ class Header:
         declared = set(re.findall(r"\b(pe_c_\w+)\(", text))
         if declared != set(calls):
             raise Unknown(f"the declarations of {sorted(declared ^ set(calls))}")
+        if re.search(r"\binline\b|^\{", text, re.M):
+            raise Unknown("a function that the header defines")
         return calls
 
     @staticmethod

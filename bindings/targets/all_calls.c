@@ -1051,6 +1051,10 @@ static void texts(void)
         count(number_of_pe_c_text, length > 0);
         add(length);
         add_bytes(text, sizeof text);
+        /* And as the header has it, compiled for the target. */
+        const char *message = pe_c_message(number);
+        for (size_t i = 0; message[i] != 0; i++)
+            add((uint8_t)message[i]);
     }
     uint32_t abi = TARGET_CALL(PE_C_ABI)();
     count(NUMBER_OF_ABI, abi == ABI);
