@@ -86,9 +86,7 @@ static uint32_t read_image(image *it, uint32_t mode)
 
 static int refused(const image *it, uint32_t result, const char *advice)
 {
-    char text[128];
-    pe_c_text(result, text, sizeof text);
-    fprintf(stderr, "pe_list: \"%s\" is refused: %s%s\n", it->file, text, advice);
+    fprintf(stderr, "pe_list: \"%s\" is refused: %s%s\n", it->file, pe_c_message(result), advice);
     return REFUSED;
 }
 

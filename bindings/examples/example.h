@@ -72,12 +72,10 @@ static inline void show_name(const uint8_t *bytes, const pe_c_range *range)
 /* Returns the status by which a program ends after this result: 0, or 1 with the reason on standard error. */
 static int status_of(uint32_t result)
 {
-    char text[128];
     if (result == PE_C_DONE || result == PE_C_NOTHING || result == PE_C_MISSING)
         return 0;
     fflush(stdout);
-    pe_c_text(result, text, sizeof text);
-    fprintf(stderr, "%s\n", text);
+    fprintf(stderr, "%s\n", pe_c_message(result));
     return 1;
 }
 
