@@ -214,12 +214,12 @@ enum { PE_C_STRICT = 0, PE_C_PERMISSIVE = 1, PE_C_MAPPED = 2 };
 size_t pe_c_text(uint32_t number, char *room, size_t length);
 
 /* Returns the text of a result, that of pe_c_text, as a string constant: below 128 bytes, in ASCII, with a zero after it. The
- * pointer stays good for as long as the program runs, in every thread, and may be kept, returned and passed on.
+ * pointer is valid for as long as the program runs, in every thread; nothing frees it.
  *
  *     fprintf(stderr, "%s\n", pe_c_message(result));
  *
- * It is a function of this header and no call of the library, so it does not know the results that only a newer library has:
- * those are "unknown result", as numbers are that no call returns. tools/make_errors writes its texts. */
+ * It is a function of this header and no call of the library: a result that only a newer library has is "unknown result", as
+ * is a number that no call returns. tools/make_errors writes its texts. */
 static inline const char *pe_c_message(uint32_t number)
 {
     switch (number) {

@@ -8,7 +8,7 @@
  *     ...                              calls, whose pointers to constant bytes may lead into these
  *     pe_portable_end();
  *
- * A call whose arguments do not fit into that memory returns PE_C_MEMORY, pe_c_text 0; pe_c_message is no call and needs none. */
+ * A call whose arguments do not fit into that memory returns PE_C_MEMORY, pe_c_text 0. pe_c_message is no call and needs none. */
 #ifndef PE_PORTABLE_H
 #define PE_PORTABLE_H
 #include "pe.h"
