@@ -127,8 +127,8 @@ impl<'a> ExportAddresses<'a> {
     }
 
     /// The text of the forwarder at this RVA, without its NUL. `None` if the RVA does not lie in the export directory or
-    /// is unmapped, or if the text is not NUL-terminated or not UTF-8. The text is read to its end, past that of the
-    /// directory.
+    /// is unmapped, or if the text is not NUL-terminated or not UTF-8. The text is read up to its NUL, also where
+    /// that lies past the end of the directory.
     pub fn forwarder<'b>(&self, rva: u32, image: &MappedBytes<'b, '_>) -> Option<&'b str>
         ensures { option_map (λ s. s.now) result ≡ forwarder_text
             (offset_in image.now.map) image.now.bytes.now self.now.directory rva }

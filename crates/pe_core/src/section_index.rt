@@ -19,7 +19,7 @@ use std::marker::Model;
 
 /// The section map of an image: it maps RVAs as `find_offset` does. `SectionMap::new` makes one that tests the sections
 /// in turn; `SectionIndex::map` makes one that maps each RVA in a few steps, however many sections there are.
-#[derive(Drop)]
+#[derive(Debug, Drop)]
 pub struct SectionMap<'a> {
     sections: &'a [SectionTable],
     file_alignment: u32,
