@@ -24,14 +24,14 @@ use std::slice;
 
 /// A function that lookup found in an image.
 #[derive(Drop)]
-struct FoundFunction<'f, 'a, R> {
+struct FunctionInImage<'f, 'a, R> {
     functions: &'f ImageFunctions<'a, R>,
     function: RuntimeFunction,
 }
 
 /// A step by the records of a function, if an array has room for them.
 fn step_in_room<'a, R: RvaMap, M: Memory>(
-    found: &FoundFunction<'_, 'a, R>,
+    found: &FunctionInImage<'_, 'a, R>,
     room: &mut [UnwindInfo<'a>],
     stopped: Stopped<'_>,
     registers: Registers,
@@ -41,7 +41,7 @@ fn step_in_room<'a, R: RvaMap, M: Memory>(
         (R.offset found.now.functions.now.map.now) (M.word memory.now) found.now.function
         stopped.entry.rva stopped.entry.code.now registers (answer_of result) }
 {
-    let FoundFunction {
+    let FunctionInImage {
         functions,
         function,
     } = *found;
@@ -63,7 +63,7 @@ fn step_in_room<'a, R: RvaMap, M: Memory>(
 /// The same in room for two records, which any record fills. Out of line, so that no other step pays for the room.
 #[inline(never)]
 fn step_in_2<'a, R: RvaMap, M: Memory>(
-    found: &FoundFunction<'_, 'a, R>,
+    found: &FunctionInImage<'_, 'a, R>,
     info: UnwindInfo<'a>,
     stopped: Stopped<'_>,
     registers: Registers,
@@ -82,7 +82,7 @@ fn step_in_2<'a, R: RvaMap, M: Memory>(
 /// The same in room for eight.
 #[inline(never)]
 fn step_in_8<'a, R: RvaMap, M: Memory>(
-    found: &FoundFunction<'_, 'a, R>,
+    found: &FunctionInImage<'_, 'a, R>,
     info: UnwindInfo<'a>,
     stopped: Stopped<'_>,
     registers: Registers,
@@ -102,7 +102,7 @@ fn step_in_8<'a, R: RvaMap, M: Memory>(
 #[inline(never)]
 #[tactic(auto, using(crate::proofs::FunctionSteps::of_all_room))]
 fn step_in_32<'a, R: RvaMap, M: Memory>(
-    found: &FoundFunction<'_, 'a, R>,
+    found: &FunctionInImage<'_, 'a, R>,
     info: UnwindInfo<'a>,
     stopped: Stopped<'_>,
     registers: Registers,
@@ -121,7 +121,7 @@ fn step_in_32<'a, R: RvaMap, M: Memory>(
 /// A step by the records of a function of which more than two are chained.
 #[tactic(auto, using(crate::proofs::FunctionSteps::of_plan, crate::proofs::FunctionSteps::of_refusal, pe_plan::proofs::ShortPlans::refused_at_once))]
 fn step_in_longer<R: RvaMap, M: Memory>(
-    found: &FoundFunction<'_, '_, R>,
+    found: &FunctionInImage<'_, '_, R>,
     stopped: Stopped<'_>,
     registers: Registers,
     memory: &M,
@@ -149,7 +149,7 @@ fn step_in_longer<R: RvaMap, M: Memory>(
 /// A step by the records of a function that are chained. The room grows with their number, as does the time to fill it.
 #[tactic(auto, using(crate::proofs::FunctionSteps::of_plan, crate::proofs::FunctionSteps::of_refusal))]
 fn step_in_chained<'a, R: RvaMap, M: Memory>(
-    found: &FoundFunction<'_, 'a, R>,
+    found: &FunctionInImage<'_, 'a, R>,
     info: UnwindInfo<'a>,
     stopped: Stopped<'_>,
     registers: Registers,
@@ -188,7 +188,7 @@ pub fn step_in_function<R: RvaMap, M: Memory>(
         Err(error) => return Err(error),
     };
     if info.chained_info.is_some() {
-        let found = FoundFunction {
+        let found = FunctionInImage {
             functions,
             function,
         };
@@ -222,7 +222,7 @@ fn put(
 #[inline(never)]
 #[tactic(auto, using(crate::proofs::FunctionSteps::of_left, crate::proofs::FunctionSteps::of_none))]
 fn chained_in_place<'a, R: RvaMap, M: Memory>(
-    found: &FoundFunction<'_, 'a, R>,
+    found: &FunctionInImage<'_, 'a, R>,
     info: UnwindInfo<'a>,
     stopped: Stopped<'_>,
     registers: &mut Registers,
@@ -261,7 +261,7 @@ pub fn step_in_function_in_place<R: RvaMap, M: Memory>(
         Err(error) => return Err(error),
     };
     if info.chained_info.is_some() {
-        let found = FoundFunction {
+        let found = FunctionInImage {
             functions,
             function,
         };

@@ -33,15 +33,15 @@ pub(crate) fn number<M: Memory>(memory: &M, address: u64) -> Result<u64, FrameEr
     }
 }
 
-/// A number of bytes, which is no address.
+/// How many bytes lie between two addresses.
 #[derive(Clone, Copy)]
-pub(crate) struct Bytes(pub(crate) u64);
+pub(crate) struct Distance(pub(crate) u64);
 
 /// The address so many bytes above another.
-pub(crate) fn above(address: u64, bytes: Bytes) -> Result<u64, FrameError>
-    ensures { result ≡ above address bytes.0 }
+pub(crate) fn above(address: u64, distance: Distance) -> Result<u64, FrameError>
+    ensures { result ≡ above address distance.0 }
 {
-    match address.checked_add(bytes.0) {
+    match address.checked_add(distance.0) {
         Some(sum) => Ok(sum),
         None => Err(FrameError::Address(address)),
     }
@@ -51,7 +51,7 @@ pub(crate) fn above(address: u64, bytes: Bytes) -> Result<u64, FrameError>
 pub(crate) fn raise(by: u64, registers: &mut Registers) -> Result<(), FrameError>
     ensures { changed result registers.new ≡ raised by registers.old }
 {
-    registers.general[RSP] = above(registers.general[RSP], Bytes(by))?;
+    registers.general[RSP] = above(registers.general[RSP], Distance(by))?;
     Ok(())
 }
 
@@ -91,7 +91,7 @@ fn xmm_number<M: Memory>(memory: &M, address: u64) -> Result<u128, FrameError>
     ensures { result ≡ xmm_number (M.word memory.now) address }
 {
     let low = number(memory, address)?;
-    let high = number(memory, above(address, Bytes(SIZE_OF_WORD))?)?;
+    let high = number(memory, above(address, Distance(SIZE_OF_WORD))?)?;
     Ok(u128::from(low) + u128::from(high) * NUMBERS_OF_A_WORD)
 }
 
@@ -105,7 +105,7 @@ fn load_machine_frame<M: Memory>(
         ≡ loaded_machine_frame (M.word memory.now) address registers.old }
 {
     registers.rip = number(memory, address)?;
-    registers.general[RSP] = number(memory, above(address, Bytes(RSP_OF_MACHINE_FRAME))?)?;
+    registers.general[RSP] = number(memory, above(address, Distance(RSP_OF_MACHINE_FRAME))?)?;
     Ok(())
 }
 
@@ -134,18 +134,18 @@ pub(crate) fn undo<M: Memory>(
         }
         UnwindOperation::SaveNonVolatile(register, offset) => {
             let index = require_integer(operation, register)?;
-            registers.general[index] = number(memory, above(base, Bytes(bytes_above(offset)))?)?;
+            registers.general[index] = number(memory, above(base, Distance(bytes_above(offset)))?)?;
             Ok(())
         }
         UnwindOperation::SaveXMM128(register, offset) => {
             let index = require_xmm(operation, register)?;
-            registers.xmm[index] = xmm_number(memory, above(base, Bytes(bytes_above(offset)))?)?;
+            registers.xmm[index] = xmm_number(memory, above(base, Distance(bytes_above(offset)))?)?;
             Ok(())
         }
         UnwindOperation::PushMachineFrame(has_error_code) => {
             let skipped = if has_error_code { SIZE_OF_WORD } else { 0 };
             load_machine_frame(
-                above(registers.general[RSP], Bytes(skipped))?,
+                above(registers.general[RSP], Distance(skipped))?,
                 registers,
                 memory,
             )

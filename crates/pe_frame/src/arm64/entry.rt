@@ -17,7 +17,7 @@ use super::registers::Arm64Registers;
 use super::undo::load;
 use crate::error::FrameError;
 use crate::memory::{Memory, SIZE_OF_WORD};
-use crate::undo::{Bytes, above, number};
+use crate::undo::{Distance, above, number};
 use pe_unwind::{Arm64CustomStackCase, Arm64UnwindCode};
 
 /// The offsets in a `CONTEXT` record of x0 (`X`), of the stack pointer (`Sp`), after which the instruction pointer (`Pc`) stands,
@@ -102,9 +102,9 @@ fn load_pointers<M: Memory>(
     ensures { changed result registers.new
         ≡ loaded_pointers (M.word memory.now) offset registers.old }
 {
-    let address = above(registers.sp, Bytes(offset))?;
+    let address = above(registers.sp, Distance(offset))?;
     let sp = number(memory, address)?;
-    registers.pc = number(memory, above(address, Bytes(SIZE_OF_WORD))?)?;
+    registers.pc = number(memory, above(address, Distance(SIZE_OF_WORD))?)?;
     registers.sp = sp;
     Ok(())
 }

@@ -91,13 +91,13 @@ pub(crate) fn codes_from(codes: &[u8], index: u32) -> &[u8]
 
 /// The instructions of an epilog: how many of the function are before it, and how many it has without its return.
 #[derive(Clone, Copy)]
-pub(crate) struct EpilogPlaces {
+pub(crate) struct EpilogRange {
     pub(crate) start: usize,
     pub(crate) length: usize,
 }
 
 /// Whether a place is in an epilog, or at its return.
-pub(crate) fn is_in_epilog(place: usize, epilog: EpilogPlaces) -> bool
+pub(crate) fn is_in_epilog(place: usize, epilog: EpilogRange) -> bool
     ensures { result ≡ (nat_le epilog.start place && nat_le (place - epilog.start) epilog.length) }
 {
     epilog.start <= place && place - epilog.start <= epilog.length

@@ -100,32 +100,32 @@ pub(crate) fn register_after(register: Arm64Register, count: u64) -> Option<Arm6
     }
 }
 
-/// Where registers were stored: so far above the stack pointer, after that moved so far down.
+/// How the address of a store was made: so far above the stack pointer, after that moved so far down.
 #[derive(Clone, Copy)]
-struct Place {
+struct Addressing {
     offset: u32,
     moved: u32,
 }
 
-/// So far above a stack pointer that did not move.
-fn above(offset: u32) -> Place
+/// So far above a stack pointer that did not move: `[sp, #offset]`.
+fn at_offset(offset: u32) -> Addressing
     ensures { result ≡ record { offset = offset; moved = 0 } }
 {
-    Place { offset, moved: 0 }
+    Addressing { offset, moved: 0 }
 }
 
-/// At a stack pointer that moved so far down.
-fn lowered(moved: u32) -> Place
+/// At a stack pointer that moved so far down: `[sp, #-moved]!`.
+fn preindexed(moved: u32) -> Addressing
     ensures { result ≡ record { offset = 0; moved = moved } }
 {
-    Place { offset: 0, moved }
+    Addressing { offset: 0, moved }
 }
 
 /// A register was stored.
-fn save(register: Arm64Register, place: Place) -> Option<Arm64Operation>
-    ensures { result ≡ save register place.offset place.moved }
+fn save(register: Arm64Register, addressing: Addressing) -> Option<Arm64Operation>
+    ensures { result ≡ save register addressing.offset addressing.moved }
 {
-    let Place { offset, moved } = place;
+    let Addressing { offset, moved } = addressing;
     if is_register(register) {
         Some(Arm64Operation::Save {
             register,
@@ -138,10 +138,10 @@ fn save(register: Arm64Register, place: Place) -> Option<Arm64Operation>
 }
 
 /// A register and the next one were stored.
-fn save_pair(first: Arm64Register, place: Place) -> Option<Arm64Operation>
-    ensures { result ≡ save_pair first place.offset place.moved }
+fn save_pair(first: Arm64Register, addressing: Addressing) -> Option<Arm64Operation>
+    ensures { result ≡ save_pair first addressing.offset addressing.moved }
 {
-    let Place { offset, moved } = place;
+    let Addressing { offset, moved } = addressing;
     match register_after(first, 1) {
         Some(second) => Some(Arm64Operation::SavePair {
             first,
@@ -179,14 +179,17 @@ fn float_operation(code: Arm64UnwindCode) -> Option<Arm64Operation>
         Arm64UnwindCode::SaveFRegPair {
             first_reg,
             offset_bytes,
-        } => save_pair(float(first_reg), above(offset_bytes)),
+        } => save_pair(float(first_reg), at_offset(offset_bytes)),
         Arm64UnwindCode::SaveFRegPairPreindexed {
             first_reg,
             offset_bytes,
-        } => save_pair(float(first_reg), lowered(offset_bytes)),
-        Arm64UnwindCode::SaveFReg { reg, offset_bytes } => save(float(reg), above(offset_bytes)),
+        } => save_pair(float(first_reg), preindexed(offset_bytes)),
+        Arm64UnwindCode::SaveFReg { reg, offset_bytes } => save(
+            float(reg),
+            at_offset(offset_bytes),
+        ),
         Arm64UnwindCode::SaveFRegPreindexed { reg, offset_bytes } => {
-            save(float(reg), lowered(offset_bytes))
+            save(float(reg), preindexed(offset_bytes))
         }
         _ => None,
     }
@@ -198,27 +201,27 @@ fn save_operation(code: Arm64UnwindCode) -> Option<Arm64Operation>
 {
     match code {
         Arm64UnwindCode::SaveR19R20Preindexed { offset_bytes } => {
-            save_pair(Arm64Register::X(19), lowered(offset_bytes))
+            save_pair(Arm64Register::X(19), preindexed(offset_bytes))
         }
         Arm64UnwindCode::SaveFpLr { offset_bytes } => {
-            save_pair(Arm64Register::X(29), above(offset_bytes))
+            save_pair(Arm64Register::X(29), at_offset(offset_bytes))
         }
         Arm64UnwindCode::SaveFpLrPreindexed { offset_bytes } => {
-            save_pair(Arm64Register::X(29), lowered(offset_bytes))
+            save_pair(Arm64Register::X(29), preindexed(offset_bytes))
         }
         Arm64UnwindCode::SaveRegPair {
             first_reg,
             offset_bytes,
-        } => save_pair(Arm64Register::X(first_reg), above(offset_bytes)),
+        } => save_pair(Arm64Register::X(first_reg), at_offset(offset_bytes)),
         Arm64UnwindCode::SaveRegPairPreindexed {
             first_reg,
             offset_bytes,
-        } => save_pair(Arm64Register::X(first_reg), lowered(offset_bytes)),
+        } => save_pair(Arm64Register::X(first_reg), preindexed(offset_bytes)),
         Arm64UnwindCode::SaveReg { reg, offset_bytes } => {
-            save(Arm64Register::X(reg), above(offset_bytes))
+            save(Arm64Register::X(reg), at_offset(offset_bytes))
         }
         Arm64UnwindCode::SaveRegPreindexed { reg, offset_bytes } => {
-            save(Arm64Register::X(reg), lowered(offset_bytes))
+            save(Arm64Register::X(reg), preindexed(offset_bytes))
         }
         Arm64UnwindCode::SaveLrPair {
             first_reg,

@@ -14,7 +14,7 @@ ghost use Rattle.pe_frame.specs.Arm64Machine.{IsArm64Caller};
 
 use super::entry::{Arm64Entry, entry_of};
 use super::epilog::{
-    Arm64Epilog, EpilogPlaces, SIZE_OF_INSTRUCTION, codes_from, epilog_after, epilog_start,
+    Arm64Epilog, EpilogRange, SIZE_OF_INSTRUCTION, codes_from, epilog_after, epilog_start,
     is_in_epilog,
 };
 use super::packed::{epilog_codes, has_ended, is_canonical, packed_codes, packed_length};
@@ -83,7 +83,7 @@ fn caller_after<M: Memory>(
     let length = prolog_length(rest);
     let count = info.header.function_length() / SIZE_OF_INSTRUCTION;
     let start = epilog_start(count, epilog.start, length);
-    if is_in_epilog(place as usize, EpilogPlaces { start, length }) {
+    if is_in_epilog(place as usize, EpilogRange { start, length }) {
         let left = after_codes(rest, (place as usize).saturating_sub(start));
         return caller_by_codes(left, registers, memory);
     }
@@ -131,12 +131,13 @@ pub fn step_out_arm64<M: Memory>(
 
 /// The registers of a function's caller, from those inside the function, by its unwind record.
 ///
-/// `info` is the record of the function, `rva` the instruction pointer less the image base. After
-/// the prolog all codes of the record are undone, inside of it those of the instructions before `rva`. In an epilog that the
-/// record describes, and at its return, the codes of the epilog are undone whose instructions have not run: it is the last scope
-/// that starts at or before `rva`, or the only epilog, at the end of the function. The caller goes on at the link register;
-/// `pac_sign_lr` takes its signature off, down to the 48 bits of an address, of which bit 55 says what the others are. A machine
-/// frame and a `CONTEXT` record have the caller's instruction pointer themselves; [`step_out_arm64`] says of which callers.
+/// `function` is the entry of the function table that lookup found, of which the step takes the start; `info` is its record,
+/// and `rva` the instruction pointer less the image base. After the prolog all codes of the record are undone, inside of it
+/// those of the instructions before `rva`. In an epilog that the record describes, and at its return, the codes of the
+/// epilog are undone whose instructions have not run: it is the last scope that starts at or before `rva`, or the only
+/// epilog, at the end of the function. The caller goes on at the link register; `pac_sign_lr` takes its signature off, down
+/// to the 48 bits of an address, of which bit 55 says what the others are. A machine frame and a `CONTEXT` record have the
+/// caller's instruction pointer themselves; [`step_out_arm64`] says of which callers.
 ///
 /// **A walk.** In the top frame `rva` is the instruction that is about to run: look the function up by it. In each other frame
 /// it is a return address, which may lie after the end of the function if the call is its last instruction: look up by
@@ -201,11 +202,11 @@ fn packed_caller_after<M: Memory>(
     let of_epilog = list.as_slice();
     let count = function.function_length() / SIZE_OF_INSTRUCTION;
     let start = epilog_start(count, None, of_epilog.len());
-    let places = EpilogPlaces {
+    let range = EpilogRange {
         start,
         length: of_epilog.len(),
     };
-    if is_in_epilog(place as usize, places) {
+    if is_in_epilog(place as usize, range) {
         let left = &of_epilog[(place as usize).saturating_sub(start)..];
         return caller_by_list(left, registers, memory);
     }

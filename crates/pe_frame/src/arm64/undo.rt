@@ -12,7 +12,7 @@ use super::operation::{Arm64Operation, Arm64Register, operation_of, register_aft
 use super::registers::{Arm64Registers, FRAME_POINTER, LINK_REGISTER};
 use crate::error::FrameError;
 use crate::memory::{Memory, SIZE_OF_WORD};
-use crate::undo::{Bytes, above, number};
+use crate::undo::{Distance, above, number};
 use pe_unwind::Arm64UnwindCode;
 
 /// The weight of bit 55, which is set in addresses of the system; how many addresses the 48 bits below a signature have; and
@@ -50,7 +50,7 @@ fn raise(by: u32, registers: &mut Arm64Registers) -> Result<(), FrameError>
     ensures { (m : ℕ → Option ℕ) →
         changed result registers.new ≡ reverted_all m (Lower by ∷ []) registers.old }
 {
-    registers.sp = above(registers.sp, Bytes(u64::from(by)))?;
+    registers.sp = above(registers.sp, Distance(u64::from(by)))?;
     Ok(())
 }
 
@@ -99,7 +99,7 @@ pub(crate) fn load<M: Memory>(
     ensures { changed result registers.new
         ≡ reverted (M.word memory.now) (Store register offset) registers.old }
 {
-    let value = number(memory, above(registers.sp, Bytes(offset))?)?;
+    let value = number(memory, above(registers.sp, Distance(offset))?)?;
     put(register, value, registers);
     Ok(())
 }
@@ -159,6 +159,29 @@ fn load_each<M: Memory>(
     load_some(second, registers, memory)
 }
 
+/// Makes the registers those before each of two was stored, if it was: the first so many bytes above the stack pointer, the
+/// second so many above the first.
+fn undo_save_each<M: Memory>(
+    pair: (Option<Arm64Register>, Option<Arm64Register>),
+    offset: u32,
+    apart: u32,
+    registers: &mut Arm64Registers,
+    memory: &M,
+) -> Result<(), FrameError>
+    ensures { changed result registers.new ≡ reverted_all (M.word memory.now)
+        (store_some pair.0 offset ++ store_some pair.1 (offset + apart)) registers.old }
+{
+    let first = Slot {
+        register: pair.0,
+        offset: u64::from(offset),
+    };
+    let second = Slot {
+        register: pair.1,
+        offset: first.offset + u64::from(apart),
+    };
+    load_each(first, second, registers, memory)
+}
+
 /// Makes the registers those before an operation.
 pub(crate) fn undo_operation<M: Memory>(
     operation: Arm64Operation,
@@ -193,17 +216,7 @@ pub(crate) fn undo_operation<M: Memory>(
             second,
             offset,
             apart,
-        } => {
-            let first = Slot {
-                register: first,
-                offset: u64::from(offset),
-            };
-            let second = Slot {
-                register: second,
-                offset: first.offset + u64::from(apart),
-            };
-            load_each(first, second, registers, memory)
-        }
+        } => undo_save_each((first, second), offset, apart, registers, memory),
         Arm64Operation::SetFrame(offset) => lower_to_frame(offset, registers),
         Arm64Operation::Sign => {
             registers.general[LINK_REGISTER] = stripped(registers.general[LINK_REGISTER]);

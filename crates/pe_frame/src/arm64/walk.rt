@@ -237,7 +237,7 @@ fn place_of(module: &Module<'_>, function: &Arm64RuntimeFunction, frame: &Arm64S
 
 /// The function of a frame, as lookup found it.
 #[derive(Clone, Copy)]
-struct FrameFunction<'a> {
+struct Arm64FrameFunction<'a> {
     module: &'a Module<'a>,
     exceptions: &'a ExceptionData<'a>,
     function: Arm64RuntimeFunction,
@@ -246,7 +246,7 @@ struct FrameFunction<'a> {
 /// The frame of the caller, by the unwind data of the function that lookup found.
 fn caller_by_records<L: CallSites, M: Memory>(
     modules: &L,
-    found: &FrameFunction<'_>,
+    found: &Arm64FrameFunction<'_>,
     frame: &Arm64StackFrame,
     memory: &M,
 ) -> Result<Arm64StackFrame, WalkEnd>
@@ -258,7 +258,7 @@ fn caller_by_records<L: CallSites, M: Memory>(
         found.now.exceptions.now.content found.now.function)
         result }
 {
-    let FrameFunction {
+    let Arm64FrameFunction {
         module,
         exceptions,
         function,
@@ -293,7 +293,7 @@ pub fn caller_in_module_arm64<L: CallSites, M: Memory>(
     let rva = module.rva_of(frame.lookup_address());
     match exceptions.find_function_arm64_with_map(rva, &ModuleMap { module, exceptions }) {
         Ok(Some(function)) => {
-            let found = FrameFunction {
+            let found = Arm64FrameFunction {
                 module,
                 exceptions,
                 function,

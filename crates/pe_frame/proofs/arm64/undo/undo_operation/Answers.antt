@@ -1,7 +1,7 @@
-use Rattle.std.proofs.Common.{ℕ, ◌+◌, [], ◌∷◌, ◌++◌, Ok, refl, ap, ◌∙◌}
+use Rattle.std.proofs.Common.{ℕ, [], ◌∷◌, Ok, refl, ap, ◌∙◌}
 use Rattle.pe_frame.specs.declared.arm64.operation.Arm64Operation.TheVariants.{Allocate, Save, SaveEach, SetFrame}
-use Rattle.pe_frame.specs.Arm64Operations.{Lower, Store, store_some}
-use Rattle.pe_frame.specs.Arm64Undoing.{reverted, reverted_all}
+use Rattle.pe_frame.specs.Arm64Operations.{Lower, Store}
+use Rattle.pe_frame.specs.Arm64Undoing.{reverted}
 use Rattle.pe_frame.specs.InPlace.{changed}
 use Rattle.pe_frame.proofs.Arm64Effects.{first_reverted, effects_are}
 use Rattle.pe_frame.proofs.arm64.undo.undo_operation.Goals as goal
@@ -29,7 +29,4 @@ pub returns-in-SaveEach : goal.returns-in-SaveEach
 returns-in-SaveEach g c =
     let m = g.M.Memory.word c.args.memory.now in
     let e = c.in-SaveEach in
-    let loaded = changed c.load_each.result c.load_each.new.registers in
-    let at = ap (λ (o : ℕ). reverted_all m (store_some e.first o ++ store_some e.second (o + c.from-in-SaveEach-2.result)) c.args.registers.now) c.from-in-SaveEach.ensures in
-    let near = ap (λ (n : ℕ). reverted_all m (store_some e.first e.offset ++ store_some e.second (e.offset + n)) c.args.registers.now) c.from-in-SaveEach-2.ensures in
-    effects_are m c.args.operation (SaveEach e.first e.second e.offset e.apart) c.args.registers.now loaded e.is (c.load_each.ensures ∙ (at ∙ near))
+    effects_are m c.args.operation (SaveEach e.first e.second e.offset e.apart) c.args.registers.now (changed c.undo_save_each.result c.undo_save_each.new.registers) e.is c.undo_save_each.ensures
