@@ -1,5 +1,5 @@
 -- The RVAs of a piece have one owner.
-use Rattle.std.proofs.Common.{◌≡◌, ℕ, ◌-◌, ◌^◌, ◌<◌, ◌≤◌, Bool, List, length, get_or, Some, sym, ◌∙◌, arith}
+use Rattle.std.proofs.Common.{◌≡◌, ℕ, ◌-◌, ◌^◌, ◌<◌, ◌≤◌, List, length, get_or, Some, sym, ◌∙◌, arith}
 use Rattle.pe_core.specs.declared.section_pieces.Owner.{Owner}
 use Rattle.pe_core.specs.declared.section_pieces.Piece.{Piece}
 use Rattle.pe_core.specs.declared.options.ParseOptions.{ParseOptions}
