@@ -2128,12 +2128,13 @@ typedef struct {
 
 typedef struct {
     pe_c_range name;                /* UTF-8, without its final zero */
+    pe_c_range forwarder;           /* the forwarder's text, "DLL.NAME" or "DLL.#ORDINAL": UTF-8, without its final zero;
+                                       empty unless is_forwarder, and where no text is there */
     uint64_t offset;                 /* file offset of the RVA; 0 unless has_offset */
-    uint32_t rva;                   /* RVA of what is exported */
+    uint32_t rva;                   /* RVA of what is exported, or of the forwarder's text */
     uint32_t has_offset;             /* 1 where the RVA is mapped, else 0 */
-    uint32_t index;                 /* index in the table of RVAs, for pe_c_export_at */
-    uint32_t is_forwarder;          /* 1 where the RVA lies in the export directory, else 0: it is then that of a text, which
-                                       names another DLL's export, and which pe_c_export_at returns where it is there */
+    uint32_t index;                 /* index in the table of RVAs, as of pe_c_export_at */
+    uint32_t is_forwarder;          /* 1 where the RVA lies in the export directory, else 0 */
 } pe_c_export;
 
 /* The table of RVAs, which has all exports by their index, also those without a name. */
@@ -2171,7 +2172,7 @@ typedef struct {
 
 PE_C_SIZE(pe_c_exports, 64);
 PE_C_SIZE(pe_c_export_walk, 72);
-PE_C_SIZE(pe_c_export, 40);
+PE_C_SIZE(pe_c_export, 56);
 PE_C_SIZE(pe_c_address_table, 48);
 PE_C_SIZE(pe_c_exported, 32);
 PE_C_SIZE(pe_c_export_fields, 40);
@@ -2185,7 +2186,7 @@ uint32_t pe_c_export_directory(const pe_c_view *view, pe_c_export_fields *out) P
 uint32_t pe_c_export_tables(const pe_c_view *view, pe_c_exports *out) PE_C_RESULT(1, 2);
 
 /* Returns the next export. Entries are skipped whose name is unmapped, not NUL-terminated or not UTF-8, or whose index is
- * past the table of RVAs. Each name is read to its end, so names that overlap are read once each.
+ * past the table of RVAs. Each name and each forwarder's text is read to its end, so texts that overlap are read once each.
  * Errors: PE_C_SHORT where the tables are not inside the bytes. */
 uint32_t pe_c_next_export(const pe_c_view *view, pe_c_export_walk *walk, pe_c_export *out) PE_C_RESULT(1, 2, 3);
 
@@ -3151,10 +3152,10 @@ typedef struct {
 
 PE_C_SIZE(pe_c_run, 24);
 
-/* Lists what pe_c_list_exports does, and reads names together where they share much, others each by itself. With a run for
- * each entry that the name table has left, or more, a call takes about as long as to sort these and to read each byte a few
- * times, however many of the names share a text: a hostile file may let all of them start in one long text. A call looks at
- * no more names for that than there are runs, and reads further ones to their end each; no runs are needed.
+/* Lists what pe_c_list_exports does, and reads names and forwarders' texts together where they share much, others each by
+ * itself. With two runs for each entry that the name table has left, or more, a call takes about as long as to sort these and
+ * to read each byte a few times, however many of the texts are one: a hostile file may let all of them start in one long text.
+ * A call looks at no more entries for that than there are runs, and reads further texts to their end each; no runs are needed.
  * What is in `runs` after the call is left open. Errors: as pe_c_list_exports. */
 uint32_t pe_c_list_exports_together(const pe_c_view *view, pe_c_exports *walk, pe_c_run *runs, size_t number_of_runs,
                                     pe_c_export *entries, size_t number_of_entries,

@@ -169,14 +169,7 @@ pub(crate) fn from(exports: Exports) -> ExportWalk {
 }
 
 fn step(bytes: &[u8], mode: u32, walk: &mut ExportWalk) -> (u32, Fields, Walk) {
-    let mut out = Export {
-        name: range(1, 2),
-        offset: 3,
-        rva: 4,
-        has_offset: 5,
-        index: 6,
-        is_forwarder: 7,
-    };
+    let mut out = UNTOUCHED;
     let answer = pe_c_next_export(
         &view(bytes, &in_mode(&image(X64), mode), &sections()),
         walk,
@@ -308,6 +301,10 @@ const UNTOUCHED: Export = Export {
         offset: 1,
         length: 2,
     },
+    forwarder: Range {
+        offset: 8,
+        length: 9,
+    },
     offset: 3,
     rva: 4,
     has_offset: 5,
@@ -315,25 +312,26 @@ const UNTOUCHED: Export = Export {
     is_forwarder: 7,
 };
 
-/// Name, offset, RVA, whether it is a forwarder.
-type Named = ([u64; 2], u64, u32, u32);
+/// Name, forwarder's text, offset, RVA, whether it is a forwarder.
+type Named = ([u64; 2], [u64; 2], u64, u32, u32);
 
 fn of_export(export: &Export) -> Named {
     (
         of_range(export.name),
+        of_range(export.forwarder),
         export.offset,
         export.rva,
         export.is_forwarder,
     )
 }
 
-/// The last export by a walk and by both lists, with the walks after them.
-fn last_export(bytes: &[u8], directory: DataDirectory) -> [(u32, Named, Walk); 3] {
+/// The export from an entry of the name table on, by a walk and by both lists, with the walks after them.
+fn export_from(bytes: &[u8], directory: DataDirectory, next: u64) -> [(u32, Named, Walk); 3] {
     let (image, sections) = (image(X64), sections());
     let view = view(bytes, &image, &sections);
     let start = Exports {
         directory,
-        ..walk_over(1)
+        ..walk_over(next)
     };
     let mut step = UNTOUCHED;
     let mut walk = from(start);
@@ -356,7 +354,7 @@ fn last_export(bytes: &[u8], directory: DataDirectory) -> [(u32, Named, Walk); 3
 }
 
 /// An export by its name is a forwarder from the directory's first byte to its last, also in a directory that passes the end of
-/// all RVAs, and its index is that of the text.
+/// all RVAs, and has the text that it has by its index.
 #[test]
 fn forwarders_by_name(rt: HostRuntime) -> Result<(), Fail> {
     let mut bytes = with_exports(rt.alloc())?;
@@ -380,19 +378,47 @@ fn forwarders_by_name(rt: HostRuntime) -> Result<(), Fail> {
             directory,
             ..walk_over(5)
         };
-        let export = ([0xA0, 1], 8, 0x1008, is_forwarder);
+        let text = if is_forwarder == 1 { [8, 4] } else { OVER };
+        let export = ([0xA0, 1], text, 8, 0x1008, is_forwarder);
         assert_eq!(rt;
-            last_export(&bytes, directory),
+            export_from(&bytes, directory, 1),
             [(DONE, export, of_walk(after)); 3],
             "{virtual_address:#x} {size:#x}"
         );
         let (_, table) = table_at(&bytes, &with_directory(0x1010));
         let table = AddressTable { directory, ..table };
-        let text = if is_forwarder == 1 { [8, 4] } else { OVER };
         assert_eq!(rt;
             exported(&bytes, &table, 0),
             (DONE, text, [1, 0x1008, u64::from(is_forwarder)])
         );
+    }
+    Ok(())
+}
+
+/// A forwarder whose RVA is unmapped, whose text is not UTF-8 or empty, or has no zero after it.
+#[test]
+fn forwarders_without_a_text(rt: HostRuntime) -> Result<(), Fail> {
+    let mut bytes = with_exports(rt.alloc())?;
+    let unmapped = directory(0x9000, 1);
+    let after = Exports {
+        directory: unmapped,
+        ..walk_over(1)
+    };
+    let export = ([0x90, 5], OVER, 0, 0x9000, 1);
+    assert_eq!(rt; export_from(&bytes, unmapped, 0), [(DONE, export, of_walk(after)); 3]);
+    let mapped = directory(0x1008, 1);
+    let after = Exports {
+        directory: mapped,
+        ..walk_over(5)
+    };
+    for (text, range) in [
+        (b"A\xC3\0".as_slice(), OVER),
+        (b"A\xC3\xA9\0", [8, 3]),
+        (b"\0", [8, 0]),
+    ] {
+        put(&mut bytes, &[(8, text)]);
+        let export = ([0xA0, 1], range, 8, 0x1008, 1);
+        assert_eq!(rt; export_from(&bytes, mapped, 1), [(DONE, export, of_walk(after)); 3]);
     }
     Ok(())
 }

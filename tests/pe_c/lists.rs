@@ -380,6 +380,10 @@ const NO_EXPORT: Export = Export {
         offset: 0x7777,
         length: 0x77,
     },
+    forwarder: Range {
+        offset: 0x5555,
+        length: 0x55,
+    },
     offset: 3,
     rva: 4,
     has_offset: 5,

@@ -63,6 +63,7 @@ const NO_RANGE: Range = Range {
 
 const NO_EXPORT: Export = Export {
     name: NO_RANGE,
+    forwarder: NO_RANGE,
     offset: 3,
     rva: 4,
     has_offset: 5,
@@ -134,30 +135,39 @@ fn exports_together(rt: HostRuntime) -> Result<(), Fail> {
     Ok(())
 }
 
-/// Ten names at 100h, of 83 bytes with their zero: more than the image has in all, so they are read together.
+/// The same ten times: a name at 100h, of 83 bytes with its zero, or a name at 152h, a zero, with a forwarder's text at 100h. That is more
+/// than the image has in all, so they are read together.
 #[test]
 fn exports_that_share_much(rt: HostRuntime) -> Result<(), Fail> {
-    let mut bytes = with_texts(rt.alloc(), &[(0x68, &[8, 0x10, 0, 0])])?;
-    for i in 0..10 {
-        bytes[0x20 + 4 * i..0x24 + 4 * i].copy_from_slice(&[0, 0x11, 0, 0]);
-    }
-    let (image, sections) = (image(X64), sections());
-    let view = view(&bytes, &image, &sections);
-    for room in [0, 1, 7, 8, 10, 12] {
-        let mut walk = exports();
-        (walk.names, walk.ordinals) = (range(0x20, 40), range(0x80, 20));
-        let mut runs = [RUN; 12];
-        let mut entries = [NO_EXPORT; 11];
-        let mut written = 77;
-        let lent = &mut runs[..room];
-        let answer = pe_c_list_exports_together(&view, &mut walk, lent, &mut entries, &mut written);
-        assert_eq!(rt; (answer, written, walk.next), (DONE, 10, 10));
-        for entry in &entries[..10] {
-            assert_eq!(rt; (of_range(entry.name), entry.rva), ([0x100, 82], 0x1008));
+    for (name, rva, texts) in [
+        (0x1100_u32, 0x1008_u32, [[0x100, 82], [8, 0]]),
+        (0x1152, 0x1100, [[0x152, 0], [0x100, 82]]),
+    ] {
+        let mut bytes = with_texts(rt.alloc(), &[(0x68, &rva.to_le_bytes())])?;
+        for i in 0..10 {
+            bytes[0x20 + 4 * i..0x24 + 4 * i].copy_from_slice(&name.to_le_bytes());
         }
-        // The first starts after a zero and is not counted, six have 498 bytes of 512, and the eighth is too much.
-        let start = if room < 8 { 0x7777 } else { 0x100 };
-        assert_eq!(rt; runs[0].start, start, "{room}");
+        let (image, sections) = (image(X64), sections());
+        let view = view(&bytes, &image, &sections);
+        for room in [0, 1, 7, 8, 10, 12] {
+            let mut walk = exports();
+            (walk.names, walk.ordinals) = (range(0x20, 40), range(0x80, 20));
+            walk.directory = directory(rva, 1);
+            let mut runs = [RUN; 12];
+            let mut entries = [NO_EXPORT; 11];
+            let mut written = 77;
+            let lent = &mut runs[..room];
+            let answer =
+                pe_c_list_exports_together(&view, &mut walk, lent, &mut entries, &mut written);
+            assert_eq!(rt; (answer, written, walk.next), (DONE, 10, 10));
+            for entry in &entries[..10] {
+                assert_eq!(rt; [of_range(entry.name), of_range(entry.forwarder)], texts);
+                assert_eq!(rt; (entry.rva, entry.is_forwarder), (rva, 1));
+            }
+            // The first starts after a zero and is not counted, six have 498 bytes of 512, and the eighth is too much.
+            let start = if room < 8 { 0x7777 } else { 0x100 };
+            assert_eq!(rt; runs[0].start, start, "{room}");
+        }
     }
     Ok(())
 }

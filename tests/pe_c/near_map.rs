@@ -225,10 +225,8 @@ fn of_export(export: &Export) -> ([u64; 2], u32, u64, u32, u32) {
 }
 
 pub(crate) const NO_EXPORT: Export = Export {
-    name: Range {
-        offset: 0,
-        length: 0,
-    },
+    name: NO_RANGE,
+    forwarder: NO_RANGE,
     offset: 0,
     rva: 0,
     has_offset: 0,
@@ -236,11 +234,13 @@ pub(crate) const NO_EXPORT: Export = Export {
     is_forwarder: 0,
 };
 
+const NO_RANGE: Range = Range {
+    offset: 0,
+    length: 0,
+};
+
 const NO_IMPORT: Import = Import {
-    name: Range {
-        offset: 0,
-        length: 0,
-    },
+    name: NO_RANGE,
     rva: 0,
     ordinal: 0,
     has_name: 0,

@@ -95,9 +95,9 @@ pub(crate) fn slice(bytes: &[u8], range: Range) -> error::Result<&[u8]> {
 pub(crate) fn text(bytes: &[u8], range: Range) -> error::Result<&str> {
     let name = slice(bytes, range)?;
     debug_assert!(core::str::from_utf8(name).is_ok(), "a name that a call returned is not UTF-8");
-    // SAFETY: all who call this pass a name that a call returned, which is UTF-8 by the contract of that call: of a DLL and of
-    // forwarders by pe_c_export_addresses and pe_c_export_at, of exports, libraries, imports and sections by their lists, and of symbols
-    // by pe_c_symbol_name. To test it again cost a seventh of `PE::parse`.
+    // SAFETY: all who call this pass a name that a call returned, which is UTF-8 by the contract of that call: of a DLL by
+    // pe_c_export_addresses, of exports, their forwarders, libraries, imports and sections by their lists, and of symbols by
+    // pe_c_symbol_name. To test it again cost a seventh of `PE::parse`.
     Ok(unsafe { core::str::from_utf8_unchecked(name) })
 }
 
@@ -813,7 +813,6 @@ calls_of_an_image! {
     export_directory: pe_c_export_directory() -> sys::ExportFields;
     export_tables: pe_c_export_tables() -> sys::Exports;
     export_addresses: pe_c_export_addresses() -> sys::AddressTable;
-    export_at: pe_c_export_at(table: &sys::AddressTable, index: u64) -> sys::Exported;
     import_libraries: pe_c_import_libraries() -> sys::Libraries;
     version_content: pe_c_version_blocks() -> Range;
     manifest: pe_c_manifest() -> Range;

@@ -18,18 +18,17 @@ use core::ops::Range;
 pub struct Export<'a> {
     /// UTF-8, without its final zero.
     pub name: &'a [u8],
-    /// RVA of what is exported.
+    /// RVA of what is exported, or of the forwarder's text.
     pub rva: u32,
     /// File offset of the RVA, or `None` where it is unmapped.
     pub offset: Option<u64>,
-    /// Its index in the table of RVAs: [`AddressTable::get`] has its ordinal and forwarder.
+    /// Its index in the table of RVAs: plus the [ordinal base](AddressTable::ordinal_base) it is the ordinal.
     pub index: u32,
-    /// The RVA lies in the export directory. It is then that of a text, which names another DLL's export, such as
-    /// `NTDLL.RtlAllocateHeap`, and which [`AddressTable::get`] returns where it is there.
-    pub is_forwarder: bool,
+    /// Of a forwarder its text, `DLL.NAME` or `DLL.#ORDINAL`: UTF-8, without its final zero; empty where no text is there.
+    pub forwarder: Option<&'a [u8]>,
 }
 
-shown! { Export<'_> { name: shown::Text, rva, offset, index, is_forwarder } }
+shown! { Export<'_> { name: shown::Text, rva, offset, index, forwarder: shown::text } }
 
 /// The exports of an image, in the order of the name table.
 ///
@@ -59,14 +58,14 @@ pub struct Exports<'i, 'a> {
     many: Vec<sys::Export>,
     left: Range<usize>,
     is_over: bool,
-    /// The bytes that were read of names, each by itself. A name that is skipped counts as a part of the image.
+    /// The bytes that were read of texts, each by itself. A text that is not there counts as a part of the image.
     spent: usize,
 }
 
-/// How many entries of the name table a call takes where each name is read by itself.
+/// How many entries of the name table a call takes where each text is read by itself.
 const ROOM: usize = 16;
 
-/// How many names that are skipped count as the image.
+/// How many texts that are not there count as the image.
 const SKIPPED: usize = 64;
 
 impl<'i, 'a> Exports<'i, 'a> {
@@ -92,8 +91,9 @@ impl<'i, 'a> Exports<'i, 'a> {
         }
     }
 
-    /// Reads the exports of further entries of the name table, if it has any left: of some each name by itself, and once this has
-    /// cost as much as the image has bytes all others together, if there is memory for that.
+    /// Reads the exports of further entries of the name table, if it has any left: of some each text by itself, and once this has
+    /// cost as much as the image has bytes all others together, if there is memory for that. An entry has two texts at most, its name
+    /// and that of a forwarder.
     fn fill(&mut self) -> Result<(), Error> {
         let rest = (self.walk.names.length / 4).saturating_sub(self.walk.next) as usize;
         self.is_over = rest == 0;
@@ -103,7 +103,8 @@ impl<'i, 'a> Exports<'i, 'a> {
         let (bytes, mut count, mut runs) = (self.image.bytes().len(), rest.min(ROOM), Vec::new());
         self.many.clear();
         if self.spent > bytes {
-            if let (Ok(room), Ok(many)) = (room_for(rest, sys::Run::default()), room_for(rest, sys::Export::default()))
+            let room = room_for(rest.saturating_mul(2), sys::Run::default());
+            if let (Ok(room), Ok(many)) = (room, room_for(rest, sys::Export::default()))
             {
                 (count, runs, self.many) = (rest, room, many);
             }
@@ -118,8 +119,11 @@ impl<'i, 'a> Exports<'i, 'a> {
         Error::of(number)?;
         self.walk.next = part.next;
         self.left = 0..written as usize;
-        let names: u64 = self.found()[self.left.clone()].iter().map(|it| it.name.length).sum();
-        self.spent = self.spent.saturating_add(names as usize + (count - self.left.len()) * (bytes / SKIPPED));
+        let found = &self.found()[self.left.clone()];
+        let texts: u64 = found.iter().map(|it| it.name.length + it.forwarder.length).sum();
+        let without = found.iter().filter(|it| it.is_forwarder != 0 && it.forwarder.length == 0).count();
+        let none = count - found.len() + without;
+        self.spent = self.spent.saturating_add(texts as usize + none * (bytes / SKIPPED));
         Ok(())
     }
 }
@@ -143,9 +147,10 @@ impl<'a> Iterator for Exports<'_, 'a> {
         let i = self.left.next()?;
         let found = self.found()[i];
         let offset = (found.has_offset != 0).then_some(found.offset);
+        let forwarder = found.forwarder.of(self.image.bytes()).filter(|_| found.is_forwarder != 0);
         Some(bytes_of(found.name, self.image.bytes()).map(|name| {
             let sys::Export { rva, index, .. } = found;
-            Export { name, rva, offset, index, is_forwarder: found.is_forwarder != 0 }
+            Export { name, rva, offset, index, forwarder }
         }))
     }
 }

@@ -874,12 +874,14 @@ ExportWalk, 72 {
 });
 record!(
 /// An export. See [`Export`](crate::Export).
-Export, 40 {
+Export, 56 {
     /// UTF-8, without its final zero.
     name: Range,
+    /// A forwarder's text: UTF-8, without its final zero; empty unless `is_forwarder`, and where no text is there.
+    forwarder: Range,
     /// File offset of the RVA; 0 unless `has_offset`.
     offset: u64,
-    /// RVA of what is exported.
+    /// RVA of what is exported, or of the forwarder's text.
     rva: u32,
     /// 1 where the RVA is mapped, else 0.
     has_offset: u32,

@@ -793,9 +793,9 @@ fn exports_by_name_may_be_forwarders() {
     bytes[offset(fields.address_of_name_ordinals) as usize + 2] = 3;
     let image = strict(&bytes);
     let found: Vec<_> = image.exports().unwrap().map(Result::unwrap).collect();
-    let flags: Vec<_> = found.iter().map(|it| (it.name, it.index, it.is_forwarder)).collect();
-    assert_eq!(flags, [(b"first".as_slice(), 1, false), (b"second", 3, true)]);
+    let texts: Vec<_> = found.iter().map(|it| (it.name, it.index, it.forwarder)).collect();
     let text = b"NTDLL.RtlFree".as_slice();
+    assert_eq!(texts, [(b"first".as_slice(), 1, None), (b"second", 3, Some(text))]);
     let table = image.export_addresses().unwrap().unwrap();
     assert_eq!(table.get(u64::from(found[1].index)).unwrap().forwarder, Some(text));
     assert!(bytes[found[1].offset.unwrap() as usize..].starts_with(text));
@@ -803,7 +803,7 @@ fn exports_by_name_may_be_forwarders() {
     let (start, end) = (directory.virtual_address, directory.virtual_address + directory.size);
     for (rva, is_forwarder) in [(start - 1, false), (start, true), (end - 1, true), (end, false)] {
         bytes[entry..entry + 4].copy_from_slice(&rva.to_le_bytes());
-        let found = strict(&bytes).exports().unwrap().last().unwrap().map(|it| (it.rva, it.is_forwarder));
+        let found = strict(&bytes).exports().unwrap().last().unwrap().map(|it| (it.rva, it.forwarder.is_some()));
         assert_eq!(found, Ok((rva, is_forwarder)));
     }
 }

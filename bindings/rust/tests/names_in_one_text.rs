@@ -88,19 +88,37 @@ fn names_of_exports() {
     assert_eq!(found, expected(NAMES, LETTERS));
 }
 
+/// Appends an export directory whose exports are all forwarders, with names of so many of them.
+fn put_forwarders(made: &mut Made, names: u32, name_table: u32, ordinals: u32) {
+    let directory = made.next();
+    let text = directory + 40 + 4 * NAMES;
+    made.put_words(&[0, 0, 0, 0, 5, NAMES, names, directory + 40, name_table, ordinals]);
+    made.put_words(&(0..NAMES).map(|i| text + i).collect::<Vec<_>>());
+    made.put(&[&vec![b'a'; LETTERS as usize], &b"\0"[..]].concat());
+    made.directory(EXPORTS, directory, text - directory + LETTERS + 1);
+}
+
 #[test]
 fn texts_of_forwarders() {
     let mut made = Made::new(X64);
     made.size_of_image = 0x100_0000;
-    let directory = made.next();
-    let text = directory + 40 + 4 * NAMES;
-    made.put_words(&[0, 0, 0, 0, 5, NAMES, 0, directory + 40, 0, 0]);
-    made.put_words(&(0..NAMES).map(|i| text + i).collect::<Vec<_>>());
-    made.put(&[&vec![b'a'; LETTERS as usize], &b"\0"[..]].concat());
-    made.directory(EXPORTS, directory, text - directory + LETTERS + 1);
+    put_forwarders(&mut made, 0, 0, 0);
     let found = in_time(made.image(), |bytes| {
         counted(image(bytes).export_addresses().unwrap().unwrap().iter().map(|it| Ok(it.forwarder.unwrap())))
     });
+    assert_eq!(found, expected(NAMES, LETTERS));
+}
+
+#[test]
+fn texts_of_forwarders_by_name() {
+    let mut made = Made::new(X64);
+    made.size_of_image = 0x100_0000;
+    let name = made.put(b"f\0");
+    let names = made.put_words(&vec![name; NAMES as usize]);
+    let ordinals = made.put(&(0..NAMES as u16).flat_map(u16::to_le_bytes).collect::<Vec<_>>());
+    put_forwarders(&mut made, NAMES, names, ordinals);
+    let found =
+        in_time(made.image(), |bytes| counted(image(bytes).exports().unwrap().map(|it| Ok(it?.forwarder.unwrap()))));
     assert_eq!(found, expected(NAMES, LETTERS));
 }
 

@@ -62,7 +62,7 @@ fn long_names_and_many_sections_are_cut() {
     let cut = format!("\"{}\".. <1048576 bytes>", "\\u{1}".repeat(256));
     assert_eq!(
         format!("{export:?}"),
-        format!("Export {{ name: {cut}, rva: 4100, offset: Some(1028), index: 0, is_forwarder: false }}")
+        format!("Export {{ name: {cut}, rva: 4100, offset: Some(1028), index: 0, forwarder: None }}")
     );
     let import = image.imports().unwrap().next().unwrap().unwrap();
     assert_eq!((import.library.len(), import.import.name.unwrap().len()), (MEBIBYTE, MEBIBYTE));

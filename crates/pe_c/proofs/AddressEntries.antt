@@ -65,34 +65,39 @@ addresses_stand offset b rva directory d e = (tables_stand offset b rva director
 
 -- ---- the entry of a named export
 
-by_rva : (f : ℕ → ℕ → Exported) (g : DataDirectory) (offset : ℕ → Option ℕ) (d : ExportDataView) (p k : ℕ) (name : List ℕ) (rva : Option ℕ) (x : Export) → table_entry 4 d.addresses k ≡ rva →
-    option_map (export_reported g p k) (option_map (λ r. record { name = name; rva = r; offset = offset r }) rva) ≡ Some x →
-    option_map (f x.index) (table_entry 4 d.addresses x.index) ≡ Some (f x.index x.rva)
-by_rva f g offset d p k name None x h e = absurd cc
-by_rva f g offset d p k name (Some r) x h e =
-    let is : export_reported g p k (record { name = name; rva = r; offset = offset r }) ≡ x = cc in
-    let index : k ≡ x.index = ap (λ (y : Export). y.index) is in
-    let rva : r ≡ x.rva = ap (λ (y : Export). y.rva) is in
-    let entry : table_entry 4 d.addresses x.index ≡ Some x.rva = subst (λ (n : ℕ). table_entry 4 d.addresses n ≡ Some x.rva) index (h ∙ ap (λ (n : ℕ). Some n) rva) in
-    ap (λ (o : Option ℕ). option_map (f x.index) o) entry
+-- what holds of every export whose entry the address table has
+abbrev OfEntries : (Export → Type 0) → (ℕ → Option ℕ) → List ℕ → DataDirectory → ExportDataView → Type 0
+OfEntries Holds offset b g d = (p k r : ℕ) (name : List ℕ) → table_entry 4 d.addresses k ≡ Some r → Holds (export_reported b g p k (record { name = name; rva = r; offset = offset r }))
 
-by_index : (f : ℕ → ℕ → Exported) (g : DataDirectory) (offset : ℕ → Option ℕ) (d : ExportDataView) (p k : ℕ) (name : List ℕ) (there : Bool) (x : Export) →
-    option_map (export_reported g p k) (option_map (λ r. record { name = name; rva = r; offset = offset r }) (option_and_then (table_entry 4 d.addresses) (if there then Some k else None))) ≡ Some x →
-    option_map (f x.index) (table_entry 4 d.addresses x.index) ≡ Some (f x.index x.rva)
-by_index f g offset d p k name true x e = by_rva f g offset d p k name (table_entry 4 d.addresses k) x refl e
-by_index f g offset d p k name false x e = absurd cc
+by_rva : (Holds : Export → Type 0) (offset : ℕ → Option ℕ) (b : List ℕ) (g : DataDirectory) (d : ExportDataView) (p k : ℕ) (name : List ℕ) (rva : Option ℕ) (x : Export) →
+    OfEntries Holds offset b g d → table_entry 4 d.addresses k ≡ rva →
+    option_map (export_reported b g p k) (option_map (λ r. record { name = name; rva = r; offset = offset r }) rva) ≡ Some x → Holds x
+by_rva Holds offset b g d p k name None x all h e = absurd cc
+by_rva Holds offset b g d p k name (Some r) x all h e =
+    let is : export_reported b g p k (record { name = name; rva = r; offset = offset r }) ≡ x = cc in
+    subst Holds is (all p k r name h)
 
-by_name : (f : ℕ → ℕ → Exported) (g : DataDirectory) (offset : ℕ → Option ℕ) (d : ExportDataView) (p i : ℕ) (name : Option (List ℕ)) (x : Export) →
-    option_map (export_reported g p (index_at d i)) (option_and_then (named_export offset d i) name) ≡ Some x →
-    option_map (f x.index) (table_entry 4 d.addresses x.index) ≡ Some (f x.index x.rva)
-by_name f g offset d p i None x e = absurd cc
-by_name f g offset d p i (Some name) x e = by_index f g offset d p (index_at d i) name (holds d.ordinals (2 * i) 2) x e
+by_index : (Holds : Export → Type 0) (offset : ℕ → Option ℕ) (b : List ℕ) (g : DataDirectory) (d : ExportDataView) (p k : ℕ) (name : List ℕ) (there : Bool) (x : Export) →
+    OfEntries Holds offset b g d →
+    option_map (export_reported b g p k) (option_map (λ r. record { name = name; rva = r; offset = offset r }) (option_and_then (table_entry 4 d.addresses) (if there then Some k else None))) ≡ Some x → Holds x
+by_index Holds offset b g d p k name true x all e = by_rva Holds offset b g d p k name (table_entry 4 d.addresses k) x all refl e
+by_index Holds offset b g d p k name false x all e = absurd cc
 
-by_place : (f : ℕ → ℕ → Exported) (g : DataDirectory) (offset : ℕ → Option ℕ) (b : List ℕ) (d : ExportDataView) (i : ℕ) (at : Option ℕ) (x : Export) →
-    option_and_then (λ p. option_map (export_reported g p (index_at d i)) (option_and_then (named_export offset d i) (text_at b p))) at ≡ Some x →
-    option_map (f x.index) (table_entry 4 d.addresses x.index) ≡ Some (f x.index x.rva)
-by_place f g offset b d i None x e = absurd cc
-by_place f g offset b d i (Some p) x e = by_name f g offset d p i (text_at b p) x e
+by_name : (Holds : Export → Type 0) (offset : ℕ → Option ℕ) (b : List ℕ) (g : DataDirectory) (d : ExportDataView) (p i : ℕ) (name : Option (List ℕ)) (x : Export) →
+    OfEntries Holds offset b g d → option_map (export_reported b g p (index_at d i)) (option_and_then (named_export offset d i) name) ≡ Some x → Holds x
+by_name Holds offset b g d p i None x all e = absurd cc
+by_name Holds offset b g d p i (Some name) x all e = by_index Holds offset b g d p (index_at d i) name (holds d.ordinals (2 * i) 2) x all e
+
+by_place : (Holds : Export → Type 0) (offset : ℕ → Option ℕ) (b : List ℕ) (g : DataDirectory) (d : ExportDataView) (i : ℕ) (at : Option ℕ) (x : Export) →
+    OfEntries Holds offset b g d →
+    option_and_then (λ p. option_map (export_reported b g p (index_at d i)) (option_and_then (named_export offset d i) (text_at b p))) at ≡ Some x → Holds x
+by_place Holds offset b g d i None x all e = absurd cc
+by_place Holds offset b g d i (Some p) x all e = by_name Holds offset b g d p i (text_at b p) x all e
+
+-- so it holds of the export of an entry of the name table
+of_entry : (Holds : Export → Type 0) (offset : ℕ → Option ℕ) (b : List ℕ) (g : DataDirectory) (d : ExportDataView) (i : ℕ) (x : Export) →
+    OfEntries Holds offset b g d → reported_entry offset b g d i ≡ Some x → Holds x
+of_entry Holds offset b g d i x all e = by_place Holds offset b g d i (offset (le d.names (4 * i) 4)) x all e
 
 mapped_twice : (g : ExportAddress → Exported) (h : ℕ → ExportAddress) (o : Option ℕ) → option_map g (option_map h o) ≡ option_map (λ n. g (h n)) o
 mapped_twice g h None = refl
@@ -104,19 +109,16 @@ pub entries : (offset : ℕ → Option ℕ) (b : List ℕ) (g : DataDirectory) (
 entries offset b g d t i x there e =
     let f : ℕ → ℕ → Exported = λ k r. exported_with offset b (address_with (addresses_in t d.addresses) k r) in
     ap (λ (r : Result (List ℕ) Refusal). r >>= λ table. Ok (option_map (exported_with offset b) (address_at (addresses_in t table) x.index))) there
-    ∙ ap (λ (o : Option Exported). Ok o) (mapped_twice (exported_with offset b) (address_with (addresses_in t d.addresses) x.index) (table_entry 4 d.addresses x.index) ∙ by_place f g offset b d i (offset (le d.names (4 * i) 4)) x e)
+    ∙ ap (λ (o : Option Exported). Ok o) (mapped_twice (exported_with offset b) (address_with (addresses_in t d.addresses) x.index) (table_entry 4 d.addresses x.index)
+    ∙ of_entry (λ y. option_map (f y.index) (table_entry 4 d.addresses y.index) ≡ Some (f y.index y.rva)) offset b g d i x (λ p k r name h. ap (λ (o : Option ℕ). option_map (f k) o) h) e)
 
--- ---- whether a named export is a forwarder
-
-flag_of : (g : DataDirectory) (p k : ℕ) (e : Option ExportView) (x : Export) → option_map (export_reported g p k) e ≡ Some x → x.is_forwarder ≡ one_if (lies_in g x.rva)
-flag_of g p k None x h = absurd cc
-flag_of g p k (Some e) x h = let is : export_reported g p k e ≡ x = cc in subst (λ (y : Export). y.is_forwarder ≡ one_if (lies_in g y.rva)) is refl
-
-flag_at : (offset : ℕ → Option ℕ) (b : List ℕ) (g : DataDirectory) (d : ExportDataView) (i : ℕ) (at : Option ℕ) (x : Export) →
-    option_and_then (λ p. option_map (export_reported g p (index_at d i)) (option_and_then (named_export offset d i) (text_at b p))) at ≡ Some x → x.is_forwarder ≡ one_if (lies_in g x.rva)
-flag_at offset b g d i None x e = absurd cc
-flag_at offset b g d i (Some p) x e = flag_of g p (index_at d i) (option_and_then (named_export offset d i) (text_at b p)) x e
+-- ---- whether a named export is a forwarder, and its text
 
 pub named_forwarders : (offset : ℕ → Option ℕ) (b : List ℕ) (d : ExportDataView) (t : AddressTable) (i : ℕ) (x : Export) → reported_entry offset b t.directory d i ≡ Some x →
     x.is_forwarder ≡ (exported_with offset b (address_with (addresses_in t d.addresses) x.index x.rva)).is_forwarder
-named_forwarders offset b d t i x e = flag_at offset b t.directory d i (offset (le d.names (4 * i) 4)) x e
+named_forwarders offset b d t i x e = of_entry (λ y. y.is_forwarder ≡ one_if (lies_in t.directory y.rva)) offset b t.directory d i x (λ p k r name h. refl) e
+
+pub named_texts : (offset : ℕ → Option ℕ) (b : List ℕ) (d : ExportDataView) (t : AddressTable) (i : ℕ) (x : Export) → reported_entry offset b t.directory d i ≡ Some x →
+    x.forwarder ≡ (exported_with offset b (address_with (addresses_in t d.addresses) x.index x.rva)).forwarder
+named_texts offset b d t i x e =
+    of_entry (λ y. y.forwarder ≡ or_no_bytes (if lies_in t.directory y.rva then text_range offset b y.rva else None)) offset b t.directory d i x (λ p k r name h. refl) e

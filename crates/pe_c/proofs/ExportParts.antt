@@ -45,19 +45,19 @@ text_stands b p name e = text_by b p name (position (λ c. c == 0) (drop p b)) r
 
 by_address : (offset : ℕ → Option ℕ) (b : List ℕ) (directory : DataDirectory) (p k : ℕ) (name : List ℕ) (rva : Option ℕ) → text_at b p ≡ Some name →
     ReportsExport b
-    (option_map (export_reported directory p k) (option_map (λ r. record { name = name; rva = r; offset = offset r }) rva))
+    (option_map (export_reported b directory p k) (option_map (λ r. record { name = name; rva = r; offset = offset r }) rva))
     (option_map (λ r. record { name = name; rva = r; offset = offset r }) rva)
 by_address offset b directory p k name None e = tt
 by_address offset b directory p k name (Some rva) e = (text_stands b p name e, refl, refl, refl)
 
 by_text : (offset : ℕ → Option ℕ) (b : List ℕ) (directory : DataDirectory) (d : ExportDataView) (i p k : ℕ) (name : Option (List ℕ)) → text_at b p ≡ name →
-    ReportsExport b (option_map (export_reported directory p k) (option_and_then (named_export offset d i) name)) (option_and_then (named_export offset d i) name)
+    ReportsExport b (option_map (export_reported b directory p k) (option_and_then (named_export offset d i) name)) (option_and_then (named_export offset d i) name)
 by_text offset b directory d i p k None e = tt
 by_text offset b directory d i p k (Some name) e = by_address offset b directory p k name (option_and_then (table_entry 4 d.addresses) (table_entry 2 d.ordinals i)) e
 
 by_offset : (offset : ℕ → Option ℕ) (b : List ℕ) (directory : DataDirectory) (d : ExportDataView) (i k : ℕ) (at : Option ℕ) →
     ReportsExport b
-    (option_and_then (λ p. option_map (export_reported directory p k) (option_and_then (named_export offset d i) (text_at b p))) at)
+    (option_and_then (λ p. option_map (export_reported b directory p k) (option_and_then (named_export offset d i) (text_at b p))) at)
     (option_and_then (named_export offset d i) (option_and_then (text_at b) at))
 by_offset offset b directory d i k None = tt
 by_offset offset b directory d i k (Some p) = by_text offset b directory d i p k (text_at b p) refl

@@ -1,13 +1,12 @@
 -- The address table of an export directory: every export by its index, also those without a name.
-use Rattle.std.specs.Prelude.{ℕ, ◌*◌, ◌==◌, List, [], length, Option, Some, None, Result, Ok, if◌then◌else◌}
-use Rattle.std.specs.Option.{option_and_then, option_map}
+use Rattle.std.specs.Prelude.{ℕ, ◌*◌, ◌==◌, List, [], Option, Some, None, Result, Ok, if◌then◌else◌}
+use Rattle.std.specs.Option.{option_map}
 use Rattle.pe_core.specs.ExportAddresses.{AddressesView, address_at}
 use Rattle.pe_core.specs.Exports.{ExportDataView, export_data_at}
 use Rattle.pe_core.specs.Refusals.{Refusal, ◌>>=◌}
-use Rattle.pe_core.specs.Text.{text_at}
 use Rattle.pe_core.specs.declared.data_directories.DataDirectory.{DataDirectory}
 use Rattle.pe_core.specs.declared.export_addresses.ExportAddress.{ExportAddress}
-use Rattle.pe_c.specs.Exports.{export_table, one_if, one_if_some}
+use Rattle.pe_c.specs.Exports.{export_table, one_if, one_if_some, text_from}
 use Rattle.pe_c.specs.Images.{export_directory, is_absent}
 use Rattle.pe_c.specs.Ranges.{bytes_at, or_no_bytes}
 use Rattle.pe_c.specs.declared.export_addresses.AddressTable.{AddressTable}
@@ -15,11 +14,7 @@ use Rattle.pe_c.specs.declared.export_addresses.Exported.{Exported}
 use Rattle.pe_c.specs.declared.image.Image.{Image}
 use Rattle.pe_c.specs.declared.ranges.Range.{Range}
 
--- the range of the text at an offset, if there is an offset and a text is there
-abbrev pub text_from : List ℕ → Option ℕ → Option Range
-text_from b offset = option_and_then (λ p. option_map (λ text. record { offset = p; length = length text }) (text_at b p)) offset
-
--- the same of an RVA, if it is mapped
+-- the range of the text at an RVA, if it is mapped and a text is there
 abbrev pub text_range : (ℕ → Option ℕ) → List ℕ → ℕ → Option Range
 text_range offset b rva = text_from b (offset rva)
 

@@ -15,7 +15,7 @@ use Rattle.pe_c.specs.declared.image.Image.{Image}
 use Rattle.pe_c.specs.declared.ranges.Range.{Range}
 use Rattle.pe_c.specs.HandsOut.{HandsOutIf}
 use Rattle.pe_c.specs.Images.{export_directory, is_absent}
-use Rattle.pe_c.specs.Ranges.{bytes_at, no_bytes, range_from}
+use Rattle.pe_c.specs.Ranges.{bytes_at, no_bytes, or_no_bytes, range_from}
 
 -- ---- the tables
 
@@ -89,10 +89,16 @@ one_if_some (Some x) = 1
 abbrev pub one_if : Bool → ℕ
 one_if c = if c then 1 else 0
 
--- an export whose name is at offset p, with its index in the address table; it is a forwarder if its RVA lies in this directory
-abbrev pub export_reported : DataDirectory → ℕ → ℕ → ExportView → Export
-export_reported directory p index e = record {
+-- the range of the text at an offset, if there is an offset and a text is there
+abbrev pub text_from : List ℕ → Option ℕ → Option Range
+text_from b offset = option_and_then (λ p. option_map (λ text. record { offset = p; length = length text }) (text_at b p)) offset
+
+-- an export whose name is at offset p, with its index in the address table; it is a forwarder, with the text at its offset, if its
+-- RVA lies in this directory
+abbrev pub export_reported : List ℕ → DataDirectory → ℕ → ℕ → ExportView → Export
+export_reported b directory p index e = record {
   name = record { offset = p; length = length e.name };
+  forwarder = or_no_bytes (if lies_in directory e.rva then text_from b e.offset else None);
   offset = or_zero e.offset;
   rva = e.rva;
   has_offset = one_if_some e.offset;
@@ -104,10 +110,10 @@ export_reported directory p index e = record {
 abbrev pub index_at : ExportDataView → ℕ → ℕ
 index_at d i = le d.ordinals (2 * i) 2
 
--- the export of entry i of the name table, if its name is mapped and is text, and its ordinal is in the address table; the export
--- directory tells which are forwarders
+-- the export of entry i of the name table, if its name is mapped and is text, and its ordinal is in the address table; which are
+-- forwarders depends on the export directory
 abbrev pub reported_entry : (ℕ → Option ℕ) → List ℕ → DataDirectory → ExportDataView → ℕ → Option Export
-reported_entry offset b directory d i = option_and_then (λ p. option_map (export_reported directory p (index_at d i)) (option_and_then (named_export offset d i) (text_at b p))) (offset (le d.names (4 * i) 4))
+reported_entry offset b directory d i = option_and_then (λ p. option_map (export_reported b directory p (index_at d i)) (option_and_then (named_export offset d i) (text_at b p))) (offset (le d.names (4 * i) 4))
 
 -- the exports of the entries from one index up to another, in their order; an entry may have none
 abbrev pub reported_from : (ℕ → Option Export) → ℕ → ℕ → List Export

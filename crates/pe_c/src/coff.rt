@@ -414,7 +414,7 @@ pub fn strings_cost_much(bytes: &[u8], walk: &SymbolWalk, strings: &[u8], most: 
         let name = SIZE_OF_SYMBOL * i;
         if read_u32(entries, name) == 0 {
             let offset = read_u32(entries, name + 4) as usize;
-            if costs.are_over(strings, offset) {
+            if costs.are_over(strings, Some(offset)) {
                 return true;
             }
         }

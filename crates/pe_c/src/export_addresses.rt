@@ -7,7 +7,7 @@ ghost use Rattle.std.specs.Prelude.{◌≡◌, ◌<◌, ◌-◌, ◌^◌, IfSome
 ghost use Rattle.pe_core.specs.ExportAddresses.{addresses_view};
 ghost use Rattle.pe_core.specs.Exports.{export_data_view};
 ghost use Rattle.pe_core.specs.Refusals.{answer_of};
-ghost use Rattle.pe_c.specs.ExportAddresses.{address_table, address_table_at, addresses_in, dll_name, exported_with, exported_at, exported_in, text_from, text_range};
+ghost use Rattle.pe_c.specs.ExportAddresses.{address_table, address_table_at, addresses_in, dll_name, exported_with, exported_at, exported_in, text_range};
 ghost use Rattle.pe_c.specs.Ranges.{or_no_bytes};
 ghost use Rattle.pe_c.specs.HandsOut.{HandsOutIf};
 ghost use Rattle.pe_c.specs.NearMaps.{IsWindow};
@@ -53,18 +53,6 @@ pub struct Exported {
     pub is_forwarder: u32,
 }
 
-/// The range of the text at an offset, if there is an offset and a text is there.
-fn text_from(names: &NamedView<'_>, offset: Option<usize>) -> Option<Range>
-    ensures { result ≡ text_from names.now.view.now.bytes.now offset }
-{
-    let offset = offset?;
-    let text = names.text_at(offset)?;
-    Some(Range {
-        offset: offset as u64,
-        length: text.len() as u64,
-    })
-}
-
 /// The range of the DLL's name. The RVA 0 is that of none.
 fn dll_name(view: &View, rva: u32) -> Option<Range>
     ensures { result ≡ dll_name (map_of view.now) view.now.bytes.now rva }
@@ -72,7 +60,7 @@ fn dll_name(view: &View, rva: u32) -> Option<Range>
     if rva == 0 {
         return None;
     }
-    text_from(&NamedView::alone(view), map_by(view, rva))
+    NamedView::alone(view).range_at(map_by(view, rva))
 }
 
 /// The address table of export data.
@@ -125,7 +113,9 @@ fn forwarder_of(names: &NamedView<'_>, near: &Window, rva: u32) -> Range
     ensures { result ≡ or_no_bytes (text_range
         (map_of names.now.view.now) names.now.view.now.bytes.now rva) }
 {
-    text_from(names, map_in(names.view, rva, near)).unwrap_or(NO_BYTES)
+    names
+        .range_at(map_in(names.view, rva, near))
+        .unwrap_or(NO_BYTES)
 }
 
 /// The entry of an export, with the range of a forwarder's text.

@@ -1,24 +1,24 @@
 //! Exports. The export directory has three tables: the RVAs of what is exported, the RVAs of names, and for each name
-//! the index of its RVA in the first table. A walk returns the exports that have a name, and says which are forwarders;
-//! `export_addresses` has all of them by their index, with the texts of forwarders.
+//! the index of its RVA in the first table. An RVA inside the export directory is that of a forwarder's text, such as
+//! `NTDLL.RtlAllocateHeap`: the name of another DLL's export. A walk returns the exports that have a name; `export_addresses` has
+//! all of them by their index.
 //! https://learn.microsoft.com/windows/win32/debug/pe-format#the-edata-section-image-only
 
-ghost use Rattle.std.specs.Prelude.{◌≡◌, ◌+◌, ◌*◌, ◌/◌, ◌≤◌, length};
+ghost use Rattle.std.specs.Prelude.{◌≡◌, ◌+◌, ◌*◌, ◌/◌, ◌≤◌, length, None, if◌then◌else◌};
 ghost use Rattle.pe_core.specs.Exports.{export_data_at, export_data_view};
 ghost use Rattle.pe_core.specs.Refusals.{ReturnsAs, answer_of};
 ghost use Rattle.pe_c.specs.HandsOut.{HandsOutIf};
 ghost use Rattle.pe_c.specs.Images.{export_directory};
-ghost use Rattle.pe_c.specs.Exports.{HandsOutExport, FindsNext, StepsExports, export_table, tables_at, tables_or_short, reported_entry, view_of, walk_over};
+ghost use Rattle.pe_c.specs.Exports.{HandsOutExport, FindsNext, StepsExports, export_table, tables_at, tables_or_short, reported_entry, text_from, view_of, walk_over};
 ghost use Rattle.pe_c.specs.KeptSections.{ChangeNothing, KeepsOn, map_kept};
+ghost use Rattle.pe_c.specs.Ranges.{or_no_bytes};
 ghost use Rattle.pe_c.specs.Views.{map_of};
 
 use crate::image::{EXPORT_TABLE, directory, is_absent};
 use crate::kept_sections::{KeptSections, keeps_sections, kept_after, map_kept};
 use crate::named_view::NamedView;
-use crate::near_map::{NO_WINDOW, map_near};
 use crate::ranges::{NO_BYTES, Range, range_from, slice_of};
 use crate::results::hand_out_some;
-use crate::text_runs::{Run, TextCosts, end_of_next};
 use crate::view::{View, map_by};
 use pe_core::{DataDirectory, ExportData, Result, lies_in, read_u32, u16_at, u32_at};
 
@@ -54,16 +54,17 @@ pub struct ExportWalk {
 pub struct Export {
     /// UTF-8, without its final zero.
     pub name: Range,
-    /// File offset of what is exported; 0 where `has_offset` is 0.
+    /// A forwarder's text: UTF-8, without its final zero. Empty where `is_forwarder` is 0, or where no text is there.
+    pub forwarder: Range,
+    /// File offset of what is exported, or of the forwarder's text; 0 where `has_offset` is 0.
     pub offset: u64,
-    /// RVA of what is exported.
+    /// RVA of what is exported, or of the forwarder's text.
     pub rva: u32,
     /// 1 where a section maps the RVA, else 0.
     pub has_offset: u32,
     /// Index in the address table: plus the ordinal base it is the ordinal.
     pub index: u32,
-    /// 1 where the RVA lies in the export directory, else 0: what stands at `offset` is then a text that names another DLL's
-    /// export, as `NTDLL.RtlAllocateHeap`, which `pe_c_export_at` returns.
+    /// 1 where the RVA lies in the export directory, else 0.
     pub is_forwarder: u32,
 }
 
@@ -137,8 +138,30 @@ pub struct Tables<'a> {
     pub addresses: &'a [u8],
 }
 
+/// The range of a forwarder's text, empty where no text is there. Out of line, since few exports are forwarders.
+#[cold]
+#[inline(never)]
+fn forwarder_at(names: &NamedView<'_>, offset: Option<usize>) -> Range
+    ensures { result ≡ or_no_bytes (text_from names.now.view.now.bytes.now offset) }
+{
+    names.range_at(offset).unwrap_or(NO_BYTES)
+}
+
+/// The range of the text at an offset if an export is a forwarder, else the empty one.
+#[inline(always)]
+pub fn forwarder_if(is_forwarder: bool, names: &NamedView<'_>, offset: Option<usize>) -> Range
+    ensures { result ≡ or_no_bytes
+        (if is_forwarder then text_from names.now.view.now.bytes.now offset else None) }
+{
+    if is_forwarder {
+        forwarder_at(names, offset)
+    } else {
+        NO_BYTES
+    }
+}
+
 /// The export of entry `i` of the name table, if its name is mapped and is text, and its ordinal is in the address
-/// table. The export directory tells which are forwarders.
+/// table. Which are forwarders depends on the export directory.
 fn reported_entry(
     names: &NamedView<'_>,
     kept: KeptSections,
@@ -156,16 +179,18 @@ fn reported_entry(
     let ordinal = u16_at(tables.ordinals, 2 * i).ok()?;
     let rva = u32_at(tables.addresses, 4 * usize::from(ordinal)).ok()?;
     let exported = map_kept(names.view, kept, u64::from(rva));
+    let is_forwarder = lies_in(directory, rva);
     Some(Export {
         name: Range {
             offset: offset as u64,
             length: name.len() as u64,
         },
+        forwarder: forwarder_if(is_forwarder, names, exported),
         offset: exported.unwrap_or(0) as u64,
         rva,
         has_offset: u32::from(exported.is_some()),
         index: u32::from(ordinal),
-        is_forwarder: u32::from(lies_in(directory, rva)),
+        is_forwarder: u32::from(is_forwarder),
     })
 }
 
@@ -198,46 +223,6 @@ pub fn tables_of<'a>(bytes: &'a [u8], walk: &Exports) -> Result<Tables<'a>>
         ordinals: slice_of(bytes, &walk.ordinals)?,
         addresses: slice_of(bytes, &walk.addresses)?,
     })
-}
-
-/// Whether the next names, so many at most, have more bytes than twice the view, each read by itself: many of them share a text.
-#[tactic(auto, using(crate::proofs::NearMaps::no_window))]
-pub fn names_cost_much(view: &View, walk: &Exports, most: usize) -> bool {
-    let Ok(names) = slice_of(view.bytes, &walk.names) else {
-        return false;
-    };
-    let mut costs = TextCosts::of(view.bytes);
-    let mut near = NO_WINDOW;
-    for i in walk.next as usize..end_of_next(walk.next, most, names.len() / 4) {
-        if let Some(offset) = map_near(view, read_u32(names, 4 * i), &mut near) {
-            if costs.are_over(view.bytes, offset) {
-                return true;
-            }
-        }
-    }
-    false
-}
-
-/// Writes the offsets of the next names to a room, as starts, of as many entries as it has room for, and returns how many they are.
-#[tactic(auto, using(crate::proofs::NearMaps::no_window))]
-pub fn put_name_offsets(view: &View, walk: &Exports, room: &mut [Run]) -> usize
-    ensures { result ≤ length room.new }
-{
-    let mut count = 0;
-    let Ok(names) = slice_of(view.bytes, &walk.names) else {
-        return count;
-    };
-    let mut near = NO_WINDOW;
-    for i in walk.next as usize..end_of_next(walk.next, room.len(), names.len() / 4) {
-        if count == room.len() {
-            break;
-        }
-        if let Some(offset) = map_near(view, read_u32(names, 4 * i), &mut near) {
-            room[count] = Run::at(offset);
-            count += 1;
-        }
-    }
-    count
 }
 
 /// One step of a walk.
@@ -297,7 +282,8 @@ fn kept_after_export(
 
 /// Reads the next export that has a name, in the order of the name table: `NOTHING` after the last. Entries are skipped
 /// whose name is unmapped, not NUL-terminated or not UTF-8, or whose ordinal is not in the address table. Strict
-/// and permissive mode make no difference. Each name is read to its end, so names that overlap are read once each.
+/// and permissive mode make no difference. Each name and each forwarder's text is read to its end, so texts that overlap are read
+/// once each.
 ///
 /// Errors: `SHORT` where the tables are not inside the bytes. After it the walk is over.
 #[unsafe(no_mangle)]

@@ -289,7 +289,8 @@ pub fn walks_report_the_exports()
 
 /// The address table of an export directory has the range of the directory's addresses and that of its name, and each of
 /// its entries that of a forwarder's text. The index that a walk over exports returns with a name is that of the entry
-/// which has the export's RVA; where both were read of one directory, the two say the same of whether it is a forwarder.
+/// which has the export's RVA; where both were read of one directory, the two say the same of whether it is a forwarder and of
+/// where its text is.
 #[tactic(auto, using(crate::proofs::AddressEntries::entries))]
 pub fn exports_by_index_are_those_by_name()
     ensures addresses { (offset : ℕ → Option ℕ) (b : List ℕ) (rva : ℕ) (directory : DataDirectory)
@@ -310,6 +311,10 @@ pub fn exports_by_index_are_those_by_name()
         (t : AddressTable) (i : ℕ) (x : Export) →
         reported_entry offset b t.directory d i ≡ Some x → x.is_forwarder ≡ (exported_with offset b
         (address_with (addresses_in t d.addresses) x.index x.rva)).is_forwarder }
+    ensures named_texts { (offset : ℕ → Option ℕ) (b : List ℕ) (d : ExportDataView)
+        (t : AddressTable) (i : ℕ) (x : Export) →
+        reported_entry offset b t.directory d i ≡ Some x → x.forwarder ≡ (exported_with offset b
+        (address_with (addresses_in t d.addresses) x.index x.rva)).forwarder }
 {}
 
 /// A walk over the libraries of an image returns, one a step and in their order, the records of its import directory,

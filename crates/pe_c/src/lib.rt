@@ -29,6 +29,7 @@ mod dump;
 mod ended_texts;
 mod entry_lists;
 mod export_addresses;
+mod export_texts;
 mod exports;
 mod failure;
 mod failure_numbers;

@@ -5,8 +5,10 @@ ghost use Rattle.std.specs.Option.{option_map};
 ghost use Rattle.pe_core.specs.Imports.{entry_size, lookups_at};
 ghost use Rattle.pe_core.specs.Refusals.{ReturnsAs};
 ghost use Rattle.pe_core.specs.Text.{text_at};
+ghost use Rattle.pe_c.specs.Exports.{text_from};
 
 use crate::entry_lists::EntryLists;
+use crate::ranges::Range;
 use crate::text_runs::{Run, Texts};
 use crate::view::View;
 use pe_core::Result;
@@ -67,6 +69,19 @@ impl<'a> NamedView<'a> {
     {
         self.texts.at(offset)
     }
+
+    /// The range of the text at a file offset, if there is an offset and a text is there.
+    pub fn range_at(&self, offset: Option<usize>) -> Option<Range>
+        ensures { result ≡ text_from self.now.view.now.bytes.now offset }
+    {
+        let offset = offset?;
+        let text = self.text_at(offset)?;
+        Some(Range {
+            offset: offset as u64,
+            length: text.len() as u64,
+        })
+    }
+
     /// The lookup entries at a file offset, none without an offset. `Short` where no zero entry ends them.
     pub fn list_at(&self, offset: Option<usize>) -> Result<&'a [u8]>
         ensures { ReturnsAs (λ s. s.now) result

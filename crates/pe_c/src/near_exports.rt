@@ -5,9 +5,9 @@ ghost use Rattle.pe_c.specs.Exports.{FindsNext, reported_entry, tables_or_short,
 ghost use Rattle.pe_c.specs.ExportWindows.{AreNear};
 ghost use Rattle.pe_c.specs.Views.{map_of};
 
-use crate::exports::{Export, Exports, Tables};
+use crate::exports::{Export, Exports, Tables, forwarder_if};
 use crate::named_view::NamedView;
-use crate::near_map::{Window, map_near};
+use crate::near_map::{NO_WINDOW, Window, map_near};
 use crate::ranges::Range;
 use pe_core::{DataDirectory, lies_in, read_u32, u16_at, u32_at};
 
@@ -17,6 +17,12 @@ pub struct ExportWindows {
     pub names: Window,
     pub exported: Window,
 }
+
+/// No RVA is near.
+pub const NO_WINDOWS: ExportWindows = ExportWindows {
+    names: NO_WINDOW,
+    exported: NO_WINDOW,
+};
 
 /// A walk over exports in a list, with its tables.
 #[derive(Clone, Copy)]
@@ -50,16 +56,18 @@ fn near_entry(
     let ordinal = u16_at(tables.ordinals, 2 * i).ok()?;
     let rva = u32_at(tables.addresses, 4 * usize::from(ordinal)).ok()?;
     let exported = map_near(names.view, rva, &mut windows.exported);
+    let is_forwarder = lies_in(directory, rva);
     Some(Export {
         name: Range {
             offset: offset as u64,
             length: name.len() as u64,
         },
+        forwarder: forwarder_if(is_forwarder, names, exported),
         offset: exported.unwrap_or(0) as u64,
         rva,
         has_offset: u32::from(exported.is_some()),
         index: u32::from(ordinal),
-        is_forwarder: u32::from(lies_in(directory, rva)),
+        is_forwarder: u32::from(is_forwarder),
     })
 }
 

@@ -112,8 +112,11 @@ impl TextCosts {
         }
     }
 
-    /// Adds the text at an offset, and returns whether it is too much.
-    pub fn are_over(&mut self, bytes: &[u8], offset: usize) -> bool {
+    /// Adds the text at an offset, if there is one, and returns whether it is too much.
+    pub fn are_over(&mut self, bytes: &[u8], offset: Option<usize>) -> bool {
+        let Some(offset) = offset else {
+            return false;
+        };
         if self.last < offset && offset <= bytes.len() && bytes[offset - 1] == 0 {
             self.last = offset;
             return false;

@@ -177,18 +177,19 @@ fn add_unnamed(bytes: &[u8], table: &sys::AddressTable, entries: &mut [ExportAdd
         let (mut index, part) = (next as u64, room.get_mut(..count).unwrap_or_default());
         let found = View::of_bytes(bytes).list_export_addresses(table, &mut index, part)?;
         for (entry, found) in rest.iter_mut().zip(found) {
-            *entry = entry_of(&table.directory, found.rva);
+            *entry = entry_of(found.is_forwarder != 0, found.rva);
         }
         next += count;
     }
     Ok(())
 }
 
-/// An entry of the table of RVAs: one inside the directory leads to a forwarder's text.
-fn entry_of(directory: &sys::Directory, rva: u32) -> ExportAddressTableEntry {
-    match rva.checked_sub(directory.virtual_address) {
-        Some(from_start) if from_start < directory.size => ExportAddressTableEntry::ForwarderRVA(rva),
-        _ => ExportAddressTableEntry::ExportRVA(rva),
+/// An entry of the table of RVAs.
+fn entry_of(is_forwarder: bool, rva: u32) -> ExportAddressTableEntry {
+    if is_forwarder {
+        ExportAddressTableEntry::ForwarderRVA(rva)
+    } else {
+        ExportAddressTableEntry::ExportRVA(rva)
     }
 }
 
@@ -232,16 +233,10 @@ impl<'a> Reexport<'a> {
         Self::of(raw::text_up_to_zero(bytes, offset)?)
     }
 
-    /// Of an entry of the table of RVAs, or `None` where its text names nothing. The text is taken from how many bytes are left.
-    fn of_entry(
-        view: View<'a, '_>,
-        table: &sys::AddressTable,
-        index: u32,
-        names: &mut Left,
-    ) -> error::Result<Option<Self>> {
-        let Some(entry) = view.export_at(table, index.into())? else { return Ok(None) };
-        names.take(raw::narrow(entry.forwarder.length)?)?;
-        Ok(Self::of(view.text(entry.forwarder)?).ok())
+    /// Of an export's text, or `None` where it names nothing. The text is taken from how many bytes are left.
+    fn of_range(view: View<'a, '_>, text: sys::Range, names: &mut Left) -> error::Result<Option<Self>> {
+        names.take(raw::narrow(text.length)?)?;
+        Ok(Self::of(view.text(text)?).ok())
     }
 
     /// A text is the DLL up to its first dot, and after that a name, or `#` and an ordinal.
@@ -298,19 +293,14 @@ impl<'a> Export<'a> {
         while let Some(found) = view.next_exports(&mut tables.walk, &mut room)? {
             for it in found {
                 names.take(raw::narrow(it.name.length)?)?;
-                let entry = entry_of(&tables.addresses.directory, it.rva);
+                let is_forwarder = it.is_forwarder != 0;
                 if let Some(known) = data.export_address_table.get_mut(it.index as usize) {
-                    *known = entry;
+                    *known = entry_of(is_forwarder, it.rva);
                 }
-                let reexport = match entry {
-                    ExportAddressTableEntry::ExportRVA(_) => None,
-                    ExportAddressTableEntry::ForwarderRVA(_) => {
-                        match Reexport::of_entry(view, &tables.addresses, it.index, names)? {
-                            Some(reexport) => Some(reexport),
-                            None => continue,
-                        }
-                    }
-                };
+                let reexport = if is_forwarder { Reexport::of_range(view, it.forwarder, names)? } else { None };
+                if is_forwarder && reexport.is_none() {
+                    continue;
+                }
                 let offset = if it.has_offset != 0 { Some(raw::narrow(it.offset)?) } else { None };
                 let name = Some(view.text(it.name)?);
                 raw::push(&mut exports, Export { name, offset, rva: it.rva as usize, size: 0, reexport })?;

@@ -1,5 +1,5 @@
-//! Lists of names of exports and imports, which a hostile file may let start in one long text: few are read each by itself, and once
-//! these have cost much the others are read together.
+//! Lists of names of exports and imports, and of forwarders' texts, which a hostile file may let start in one long text: few are read
+//! each by itself, and once these have cost much the others are read together.
 
 use super::{narrow, resize, with_numbers, Refusal, View};
 use crate::error;
@@ -10,7 +10,7 @@ use pe_c::sys;
 /// How many libraries, or imports, are taken a call where their names are read together.
 const MOST_TOGETHER: usize = 1 << 16;
 
-/// How many names that a call skips count as the image: nothing says how long each was.
+/// How many texts that a call reads and does not return count as the image: nothing says how long each was.
 const SKIPPED: usize = 64;
 
 /// Room for a list of names. A call takes few, and reads each name by itself; once these have cost as much as the image has bytes a
@@ -101,9 +101,11 @@ impl View<'_, '_> {
         let mut part = *walk;
         part.names.length = 4 * (part.next + taken as u64);
         let call = |runs: &mut [_], room: &mut [_]| Ok(self.list_exports(&mut part, runs, room)?);
-        let found = names.fill(taken, 1, call, |it| it.name.length)?;
+        // An entry has a name and perhaps a forwarder's text.
+        let found = names.fill(taken, 2, call, |it| it.name.length + it.forwarder.length)?;
         walk.next = part.next;
-        names.spend(taken.saturating_sub(found).saturating_mul(self.bytes.len() / SKIPPED));
+        let without = names.found(found).iter().filter(|it| it.is_forwarder != 0 && it.forwarder.length == 0).count();
+        names.spend((taken.saturating_sub(found) + without).saturating_mul(self.bytes.len() / SKIPPED));
         Ok(Some(names.found(found)))
     }
 

@@ -544,12 +544,10 @@ METHOD(clr_metadata)
     return answer(rows.result == PE_C_DONE ? ROW_OF(metadata) : NULL, &rows);
 }
 
-/* The export with an index. Of a forwarder without a text, what was read of that is paid for. */
-static int export_at(Image *self, Rows *rows, const pe_c_address_table *table, uint64_t index, pe_c_exported *out)
+/* Pays for what was read of a forwarder that has no text. */
+static int pays_for(Image *self, Rows *rows, const pe_c_exported *it)
 {
-    if (pe_c_export_at(VIEW, table, index, out) != PE_C_DONE)
-        return 0;
-    return !out->is_forwarder || out->forwarder.length || pays(rows->budget, unread(self, out->rva));
+    return !it->is_forwarder || it->forwarder.length || pays(rows->budget, unread(self, it->rva));
 }
 
 /* The exports with a name, in the order of the names. The walk skips names that are no texts, as often as it has names: so
@@ -558,7 +556,6 @@ static void add_named(Image *self, Rows *rows, const pe_c_exports *all, const pe
 {
     pe_c_export_walk walk = PE_C_EMPTY;
     pe_c_export named = PE_C_EMPTY;
-    pe_c_exported item = PE_C_EMPTY;
     for (uint64_t i = 0; goes_on(rows) && i < all->names.length / 4; i++) {
         walk.exports = (pe_c_exports){{all->names.offset + 4 * i, 4}, {all->ordinals.offset + 2 * i, 2}, all->addresses, 0,
                                       all->directory};
@@ -568,7 +565,8 @@ static void add_named(Image *self, Rows *rows, const pe_c_exports *all, const pe
         const uint8_t *rva = (const uint8_t *)self->view.buf + all->names.offset + 4 * i;
         if (result == PE_C_NOTHING)
             pays(rows->budget, rows->budget->each + unread(self, rva[0] | rva[1] << 8 | rva[2] << 16 | (uint32_t)rva[3] << 24));
-        if (result != PE_C_DONE || !export_at(self, rows, table, named.index, &item))
+        pe_c_exported item = {named.forwarder, (uint64_t)table->ordinal_base + named.index, named.rva, named.is_forwarder};
+        if (result != PE_C_DONE || !pays_for(self, rows, &item))
             continue;
         is_named[named.index] = 1;
         append(rows, takes(rows, named.name.length) ? row_exported(self, rows, &item, &named) : NULL);
@@ -580,7 +578,7 @@ static void add_unnamed(Image *self, Rows *rows, const pe_c_address_table *table
 {
     pe_c_exported item = PE_C_EMPTY;
     for (uint64_t i = 0; goes_on(rows) && i < table->addresses.length / 4; i++)
-        if (!is_named[i] && export_at(self, rows, table, i, &item) && item.rva)
+        if (!is_named[i] && pe_c_export_at(VIEW, table, i, &item) == PE_C_DONE && pays_for(self, rows, &item) && item.rva)
             append(rows, row_exported(self, rows, &item, NULL));
 }
 

@@ -11,12 +11,13 @@ ghost use Rattle.pe_c.specs.NearMaps.{IsWindow};
 ghost use Rattle.pe_c.specs.Views.{map_of};
 
 use crate::export_addresses::{AddressTable, Exported, addresses_in, exported_at, exported_in};
-use crate::exports::{Export, Exports, Tables, names_cost_much, put_name_offsets, step, tables_of};
+use crate::export_texts::{put_text_offsets, texts_cost_much};
+use crate::exports::{Export, Exports, Tables, step, tables_of};
 use crate::kept_sections::NO_SECTIONS;
 use crate::lists::{Steps, hand_out_list, next_index, numbered};
 use crate::named_view::NamedView;
-use crate::near_exports::{ExportWindows, NearExports, find_near};
-use crate::near_map::{NO_WINDOW, Window, window_at};
+use crate::near_exports::{NO_WINDOWS, NearExports, find_near};
+use crate::near_map::{Window, window_at};
 use crate::ranges::slice_of;
 use crate::text_runs::Run;
 use crate::view::View;
@@ -96,10 +97,7 @@ fn list_near(
         names: *names,
         tables: *tables,
         walk: *walk,
-        windows: ExportWindows {
-            names: NO_WINDOW,
-            exported: NO_WINDOW,
-        },
+        windows: NO_WINDOWS,
     };
     let number = hand_out_list(&InTables, &mut near, entries, written);
     *walk = near.walk;
@@ -157,20 +155,21 @@ pub extern "C" fn pe_c_list_exports(
     list_exports(&NamedView::alone(view), walk, entries, written)
 }
 
-/// An image of which the next names are read together, if they cost much else.
-fn names_of<'a>(view: &'a View<'a>, walk: &Exports, runs: &'a mut [Run]) -> NamedView<'a>
+/// An image of which the texts of the next exports are read together, if they cost much else.
+fn texts_of<'a>(view: &'a View<'a>, walk: &Exports, runs: &'a mut [Run]) -> NamedView<'a>
     ensures { result.view.now ≡ view.entry.now }
 {
-    if !names_cost_much(view, walk, runs.len()) {
+    if !texts_cost_much(view, walk, runs.len()) {
         return NamedView::alone(view);
     }
-    let count = put_name_offsets(view, walk, runs);
+    let count = put_text_offsets(view, walk, runs);
     NamedView::together(view, &mut runs[..count])
 }
 
-/// Lists what `pe_c_list_exports` does, and reads names together that share much: with one of `runs` for each entry that the name
-/// table has left, or more, a call takes about as long as to sort these and to read each byte a few times, however many of the
-/// names share a text. With less room further names are read to their end each. What is in `runs` after the call is left open.
+/// Lists what `pe_c_list_exports` does, and reads names and forwarders' texts together that share much: with two of `runs` for each
+/// entry that the name table has left, or more, a call takes about as long as to sort these and to read each byte a few times,
+/// however many of them share a text. With less room further ones are read to their end each. What is in `runs` after the call is
+/// left open.
 ///
 /// Errors: as `pe_c_list_exports`.
 #[unsafe(no_mangle)]
@@ -185,7 +184,7 @@ pub extern "C" fn pe_c_list_exports_together(
         (StepsExports (map_of view.now) view.now.bytes.now))
         result walk.old walk.new entries.old entries.new written.old written.new }
 {
-    list_exports(&names_of(view, walk, runs), walk, entries, written)
+    list_exports(&texts_of(view, walk, runs), walk, entries, written)
 }
 
 /// Steps over the entries of an address table.

@@ -1,6 +1,6 @@
 use Rattle.std.proofs.Common.{◌≤◌, length, ◌≡◌}
-use Rattle.pe_c.proofs.exports.put_name_offsets.Given as goal
-use Rattle.pe_c.specs.NearMaps.{IsWindow}
+use Rattle.pe_c.proofs.export_texts.put_text_offsets.Given as goal
+use Rattle.pe_c.specs.ExportWindows.{AreNear}
 use Rattle.pe_c.specs.Views.{map_of}
 
 -- as many as there is room for
@@ -8,5 +8,5 @@ abbrev pub invariant-loop-i : goal.invariant-loop-i
 invariant-loop-i l = record {
   few : l.count ≤ length l.room;
   same : length l.room ≡ length l.initial.room;
-  near : IsWindow (map_of l.view) l.near;
+  near : AreNear (map_of l.view) l.windows;
 }
