@@ -256,8 +256,8 @@ int main(int argc, char **argv)
     uint8_t *bytes = read_all(argv[1], &view.length);
     if (bytes == NULL)
         return 1;
-    /* As many as there can be of any of these. */
-    const size_t most = view.length / 4 + 1;
+    /* As many as there can be of any of these: an export has 6 bytes of tables, and two texts. */
+    const size_t most = view.length / 3 + 1;
     pe_c_run *runs = strcmp(argv[3], "together") == 0 ? calloc(most, sizeof *runs) : NULL;
     /* An object is no image. */
     view.bytes = bytes;
