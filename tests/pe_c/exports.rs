@@ -405,7 +405,10 @@ fn forwarders_without_a_text(rt: HostRuntime) -> Result<(), Fail> {
         ..walk_over(1)
     };
     let export = ([0x90, 5], OVER, 0, 0x9000, 1);
-    assert_eq!(rt; export_from(&bytes, unmapped, 0), [(DONE, export, of_walk(after)); 3]);
+    assert_eq!(rt;
+        export_from(&bytes, unmapped, 0),
+        [(DONE, export, of_walk(after)); 3]
+    );
     let mapped = directory(0x1008, 1);
     let after = Exports {
         directory: mapped,
@@ -418,7 +421,10 @@ fn forwarders_without_a_text(rt: HostRuntime) -> Result<(), Fail> {
     ] {
         put(&mut bytes, &[(8, text)]);
         let export = ([0xA0, 1], range, 8, 0x1008, 1);
-        assert_eq!(rt; export_from(&bytes, mapped, 1), [(DONE, export, of_walk(after)); 3]);
+        assert_eq!(rt;
+            export_from(&bytes, mapped, 1),
+            [(DONE, export, of_walk(after)); 3]
+        );
     }
     Ok(())
 }

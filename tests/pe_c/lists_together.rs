@@ -157,8 +157,13 @@ fn exports_that_share_much(rt: HostRuntime) -> Result<(), Fail> {
             let mut entries = [NO_EXPORT; 11];
             let mut written = 77;
             let lent = &mut runs[..room];
-            let answer =
-                pe_c_list_exports_together(&view, &mut walk, lent, &mut entries, &mut written);
+            let answer = pe_c_list_exports_together(
+                &view,
+                &mut walk,
+                lent,
+                &mut entries,
+                &mut written,
+            );
             assert_eq!(rt; (answer, written, walk.next), (DONE, 10, 10));
             for entry in &entries[..10] {
                 assert_eq!(rt; [of_range(entry.name), of_range(entry.forwarder)], texts);
