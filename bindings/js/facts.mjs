@@ -238,6 +238,14 @@ function delayImports(image) {
   });
 }
 
+/** How many bytes were read of an export's forwarder: one that has no text is read up to a zero too. */
+function readOfForwarder(image, it) {
+  if (!it.is_forwarder || it.forwarder.length) return Number(it.forwarder.length);
+  const offset = image.call('pe_c_offset', { rva: it.rva }), length = BigInt(image.length);
+  if (offset === null || offset >= length) return 0;
+  return Number(image.call('pe_c_text_in', { range: { offset, length: length - offset } }).text.length);
+}
+
 function exports(image) {
   return part('exports', () => {
     const table = image.call('pe_c_export_addresses');
@@ -245,7 +253,7 @@ function exports(image) {
     let isLimited = false, budget = new Budget(image);
     const byIndex = new Map();
     for (const it of image.list('exports')) {
-      isLimited = !budget.takes(ITEM + Number(it.name.length));
+      isLimited = !budget.takes(ITEM + Number(it.name.length) + readOfForwarder(image, it));
       if (isLimited) break;
       byIndex.set(it.index, [...(byIndex.get(it.index) ?? []), name(image.slice(it.name))]);
     }
@@ -255,7 +263,7 @@ function exports(image) {
     for (const it of image.exportAddresses()) {
       const names_ = byIndex.get(index++) ?? [];
       if (it.rva === 0) continue;
-      if (!budget.takes(ITEM + Number(it.forwarder.length))) {
+      if (!budget.takes(ITEM + readOfForwarder(image, it))) {
         isLimited = true;
         break;
       }

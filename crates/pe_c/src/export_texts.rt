@@ -59,8 +59,8 @@ fn text_offsets(
     TextOffsets { name, forwarder }
 }
 
-/// Whether the next names, so many at most, or the texts of forwarders among them have more bytes than twice the view, each read by
-/// itself: many of them share a text.
+/// Whether the names of the next exports, so many at most, or the texts of forwarders among them have as many bytes as the view, each
+/// read by itself and without those that start after a zero, each after the one before: many of them share a text.
 #[tactic(auto, using(crate::proofs::NearMaps::no_window))]
 pub fn texts_cost_much(view: &View, walk: &Exports, most: usize) -> bool {
     let Ok(tables) = tables_of(view.bytes, walk) else {
@@ -106,6 +106,9 @@ pub fn put_text_offsets(view: &View, walk: &Exports, room: &mut [Run]) -> usize
     };
     let mut windows = NO_WINDOWS;
     for i in walk.next as usize..end_of_next(walk.next, room.len(), tables.names.len() / 4) {
+        if count == room.len() {
+            break;
+        }
         let texts = text_offsets(view, &tables, walk.directory, i, &mut windows);
         count = put_offset(room, count, texts.name);
         count = put_offset(room, count, texts.forwarder);

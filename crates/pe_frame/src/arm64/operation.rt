@@ -100,7 +100,7 @@ pub(crate) fn register_after(register: Arm64Register, count: u64) -> Option<Arm6
     }
 }
 
-/// How the address of a store was made: so far above the stack pointer, after that moved so far down.
+/// How the address of a store was made: so far above the stack pointer, after that itself moved so far down.
 #[derive(Clone, Copy)]
 struct Addressing {
     offset: u32,
