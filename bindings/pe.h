@@ -3154,7 +3154,7 @@ PE_C_SIZE(pe_c_run, 24);
 
 /* Lists what pe_c_list_exports does, and reads names and forwarders' texts together where they share much, others each by
  * itself. With two runs for each entry that the name table has left, or more, a call takes about as long as to sort these and
- * to read each byte a few times, however many of the texts are one: a hostile file may let all of them start in one long text.
+ * to read each byte a few times, however many of them overlap: a hostile file may let all of them start in one long text.
  * A call looks at no more entries for that than there are runs, and reads further texts to their end each; no runs are needed.
  * What is in `runs` after the call is left open. Errors: as pe_c_list_exports. */
 uint32_t pe_c_list_exports_together(const pe_c_view *view, pe_c_exports *walk, pe_c_run *runs, size_t number_of_runs,
@@ -3223,8 +3223,8 @@ PE_C_SIZE(pe_c_named_symbol, 72);
 PE_C_SIZE(pe_c_named_symbol_walk, 40);
 
 /* Lists the symbols of a walk as pe_c_next_symbol returns them, each with what pe_c_symbol_name returns of it. Names are
- * read together where they share much, with a run for each entry that the symbol table has left, or more, as those of
- * pe_c_list_exports_together; the string table stays as it is.
+ * read together where they share much, as by pe_c_list_exports_together, here with one run for each entry that the symbol
+ * table has left, or more; the string table stays as it is.
  * What is in `runs` after the call is left open.
  * Errors: PE_C_ROOM; PE_C_SHORT where the symbol table is not inside the bytes. */
 uint32_t pe_c_list_symbols(const uint8_t *bytes, size_t length, pe_c_named_symbol_walk *walk, pe_c_run *runs,

@@ -7,9 +7,12 @@
 #include <inttypes.h>
 #include <stdio.h>
 
-enum { MOST_RESOURCES = 65535 };    /* a hostile tree can have more of them than the file has bytes */
+/* How many resources and bytes of names are shown: a hostile tree can have more resources than the file has bytes, and all of
+ * them one long name. */
+enum { MOST_RESOURCES = 65535, MOST_BYTES = 1 << 26 };
 
 static pe_c_view view;
+static uint64_t shown_bytes;
 
 /* Shows what names a type, a resource or a language: an id, or a name of up to 65,535 code units. */
 static uint32_t show_part(const pe_c_resource_name *part)
@@ -21,7 +24,17 @@ static uint32_t show_part(const pe_c_resource_name *part)
     if (part->has_name)
         result = pe_c_utf16_text(view.bytes, view.length, &part->name, text, sizeof text, &shown.length);
     show_name((const uint8_t *)text, &shown);
+    shown_bytes += shown.length;
     return result;
+}
+
+/* Whether so many are not all that may be shown, which is said where they are. */
+static int has_room(int count)
+{
+    int has = count < MOST_RESOURCES && shown_bytes < MOST_BYTES;
+    if (!has)
+        fprintf(stderr, "there are more\n");
+    return has;
 }
 
 /* The entries of the first directory are the types. */
@@ -30,7 +43,7 @@ static uint32_t show_types(const pe_c_range *tree)
     pe_c_resource_directory root = PE_C_EMPTY;
     pe_c_resource_item item = PE_C_EMPTY;
     uint32_t result = pe_c_resource_root(&view, &root);
-    while (result == PE_C_DONE) {
+    for (int i = 0; result == PE_C_DONE && has_room(i); i++) {
         result = pe_c_next_resource_item(view.bytes, view.length, tree, &root.entries, &item);
         if (result != PE_C_DONE)
             break;
@@ -45,7 +58,7 @@ static uint32_t show_resources(pe_c_leaf_walk *walk)
 {
     pe_c_resource_leaf leaf = PE_C_EMPTY;
     uint32_t result = PE_C_DONE;
-    for (int i = 0; result == PE_C_DONE && i < MOST_RESOURCES; i++) {
+    for (int i = 0; result == PE_C_DONE && has_room(i); i++) {
         result = pe_c_next_resource_leaf(&view, walk, &leaf);
         if (result != PE_C_DONE)
             break;
@@ -53,7 +66,9 @@ static uint32_t show_resources(pe_c_leaf_walk *walk)
         const pe_c_resource_name *parts[] = {&leaf.resource_type, &leaf.name, &leaf.language};
         for (int part = 0; result == PE_C_DONE && part < 3; part++)
             result = show_part(parts[part]);
-        printf(" %" PRIu32 "\n", leaf.size);
+        if (result == PE_C_DONE)
+            printf(" %" PRIu32, leaf.size);
+        printf("\n");
     }
     return result;
 }
@@ -66,9 +81,10 @@ int main(int argc, char **argv)
     uint32_t result = read_image(argv[1], PE_C_PERMISSIVE, &view);
     if (result == PE_C_DONE)
         result = pe_c_resource_leaves(&view, &walk.leaves);
-    if (result == PE_C_DONE)
-        result = show_types(&walk.leaves.tree);
-    if (result == PE_C_NOTHING)
+    if (result != PE_C_DONE)
+        return status_of(result);
+    result = show_types(&walk.leaves.tree);
+    if (result == PE_C_DONE || result == PE_C_NOTHING)
         result = show_resources(&walk);
     return status_of(result);
 }

@@ -248,12 +248,14 @@ function readOfForwarder(image, it) {
 
 function exports(image) {
   return part('exports', () => {
-    const table = image.call('pe_c_export_addresses');
-    if (!table || !image.call('pe_c_export_tables')) return null;
+    const table = image.call('pe_c_export_addresses'), tables = image.call('pe_c_export_tables');
+    if (!table || !tables) return null;
     let isLimited = false, budget = new Budget(image);
     const byIndex = new Map();
-    for (const it of image.list('exports')) {
-      isLimited = !budget.takes(ITEM + Number(it.name.length) + readOfForwarder(image, it));
+    // Without a directory no export is a forwarder, whose text is read below.
+    const exports = { ...tables, directory: { virtual_address: 0, size: 0 } };
+    for (const it of image.items('pe_c_next_export', { exports })) {
+      isLimited = !budget.takes(ITEM + Number(it.name.length));
       if (isLimited) break;
       byIndex.set(it.index, [...(byIndex.get(it.index) ?? []), name(image.slice(it.name))]);
     }

@@ -603,13 +603,26 @@ test('each list of each image ends', () => {
   }
 });
 
+test('an export by its name has the text of its forwarder', () => {
+  // the name `second` leads to the last entry of the address table
+  const bytes = Uint8Array.from(file('exports'));
+  bytes[Number(opened('exports').call('pe_c_export_tables').ordinals.offset) + 2] = 3;
+  const image = library.open(bytes), found = [...image.list('exports')];
+  assert.deepEqual(found.map((it) => [image.utf8(it.name), image.utf8(it.forwarder), it.is_forwarder]),
+    [['first', '', 0], ['second', 'NTDLL.RtlFree', 1]]);
+  const { entries } = factsOf(library, bytes, 'a.dll').exports;
+  assert.deepEqual(entries.map((it) => [it.ordinal, it.names.map(String), it.forwarder && String(it.forwarder)]),
+    [[5, [], null], [6, ['first'], null], [8, ['second'], 'NTDLL.RtlFree']]);
+});
+
 test('directories have fields of their own', () => {
   const exported = opened('exports'), table = exported.call('pe_c_export_addresses');
   const fields = exported.call('pe_c_export_directory');
   const tables = exported.call('pe_c_export_tables'), [named] = exported.list('exports');
   assert.deepEqual([tables.directory, named.is_forwarder], [table.directory, 0]);
   const exports = { ...tables, directory: { ...tables.directory, virtual_address: named.rva, size: 1 } };
-  assert.equal([...exported.items('pe_c_next_export', { exports })][0].is_forwarder, 1);
+  const [forwarder] = exported.items('pe_c_next_export', { exports });
+  assert.deepEqual([forwarder.is_forwarder, forwarder.forwarder], [1, { offset: 0n, length: 0n }]);
   assert.deepEqual([fields.base, BigInt(fields.number_of_functions)], [table.ordinal_base, table.addresses.length / 4n]);
   assert.equal(exported.call('pe_c_offset', { rva: fields.name }), table.name.offset);
   const image = opened('resources'), { tree } = image.call('pe_c_resource_leaves');

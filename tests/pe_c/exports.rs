@@ -426,6 +426,23 @@ fn forwarders_without_a_text(rt: HostRuntime) -> Result<(), Fail> {
             [(DONE, export, of_walk(after)); 3]
         );
     }
+    // The first entry of the address table leads to the last two bytes.
+    let last = bytes.len() - 2;
+    let rva = 0x1000 + last as u32;
+    bytes[0x50..0x54].copy_from_slice(&rva.to_le_bytes());
+    let at_end = directory(rva, 1);
+    let after = Exports {
+        directory: at_end,
+        ..walk_over(5)
+    };
+    for (text, range) in [([b'A', 0], [last as u64, 1]), ([b'A', b'B'], OVER)] {
+        bytes[last..].copy_from_slice(&text);
+        let export = ([0xA0, 1], range, last as u64, rva, 1);
+        assert_eq!(rt;
+            export_from(&bytes, at_end, 1),
+            [(DONE, export, of_walk(after)); 3]
+        );
+    }
     Ok(())
 }
 

@@ -105,7 +105,10 @@ fn exports_together(rt: HostRuntime) -> Result<(), Fail> {
         for i in 0..6 {
             assert_eq!(rt; of_range(entries[i].name), want[i]);
             assert_eq!(rt; (entries[i].rva, entries[i].offset), (0x1008, 8));
-            assert_eq!(rt; entries[i].is_forwarder, 1);
+            assert_eq!(rt;
+                (of_range(entries[i].forwarder), entries[i].is_forwarder),
+                ([8, 0], 1)
+            );
         }
         assert_eq!(rt; entries[6].rva, 4);
         // What the other call lists, one a call.
@@ -135,13 +138,14 @@ fn exports_together(rt: HostRuntime) -> Result<(), Fail> {
     Ok(())
 }
 
-/// The same ten times: a name at 100h, of 83 bytes with its zero, or a name at 152h, a zero, with a forwarder's text at 100h. That is more
-/// than the image has in all, so they are read together.
+/// The same ten times: a name at 100h, of 83 bytes with its zero; a name at 152h, a zero, with a forwarder's text at 100h; or both
+/// at 100h. That is more than the image has in all, so they are read together.
 #[test]
 fn exports_that_share_much(rt: HostRuntime) -> Result<(), Fail> {
     for (name, rva, texts) in [
         (0x1100_u32, 0x1008_u32, [[0x100, 82], [8, 0]]),
         (0x1152, 0x1100, [[0x152, 0], [0x100, 82]]),
+        (0x1100, 0x1100, [[0x100, 82], [0x100, 82]]),
     ] {
         let mut bytes = with_texts(rt.alloc(), &[(0x68, &rva.to_le_bytes())])?;
         for i in 0..10 {
@@ -149,11 +153,11 @@ fn exports_that_share_much(rt: HostRuntime) -> Result<(), Fail> {
         }
         let (image, sections) = (image(X64), sections());
         let view = view(&bytes, &image, &sections);
-        for room in [0, 1, 7, 8, 10, 12] {
+        for room in 0..22 {
             let mut walk = exports();
             (walk.names, walk.ordinals) = (range(0x20, 40), range(0x80, 20));
             walk.directory = directory(rva, 1);
-            let mut runs = [RUN; 12];
+            let mut runs = [RUN; 22];
             let mut entries = [NO_EXPORT; 11];
             let mut written = 77;
             let lent = &mut runs[..room];
@@ -172,6 +176,67 @@ fn exports_that_share_much(rt: HostRuntime) -> Result<(), Fail> {
             // The first starts after a zero and is not counted, six have 498 bytes of 512, and the eighth is too much.
             let start = if room < 8 { 0x7777 } else { 0x100 };
             assert_eq!(rt; runs[0].start, start, "{room}");
+        }
+    }
+    Ok(())
+}
+
+/// Forwarders at the offsets of `TABLES`, twice each, under names at 152h: of the nine, three have no text, since one starts inside a
+/// character, one has an invalid byte and one no zero. With 17 runs or more they are read together.
+#[test]
+fn forwarders_together(rt: HostRuntime) -> Result<(), Fail> {
+    let mut bytes = with_texts(rt.alloc(), &TABLES)?;
+    let rvas: [u8; 36] = bytes[0x20..0x44].try_into().unwrap_or([0; 36]);
+    bytes[0x68..0x8C].copy_from_slice(&rvas);
+    for i in 0..18 {
+        bytes[0x20 + 4 * i..0x24 + 4 * i].copy_from_slice(&[0x52, 0x11, 0, 0]);
+        bytes[0x90 + 2 * i] = i as u8 % 9;
+    }
+    let (image, sections) = (image(X64), sections());
+    let view = view(&bytes, &image, &sections);
+    let mut start = exports();
+    (start.names, start.ordinals) = (range(0x20, 72), range(0x90, 36));
+    (start.addresses, start.directory) = (range(0x68, 36), directory(0x1100, 0x100));
+    let want = [
+        [0x148, 10],
+        [0x175, 60],
+        OVER,
+        OVER,
+        [0x100, 82],
+        [0x152, 0],
+        [0x146, 12],
+        OVER,
+        [0x176, 59],
+    ];
+    for room in 0..38 {
+        let mut runs = [RUN; 38];
+        let mut walk = start;
+        let mut entries = [NO_EXPORT; 19];
+        let mut written = 77;
+        let lent = &mut runs[..room];
+        let answer = pe_c_list_exports_together(&view, &mut walk, lent, &mut entries, &mut written);
+        assert_eq!(rt; (answer, written, walk.next), (DONE, 18, 18));
+        for i in 0..18 {
+            assert_eq!(rt; of_range(entries[i].forwarder), want[i % 9], "{room} {i}");
+            assert_eq!(rt; of_range(entries[i].name), [0x152, 0]);
+            assert_eq!(rt;
+                (entries[i].index, entries[i].is_forwarder),
+                (i as u32 % 9, 1)
+            );
+        }
+        let first = if room < 17 { 0x7777 } else { 0x100 };
+        assert_eq!(rt; runs[0].start, first, "{room}");
+        // One a call, with the same runs.
+        let mut walk = start;
+        for i in 0..18 {
+            let mut entry = [NO_EXPORT; 1];
+            let lent = &mut runs[..room];
+            pe_c_list_exports_together(&view, &mut walk, lent, &mut entry, &mut written);
+            assert_eq!(rt;
+                (written, of_range(entry[0].forwarder)),
+                (1, want[i % 9]),
+                "{room} {i}"
+            );
         }
     }
     Ok(())

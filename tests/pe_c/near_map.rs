@@ -211,17 +211,19 @@ fn with_names(alloc: Global) -> Result<Vec<u8>, AllocError> {
     )
 }
 
-/// The name's range, the RVA, its offset, whether it has one and whether it is a forwarder.
-fn of_export(export: &Export) -> ([u64; 2], u32, u64, u32, u32) {
+/// The ranges of the name and of a forwarder's text, the RVA, its offset, whether it has one and whether it is a forwarder.
+fn of_export(export: &Export) -> ([[u64; 2]; 2], u32, u64, u32, u32) {
     let Export {
         name,
+        forwarder,
         rva,
         offset,
         has_offset,
         is_forwarder,
         ..
     } = *export;
-    (of_range(name), rva, offset, has_offset, is_forwarder)
+    let texts = [of_range(name), of_range(forwarder)];
+    (texts, rva, offset, has_offset, is_forwarder)
 }
 
 pub(crate) const NO_EXPORT: Export = Export {
@@ -252,10 +254,10 @@ fn exports_in_overlapping_sections(rt: HostRuntime) -> Result<(), Fail> {
     let (image, sections) = (aligned(0x200, STRICT), one_in_another());
     let view = made::view(&bytes, &image, &sections);
     let wanted = [
-        ([0x480, 4], 0x3280, 0x780, 1, 1),
-        ([0x280, 2], 0x2F82, 0x482, 1, 0),
-        ([0x780, 3], 0x3084, 0x284, 1, 1),
-        ([0x490, 1], 0x9000, 0, 0, 0),
+        ([[0x480, 4], [0x780, 3]], 0x3280, 0x780, 1, 1),
+        ([[0x280, 2], [0, 0]], 0x2F82, 0x482, 1, 0),
+        ([[0x780, 3], [0x284, 0]], 0x3084, 0x284, 1, 1),
+        ([[0x490, 1], [0, 0]], 0x9000, 0, 0, 0),
     ];
     for room in [1, 3, 4] {
         let start = Exports {

@@ -108,6 +108,21 @@ def resources(*counts):
     return image(body, {RESOURCE: (RVA, len(body))})
 
 
+def named_forwarders(count, length, letter):
+    """Exports with one short name that forward to one text of such letters."""
+    names = RVA + 40 + 4 * 8
+    ordinals, name = names + 4 * count, names + 6 * count
+    text = name + 2
+    body = bytearray(text - RVA + length + 8)
+    struct.pack_into("<IIHHIIIIIII", body, 0, 0, 0, 0, 0, name, 1, 8, count, RVA + 40, names, ordinals)
+    struct.pack_into("<8I", body, 40, *(text + i for i in range(8)))
+    struct.pack_into(f"<{count}I", body, names - RVA, *[name] * count)
+    struct.pack_into(f"<{count}H", body, ordinals - RVA, *(i % 8 for i in range(count)))
+    body[name - RVA:text - RVA] = b"f\0"
+    body[text - RVA:text - RVA + length] = letter * length
+    return image(body, {EXPORT: (RVA, len(body))})
+
+
 def forwarders(count, length):
     """Exports without names that forward to one text, which is not UTF-8."""
     body = bytearray(40 + 4 * count + length + 8)

@@ -190,6 +190,17 @@ class Values(unittest.TestCase):
         self.assertEqual([(it.ordinal, it.name) for it in image.exports], [(5, None), (7, None)])
         self.assertEqual((image.export_table.name, image.export_table.number_of_functions), ("a.dll", 3))
 
+    def test_a_forwarder_has_a_name_or_none(self):
+        data = bytearray(bytes_of("exports"))
+        self.assertEqual([(it.name, it.ordinal, it.forwarder) for it in pe_c.Image(data).exports],
+                         [("first", 6, None), ("second", 5, None), (None, 8, "NTDLL.RtlFree")])
+        # the name `second` leads to the last entry of the address table
+        image = pe_c.Image(bytes(data))
+        data[image.offset_of(image.export_directory.address_of_name_ordinals) + 2] = 3
+        named = pe_c.Image(data).exports[1]
+        self.assertEqual((named.name, named.ordinal, named.forwarder), ("second", 8, "NTDLL.RtlFree"))
+        self.assertEqual((named.rva, named.offset), (image.exports[2].rva, data.index(b"NTDLL.RtlFree")))
+
     def test_a_small_file_alignment_is_a_warning(self):
         data = bytearray(hostile.imports(1, 1))
         self.assertEqual(pe_c.Image(data).warnings, ())
@@ -439,6 +450,8 @@ class Hostile(unittest.TestCase):
         "names that are the same text": (hostile.exports, (30_000, 400_000), "exports"),
         "names that are the same bytes, and no text": (hostile.exports, (30_000, 400_000, b"A\xff"), "exports"),
         "forwarders that are the same bytes, and no text": (hostile.forwarders, (30_000, 400_000), "exports"),
+        "forwarders with names that are the same text": (hostile.named_forwarders, (30_000, 400_000, b"A"), "exports"),
+        "forwarders with names, and no text": (hostile.named_forwarders, (30_000, 400_000, b"\xff"), "exports"),
         "libraries with the same list": (hostile.imports, (20_000, 20_000), "imports"),
         "directories of resources that are the same": (hostile.resources, (5_000, 5_000, 5_000), "resources"),
         "names of sections that are the same text": (hostile.long_names, (20_000, 200_000, b"A"), "sections"),

@@ -104,8 +104,7 @@ impl<'i, 'a> Exports<'i, 'a> {
         self.many.clear();
         if self.spent > bytes {
             let room = room_for(rest.saturating_mul(2), sys::Run::default());
-            if let (Ok(room), Ok(many)) = (room, room_for(rest, sys::Export::default()))
-            {
+            if let (Ok(room), Ok(many)) = (room, room_for(rest, sys::Export::default())) {
                 (count, runs, self.many) = (rest, room, many);
             }
         }

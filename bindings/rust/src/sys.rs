@@ -2414,7 +2414,7 @@ extern "C" {
         number_of_entries: usize,
         written: *mut u64,
     ) -> u32;
-    /// Lists the next exports that have a name, and reads names together where they share much.
+    /// Lists the next exports that have a name, and reads names and forwarders' texts together where they share much.
     pub fn pe_c_list_exports_together(
         view: *const View,
         walk: *mut Exports,

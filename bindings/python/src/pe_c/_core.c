@@ -544,8 +544,8 @@ METHOD(clr_metadata)
     return answer(rows.result == PE_C_DONE ? ROW_OF(metadata) : NULL, &rows);
 }
 
-/* Pays for what was read of a forwarder that has no text. */
-static int pays_for(Image *self, Rows *rows, const pe_c_exported *it)
+/* Pays for what was read of a forwarder that has no text; a text is paid for with its row. */
+static int pays_without_text(Image *self, Rows *rows, const pe_c_exported *it)
 {
     return !it->is_forwarder || it->forwarder.length || pays(rows->budget, unread(self, it->rva));
 }
@@ -565,8 +565,11 @@ static void add_named(Image *self, Rows *rows, const pe_c_exports *all, const pe
         const uint8_t *rva = (const uint8_t *)self->view.buf + all->names.offset + 4 * i;
         if (result == PE_C_NOTHING)
             pays(rows->budget, rows->budget->each + unread(self, rva[0] | rva[1] << 8 | rva[2] << 16 | (uint32_t)rva[3] << 24));
-        pe_c_exported item = {named.forwarder, (uint64_t)table->ordinal_base + named.index, named.rva, named.is_forwarder};
-        if (result != PE_C_DONE || !pays_for(self, rows, &item))
+        if (result != PE_C_DONE)
+            continue;
+        pe_c_exported item = {.forwarder = named.forwarder, .ordinal = (uint64_t)table->ordinal_base + named.index,
+                              .rva = named.rva, .is_forwarder = named.is_forwarder};
+        if (!pays_without_text(self, rows, &item))
             continue;
         is_named[named.index] = 1;
         append(rows, takes(rows, named.name.length) ? row_exported(self, rows, &item, &named) : NULL);
@@ -578,7 +581,7 @@ static void add_unnamed(Image *self, Rows *rows, const pe_c_address_table *table
 {
     pe_c_exported item = PE_C_EMPTY;
     for (uint64_t i = 0; goes_on(rows) && i < table->addresses.length / 4; i++)
-        if (!is_named[i] && pe_c_export_at(VIEW, table, i, &item) == PE_C_DONE && pays_for(self, rows, &item) && item.rva)
+        if (!is_named[i] && pe_c_export_at(VIEW, table, i, &item) == PE_C_DONE && pays_without_text(self, rows, &item) && item.rva)
             append(rows, row_exported(self, rows, &item, NULL));
 }
 

@@ -112,7 +112,7 @@ fn push_tables(lines: &mut Vec<String>, image: &Image) {
         Err(error) => lines.push(format!("exported {error:?}")),
     }
     match image.exports() {
-        Ok(exports) => push_all(lines, "export", exports.map(|it| it.map(|it| (it.name, it.rva)))),
+        Ok(exports) => push_all(lines, "export", exports.map(|it| it.map(|it| (it.name, it.rva, it.forwarder)))),
         Err(error) => lines.push(format!("exports {error:?}")),
     }
     let libraries = match image.libraries() {

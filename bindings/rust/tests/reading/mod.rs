@@ -495,6 +495,7 @@ fn read_exports(image: &Image, seen: &mut Seen) {
         for export in exports.take(seen.most) {
             if let Some(export) = seen.item(export) {
                 seen.touch(export.name);
+                seen.touch(export.forwarder.unwrap_or_default());
             }
         }
     }
