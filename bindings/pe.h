@@ -3154,7 +3154,7 @@ PE_C_SIZE(pe_c_run, 24);
 
 /* Lists what pe_c_list_exports does, and reads names and forwarders' texts together where they share much, others each by
  * itself. With two runs for each entry that the name table has left, or more, a call takes about as long as to sort these and
- * to read each byte a few times, however many of them overlap: a hostile file may let all of them start in one long text.
+ * to read each byte a few times, however many of the texts overlap: a hostile file may let all of them start in one long text.
  * A call looks at no more entries for that than there are runs, and reads further texts to their end each; no runs are needed.
  * What is in `runs` after the call is left open. Errors: as pe_c_list_exports. */
 uint32_t pe_c_list_exports_together(const pe_c_view *view, pe_c_exports *walk, pe_c_run *runs, size_t number_of_runs,

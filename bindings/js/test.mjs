@@ -615,6 +615,15 @@ test('an export by its name has the text of its forwarder', () => {
     [[5, [], null], [6, ['first'], null], [8, ['second'], 'NTDLL.RtlFree']]);
 });
 
+test('facts pay for forwarders that have no text', () => {
+  // 4,096 forwarders, each read over the same 1 MiB without a zero: the budget is 16 times the file
+  const count = 4096, text = 40 + 4 * count, content = new Uint8Array(text + (1 << 20)).fill(0xff, text);
+  content.set(words32([0, 0, 0, 0, 1, count, 0, 0x1000 + 40, 0, 0]), 0);
+  content.set(words32(Array.from({ length: count }, (_, i) => 0x1000 + text + i)), 40);
+  const found = factsOf(library, madeImage(content, [[0, 0x1000, content.length]]), 'a.dll').exports;
+  assert.deepEqual([found.entries.length, found.is_limited], [16, true]);
+});
+
 test('directories have fields of their own', () => {
   const exported = opened('exports'), table = exported.call('pe_c_export_addresses');
   const fields = exported.call('pe_c_export_directory');
