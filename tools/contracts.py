@@ -1,18 +1,27 @@
-"""What the contract of a function fixes, and the function that shows it: that two calls with the same arguments agree.
+"""What the contract of a function fixes, and the function that shows it.
 
-A contract has one answer if it fixes the result and what each `&mut` argument holds after the call. For such a function this
-module writes another one beside it,
+A contract has one answer if it fixes the result and what each `&mut` argument holds after the call. For such a function f this
+module writes another one beside it: whatever meets the clauses of f is what f returns,
 
-    fn f_twice(number: u32, out: &mut [u8], out_again: &mut [u8]) -> (Result<usize>, Result<usize>)
-        requires same_0 { out_again.old ≡ out.old }
-        ensures same_0 { seen (λ x. x) kind_of result.0 ≡ seen (λ x. x) kind_of result.1 }
-        ensures same_1 { out.new ≡ out_again.new }
+    fn f_again(number: u32, other: Result<usize>) -> Result<usize>
+        requires again_0 { Returns other (half number) }
+        ensures same_0 { seen (λ x. x) kind_of result ≡ seen (λ x. x) kind_of other }
     {
-        (f(number, out), f(number, out_again))
+        f(number)
     }
 
-A check knows of each call what the contract of f says, and nothing else. So it proves f_twice only if that contract alone fixes
-what is compared. What is compared is read off the clauses, which have to be of these forms:
+and where f writes an argument, two calls with the same arguments agree:
+
+    fn g_again(number: u32, out: &mut [u8], out_again: &mut [u8]) -> (u32, u32)
+        requires again_0 { out_again.old ≡ out.old }
+        ensures same_0 { result.0 ≡ result.1 }
+        ensures same_1 { out.new ≡ out_again.new }
+    {
+        (g(number, out), g(number, out_again))
+    }
+
+A check knows of a call what the contract says, and nothing else. So it proves these only if that contract alone fixes what is
+compared. What is compared is read off the clauses, which have to be of these forms:
 
 - an equation whose one side is the result or a written argument, by itself, a field of it, or seen by a view, and whose other side
   has neither. tools/views.py holds each view to leave nothing out; views that do, by a row of views.toml that names another
@@ -64,8 +73,8 @@ But unless (Err e) P = unless e P
 Clause = collections.namedtuple("Clause", "kind name text")
 # What a clause fixes: an expression, of which targets, and the predicate by which an error is left out of it, or ''.
 Fixed = collections.namedtuple("Fixed", "text targets unless")
-# A function that calls another one twice: its path, its text, and the words that its clauses name.
-Twice = collections.namedtuple("Twice", "path of text words")
+# A function that shows that another one's contract has one answer: its path, that of the other, its text, the words in its clauses.
+Shown = collections.namedtuple("Shown", "path of text words")
 
 
 def read_table():
@@ -217,47 +226,75 @@ class Contract:
                 return {*re.findall(r"^\s*(?:pub(?:\([a-z ]+\))? )?(\w+):", inside, re.M)} <= {*fields}
         return False
 
-    def twice(self, copied):
-        """The function that calls it twice. 'copied' are the types that derive Copy."""
-        name, own = self.function.name, ""
-        given, first, second, again = [], [], [], {}
-        for it in self.parameters:
-            receiver, named = RECEIVER.fullmatch(it), PARAMETER.fullmatch(it)
-            if receiver:
-                own = "self"
-                given.append(it if receiver[1] else "self")
-                is_shared = receiver[1] and not receiver[2] or not receiver[1] and self.function.type in copied
-                if not is_shared:
-                    given.append(f"again: {receiver[1] or ''}{receiver[2] or '' if receiver[1] else ''}Self")
-                    again["self"] = "again"
-                continue
-            if not named:
-                return None
-            given.append(f"{named[1]}: {named[2]}")
-            first.append(named[1])
-            base = re.match(r"(?:\w+::)*(\w+)", named[2])
-            if WRITTEN.match(named[2]) or not (COPIED.match(named[2]) or base and base[1] in copied):
-                given.append(f"{named[1]}_again: {named[2]}")
-                again[named[1]] = f"{named[1]}_again"
-            second.append(again.get(named[1], named[1]))
-        same = [f"{new}.old ≡ {old}.old" if f"{old}.new" in self.types else f"{new} ≡ {old}" for old, new in again.items()]
-        ensured = [self.compared(it, again) for it in self.fixed]
-        called = f"{own}." if own else "Self::" if self.function.type else ""
-        calls = [f"{called}{name}({', '.join(first)})",
-                 f"{again.get('self', own)}.{name}({', '.join(second)})" if own else f"{called}{name}({', '.join(second)})"]
-        lines = ["", "", f"{self.visible}fn {name}_twice{self.generic}({', '.join(given)})"
-                 + (f" -> ({self.result}, {self.result})" if self.result else "")]
-        lines += [self.where] * bool(self.where)
+    def shown(self, copied):
+        """The function that shows that the contract has one answer, or None where a parameter is a pattern."""
+        if any(not (RECEIVER.fullmatch(it) or PARAMETER.fullmatch(it)) for it in self.parameters):
+            return None
+        head, clauses, body, compared = self.once() if [*self.types] == ["result"] else self.twice(copied)
+        lines = ["", "", f"{self.visible}fn {self.function.name}_again{self.generic}{head}", *[self.where] * bool(self.where)]
         lines += [f"    {it.kind} {it.name or f'held_{at}'} {{ {it.text} }}" for at, it in enumerate(self.clauses)
                   if it.kind != "ensures"]
-        lines += [f"    requires same_{at} {{ {it} }}" for at, it in enumerate(same)]
-        lines += [f"    ensures same_{at} {{ {it} }}" for at, it in enumerate(ensured)]
-        lines += ["{", f"    ({', '.join(calls)})" if self.result else f"    {calls[0]};\n    {calls[1]};", "}"]
-        text = "\n".join(lines)
+        lines += [f"    requires again_{at} {{ {it} }}" for at, it in enumerate(clauses)]
+        lines += [f"    ensures same_{at} {{ {it} }}" for at, it in enumerate(compared)]
+        text = "\n".join([*lines, "{", *body, "}"])
         if self.function.type:
             text = re.sub(r"\n(?=.)", "\n    ", text)
-        words = {"◌≡◌", *re.findall(r"[A-Za-z_]\w*", " ".join(ensured + same))}
-        return Twice(f"{self.path}_twice", self.path, text, words)
+        words = {"◌≡◌", *re.findall(r"[A-Za-z_]\w*", " ".join([*compared, *clauses]))}
+        return Shown(f"{self.path}_again", self.path, text, words)
+
+    def borrows(self):
+        """Whether the result's type has a lifetime."""
+        text = self.crate.texts[self.crate.files[self.path]]
+        around = [it for it in IMPL.finditer(text) if it.start() < self.function.start]
+        own = around[-1]["args"] or "" if around and self.function.type else ""
+        return bool(re.search(r"'(?!static)", re.sub(r"\bSelf\b", own, self.result)))
+
+    def own(self):
+        """What stands before the name in a call."""
+        is_method = any(RECEIVER.fullmatch(it) for it in self.parameters)
+        return "self." if is_method else "Self::" if self.function.type else ""
+
+    def arguments(self):
+        return [PARAMETER.fullmatch(it)[1] for it in self.parameters if not RECEIVER.fullmatch(it)]
+
+    def once(self):
+        """The call, beside a value that meets the same clauses."""
+        def other(text, name="other"):
+            return re.sub(r"(?<![\w.])result(?!\w)", name, text)
+
+        # In a `requires` all is as it is on entry. In an `ensures` a value that borrows as the result does has what it was then.
+        clauses = [other(it.text).replace(".entry", "") for it in self.clauses if it.kind == "ensures"]
+        name = "other.entry" if self.borrows() else "other"
+        compared = [self.unless(it, "result", name, f"{it.text} ≡ {other(it.text, name)}") for it in self.fixed]
+        given = ", ".join([*self.parameters, f"other: {self.result}"])
+        call = f"    {self.own()}{self.function.name}({', '.join(self.arguments())})"
+        return f"({given}) -> {self.result}", clauses, [call], compared
+
+    def twice(self, copied):
+        """Two calls with the same arguments. 'copied' are the types that derive Copy."""
+        given, second, again = [], [], {}
+        for it in self.parameters:
+            receiver, named = RECEIVER.fullmatch(it), PARAMETER.fullmatch(it)
+            name, of = ("self", it.replace("self", "Self", 1)) if receiver else (named[1], named[2])
+            of = of if not receiver or receiver[1] else "Self"
+            base = re.match(r"(?:\w+::)*(\w+)", self.function.type if of == "Self" else of)
+            given.append(it if receiver and receiver[1] else name if receiver else f"{name}: {of}")
+            if WRITTEN.match(of) or not (COPIED.match(of) or base and base[1] in copied):
+                again[name] = "again" if receiver else f"{name}_again"
+                given.append(f"{again[name]}: {of}")
+            second += [] if receiver else [again.get(name, name)]
+        same = [f"{new}.old ≡ {old}.old" if f"{old}.new" in self.types else f"{new} ≡ {old}" for old, new in again.items()]
+        first = f"{self.own()}{self.function.name}({', '.join(self.arguments())})"
+        own = f"{again['self']}." if "self" in again else self.own()
+        calls = [first, f"{own}{self.function.name}({', '.join(second)})"]
+        body = [f"    ({', '.join(calls)})"] if self.result else [f"    {it};" for it in calls]
+        result = f" -> ({self.result}, {self.result})" if self.result else ""
+        return f"({', '.join(given)}){result}", same, body, [self.compared(it, again) for it in self.fixed]
+
+    @staticmethod
+    def unless(fixed, first, second, same):
+        """The same, unless one of two results is an error that the clause leaves open."""
+        return f"But {fixed.unless} {first} (But {fixed.unless} {second} ({same}))" if fixed.unless else same
 
     @staticmethod
     def compared(fixed, again):
@@ -269,9 +306,7 @@ class Contract:
             return re.sub(r"(?<![\w.«])\w+(?![\w»])", lambda it: again.get(it[0], "result.1" if it[0] == "result" else it[0]), text)
 
         same = f"{of_first(fixed.text)} ≡ {of_second(fixed.text)}"
-        if fixed.unless:
-            same = f"But {fixed.unless} {of_first(fixed.targets[0])} (But {fixed.unless} {of_second(fixed.targets[0])} ({same}))"
-        return same
+        return Contract.unless(fixed, of_first(fixed.targets[0]), of_second(fixed.targets[0]), same)
 
 
 class Contracts:
@@ -298,16 +333,16 @@ class Contracts:
         self.places.update({it: f"Rattle.{crate.name}.specs.{SPECS}" for it in ("seen", "But")})
         self.places["◌≡◌"] = "Rattle.std.specs.Prelude"
 
-    def twices(self):
-        """The functions that call twice, of those whose contract has one answer by its form."""
-        found = [it.twice(self.copied) for it in self.all.values() if not it.missing()]
+    def shown(self):
+        """The functions that show it, of those whose contract has one answer by its form."""
+        found = [it.shown(self.copied) for it in self.all.values() if not it.missing()]
         return [it for it in found if it]
 
-    def with_twices(self, texts, twices):
+    def with_shown(self, texts, shown):
         """The texts of the crate with these functions, each beside the one that it calls, and the imports that they need."""
         texts = dict(texts)
-        for file in sorted({self.crate.files[it.of] for it in twices}):
-            here = [it for it in twices if self.crate.files[it.of] == file]
+        for file in sorted({self.crate.files[it.of] for it in shown}):
+            here = [it for it in shown if self.crate.files[it.of] == file]
             own, text, needed = self.crate.texts[file], texts[file], collections.defaultdict(set)
             for it in here:
                 end = next(one for one in functions_of(text) if self.crate.path_of(file, one) == it.of).end + 1
@@ -335,12 +370,12 @@ def names_in_scope(text, function):
 class Shows:
     """What a check of a crate has to prove beside its edits: that contracts have one answer, and that views leave nothing out."""
 
-    def __init__(self, contracts, twices, laws):
-        self.contracts, self.twices, self.laws = contracts, twices, laws
+    def __init__(self, contracts, functions, laws):
+        self.contracts, self.functions, self.laws = contracts, functions, laws
 
     def names(self):
         """What each function that is added shows, by its path."""
-        found = {it.path: f"{it.of} has one answer" for it in self.twices}
+        found = {it.path: f"{it.of} has one answer" for it in self.functions}
         found.update({self.path_of(it): f"{it.view.name} leaves nothing out" for it in self.laws})
         return found
 
@@ -350,7 +385,7 @@ class Shows:
 
     def added_to(self, texts):
         """The texts of the crate with these functions."""
-        texts = self.contracts.with_twices(texts, self.twices)
+        texts = self.contracts.with_shown(texts, self.functions)
         for it in self.laws:
             texts[it.file] = views.HEAD + "".join(f"ghost use {use};\n" for use in it.uses) + f"\n/// The law.\n{it.text}"
         root = "src/main.rt" if "src/main.rt" in texts else "src/lib.rt"
@@ -367,18 +402,18 @@ class Shows:
 
     def part(self, number, count):
         """One of so many parts of them."""
-        return Shows(self.contracts, self.twices[number::count], self.laws[number::count])
+        return Shows(self.contracts, self.functions[number::count], self.laws[number::count])
 
     def without(self, paths):
         """The rest, without some."""
-        return Shows(self.contracts, [it for it in self.twices if it.path not in paths],
+        return Shows(self.contracts, [it for it in self.functions if it.path not in paths],
                      [it for it in self.laws if self.path_of(it) not in paths])
 
     def count(self):
-        return len(self.twices) + len(self.laws)
+        return len(self.functions) + len(self.laws)
 
     def texts(self):
         """By the path of each function its text, and the functions that it speaks of."""
-        found = {it.path: (it.text, {it.of}) for it in self.twices}
+        found = {it.path: (it.text, {it.of}) for it in self.functions}
         found.update({self.path_of(it): (it.text, set()) for it in self.laws})
         return found

@@ -270,7 +270,7 @@ class Room:
         self.checks += 1
         if self.logs:
             with open(f"{self.logs}/{self.name}.{self.checks}", "w", encoding="utf-8") as file:
-                file.write(said)
+                file.write(said + "".join(f"took {path}: {took:.1f} s\n" for path, took in self.took.most_common()))
         return said
 
     def own_words(self, said, path):

@@ -7,6 +7,7 @@ leaves more has a row in tools/views.toml, which says what and why. The laws sta
 """
 
 import collections
+import functools
 import glob
 import os
 import re
@@ -32,7 +33,7 @@ ghost use Rattle.std.specs.Option.{option_map};
 """
 
 View = collections.namedtuple("View", "name place implicit given")
-Type = collections.namedtuple("Type", "kind bracket members place")
+Type = collections.namedtuple("Type", "kind members place")
 # The text of a function, the imports that it needs, and the file of the crate, its own, in which both stand.
 Law = collections.namedtuple("Law", "view text uses file")
 
@@ -95,19 +96,19 @@ class Views:
                 module = ".".join(it for it in file[len("src/"):-len(".rt")].split("/") if it not in ("lib", "main"))
                 for it in TYPE.finditer(text):
                     body = re.sub(r"//[^\n]*|#\[[^\n]*\]\n", "", inside(text, it.end() - 1))
-                    members = [re.sub(r"^pub(?:\([a-z ]+\))? ", "", one) for one in parts(body)]
+                    members = [one for one in parts(body) if not one.startswith("ghost ")]
+                    members = [re.sub(r"^pub(?:\([a-z ]+\))? ", "", one) for one in members]
+                    if it[3] == "(":
+                        members = [f"{at}: {one}" for at, one in enumerate(members)]
                     place = ".".join(filter(None, [f"Rattle.{crate.name}.specs.declared", module, it[2]]))
-                    self.types[it[2]] = Type(it[1], it[3], [one for one in members if not one.startswith("ghost ")], place)
+                    self.types[it[2]] = Type(it[1], members, place)
             for path in sorted(glob.glob(f"{crate.folder}/specs/**/*.antt", recursive=True)):
                 place = f"Rattle.{crate.name}.specs." + path[len(f"{crate.folder}/specs/"):-len(".antt")].replace("/", ".")
                 with open(path, encoding="utf-8") as file:
                     for it, said in DEFINED.findall(file.read()):
-                        self.views[f"{place}.{it}"] = self.view(it, place, parts(said, "→")[:-1])
-
-    @staticmethod
-    def view(name, place, given):
-        implicit = [it for one in given if one[0] == "{" for it in one[1:-1].split(":")[0].split()]
-        return View(name, place, implicit, [it for it in given if it[0] != "{"])
+                        given = parts(said, "→")[:-1]
+                        implicit = ", ".join(", ".join(one[1:-1].split(":")[0].split()) for one in given if one[0] == "{")
+                        self.views[f"{place}.{it}"] = View(it, place, implicit, [one for one in given if one[0] != "{"])
 
     def view_of(self, name):
         """The view by which a field of a type is compared."""
@@ -116,16 +117,11 @@ class Views:
 
     def members(self, name):
         """The fields of a struct, or the variants of an enum, by their names, with the types of what they hold."""
-        found = []
-        for at, it in enumerate(self.types[name].members):
-            if self.types[name].kind == "enum":
-                variant, *rest = re.split(r"(?=[({])", it.split("=")[0], maxsplit=1)
-                held = [one.split(":", 1)[-1] for one in parts(rest[0].strip()[1:-1])] if rest else []
-                found.append((variant.strip(), [tree(one) for one in held]))
-            elif "PhantomData" not in it:
-                field, of = it.split(":", 1) if self.types[name].bracket == "{" else (str(at), it)
-                found.append((field.strip(), tree(of)))
-        return found
+        if self.types[name].kind == "struct":
+            pairs = [it.split(":", 1) for it in self.types[name].members if "PhantomData" not in it]
+            return [(field.strip(), tree(of)) for field, of in pairs]
+        split = [re.split(r"(?=[({])", it.split("=")[0] + "()", maxsplit=1) for it in self.types[name].members]
+        return [(it.strip(), [tree(one.split(":", 1)[-1]) for one in parts(inside(held, 0))]) for it, held in split]
 
     def seen(self, of, at, uses, deep=0):
         """What is compared of the value `at` of a type: itself, where nothing in it has a view or is a reference."""
@@ -171,7 +167,7 @@ class Views:
         uses.update(f"{self.types[it].place}.{{{it}}}" for it in re.findall(r"\w+", shown) if it in self.types)
         kept = [(name, clause) for name, clause in clauses if str(name) not in left]
         lines = "".join(f"    ensures of_{'value' if name == '' else name} {{ {clause} }}\n" for name, clause in kept)
-        generic = f"<{', '.join(view.implicit)}>" if view.implicit else ""
+        generic = f"<{view.implicit}>" if view.implicit else ""
         where = f"src/view_{view.place.split('.specs.')[1].replace('.', '_').lower()}_{view.name}.rt"
         return Law(view, f"pub fn leaves_nothing{generic}()\n{lines}{{}}\n", sorted(uses), where)
 
@@ -195,6 +191,7 @@ class Views:
         return clauses
 
 
+@functools.cache
 def compared_by(crate):
     """By what the contracts of a crate compare: the full names of functions, functions without a name, and each Model."""
     found = set()
