@@ -178,12 +178,15 @@ def have_lists():
     folder = "/var/lib/apt/lists"
     times = [os.path.getmtime(it) for it in (folder, f"{folder}/partial") if os.path.exists(it)]
     if not glob.glob(f"{folder}/*Packages*") or time.time() - max(times, default=0) > 24 * 3600:
-        apt_get("update")
+        why = apt_get("update")
+        if why:
+            print(f"setup: apt-get update failed: {why}", file=sys.stderr)
 
 
 def apt_get(*words):
     """Runs apt-get. Returns why it failed, or nothing."""
-    words = ["apt-get", "-qq", "-y", "-o", "Dpkg::Use-Pty=0", "-o", "DPkg::Lock::Timeout=300", *words]
+    options = ("Dpkg::Use-Pty=0", "DPkg::Lock::Timeout=300", "Acquire::http::Timeout=30", "APT::Update::Error-Mode=any")
+    words = ["apt-get", "-qq", "-y", *(f"-o={it}" for it in options), *words]
     done = subprocess.run(as_root(["env", "DEBIAN_FRONTEND=noninteractive", *words]), stdin=subprocess.DEVNULL, stdout=subprocess.PIPE,
                           stderr=subprocess.STDOUT, text=True, errors="replace")
     lines = [it for it in done.stdout.split("\n") if it.startswith("E: ")] or done.stdout.strip().split("\n")
@@ -217,8 +220,10 @@ def install(groups):
     why = apt_get("install", "--no-install-recommends", *packages)
     if why:
         print(f"setup: apt-get failed: {why}: once more, after apt-get update", file=sys.stderr, flush=True)
-        apt_get("update")
-        for name in groups:
+        why = apt_get("update")
+        if why:
+            print(f"setup: apt-get update failed: {why}", file=sys.stderr)
+        for name in [] if why else groups:
             packages = chosen(lacking(name))[0]
             why = packages and apt_get("install", "--no-install-recommends", *packages)
             if why:
