@@ -196,7 +196,9 @@ class Contract:
         if len(sides) == 2:
             for one, other in (sides, sides[::-1]):
                 if self.targets_in(one) and not self.targets_in(other):
-                    return [Fixed(one, self.targets_in(one), "")]
+                    # The type of a tuple would have to be named: its parts are compared.
+                    parts = split_outside(one[1:-1], ",") if one[0] == "(" and "λ" not in one else [one]
+                    return [Fixed(it, self.targets_in(it), "") for it in parts if self.targets_in(it)]
             return []
         name, *words = words_of(clause)
         found = []
@@ -214,7 +216,7 @@ class Contract:
         if f"{self.crate.name}::{self.path}" in self.table["not_shown"]:
             return self.table["not_shown"][f"{self.crate.name}::{self.path}"]
         for target, of in self.types.items():
-            fields = [path for it in self.fixed if target in it.targets for path in [self.field(it.text, target)]]
+            fields = [path for it in self.fixed if target in it.targets for path in self.fields(it.text, target)]
             if not ("" in fields or self.has_all_fields(of, fields)):
                 return f"no clause fixes {target}" if not fields else f"its clauses fix parts of {target}: {', '.join(fields)}"
         named = {word for it in self.fixed for word in re.findall(r"\w+", it.text)}
@@ -222,10 +224,9 @@ class Contract:
         return f"{alone[0]} leaves what {', '.join(self.beside[alone[0]])} has" if alone else ""
 
     @staticmethod
-    def field(text, target):
-        """The field of a target that an expression is, or '' for the whole: by itself, or seen by a view."""
-        found = re.fullmatch(rf"{re.escape(target)}((?:\.\w+)*)", text)
-        return PROJECTION.sub("", found[1]).lstrip(".") if found else ""
+    def fields(text, target):
+        """The fields of a target that stand in an expression, '' for the whole."""
+        return [PROJECTION.sub("", it).lstrip(".") for it in re.findall(rf"(?<![\w.]){re.escape(target)}((?:\.\w+)*)", text)]
 
     def has_all_fields(self, of, fields):
         """Whether these are all fields of a tuple or of a struct of the crates."""
