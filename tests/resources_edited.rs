@@ -212,6 +212,7 @@ fn numbers_in_refusals_at_the_end(rt: HostRuntime) -> Result<(), Fail> {
         (0x1B9, &[4][..], "Section(2)"),
         (0xA1, &[0x30][..], "SharedSection(12320)"),
         (0x100, &[0, 0x30][..], "SharedSection(12288)"),
+        (0x128, &[0, 0x30][..], "SharedSection(12288)"),
         (0x84, &[0, 5, 0, 0, 15][..], "Symbols(1280)"),
         (0x1B4, &[0, 0x40][..], "Overlap(1)"),
         (0x18A, &[1][..], "Overlap(0)"),

@@ -2,7 +2,7 @@
 //! are those of `walks`.
 
 use crate::frames::bytes_of;
-use crate::images::image;
+use crate::images::{image, with_byte};
 use crate::minidumps::with_stream;
 use crate::refusing::Refusing;
 use crate::walks::{
@@ -194,7 +194,7 @@ fn dump_module(time_date_stamp: u32, size_of_image: u32) -> Module {
 #[test]
 fn images_are_those_of_modules(rt: HostRuntime) -> Result<(), Fail> {
     let alloc = rt.alloc();
-    let bytes = pe_images::with_functions(alloc)?;
+    let bytes = with_byte(pe_images::with_functions(alloc)?, 0x48, 9);
     let opts = ParseOptions::default();
     let header = Header::parse_with_opts(&bytes, &opts)?;
     let stamp = header.coff_header.time_date_stamp;
@@ -206,6 +206,7 @@ fn images_are_those_of_modules(rt: HostRuntime) -> Result<(), Fail> {
     let own = dump_module(stamp, size);
     assert!(rt; is_image_of(&header, &own));
     assert!(rt; !is_image_of(&header, &dump_module(stamp + 1, size)));
+    assert!(rt; !is_image_of(&header, &dump_module(8, size)));
     assert!(rt; !is_image_of(&header, &dump_module(stamp, size + 1)));
     let found = ModuleImage::parse(alloc, &bytes, &opts, &own)?.ok_or("an image")?;
     let loaded = found.loaded(&own);
