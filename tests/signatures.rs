@@ -204,10 +204,14 @@ fn what_stands_in_version_and_extensions(rt: HostRuntime) -> Result<(), Fail> {
         offset: 182,
         left: 1,
     };
+    // Without its octet, an INTEGER and an OCTET STRING.
     assert_eq!(rt;
         refused_certificate(signature(rt.alloc())?, 181, 0)?,
-        trailing
+        SignatureError::EmptyContent(180)
     );
+    let mut bytes = signature(rt.alloc())?;
+    bytes[180] = 4;
+    assert_eq!(rt; refused_certificate(bytes, 181, 0)?, trailing);
     let tag = SignatureError::Tag {
         offset: 395,
         expected: 0x30,

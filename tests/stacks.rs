@@ -340,17 +340,15 @@ fn refused_walks_keep_what_is_left(rt: HostRuntime) -> Result<(), Fail> {
 #[test]
 fn images_ask_for_their_sections_alone(rt: HostRuntime) -> Result<(), Fail> {
     let alloc = rt.alloc();
-    let bytes = pe_images::with_functions(alloc)?;
+    let mut bytes = pe_images::with_functions(alloc)?;
+    // The size of the image, which the file leaves 0.
+    bytes[0x91] = 0x20;
     let opts = ParseOptions::default();
-    let header = Header::parse_with_opts(&bytes, &opts)?;
-    let stamp = header.coff_header.time_date_stamp;
-    let size = header
-        .optional_header
-        .ok_or("an optional header")?
-        .windows_fields
-        .size_of_image;
-    let own = dump_module(stamp, size);
-    let other = dump_module(stamp + 1, size);
+    let stamp = Header::parse_with_opts(&bytes, &opts)?
+        .coff_header
+        .time_date_stamp;
+    let own = dump_module(stamp, 0x2000);
+    let other = dump_module(stamp + 1, 0x2000);
     let pieces = [piece(APP, 0, bytes.len() as u64)];
     let memory = MemoryRuns::new(alloc, &bytes, &pieces)?;
     for request in 0..2 {
