@@ -190,6 +190,8 @@ enum pe_c_result {
     PE_C_SIGNATURE_TRAILING = 509,  /* bytes follow the last field of an element of a signature */
     PE_C_SIGNATURE_CONTENT_TYPE = 510, /* content of a signature has another type */
     PE_C_SIGNATURE_BAD_TIME = 511,  /* time of a signature is not in the form of RFC 5280 */
+    PE_C_SIGNATURE_END_OF_CONTENTS = 512, /* element of a signature is an end of contents, which DER does not have */
+    PE_C_SIGNATURE_EMPTY_CONTENT = 513, /* element of a signature has no content, which its type does not allow */
     PE_C_DUMP_SIGNATURE = 551,      /* invalid signature of a minidump */
     PE_C_DUMP_VERSION = 552,        /* invalid version of a minidump */
     PE_C_DUMP_DIRECTORY = 553,      /* directory of the streams ends past the end of the file */
@@ -322,6 +324,8 @@ static inline const char *pe_c_message(uint32_t number)
     case PE_C_SIGNATURE_TRAILING: return "bytes follow the last field of an element of a signature";
     case PE_C_SIGNATURE_CONTENT_TYPE: return "content of a signature has another type";
     case PE_C_SIGNATURE_BAD_TIME: return "time of a signature is not in the form of RFC 5280";
+    case PE_C_SIGNATURE_END_OF_CONTENTS: return "element of a signature is an end of contents, which DER does not have";
+    case PE_C_SIGNATURE_EMPTY_CONTENT: return "element of a signature has no content, which its type does not allow";
     case PE_C_DUMP_SIGNATURE: return "invalid signature of a minidump";
     case PE_C_DUMP_VERSION: return "invalid version of a minidump";
     case PE_C_DUMP_DIRECTORY: return "directory of the streams ends past the end of the file";
@@ -1122,10 +1126,10 @@ uint32_t pe_c_next_certificate(const uint8_t *bytes, size_t length, pe_c_range *
  * and length, which another call reads. It is {0, 0} where the field is absent. Offsets count from the start of `bytes`.
  *
  * Errors of all these calls: PE_C_SHORT where `range` or `walk` is not inside the bytes; of each element that is read
- * PE_C_SIGNATURE_TRUNCATED, _TAG_NUMBER, _INDEFINITE_LENGTH, _LENGTH_OCTETS, _TRUNCATED, _LENGTH_FORM, _PAST_PARENT; of a
- * field _MISSING before these, and _TAG after them; _TRAILING where bytes follow the last field. `failure` then has where
- * and what; else it is unchanged. Elements that a call returns whole are not read any further: an error there is that of
- * another call.
+ * PE_C_SIGNATURE_TRUNCATED, _TAG_NUMBER, _END_OF_CONTENTS, _INDEFINITE_LENGTH, _LENGTH_OCTETS, _TRUNCATED, _LENGTH_FORM,
+ * _PAST_PARENT, _EMPTY_CONTENT; of a field _MISSING before these, and _TAG after them; _TRAILING where bytes follow the
+ * last field. `failure` then has where and what; else it is unchanged. Elements that a call returns whole are not read any
+ * further: an error there is that of another call.
  *
  * A signature costs what its bytes cost: a call reads the head of each field once, and walks go through one list. A caller
  * that goes into nested signatures bounds how deep. */
@@ -1186,6 +1190,8 @@ enum {
     PE_C_OID_ECDSA_SHA512 = 217,                /* 1.2.840.10045.4.3.4 */
     PE_C_OID_DSA = 218,                         /* 1.2.840.10040.4.1: a key */
     PE_C_OID_DSA_SHA1 = 219,                    /* 1.2.840.10040.4.3 */
+    PE_C_OID_SHA1_RSA_OIW = 220,                /* 1.3.14.3.2.29: the older identifier of SHA1_RSA, sha1WithRSA of the OIW */
+    PE_C_OID_MD2_RSA = 221,                     /* 1.2.840.113549.1.1.2: PKCS #1 v1.5 */
     /* attributes of names */
     PE_C_OID_COMMON_NAME = 301,                 /* 2.5.4.3: CN */
     PE_C_OID_SERIAL_NUMBER = 302,               /* 2.5.4.5 */
@@ -1346,7 +1352,8 @@ typedef struct {
     uint32_t day;                   /* 1 to 31; that a month has fewer days is not tested */
     uint32_t hour;
     uint32_t minute;
-    uint32_t second;                /* 0 to 59; a fraction is left out */
+    uint32_t second;                /* 0 to 59; a fraction is left out. A time stamp may have one; that a certificate and a
+                                       signing time have none (RFC 5280, RFC 5652) is not tested */
 } pe_c_utc_time;
 
 /* What a time-stamp token says, TSTInfo. */

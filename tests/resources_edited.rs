@@ -159,9 +159,14 @@ fn the_checksum_is_that_of_the_file(rt: HostRuntime) -> Result<(), Fail> {
 #[test]
 fn numbers_in_refusals(rt: HostRuntime) -> Result<(), Fail> {
     let leaves = [resource(1, &CONTENT)];
+    // shows: pe_rewrite/src/place.rt target_before NoDirectory
+    // shows: pe_rewrite/src/place.rt require_headers Headers
+    // shows: pe_rewrite/src/place.rt require_headers Alignment
+    // shows: pe_rewrite/src/room.rt room_with NoHeaderRoom
     for (offset, part, text) in [
         (0x8C, &[0, 0][..], "Image(Malformed(NoOptionalHeader))"),
         (0xFC, &[2][..], "NoDirectory(2)"),
+        (0xFC, &[1][..], "NoDirectory(1)"),
         (0x120, &[0, 6, 0, 0, 8][..], "Signed"),
         (0x8C, &[0x60][..], "Headers(240)"),
         (0x7E, &[255][..], "Image(Short { at: 0, needed: 10584 })"),
@@ -202,6 +207,10 @@ fn without_resources(alloc: Global) -> Result<Vec<u8>, Fail> {
 #[test]
 fn numbers_in_refusals_at_the_end(rt: HostRuntime) -> Result<(), Fail> {
     let leaves = [resource(1, &CONTENT)];
+    // shows: pe_rewrite/src/room.rt room_with Section
+    // shows: pe_rewrite/src/place.rt require_alone SharedSection
+    // shows: pe_rewrite/src/room.rt room_with Symbols
+    // shows: pe_rewrite/src/room.rt require_last Overlap
     for (offset, part, text) in [
         (0x1D0, &[1][..], "NoHeaderRoom(464)"),
         (0x1F7, &[1][..], "NoHeaderRoom(464)"),
@@ -261,6 +270,7 @@ fn pointers_of_debug_data_move(rt: HostRuntime) -> Result<(), Fail> {
 #[test]
 fn debug_data_that_can_not_move(rt: HostRuntime) -> Result<(), Fail> {
     let leaves = [resource(1, &CONTENT)];
+    // shows: pe_rewrite/src/room.rt require_debug DebugData
     for (offset, part, text) in [
         (0x210, &[1][..], "DebugData(512)"),
         (0x234, &[0, 0xFE, 0xFF, 0xFF][..], "DebugData(540)"),

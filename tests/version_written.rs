@@ -110,6 +110,24 @@ fn refusals(rt: HostRuntime) -> Result<(), Fail> {
     Ok(())
 }
 
+/// A text `x` with the key `A` has 12 bytes before its value. A value above 65,535 bytes is the number itself.
+#[test]
+fn sizes_of_blocks_that_are_too_long(rt: HostRuntime) -> Result<(), Fail> {
+    let texts = vec![in rt.alloc(); 1u8; 70_000]?;
+    // shows: pe_version/src/block.rt measured TooLong
+    for (length, size) in [(65_524, 65_536), (65_530, 65_542), (70_000, 70_000)] {
+        let block = NewBlock {
+            value: &texts[..length],
+            ..STRING
+        };
+        let Err(VersionError::TooLong(found)) = block_len(&block) else {
+            return Err("a block of more than 65,535 bytes".into());
+        };
+        assert_eq!(rt; found, size);
+    }
+    Ok(())
+}
+
 /// What windres 2.40 makes of two tables and two translations. Each of its blocks has a multiple of four bytes, so that it does not
 /// matter that it counts no zeros after the last one.
 const WHOLE: &[&[u8]] = &[
@@ -411,6 +429,29 @@ fn records_that_are_too_long(rt: HostRuntime) -> Result<(), Fail> {
     }) else {
         return Err("a table of more than 65,535 bytes".into());
     };
+    // shows: pe_version/src/measure.rt whole_len TooLong
+    // A table of 24 bytes and two strings of 12 each: the texts have 32,644 and so many.
+    for (length, size) in [(32_848, 65_540), (32_852, 65_544)] {
+        let text = RecordRange { offset: 0, length };
+        let Err(VersionError::TooLong(found)) = version_len(&VersionRecords {
+            strings: &[long, StringRecord { text, ..long }],
+            ..value
+        }) else {
+            return Err("a table of more than 65,535 bytes".into());
+        };
+        assert_eq!(rt; found, size);
+    }
+    let languages = vec![in rt.alloc(); LANGUAGES[0]; 65_538]?;
+    // shows: pe_version/src/measure.rt variables_len TooLong
+    for count in [65_537, 65_538] {
+        let Err(VersionError::TooLong(found)) = version_len(&VersionRecords {
+            translations: &languages[..count],
+            ..value
+        }) else {
+            return Err("more translations than a block has bytes".into());
+        };
+        assert_eq!(rt; found, count);
+    }
     let Err(VersionError::Key) = version_len(&VersionRecords {
         tables: &[TableRecord { count: 3, ..table }],
         strings: &[long, longer, odd],

@@ -256,6 +256,10 @@ errors! {
     SIGNATURE_CONTENT_TYPE = 510;
     /// Time of a signature is not in the form of RFC 5280.
     SIGNATURE_BAD_TIME = 511;
+    /// Element of a signature is an end of contents, which DER does not have.
+    SIGNATURE_END_OF_CONTENTS = 512;
+    /// Element of a signature has no content, which its type does not allow.
+    SIGNATURE_EMPTY_CONTENT = 513;
     /// Invalid signature of a minidump.
     DUMP_SIGNATURE = 551;
     /// Invalid version of a minidump.

@@ -181,7 +181,7 @@ fn images_are_refused_by_number() {
 fn answers_have_texts() {
     let mut texts = Vec::new();
     for number in
-        (0..=40).chain([100, 101, 102, u32::MAX]).chain(201..=207).chain(301..=311).chain(401..=404).chain(501..=512)
+        (0..=40).chain([100, 101, 102, u32::MAX]).chain(201..=207).chain(301..=311).chain(401..=404).chain(501..=514)
     {
         let mut room = [0; 128];
         // SAFETY: the pointer and the length are those of one array.
@@ -191,14 +191,14 @@ fn answers_have_texts() {
     }
     assert_eq!(Error::SHORT.to_string(), texts[2]);
     assert!(texts[2].contains("truncated"), "{}", texts[2]);
-    // those of 1 to 38, of 100 and 101, of 201 to 206, of 301 to 310, of 401 to 403 and of 501 to 511 differ from each other and
+    // those of 1 to 38, of 100 and 101, of 201 to 206, of 301 to 310, of 401 to 403 and of 501 to 513 differ from each other and
     // from that of all others
     let known = texts[1..39].iter().chain(&texts[41..43]).chain(&texts[45..62]).chain(&texts[63..66]);
-    let mut known: Vec<_> = known.chain(&texts[67..78]).collect();
+    let mut known: Vec<_> = known.chain(&texts[67..80]).collect();
     known.sort();
     known.dedup();
-    assert_eq!(known.len(), 71);
-    assert_eq!([&texts[51], &texts[62], &texts[66], &texts[78]], [&texts[44]; 4]);
+    assert_eq!(known.len(), 73);
+    assert_eq!([&texts[51], &texts[62], &texts[66], &texts[80]], [&texts[44]; 4]);
 }
 
 #[test]

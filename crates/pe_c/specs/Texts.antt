@@ -159,6 +159,8 @@ signature_texts =
     codes "bytes follow the last field of an element of a signature" ∷
     codes "content of a signature has another type" ∷
     codes "time of a signature is not in the form of RFC 5280" ∷
+    codes "element of a signature is an end of contents, which DER does not have" ∷
+    codes "element of a signature has no content, which its type does not allow" ∷
     []
 
 -- the text of a refusal of a signature, by its number from 501 on

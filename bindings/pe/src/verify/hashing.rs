@@ -34,7 +34,7 @@ impl Hash {
     pub fn of_signature(oid: pe_c::Oid<'_>) -> Option<Hash> {
         Some(match oid.known()? {
             KnownOid::MD5_RSA => Hash::Md5,
-            KnownOid::SHA1_RSA | KnownOid::ECDSA_SHA1 | KnownOid::DSA_SHA1 => Hash::Sha1,
+            KnownOid::SHA1_RSA | KnownOid::SHA1_RSA_OIW | KnownOid::ECDSA_SHA1 | KnownOid::DSA_SHA1 => Hash::Sha1,
             KnownOid::SHA256_RSA | KnownOid::ECDSA_SHA256 => Hash::Sha256,
             KnownOid::SHA384_RSA | KnownOid::ECDSA_SHA384 => Hash::Sha384,
             KnownOid::SHA512_RSA | KnownOid::ECDSA_SHA512 => Hash::Sha512,

@@ -201,6 +201,10 @@ class Kind(enum.IntEnum):
     """content of a signature has another type"""
     SIGNATURE_BAD_TIME = 511
     """time of a signature is not in the form of RFC 5280"""
+    SIGNATURE_END_OF_CONTENTS = 512
+    """element of a signature is an end of contents, which DER does not have"""
+    SIGNATURE_EMPTY_CONTENT = 513
+    """element of a signature has no content, which its type does not allow"""
     DUMP_SIGNATURE = 551
     """invalid signature of a minidump"""
     DUMP_VERSION = 552
@@ -271,6 +275,8 @@ class KnownOid(enum.IntEnum):
     ECDSA_SHA512 = 217
     DSA = 218
     DSA_SHA1 = 219
+    SHA1_RSA_OIW = 220
+    MD2_RSA = 221
     COMMON_NAME = 301
     SERIAL_NUMBER = 302
     COUNTRY = 303

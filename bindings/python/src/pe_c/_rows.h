@@ -955,7 +955,7 @@ static PyStructSequence_Field row_utc_time_fields[] = {
     {"day", "1 to 31; that a month has fewer days is not tested"},
     {"hour", NULL},
     {"minute", NULL},
-    {"second", "0 to 59; a fraction is left out"},
+    {"second", "0 to 59; a fraction is left out. A time stamp may have one; that a certificate and a signing time have none (RFC 5280, RFC 5652) is not tested"},
     {NULL, NULL}};
 
 static PyObject *row_utc_time(Image *self, Rows *rows, const pe_c_utc_time *it)
