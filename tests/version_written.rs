@@ -411,12 +411,51 @@ fn records_that_are_too_long(rt: HostRuntime) -> Result<(), Fail> {
     }) else {
         return Err("a table of more than 65,535 bytes".into());
     };
-    let Err(VersionError::Key) = version_len(&VersionRecords {
+    // By the lengths of names and texts alone, so that no name is read.
+    let Err(VersionError::TooLong(65_536)) = version_len(&VersionRecords {
         tables: &[TableRecord { count: 3, ..table }],
         strings: &[long, longer, odd],
         ..value
     }) else {
+        return Err("a name is read".into());
+    };
+    let Err(VersionError::Key) = version_len(&VersionRecords {
+        strings: &[long, odd],
+        ..value
+    }) else {
         return Err("a name of three bytes".into());
     };
+    Ok(())
+}
+
+/// Tables that share strings, which share a long name, are refused without a look at each.
+#[test]
+fn shared_names_are_not_read(rt: HostRuntime) -> Result<(), Fail> {
+    let texts = vec![in rt.alloc(); 1; 60_000]?;
+    let string = StringRecord {
+        name: RecordRange {
+            offset: 0,
+            length: 60_000,
+        },
+        text: RecordRange {
+            offset: 0,
+            length: 0,
+        },
+    };
+    let strings = vec![in rt.alloc(); string; 100_000]?;
+    let table = TableRecord {
+        first: 0,
+        count: 100_000,
+        language: LANGUAGES[0],
+    };
+    let tables = vec![in rt.alloc(); table; 100_000]?;
+    let value = VersionRecords {
+        fixed: &FIXED,
+        tables: &tables,
+        strings: &strings,
+        translations: &[],
+        texts: &texts,
+    };
+    assert!(rt; matches!(version_len(&value), Err(VersionError::TooLong(_))));
     Ok(())
 }
