@@ -1,5 +1,5 @@
 -- The loops over base relocations.
-use Rattle.std.proofs.Common.{◌≡◌, ◌&&◌, Bool, true, false, List, [], ◌∷◌, Option, Some, ap, sym, ◌∙◌}
+use Rattle.std.proofs.Common.{◌≡◌, ◌&&◌, Bool, true, false, List, [], ◌∷◌, ap, sym, ◌∙◌}
 use Rattle.std.specs.List.{list_all}
 
 -- an item passes, so that all do if those after it do

@@ -1,12 +1,10 @@
 -- The debug entries of a file that an edit writes with its resources in place, and their data.
-use Rattle.std.proofs.Common.{◌≡◌, ℕ, ◌+◌, ◌*◌, ◌/◌, ◌%◌, ◌^◌, ◌<◌, ◌≤◌, ◌==◌, ◌&&◌, ◌||◌, ◌⊎◌, inl, inr, Bool, true, false, List, length, get_or, slice_range, Some, Ok, refl, ap, sym, ◌∙◌, subst, ⊎_elim, arith}
+use Rattle.std.proofs.Common.{◌≡◌, ℕ, ◌+◌, ◌*◌, ◌/◌, ◌%◌, ◌^◌, ◌<◌, ◌≤◌, ◌==◌, ◌&&◌, ◌||◌, ◌⊎◌, inl, inr, true, false, List, length, get_or, slice_range, Some, Ok, refl, ap, sym, ◌∙◌, subst, ⊎_elim, arith}
 use Rattle.std.specs.Prelude.{nat_le}
-use Rattle.std.specs.List.{list_all}
 use Rattle.std.proofs.lemmas.Bool.Decides.{nat_tests}
 use Rattle.std.proofs.lemmas.List.{ext_get_or, places}
 use Rattle.pe_core.specs.Bytes.{AreBytes, le, range}
 use Rattle.pe_core.specs.Header.{HeaderView, OptionalHeaderView}
-use Rattle.pe_core.specs.Rows.{each}
 use Rattle.pe_core.specs.SectionMap.{section_map}
 use Rattle.pe_core.specs.Sections.{raw_end}
 use Rattle.pe_core.specs.declared.options.ParseOptions.{ParseOptions}

@@ -1,6 +1,6 @@
 -- Where resources go that have no room in place: to the end of the image, into a new section or into their own if it is the
 -- last. (PE format: COFF file header, optional header, section table.)
-use Rattle.std.specs.Prelude.{ℕ, ◌+◌, ◌-◌, ◌*◌, ◌/◌, ◌%◌, ◌==◌, ◌&&◌, ◌||◌, max, Bool, true, Option, Some, None, List, [], ◌∷◌, Result, Ok, Err, length, nat_le, nat_lt, if◌then◌else◌}
+use Rattle.std.specs.Prelude.{ℕ, ◌+◌, ◌-◌, ◌*◌, ◌%◌, ◌==◌, ◌&&◌, ◌||◌, max, Bool, List, [], ◌∷◌, Result, Ok, Err, length, nat_le, nat_lt, if◌then◌else◌}
 use Rattle.std.specs.List.{fold, list_all}
 use Rattle.pe_core.specs.Bytes.{le}
 use Rattle.pe_core.specs.Header.{HeaderView}
