@@ -396,11 +396,8 @@ fn debug_data_in_the_resource_section(rt: HostRuntime) -> Result<(), Fail> {
             &[(0xCC, &[0, 2]), (0x130, &rva), (0x134, &size)],
         );
         let leaves = [resource(1, &CONTENT)];
-        let length = edited_len(&bytes, &header_of(&bytes)?, &list(&leaves));
-        match length {
-            Ok(length) => assert_eq!(rt; (length, in_place), (LENGTH, true)),
-            Err(error) => assert!(rt; !in_place && matches!(error, RewriteError::DebugData(512))),
-        }
+        let length = edited_len(&bytes, &header_of(&bytes)?, &list(&leaves))?;
+        assert_eq!(rt; length == LENGTH, in_place);
     }
     Ok(())
 }
