@@ -179,6 +179,7 @@ enum pe_c_result {
     PE_C_EDIT_NO_HEADER_ROOM = 471, /* headers have no room for another section header */
     PE_C_EDIT_IMAGE_TOO_LARGE = 472, /* image with the resources ends after 4 GB */
     PE_C_EDIT_DEBUG_DATA = 473,     /* debug entries or their data lie where the resources go */
+    PE_C_EDIT_CONTENTS = 474,       /* contents of the resources, which share bytes, are too large for their array */
     PE_C_SIGNATURE_TRUNCATED = 501, /* element of a signature truncated before its content */
     PE_C_SIGNATURE_TAG_NUMBER = 502, /* element of a signature has a tag number above 30 */
     PE_C_SIGNATURE_INDEFINITE_LENGTH = 503, /* element of a signature has an indefinite length */
@@ -313,6 +314,7 @@ static inline const char *pe_c_message(uint32_t number)
     case PE_C_EDIT_NO_HEADER_ROOM: return "headers have no room for another section header";
     case PE_C_EDIT_IMAGE_TOO_LARGE: return "image with the resources ends after 4 GB";
     case PE_C_EDIT_DEBUG_DATA: return "debug entries or their data lie where the resources go";
+    case PE_C_EDIT_CONTENTS: return "contents of the resources, which share bytes, are too large for their array";
     case PE_C_SIGNATURE_TRUNCATED: return "element of a signature truncated before its content";
     case PE_C_SIGNATURE_TAG_NUMBER: return "element of a signature has a tag number above 30";
     case PE_C_SIGNATURE_INDEFINITE_LENGTH: return "element of a signature has an indefinite length";
@@ -2684,25 +2686,28 @@ uint32_t pe_c_edited_length(const pe_c_view *view, const pe_c_resource *resource
  * and the data if data_length is.
  * The resources are sorted by type, name and language: names before ids, names by their code units, ids and languages by
  * their numbers. No two have the same type, name and language.
- * They go over the data of their section if they fit there, and no byte of the file moves. Otherwise they go to the end of
- * the image, into their own section if it is the last or into a new one, and what follows the data of the sections in the
- * file moves by the bytes that are added, a multiple of the file alignment; so do the pointers to COFF symbols and to the
- * data of debug entries there.
+ * They go over the data of their section if they fit there, no other section follows it in memory before their end, and no
+ * debug data and no base relocation lie in it; then no byte of the file moves. Otherwise they go to the end of the image,
+ * into their own section if it is the last or into a new one, and what follows the data of the sections in the file moves
+ * by the bytes that are added, a multiple of the file alignment; so do the pointers to COFF symbols and to the data of
+ * debug entries there.
  * Errors: those of pe_c_image; PE_C_EDIT_RECORD where a range is not inside the data, or an id or a language is not below
  * 2^16; PE_C_EDIT_NAMES where the names have more than 16 MiB, each counted as often as a resource has it;
- * PE_C_NO_OPTIONAL_HEADER; PE_C_EDIT_NO_DIRECTORY where the image has fewer than three directories; PE_C_EDIT_SIGNED where
- * it has certificates; PE_C_EDIT_TOO_MANY, PE_C_EDIT_NAME, PE_C_EDIT_ORDER, PE_C_EDIT_TABLES_TOO_LARGE, PE_C_EDIT_TOO_LARGE
- * of the resources; PE_C_EDIT_HEADERS where the directories end after the start of the section table; PE_C_SHORT where that
- * is truncated; PE_C_EDIT_ALIGNMENT where that of sections is below 4096, or that of their data below 512 or no power of
- * two; of a new section, PE_C_EDIT_IMAGE_TOO_LARGE where its RVA or the offset of its data is not below 2^32, and
- * PE_C_EDIT_TOO_LARGE of the resources at its RVA; PE_C_EDIT_NO_HEADER_ROOM where no 40 zeros follow the section table in
- * the headers, there are 65,535 sections, or the PE signature lies in the DOS header; PE_C_EDIT_IMAGE_TOO_LARGE where the
- * image ends after 4 GB; PE_C_EDIT_SECTION where the data of the sections do not end in the file, at a multiple of the file
- * alignment; PE_C_EDIT_SHARED_SECTION where the entry point or a directory leads after the image in memory;
- * PE_C_EDIT_SYMBOLS where COFF symbols start before the end of the data and end after it; PE_C_EDIT_OVERLAP where a section
- * ends after the image in memory, or shares bytes with the headers; PE_C_EDIT_DEBUG_DATA where the debug entries do not lie
- * between the section headers and the data of that section, or the data of one neither end before these nor start after
- * those of all sections; PE_C_WRITE_FIT where the file does not fit into the array. */
+ * PE_C_EDIT_CONTENTS where the contents, counted likewise, have more than 16 times the bytes of the data and of 1 MiB,
+ * since each is written as often as a resource has it; PE_C_NO_OPTIONAL_HEADER; PE_C_EDIT_NO_DIRECTORY where the image has
+ * fewer than three directories; PE_C_EDIT_SIGNED where it has certificates; PE_C_EDIT_TOO_MANY, PE_C_EDIT_NAME,
+ * PE_C_EDIT_ORDER, PE_C_EDIT_TABLES_TOO_LARGE, PE_C_EDIT_TOO_LARGE of the resources; PE_C_EDIT_HEADERS where the
+ * directories end after the start of the section table; PE_C_SHORT where that is truncated; PE_C_EDIT_ALIGNMENT where that
+ * of sections is below 4096, or that of their data below 512 or no power of two; of a new section,
+ * PE_C_EDIT_IMAGE_TOO_LARGE where its RVA or the offset of its data is not below 2^32, and PE_C_EDIT_TOO_LARGE of the
+ * resources at its RVA; PE_C_EDIT_NO_HEADER_ROOM where no 40 zeros follow the section table in the headers, there are
+ * 65,535 sections, or the PE signature lies in the DOS header; PE_C_EDIT_IMAGE_TOO_LARGE where the image ends after 4 GB;
+ * PE_C_EDIT_SECTION where the data of the sections do not end in the file, at a multiple of the file alignment;
+ * PE_C_EDIT_SHARED_SECTION where the entry point or a directory leads after the image in memory; PE_C_EDIT_SYMBOLS where
+ * COFF symbols start before the end of the data and end after it; PE_C_EDIT_OVERLAP where a section ends after the image
+ * in memory, or shares bytes with the headers; PE_C_EDIT_DEBUG_DATA where the debug entries do not lie between the section
+ * headers and the data of that section, or the data of one neither end before these nor start after those of all sections;
+ * PE_C_WRITE_FIT where the file does not fit into the array. */
 uint32_t pe_c_edit(const pe_c_view *view, const pe_c_resource *resources, size_t resource_count, const uint8_t *data,
                    size_t data_length, uint8_t *room, size_t room_length, uint64_t *out) PE_C_RESULT(1, 8);
 
@@ -2762,9 +2767,10 @@ uint32_t pe_c_version_length(const pe_c_version *fixed, const pe_c_version_table
  * `translations` the languages and code pages that the file supports, each in its order; `texts` has the names and the
  * texts. The array overlaps none of the others; each may be NULL if its length is 0.
  * Errors: PE_C_SHORT where a range of a string is not inside the texts, or the strings of a table are not all there;
- * PE_C_BLOCK_KEY where a name has an odd number of bytes, or a code unit of zero; PE_C_BLOCK_TEXT where a text has an odd
- * number of bytes; PE_C_BLOCK_TOO_LONG where a string, a table, or a block of these has more than 65,535 bytes: of the
- * blocks the first refusal, each after those that are in it; PE_C_WRITE_FIT where it does not fit into the array. */
+ * PE_C_BLOCK_TOO_LONG where the tables have more than 65,535 bytes by the lengths of names and texts; PE_C_BLOCK_KEY where
+ * a name has an odd number of bytes, or a code unit of zero; PE_C_BLOCK_TEXT where a text has an odd number of bytes;
+ * PE_C_BLOCK_TOO_LONG where a string, a table, or a block of these has more than 65,535 bytes: of the blocks the first
+ * refusal, each after those that are in it; PE_C_WRITE_FIT where it does not fit into the array. */
 uint32_t pe_c_write_version(const pe_c_version *fixed, const pe_c_version_table *tables, size_t table_count,
                             const pe_c_version_string *strings, size_t string_count,
                             const pe_c_version_language *translations, size_t translation_count, const uint8_t *texts,

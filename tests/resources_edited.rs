@@ -349,6 +349,147 @@ fn the_last_section_grows(rt: HostRuntime) -> Result<(), Fail> {
     Ok(())
 }
 
+/// Where the resources of an image with room for a section header go: in place, or into a new section, and then the data of the
+/// old ones stay.
+fn is_in_place(alloc: Global, bytes: &[u8]) -> Result<bool, Fail> {
+    let mut out = vec![in alloc; OLD; LENGTH + 0x200]?;
+    let leaves = [resource(1, &CONTENT)];
+    let length = write_edited(bytes, &header_of(bytes)?, &list(&leaves), &mut out)?;
+    if length == LENGTH {
+        return Ok(true);
+    }
+    if length != LENGTH + 0x200 || out[0x7E] != bytes[0x7E] + 1 {
+        return Err("no new section".into());
+    }
+    if out[0x200..0x600] != bytes[0x200..0x600] || &out[0x800..] != b"after".as_slice() {
+        return Err("the old data have changed".into());
+    }
+    Ok(false)
+}
+
+/// Debug data stay where they are, in the resource section by their file offset or by their RVA.
+#[test]
+fn debug_data_in_the_resource_section(rt: HostRuntime) -> Result<(), Fail> {
+    for (rva, pointer, in_place) in [
+        ([0x80, 0x11], [0x80, 3], true),
+        ([0, 0], [0xFB, 3], true),
+        ([0, 0], [0xFC, 3], false),
+        ([0, 0], [0, 5], false),
+        ([0, 0], [0, 6], true),
+        ([0, 0x21], [0, 5], false),
+        ([0, 0x21], [0, 0], false),
+        ([0xFF, 0x1F], [0, 6], true),
+        ([0, 0x30], [0, 6], true),
+    ] {
+        let mut bytes = with_part(old_image(rt.alloc())?, 0xCC, &[0, 2]);
+        put(
+            &mut bytes,
+            &[
+                (0x130, &[0, 0x10, 0, 0, 28]),
+                (0x210, &[5, 0, 0, 0]),
+                (0x214, &rva),
+                (0x216, &[0, 0]),
+                (0x218, &pointer),
+                (0x21A, &[0, 0]),
+            ],
+        );
+        assert_eq!(rt; is_in_place(rt.alloc(), &bytes)?, in_place);
+    }
+    // The entries themselves: after the section headers; before the section, 17 of them; 19, of which the last reaches into it.
+    for (rva, size, in_place) in [
+        ([0xE4, 1], [28, 0], true),
+        ([0, 0x10], [0xF0, 1], true),
+        ([0, 0x10], [0x14, 2], false),
+    ] {
+        let mut bytes = with_part(old_image(rt.alloc())?, 0x200, &[0; 0x200]);
+        put(
+            &mut bytes,
+            &[(0xCC, &[0, 2]), (0x130, &rva), (0x134, &size)],
+        );
+        let leaves = [resource(1, &CONTENT)];
+        let length = edited_len(&bytes, &header_of(&bytes)?, &list(&leaves))?;
+        assert_eq!(rt; length == LENGTH, in_place);
+    }
+    Ok(())
+}
+
+/// The resources do not grow over a section that has no data, `.bss` at the RVA 0x3000.
+#[test]
+fn a_section_without_data_is_not_covered(rt: HostRuntime) -> Result<(), Fail> {
+    let content = vec![in rt.alloc(); 0x5A; 5120]?;
+    let leaves = [resource(1, &content)];
+    for (address, room) in [(0x30, "NoHeaderRoom(504)"), (0x40, "")] {
+        let mut bytes = old_image(rt.alloc())?;
+        bytes.resize(0x2400, 0)?;
+        put(
+            &mut bytes,
+            &[
+                (0x7E, &[3, 0]),
+                (0xC8, &[0, 0x50]),
+                (0x1B8, &[0, 0x20]),
+                (0x1D0, b".bss\0\0\0\0\0\x10\0\0\0"),
+                (0x1DD, &[address]),
+            ],
+        );
+        if room.is_empty() {
+            let length = edited_len(&bytes, &header_of(&bytes)?, &list(&leaves))?;
+            assert_eq!(rt; length, 0x2400);
+        } else {
+            let shown = refused(rt.alloc(), &bytes, &leaves)?;
+            assert_eq!(rt; shown.as_str(), room);
+        }
+    }
+    Ok(())
+}
+
+/// Without a resource directory a section at the RVA 0 has no resources: they go into a new one.
+#[test]
+fn a_section_at_rva_0_stays(rt: HostRuntime) -> Result<(), Fail> {
+    let mut bytes = without_resources(rt.alloc())?;
+    put(
+        &mut bytes,
+        &[
+            (0xA0, &[0, 0x20]),
+            (0x18C, &[0, 0]),
+            (0x200, b"IMPORTANT DATA"),
+        ],
+    );
+    assert!(rt; !is_in_place(rt.alloc(), &bytes)?);
+    Ok(())
+}
+
+/// Resources are not written over what a base relocation changes: the table, at the RVA 0x1000, has a block with one.
+#[test]
+fn base_relocations_in_the_resource_section(rt: HostRuntime) -> Result<(), Fail> {
+    for (page, size, relocation, in_place) in [
+        // DIR64 (10) of 8 bytes, HIGHLOW (3) of 4, ABSOLUTE (0) of none.
+        (0x20, 12, [0, 0xA1], false),
+        (0x20, 12, [0xFC, 0x3F], false),
+        (0x20, 12, [0, 1], true),
+        (0x10, 12, [0, 0xA1], true),
+        (0x10, 12, [0xF8, 0xAF], true),
+        (0x10, 12, [0xF9, 0xAF], false),
+        (0x10, 12, [0xFC, 0x3F], true),
+        (0x10, 12, [0xFD, 0x3F], false),
+        (0x30, 12, [0, 0xA0], true),
+        // The block ends after the table.
+        (0x10, 14, [0, 0xA1], false),
+    ] {
+        let mut bytes = with_part(old_image(rt.alloc())?, 0xCC, &[0, 2]);
+        put(
+            &mut bytes,
+            &[
+                (0x128, &[0, 0x10, 0, 0, 12]),
+                (0x200, &[0, page, 0, 0, size, 0, 0, 0]),
+                (0x208, &relocation),
+                (0x20A, &[0, 0]),
+            ],
+        );
+        assert_eq!(rt; is_in_place(rt.alloc(), &bytes)?, in_place);
+    }
+    Ok(())
+}
+
 #[test]
 fn texts_of_refusals(rt: HostRuntime) -> Result<(), Fail> {
     for (error, text) in [

@@ -430,11 +430,14 @@ fn records_that_are_too_long(rt: HostRuntime) -> Result<(), Fail> {
         return Err("a table of more than 65,535 bytes".into());
     };
     // shows: pe_version/src/measure.rt whole_len TooLong
-    // A table of 24 bytes and two strings of 12 each: the texts have 32,644 and so many.
-    for (length, size) in [(32_848, 65_540), (32_852, 65_544)] {
-        let text = RecordRange { offset: 0, length };
+    // A table of 24 bytes and strings of 12 each beside their texts, which by lengths alone would have 65,532 bytes.
+    for (count, first, others, size) in [(4, 16_376, 16_364, 65_540), (6, 10_908, 10_908, 65_544)] {
+        let text = RecordRange { offset: 0, length: others };
+        let mut strings = vec![in rt.alloc(); StringRecord { text, ..long }; count]?;
+        strings[0].text.length = first;
         let Err(VersionError::TooLong(found)) = version_len(&VersionRecords {
-            strings: &[long, StringRecord { text, ..long }],
+            tables: &[TableRecord { count: count as u64, ..table }],
+            strings: &strings,
             ..value
         }) else {
             return Err("a table of more than 65,535 bytes".into());
@@ -452,12 +455,51 @@ fn records_that_are_too_long(rt: HostRuntime) -> Result<(), Fail> {
         };
         assert_eq!(rt; found, count);
     }
-    let Err(VersionError::Key) = version_len(&VersionRecords {
+    // By the lengths of names and texts alone, so that no name is read.
+    let Err(VersionError::TooLong(65_536)) = version_len(&VersionRecords {
         tables: &[TableRecord { count: 3, ..table }],
         strings: &[long, longer, odd],
         ..value
     }) else {
+        return Err("a name is read".into());
+    };
+    let Err(VersionError::Key) = version_len(&VersionRecords {
+        strings: &[long, odd],
+        ..value
+    }) else {
         return Err("a name of three bytes".into());
     };
+    Ok(())
+}
+
+/// Tables that share strings, which share a long name, are refused without a look at each.
+#[test]
+fn shared_names_are_not_read(rt: HostRuntime) -> Result<(), Fail> {
+    let texts = vec![in rt.alloc(); 1; 60_000]?;
+    let string = StringRecord {
+        name: RecordRange {
+            offset: 0,
+            length: 60_000,
+        },
+        text: RecordRange {
+            offset: 0,
+            length: 0,
+        },
+    };
+    let strings = vec![in rt.alloc(); string; 100_000]?;
+    let table = TableRecord {
+        first: 0,
+        count: 100_000,
+        language: LANGUAGES[0],
+    };
+    let tables = vec![in rt.alloc(); table; 100_000]?;
+    let value = VersionRecords {
+        fixed: &FIXED,
+        tables: &tables,
+        strings: &strings,
+        translations: &[],
+        texts: &texts,
+    };
+    assert!(rt; matches!(version_len(&value), Err(VersionError::TooLong(_))));
     Ok(())
 }

@@ -334,7 +334,7 @@ test('resources that cannot be written are refused as they are read', () => {
   assert.equal(refusal(64, 0x80000000), 'PE_C_EDIT_RECORD');
   assert.equal(refusal(72, 0x9000), 'PE_C_UNMAPPED');
   // one content of 0x400 bytes in three languages, of a file of 0x800
-  assert.equal(refusal(60, 3 << 16, 0x407, 88, 0x409, 88, 0x40C, 88, 0x1000, 0x400, 0, 0), 'PE_C_EDIT_NO_ROOM');
+  assert.equal(refusal(60, 3 << 16, 0x407, 88, 0x409, 88, 0x40C, 88, 0x1000, 0x400, 0, 0), 'PE_C_EDIT_CONTENTS');
 });
 
 test('version information is written, block by block', () => {

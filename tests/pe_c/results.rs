@@ -194,6 +194,7 @@ fn results_have_texts(rt: HostRuntime) {
     check_text(&rt, 470, "version block has more than 65,535 bytes");
     check_text(&rt, 471, "headers have no room for another section");
     check_text(&rt, 473, "debug entries or their data lie where the");
+    check_text(&rt, 474, "contents of the resources, which share bytes,");
     check_text(&rt, 501, "element of a signature truncated before its");
     check_text(&rt, 508, "element of a signature has another tag");
     check_text(&rt, 511, "time of a signature is not in the form of RFC");
@@ -220,7 +221,7 @@ fn results_have_texts(rt: HostRuntime) {
         400,
         404,
         450,
-        474,
+        475,
         500,
         514,
         550,
@@ -240,7 +241,7 @@ fn texts_differ(rt: HostRuntime) {
             || 206 < number && number < 301
             || 310 < number && number < 401
             || 403 < number && number < 451
-            || 473 < number && number < 501
+            || 474 < number && number < 501
             || 513 < number && number < 551
     };
     for one in 0..=560 {

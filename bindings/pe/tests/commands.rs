@@ -460,6 +460,14 @@ fn versions_are_changed() {
     let content = fs::read(path("0x407")).unwrap();
     let has = |text: &str| content.windows(2 * text.len()).any(|it| it == units(text));
     assert_eq!([has("Own\0\0y\0"), has("x\0"), has("CompanyName\0"), has("04070")], [true, false, true, true]);
+    // A name in other letters is that of the string that is there, as Windows looks it up.
+    assert_eq!(run(&["set-version", &second, &path("e.exe"), "--string", "companyname=B", "--string", "OWN=z"]).2, 0);
+    let which = ["extract", &path("e.exe"), "resource", "--type", "16", "--name", "1", &path("e")];
+    assert_eq!(run(&which).2, 0);
+    let content = fs::read(path("e")).unwrap();
+    let has = |text: &str| content.windows(2 * text.len()).any(|it| it == units(text));
+    assert_eq!([has("CompanyName\0\0B\0"), has("Own\0\0z\0")], [true, true]);
+    assert_eq!([has("companyname"), has("OWN"), has("hre=1")], [false; 3]);
     for words in
         [["--file-version", "1.2.3.4.5"], ["--file-version", "65536"], ["--string", "=x"], ["--language", "no"]]
     {

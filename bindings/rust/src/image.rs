@@ -234,6 +234,8 @@ errors! {
     EDIT_IMAGE_TOO_LARGE = 472;
     /// Debug entries or their data lie where the resources go.
     EDIT_DEBUG_DATA = 473;
+    /// Contents of the resources, which share bytes, are too large for their array.
+    EDIT_CONTENTS = 474;
     /// Element of a signature truncated before its content.
     SIGNATURE_TRUNCATED = 501;
     /// Element of a signature has a tag number above 30.

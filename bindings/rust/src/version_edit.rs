@@ -70,6 +70,12 @@ impl Block {
         self.key == units_of(key)
     }
 
+    /// Whether Windows finds it by this name: in ASCII letters without regard to their case.
+    fn is_named(&self, name: &[u8]) -> bool {
+        let lower = |it: &[u8]| if it[1] == 0 { [it[0].to_ascii_lowercase(), 0] } else { [it[0], it[1]] };
+        self.key.chunks_exact(2).map(lower).eq(name.chunks_exact(2).map(lower))
+    }
+
     /// Whether it has this key and no value, as a block of others.
     fn is_parent(&self, key: &str) -> bool {
         self.is(key) && self.is_text && self.value.is_empty()
@@ -323,9 +329,10 @@ impl VersionInfo {
         self.root.children.iter().filter(|it| it.is("StringFileInfo")).flat_map(|it| &it.children)
     }
 
-    /// A string, of the first table that has it.
+    /// A string, of the first table that has it. Names are compared as Windows does, in ASCII letters without regard to case.
     pub fn string(&self, name: &str) -> Option<String> {
-        let found = self.tables().flat_map(|it| &it.children).find(|it| it.is(name))?;
+        let name = units_of(name);
+        let found = self.tables().flat_map(|it| &it.children).find(|it| it.is_named(&name))?;
         Some(text_of(&found.value))
     }
 
@@ -340,8 +347,8 @@ impl VersionInfo {
         self.tables().flat_map(of_table)
     }
 
-    /// Sets a string in each table; all others stay as they are. Returns how many tables there are: where it is 0, nothing is
-    /// set.
+    /// Sets a string in each table; all others stay as they are, and so does the case of a name that is there: `companyname` sets
+    /// `CompanyName`. Returns how many tables there are: where it is 0, nothing is set.
     ///
     /// # Errors
     ///
@@ -353,12 +360,12 @@ impl VersionInfo {
         if text.contains('\0') {
             return Err(Error::BLOCK_TEXT);
         }
-        let (mut value, mut count) = (units_of(text), 0);
+        let (key, mut value, mut count) = (units_of(name), units_of(text), 0);
         value.extend([0, 0]);
         let infos = self.root.children.iter_mut().filter(|it| it.is("StringFileInfo"));
         for table in infos.flat_map(|it| &mut it.children) {
             count += 1;
-            let there = table.children.iter_mut().filter(|it| it.is(name));
+            let there = table.children.iter_mut().filter(|it| it.is_named(&key));
             if there.map(|it| (it.is_text, it.value) = (true, value.clone())).count() == 0 {
                 table.children.push(Block::new(name, true, value.clone(), Vec::new()));
             }

@@ -139,6 +139,7 @@ edit_texts =
     codes "headers have no room for another section header" ∷
     codes "image with the resources ends after 4 GB" ∷
     codes "debug entries or their data lie where the resources go" ∷
+    codes "contents of the resources, which share bytes, are too large for their array" ∷
     []
 
 -- the text of a refusal of resources that are written, by its number from 451 on

@@ -171,6 +171,7 @@ fn edit_text(number: u32) -> &'static str
         20 => "headers have no room for another section header",
         21 => "image with the resources ends after 4 GB",
         22 => "debug entries or their data lie where the resources go",
+        23 => "contents of the resources, which share bytes, are too large for their array",
         _ => "unknown result",
     }
 }

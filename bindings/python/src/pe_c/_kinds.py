@@ -179,6 +179,8 @@ class Kind(enum.IntEnum):
     """image with the resources ends after 4 GB"""
     EDIT_DEBUG_DATA = 473
     """debug entries or their data lie where the resources go"""
+    EDIT_CONTENTS = 474
+    """contents of the resources, which share bytes, are too large for their array"""
     SIGNATURE_TRUNCATED = 501
     """element of a signature truncated before its content"""
     SIGNATURE_TAG_NUMBER = 502
