@@ -2246,7 +2246,8 @@ typedef struct {
 /* IMAGE_IMPORT_DESCRIPTOR. */
 typedef struct {
     pe_c_range name;                /* of the DLL: UTF-8, without its final zero */
-    pe_c_imports imports;           /* where a walk over its imports starts */
+    pe_c_imports imports;           /* where a walk over its imports starts; imports.left is {0, 0} where the RVA of the list is
+                                       unmapped, and nowhere else: the signature of the DOS header is at the offset 0 */
     uint32_t lookup_table_rva;      /* RVA of the list; where it is 0, the list is the address table */
     uint32_t time_date_stamp;       /* 0, or not 0 where the imports are bound */
     uint32_t forwarder_chain;       /* index of the first forwarder, or -1 */

@@ -1,5 +1,5 @@
 // How a call of pe.h is made: what is given goes into the memory of the instance, and what the call writes comes back.
-import { calls } from './layouts.mjs';
+import { calls, constants } from './layouts.mjs';
 import { PeError, whole, width } from './memory.mjs';
 
 const utf8 = new TextDecoder('utf-8'), utf16 = new TextDecoder('utf-16le');
@@ -46,6 +46,12 @@ export class Caller {
     } finally {
       this.#memory.free = kept;
     }
+  }
+
+  /** What a call that is refused so throws. */
+  refused(name, constant) {
+    const number = constants[constant];
+    return new PeError(name, number, this.#memory.text(number));
   }
 
   #called(name, given) {

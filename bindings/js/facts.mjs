@@ -222,9 +222,11 @@ function imports(image) {
   const budget = new Budget(image);
   return listAfter('imports', image, 'pe_c_import_libraries', () => image.list('libraries'), (library) => {
     if (!budget.takes(ITEM + Number(library.name.length))) return null;
-    const own = name(image.slice(library.name));
+    const own = name(image.slice(library.name)), isUnmapped = image.hasUnmappedList(library);
+    const items = isUnmapped ? image.addressTable(library) : image.imports(library);
     return { name: own, name_lower: lower(own),
-      ...functionsOf(image, library, image.imports(library), budget, (it) => ({ slot_rva: number(it.rva) })) };
+      ...functionsOf(image, library, items, budget, (it) => ({ slot_rva: number(it.rva) })),
+      lookup_table_error: isUnmapped && library.lookup_table_rva ? refusal(image.refused('', 'PE_C_UNMAPPED')) : null };
   });
 }
 

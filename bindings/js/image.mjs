@@ -78,6 +78,26 @@ export class Image extends File {
     return this.items('pe_c_next_import', { imports: structuredClone(library.imports) });
   }
 
+  /** Whether the RVA of a library's list is unmapped, so that `imports` has nothing. A list at the file offset 0 is not empty: the DOS
+   * header starts there. */
+  hasUnmappedList({ imports: { left } }) {
+    return left.offset === 0n && left.length === 0n;
+  }
+
+  /** What the address table of a library names, up to a zero entry: until the loader has filled it, it has the entries of the lookup
+   * table. */
+  *addressTable({ address_table_rva: rva }) {
+    const offset = this.call('pe_c_offset', { rva }), size = this.info.width === 64 ? 8n : 4n, call = 'pe_c_next_import';
+    if (offset === null) throw this.refused(call, 'PE_C_UNMAPPED');
+    const walk = { imports: { left: { offset, length: BigInt(this.length) - offset }, rva: BigInt(rva) } };
+    for (;;) {
+      const { left } = walk.imports;
+      if (left.length < size) throw this.refused(call, 'PE_C_SHORT');
+      if (this.slice({ offset: left.offset, length: size }).every((it) => it === 0)) return;
+      yield this.call(call, { walk });
+    }
+  }
+
   /** The functions of a DLL that is loaded when it is needed. */
   delayedFunctions(delayImport) {
     return this.items('pe_c_next_delayed_function', { functions: structuredClone(delayImport.functions) });

@@ -71,6 +71,25 @@ test('imports, by name and by ordinal', () => {
   assert.equal([...image.imports(dll)].length, [...image.imports(dll)].length);
 });
 
+test('an unmapped lookup table is said, and the address table is listed in its place', () => {
+  const bytes = Uint8Array.from(file('imports')), view = new DataView(bytes.buffer), whole = factsOf(library, bytes, 'a.dll');
+  const record = Number(opened('imports').call('pe_c_import_libraries').next);
+  view.setUint32(record + 16, view.getUint32(record, true), true);
+  for (const rva of [1, 0x7FFFFFFF, 0xFFFFFFFF]) {
+    view.setUint32(record, rva, true);
+    const image = library.open(bytes), [first, second] = image.list('libraries');
+    assert.deepEqual([image.hasUnmappedList(first), image.hasUnmappedList(second)], [true, false]);
+    assert.deepEqual([...image.imports(first)], []);
+    assert.deepEqual([...image.addressTable(first)].map((it) => (it.has_name ? image.utf8(it.name) : it.ordinal)), ['Sleep', 17]);
+    const [said, other] = factsOf(library, bytes, 'a.dll').imports, names = (it) => it.functions.map((one) => [one.name, one.ordinal]);
+    assert.deepEqual([said.lookup_table_error.name, other.lookup_table_error], ['UNMAPPED', null]);
+    assert.deepEqual(names(said), names(whole.imports[0]));
+  }
+  view.setUint32(record + 16, 0x7000, true);
+  const image = library.open(bytes), [first] = image.list('libraries');
+  assert.throws(() => [...image.addressTable(first)], (it) => it instanceof PeError && it.constant === 'PE_C_UNMAPPED');
+});
+
 test('a walk that is given is moved, and is over in the end', () => {
   const image = opened('imports'), walk = { libraries: image.call('pe_c_import_libraries') };
   assert.notEqual(image.call('pe_c_next_library', { walk }), null);

@@ -135,6 +135,7 @@ function libraries(to, title, facts, key) {
   add(to, 'h3', `${title}: ${count(all.length, 'DLL')}`);
   for (const it of all) {
     folded(to, `${textOf(it.name)} (${it.functions.length.toLocaleString('en')})`, (box) => {
+      refused(box, `Lookup table of ${textOf(it.name)}, whose address table is listed`, it.lookup_table_error);
       refused(box, textOf(it.name), it.functions_error);
       table(box, null, it.functions.map(functionRow));
     });

@@ -134,6 +134,40 @@ class Values(unittest.TestCase):
         with self.assertRaises(pe_c.Error):
             refused.imports.check()
 
+    def test_an_unmapped_lookup_table_is_said(self):
+        """pefile and the loader read the address table in its place."""
+        data = bytearray(bytes_of("imports"))
+        whole = pe_c.Image(bytes(data))
+        record = whole.offset_of(whole.headers.directories[1].virtual_address)
+        data[record + 16:record + 20] = data[record:record + 4]
+        for rva in (1, 0x7FFFFFFF, 0xFFFFFFFF):
+            data[record:record + 4] = struct.pack("<I", rva)
+            image = pe_c.Image(bytes(data))
+            self.assertEqual([it.has_unmapped_list for it in image.imports], [True, False])
+            names = [[(it.name, it.ordinal) for it in library.imports] for library in image.imports]
+            self.assertEqual(names, [[("Sleep", 42), (None, 17)], [("f", 0)]])
+            self.assertEqual((image.imphash(), image.imphash_of), (whole.imphash(), "address_tables"))
+            warning, = image.warnings
+            self.assertEqual((warning.part, warning.error.kind), ("imports", Kind.UNMAPPED))
+            self.assertIn(f"KERNEL32.dll at RVA 0x{rva:x}", warning.text)
+        self.assertEqual((whole.imphash_of, whole.warnings), ("lookup_tables", ()))
+        # The address table is unmapped too.
+        data[record + 16:record + 20] = data[record:record + 4]
+        self.assertEqual(pe_c.Image(bytes(data)).imports.error.kind, Kind.UNMAPPED)
+
+    def test_no_name_has_no_imphash(self):
+        data = bytearray(bytes_of("imports"))
+        whole = pe_c.Image(bytes(data))
+        # Each table starts with its zero entry.
+        for library in whole.imports:
+            for rva in (library.lookup_table_rva or library.address_table_rva,):
+                offset = whole.offset_of(rva)
+                data[offset:offset + 8] = bytes(8)
+        image = pe_c.Image(bytes(data))
+        self.assertEqual([len(it.imports) for it in image.imports], [0, 0])
+        self.assertEqual((image.imphash(), image.imphash_of), (None, None))
+        self.assertIsNone(image.facts()["hashes"]["imphash"])
+
     def test_addresses(self):
         image = made("debug")
         section = image.sections[0]

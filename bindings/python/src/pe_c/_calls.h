@@ -3,7 +3,6 @@ INNER(rich_entries, pe_c_rich_header_info, pe_c_range, it->entries, pe_c_rich_en
 INNER(pogo_entries, pe_c_pogo, pe_c_range, it->entries, pe_c_pogo_entry, pe_c_next_pogo_entry(BYTES, &walk, &item), ROW_OF(pogo_entry))
 INNER(unwind_codes, pe_c_record, pe_c_walk, it->codes, pe_c_code, pe_c_next_code(BYTES, &walk, &item), ROW_OF(code))
 INNER(arm64_scopes, pe_c_arm64_record, pe_c_range, it->scopes, pe_c_arm64_scope, pe_c_next_arm64_scope(BYTES, &walk, &item), ROW_OF(arm64_scope))
-INNER(imports_of, pe_c_library, pe_c_import_walk, {.imports = it->imports}, pe_c_import, pe_c_next_import(VIEW, &walk, &item), ROW_OF(import))
 INNER(delayed_functions, pe_c_delay_import, pe_c_delayed_function_walk, {.functions = it->functions}, pe_c_delayed_function, pe_c_next_delayed_function(VIEW, &walk, &item), ROW_OF(delayed_function))
 INNER(relocations_of, pe_c_relocation_block, pe_c_range, it->entries, pe_c_relocation, pe_c_next_relocation(BYTES, it->page_rva, &walk, &item), ROW_OF(relocation))
 INNER(metadata_streams, pe_c_metadata, pe_c_metadata_streams, it->streams, pe_c_metadata_stream, pe_c_next_metadata_stream(BYTES, &walk, &item), ROW_OF(metadata_stream))

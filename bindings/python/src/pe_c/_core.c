@@ -317,7 +317,50 @@ static PyObject *filled(Image *self, int kind, PyObject **items, Py_ssize_t coun
 #define ROW_OF(name) row_##name(self, &rows, &item)
 
 static PyObject *directories_of(Image *self, Rows *rows, const pe_c_directory *it, uint32_t count);
+
+/* Whether the RVA of a library's list is unmapped. A list at the offset 0 is not empty: the DOS header starts there. */
+static int has_unmapped_list(const pe_c_library *it)
+{
+    return it->imports.left.offset == 0 && it->imports.left.length == 0;
+}
+
 #include "_rows.h"
+
+/* Starts a walk over the address table of a library, which goes on to the end of the file. */
+static uint32_t starts_table(Image *self, const pe_c_library *it, pe_c_imports *walk)
+{
+    uint64_t offset = 0, length = (uint64_t)self->view.len;
+    if (pe_c_offset(VIEW, it->address_table_rva, &offset) != PE_C_DONE)
+        return PE_C_UNMAPPED;
+    *walk = (pe_c_imports){{offset, offset < length ? length - offset : 0}, it->address_table_rva};
+    return PE_C_DONE;
+}
+
+/* The next import of such a table, which a zero entry ends. */
+static uint32_t next_of_table(Image *self, pe_c_import_walk *walk, pe_c_import *item)
+{
+    uint64_t entry = 0, size = self->info.width == 64 ? 8 : 4;
+    pe_c_range left = walk->imports.left;
+    if (left.length < size)
+        return PE_C_SHORT;
+    memcpy(&entry, (const char *)self->view.buf + left.offset, size);
+    return entry ? pe_c_next_import(VIEW, walk, item) : PE_C_NOTHING;
+}
+
+/* The imports of a library: those that its address table names where its lookup table is unmapped. */
+static PyObject *imports_of(Image *self, Rows *outer, const pe_c_library *it)
+{
+    pe_c_import_walk walk = {.imports = it->imports};
+    pe_c_import item = PE_C_EMPTY;
+    Rows rows = rows_of(self, outer->budget);
+    if (!has_unmapped_list(it)) {
+        EACH(&rows, pe_c_next_import(VIEW, &walk, &item), ROW_OF(import));
+        return inside(outer, &rows);
+    }
+    rows.result = starts_table(self, it, &walk.imports);
+    EACH(&rows, next_of_table(self, &walk, &item), ROW_OF(import));
+    return inside(outer, &rows);
+}
 
 static PyObject *directories_of(Image *self, Rows *outer, const pe_c_directory *it, uint32_t count)
 {

@@ -848,8 +848,8 @@ class ExportDirectory(structseq[Any], tuple[int, int, int, int, int, int, int, i
     def address_of_name_ordinals(self) -> int: ...
 
 @final
-class Library(structseq[Any], tuple[str, tuple[Import, ...], int, int, int, int, int]):
-    __match_args__: Final = ('name', 'imports', 'lookup_table_rva', 'time_date_stamp', 'forwarder_chain', 'name_rva', 'address_table_rva',)
+class Library(structseq[Any], tuple[str, tuple[Import, ...], int, int, int, int, int, bool]):
+    __match_args__: Final = ('name', 'imports', 'lookup_table_rva', 'time_date_stamp', 'forwarder_chain', 'name_rva', 'address_table_rva', 'has_unmapped_list',)
     @property
     def name(self) -> str: ...
     @property
@@ -864,6 +864,8 @@ class Library(structseq[Any], tuple[str, tuple[Import, ...], int, int, int, int,
     def name_rva(self) -> int: ...
     @property
     def address_table_rva(self) -> int: ...
+    @property
+    def has_unmapped_list(self) -> bool: ...
 
 @final
 class Import(structseq[Any], tuple[str | None, int | None, int, int]):

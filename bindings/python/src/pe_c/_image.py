@@ -416,9 +416,9 @@ class Image(Reader):
     # ---- hashes
 
     def imphash(self) -> str | None:
-        """The MD5 of the imports' names, as pefile's get_imphash. None without imports, and where the list is not
-        whole: the hash of a part of it would be that of another image."""
-        if not self.imports or self.imports.error or self.imports.is_limited:
+        """The MD5 of the imports' names, as pefile's get_imphash. None without a name or an ordinal, and where the list is not
+        whole: the hash of a part of it would be that of another image. `imphash_of` says what it is of."""
+        if self.imports.error or self.imports.is_limited:
             return None
         names = []
         for library in self.imports:
@@ -429,7 +429,15 @@ class Image(Reader):
             for it in library.imports:
                 name = known.get(it.ordinal, f"ord{it.ordinal}") if it.name is None else it.name
                 names += [f"{stem}.{name.lower()}"] if name else []
-        return hashlib.md5(",".join(names).encode(), usedforsecurity=False).hexdigest()
+        return hashlib.md5(",".join(names).encode(), usedforsecurity=False).hexdigest() if names else None
+
+    @property
+    def imphash_of(self) -> str | None:
+        """What imphash() is of: "lookup_tables", or "address_tables" where a lookup table is unmapped, in whose place the address
+        table stands. None without an imphash."""
+        if self.imphash() is None:
+            return None
+        return "address_tables" if any(it.has_unmapped_list for it in self.imports) else "lookup_tables"
 
     def exphash(self) -> str | None:
         """The SHA-256 of the exports' names, as pefile's get_exphash. None as for imphash()."""
@@ -497,10 +505,21 @@ class Image(Reader):
             errors += [it.blocks.error for it in self.versions if it.blocks.error]
             errors += [it for it in map(self._error_of, RECORDS) if it]
             found = [ImageWarning(WarningKind.DAMAGED, it.part, it.text, it, self.path) for it in errors]
+            found += self._unmapped()
             found += [ImageWarning(WarningKind.LIMITED, it, "more entries than the file's bytes account for", None, self.path)
                       for it in self.limited]
             return tuple(found + self._alignment())
         return self._once("warnings", read)
+
+    def _unmapped(self) -> list[ImageWarning]:
+        """Of the libraries whose lookup table is unmapped."""
+        found = [it for it in self.imports if it.has_unmapped_list]
+        if not found:
+            return []
+        first = f"the first of {found[0].name} at RVA 0x{found[0].lookup_table_rva:x}"
+        text = f"{len(found)} unmapped lookup tables, {first}: what is imported is what the address tables name"
+        error = error_of(Kind.UNMAPPED, "imports", self.path)
+        return [ImageWarning(WarningKind.DAMAGED, "imports", text, error, self.path)]
 
     def _alignment(self) -> list[ImageWarning]:
         headers = self.headers
@@ -529,7 +548,7 @@ class Image(Reader):
                 **{name: plain(it, left) for name, it in answers.items()},
                 "versions": [{"language": it.language, "fixed": plain(it.fixed, left), "strings": it.strings}
                              for it in self.versions],
-                "imphash": self.imphash(), "rich_hash": self.rich_hash(), "digest": digest,
+                "imphash": self.imphash(), "imphash_of": self.imphash_of, "rich_hash": self.rich_hash(), "digest": digest,
                 "warnings": [{"kind": it.kind.value, "part": it.part, "number": it.error and it.error.number, "text": it.text}
                              for it in self.warnings]}
 
