@@ -2507,7 +2507,8 @@ typedef struct {
 
 PE_C_SIZE(pe_c_version_block, 64);
 
-/* Returns the fixed file information. PE_C_NOTHING also where version information has none. */
+/* Returns the fixed file information. PE_C_NOTHING also where version information has none. A damaged string is an error too: without
+ * the strings the same is read by pe_c_fixed_version_in, of the first 92 bytes of what pe_c_version_blocks returns. */
 uint32_t pe_c_fixed_version(const pe_c_view *view, pe_c_version *out) PE_C_RESULT(1, 2);
 
 /* Returns the value of a name, PE_C_COMMENTS .. PE_C_SPECIAL_BUILD: UTF-16 code units, little-endian, with the zeros after

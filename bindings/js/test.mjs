@@ -90,6 +90,15 @@ test('an unmapped lookup table is said, and the address table is listed in its p
   assert.throws(() => [...image.addressTable(first)], (it) => it instanceof PeError && it.constant === 'PE_C_UNMAPPED');
 });
 
+test('a damaged version string costs neither the fixed information nor the other strings', () => {
+  const bytes = Uint8Array.from(file('resources')), whole = factsOf(library, bytes, 'a.dll').version;
+  const key = Buffer.from('ProductName\0', 'utf16le'), at = Buffer.from(bytes).indexOf(key);
+  new DataView(bytes.buffer).setUint16(at - 4, 0x4000, true);
+  const { version: said } = factsOf(library, bytes, 'a.dll');
+  assert.deepEqual([said.fixed, said.fixed_error, said.strings_error.name], [whole.fixed, null, 'RESOURCE_STRING']);
+  assert.deepEqual([whole.fixed.file_version, said.texts], ['3.11.3150.1013', whole.texts]);
+});
+
 test('a walk that is given is moved, and is over in the end', () => {
   const image = opened('imports'), walk = { libraries: image.call('pe_c_import_libraries') };
   assert.notEqual(image.call('pe_c_next_library', { walk }), null);

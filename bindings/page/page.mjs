@@ -105,6 +105,7 @@ function overview(to, { headers, version, debug, clr }) {
     ['Subsystem version', headers.optional?.subsystem_version],
   ]);
   refused(to, 'Version information', version.fixed_error);
+  refused(to, 'Version strings', version.strings_error);
   refused(to, 'Debug data', debug.entries_error ?? debug.pdb_error ?? debug.embedded_pdb_error ?? debug.pdb_checksum_error);
 }
 

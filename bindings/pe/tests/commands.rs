@@ -1077,6 +1077,28 @@ fn an_unmapped_lookup_table_is_said_and_the_address_table_listed() {
 }
 
 #[test]
+fn a_damaged_version_string_costs_itself_alone() {
+    let (folder, mut bytes) = (Folder::new("damaged-string"), made::with_resources());
+    let whole = json_of("whole-strings", &bytes);
+    let key: Vec<u8> = "ProductName\0".encode_utf16().flat_map(u16::to_le_bytes).collect();
+    let at = bytes.windows(key.len()).position(|it| it == key).unwrap();
+    bytes[at - 4..at - 2].copy_from_slice(&0x4000_u16.to_le_bytes());
+    let file = folder.file("a.exe", &bytes);
+    let (out, _, status) = run(&["--json", &file]);
+    let said: Value = serde_json::from_str(&out).unwrap();
+    let (version, wanted) = (&said["version"], &whole["version"]);
+    assert_eq!((status, &version["fixed"], &version["fixed_error"]), (1, &wanted["fixed"], &json!(null)));
+    assert_eq!(
+        (&version["strings"], &version["strings_error"]["name"]),
+        (&wanted["strings"], &json!("RESOURCE_STRING"))
+    );
+    assert_eq!(said["resources"][0]["version"]["fixed"], wanted["fixed"]);
+    let (out, _, _) = run(&[&file]);
+    assert!(out.contains("3.11.3150.1013, of the product 1.2.3.4"), "{out}");
+    assert!(out.contains("version strings: version string value missing"), "{out}");
+}
+
+#[test]
 fn te_images_are_shown_with_their_debug_data() {
     let said = json_of("te", &made::te_image());
     assert_eq!((&said["error"], &said["file_kind"]), (&json!(null), &json!("a TE image")));

@@ -155,6 +155,26 @@ class Values(unittest.TestCase):
         data[record + 16:record + 20] = data[record:record + 4]
         self.assertEqual(pe_c.Image(bytes(data)).imports.error.kind, Kind.UNMAPPED)
 
+    def test_a_damaged_version_string_costs_itself_alone(self):
+        data = bytearray(bytes_of("resources"))
+        whole, = pe_c.Image(bytes(data)).versions
+        at = data.index("ProductName\0".encode("utf-16-le"))
+        data[at - 4:at - 2] = struct.pack("<H", 0x4000)
+        image = pe_c.Image(bytes(data))
+        version, = image.versions
+        self.assertEqual((version.fixed, version.fixed_error, version.strings), (whole.fixed, None, whole.strings))
+        self.assertEqual((version.strings_error.kind, whole.strings_error), (Kind.RESOURCE_STRING, None))
+        self.assertEqual([it.part for it in image.warnings], ["version strings"])
+        said = image.facts()["version"]
+        self.assertEqual((said["fixed"]["file_version"], said["fixed_error"]), ("3.11.3150.1013", None))
+        self.assertEqual(said["strings_error"]["name"], "RESOURCE_STRING")
+        # The fixed file information is truncated too.
+        key = data.index("VS_VERSION_INFO\0".encode("utf-16-le"))
+        data[key - 4:key - 2] = struct.pack("<H", 48)
+        refused, = pe_c.Image(bytes(data)).versions
+        self.assertIsNone(refused.fixed)
+        self.assertTrue(refused.fixed_error and not refused.strings_error)
+
     def test_no_name_has_no_imphash(self):
         data = bytearray(bytes_of("imports"))
         whole = pe_c.Image(bytes(data))

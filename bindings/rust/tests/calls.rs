@@ -1005,6 +1005,33 @@ fn versions_and_manifests_are_read() {
     assert_eq!((small.version(), small.manifest()), (Ok(None), Ok(None)));
 }
 
+/// With the length of the value of the string `ProductName` above what follows.
+fn with_damaged_string() -> Vec<u8> {
+    let mut bytes = with_resources();
+    let key: Vec<u8> = "ProductName\0".encode_utf16().flat_map(u16::to_le_bytes).collect();
+    let at = bytes.windows(key.len()).position(|it| it == key).unwrap();
+    bytes[at - 4..at - 2].copy_from_slice(&0x4000_u16.to_le_bytes());
+    bytes
+}
+
+#[test]
+fn a_damaged_version_string_does_not_hide_the_fixed_information() {
+    let mut bytes = with_damaged_string();
+    let image = strict(&bytes);
+    let leaf = image.resource_leaves().unwrap().unwrap().next().unwrap().unwrap();
+    assert_eq!((image.version(), leaf.version()), (Err(Error::RESOURCE_STRING), Err(Error::RESOURCE_STRING)));
+    let fixed = image.fixed_version().unwrap().unwrap();
+    assert_eq!((fixed.file_version(), fixed.file_os), ([3, 11, 3150, 1013], FIXED[8]));
+    assert_eq!(leaf.fixed_version(), Ok(Some(fixed)));
+    assert_eq!(strict(&with_resources()).fixed_version(), Ok(Some(fixed)));
+    assert_eq!(strict(SMALL).fixed_version(), Ok(None));
+    // A value of 48 bytes is none.
+    let start = u32::from_le_bytes(bytes[OFFSET as usize..][..4].try_into().unwrap()) & 0xFFFF;
+    assert_eq!(start as usize, leaf.size as usize);
+    bytes[OFFSET as usize + 2] = 48;
+    assert!(strict(&bytes).fixed_version().is_err());
+}
+
 #[test]
 fn images_are_shared_by_threads() {
     let image = strict(SMALL);

@@ -15,11 +15,11 @@ import typing
 from typing import Any
 
 from . import _core, _guards, _names as names, _tables
-from ._image import Mode
+from ._image import Mode, fixed_version_in
 from ._kinds import Kind
 from ._ordinals import ORDINALS
 from ._part import entropy_of
-from ._reader import IMAGE, OBJECT, TE
+from ._reader import BYTES, IMAGE, OBJECT, TE
 from ._signer import signer_of
 
 Facts = dict[str, Any]
@@ -501,7 +501,7 @@ def resources(image: Exact) -> Facts:
                 left, digest = left - len(it.content), hashlib.sha256(it.content).hexdigest()
         version = None
         if it.type == RT_VERSION:
-            answer = image.core.fixed_version_in(it.offset or 0, it.size) if it.offset is not None \
+            answer = fixed_version_in(image.core, it.offset or 0, it.size)[0] if it.offset is not None \
                 else (None, it.content_result, False)
             version = part("fixed", answer, fixed)
         return {"type": known(types, resource_type, it.type), "name": known(labels, label, it.name),
@@ -583,11 +583,21 @@ def level_of(manifest: memoryview) -> str | None:
     return rest[1:].split(rest[0])[0]
 
 
+def fixed_version(image: Exact) -> tuple[Triple, int]:
+    """The fixed file information of the first resource, and the error of the strings after it."""
+    answer, content = image.read("fixed_version"), image.value("version_content")
+    if not answer[1] or content is None:
+        return answer, 0
+    first, _ = _core.image(content, 0, False, BYTES, True)
+    return fixed_version_in(first, 0, len(content)) if first else (answer, 0)
+
+
 def version(image: Exact) -> Facts:
     tables = languages(image)
     shown = tables["languages"] or []
     first = next((it for it in shown if it["language"]["id"] in (0, 0x409)), shown[0] if shown else None)
-    return {**part("fixed", image.read("fixed_version"), fixed), "language": first and first["language"],
+    answer, number = fixed_version(image)
+    return {**part("fixed", answer, fixed), "strings_error": refusal(number), "language": first and first["language"],
             "strings": first and first["strings"], **tables,
             **part("manifest", image.read("manifest"), lambda it: {"size": len(it), "requested_level": level_of(it)})}
 

@@ -46,6 +46,18 @@ class Mode(enum.IntFlag):
     """the bytes are a module in memory, or a copy of one, from its first byte on: RVAs are offsets"""
 
 
+# How many bytes version information has up to the end of the fixed file information: lengths, a type, the key, the value.
+UP_TO_FIXED = 6 + 32 + 2 + 52
+
+
+def fixed_version_in(core: _core.Image, offset: int, size: int) -> tuple[tuple[FixedVersion | None, int, bool], int]:
+    """The fixed file information in version information, and the error of the strings after it, which costs them alone."""
+    whole: tuple[FixedVersion | None, int, bool] = core.fixed_version_in(offset, size)
+    first: tuple[FixedVersion | None, int, bool] = core.fixed_version_in(offset, min(size, UP_TO_FIXED))
+    is_there = whole[1] and first[0] is not None and not first[1]
+    return (first, whole[1]) if is_there else (whole, 0)
+
+
 class Version(typing.NamedTuple):
     """Version information in one language."""
 
@@ -59,6 +71,10 @@ class Version(typing.NamedTuple):
     """language and code page of each translation in VarFileInfo"""
     blocks: Part[VersionBlock]
     """all blocks as a tree; its `error` is the first of them"""
+    fixed_error: Error | None = None
+    """why the fixed file information is refused"""
+    strings_error: Error | None = None
+    """why a string is refused, though `strings` has what can be read of it: other readers may have none"""
 
 
 class Unwind(typing.NamedTuple):
@@ -318,7 +334,7 @@ class Image(Reader):
 
     def _version_of(self, leaf: Resource) -> Version:
         place = (leaf.offset or 0, leaf.size)
-        fixed, _, _ = self._read("fixed_version_in", *place)
+        (fixed, number, _), of_strings = fixed_version_in(self._core, *place)
         blocks: Part[VersionBlock] = self._part_of(self._read("version_blocks", *place), "version")
         strings: dict[str, dict[str, str]] = {}
         translations: list[tuple[int, int]] = []
@@ -330,7 +346,9 @@ class Image(Reader):
                         table.setdefault(text.key, text.value if isinstance(text.value, str) else "")
                 elif info.key == "VarFileInfo" and isinstance(it.value, bytes):
                     translations += [(one, two) for one, two in struct.iter_unpack("<HH", it.value[:len(it.value) & ~3])]
-        return Version(leaf.language, fixed, strings, tuple(translations), blocks)
+        errors = [error_of(it, name, self.path) if it else None
+                  for it, name in ((number, "fixed version"), (of_strings, "version strings"))]
+        return Version(leaf.language, fixed, strings, tuple(translations), blocks, *errors)
 
     @property
     def versions(self) -> Part[Version]:
@@ -502,7 +520,7 @@ class Image(Reader):
         below 512. A directory of zeros is no warning."""
         def read() -> tuple[ImageWarning, ...]:
             errors = [part.error for part in (self._part(name) for name in LISTS) if part.error]
-            errors += [it.blocks.error for it in self.versions if it.blocks.error]
+            errors += [error for it in self.versions for error in (it.fixed_error, it.strings_error, it.blocks.error) if error]
             errors += [it for it in map(self._error_of, RECORDS) if it]
             found = [ImageWarning(WarningKind.DAMAGED, it.part, it.text, it, self.path) for it in errors]
             found += self._unmapped()

@@ -1367,7 +1367,7 @@ static PyObject *row_export_fields(Image *self, Rows *rows, const pe_c_export_fi
 
 static PyStructSequence_Field row_library_fields[] = {
     {"name", "of the DLL: UTF-8, without its final zero"},
-    {"imports", "where a walk over its imports starts"},
+    {"imports", "where a walk over its imports starts; imports.left is {0, 0} where the RVA of the list is unmapped, and nowhere else: the signature of the DOS header is at the offset 0"},
     {"lookup_table_rva", "RVA of the list; where it is 0, the list is the address table"},
     {"time_date_stamp", "0, or not 0 where the imports are bound"},
     {"forwarder_chain", "index of the first forwarder, or -1"},

@@ -400,7 +400,8 @@ def _read_imports(pe: PE) -> list[ImportDescData]:
     width = 8 if pe._image.is_64 else 4
     found = []
     for row in pe._image.imports:
-        table, slots = row.lookup_table_rva or row.address_table_rva, row.address_table_rva
+        slots = row.address_table_rva
+        table = slots if row.has_unmapped_list else row.lookup_table_rva or slots
         descriptor = Structure("IMAGE_IMPORT_DESCRIPTOR", None, OriginalFirstThunk=row.lookup_table_rva,
                                Characteristics=row.lookup_table_rva, TimeDateStamp=row.time_date_stamp,
                                ForwarderChain=row.forwarder_chain, Name=row.name_rva, FirstThunk=row.address_table_rva)
