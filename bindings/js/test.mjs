@@ -894,6 +894,50 @@ test('each stream of a minidump', () => {
   assert.equal(refused(() => library.openDump(bytes)).constant, 'PE_C_DUMP_VERSION');
 });
 
+test('why a process crashed, in words', () => {
+  const bytes = Uint8Array.from(readFileSync(join(folder, 'x64.dmp'))), view = new DataView(bytes.buffer);
+  const at = Buffer.from(bytes).indexOf(Uint8Array.of(0x24, 0, 0, 0, 0, 0, 0, 0, 5, 0, 0, 0xC0));
+  const reasons = [
+    [0xC0000409, [2n], 'STATUS_STACK_BUFFER_OVERRUN (0xc0000409): FAST_FAIL_STACK_COOKIE_CHECK_FAILURE'],
+    [0xC0000409, [1000n], 'STATUS_STACK_BUFFER_OVERRUN (0xc0000409): __fastfail(1000)'],
+    [0xC0000006, [0n, 0x7000n, 0xC000009Cn],
+      'STATUS_IN_PAGE_ERROR (0xc0000006): read at 0x7000, STATUS_DEVICE_DATA_ERROR (0xc000009c)'],
+    [0xC0000005, [8n, 16n], 'STATUS_ACCESS_VIOLATION (0xc0000005): execution at 0x10'],
+    [0x20474343, [1n], 'an exception of GCC (0x20474343)'], [0x12345678, [], '0x12345678'],
+  ];
+  for (const [code, parameters, reason] of reasons) {
+    view.setUint32(at + 8, code, true);
+    view.setUint32(at + 32, parameters.length, true);
+    parameters.forEach((it, i) => view.setBigUint64(at + 40 + 8 * i, it, true));
+    assert.equal(library.openDump(bytes).reason(), reason);
+  }
+});
+
+test('the stack of a thread is memory without a list', () => {
+  const bytes = Uint8Array.from(readFileSync(join(folder, 'x64.dmp'))), view = new DataView(bytes.buffer), x64 = library.openDump(bytes);
+  const [piece] = x64.runs();
+  for (let i = 0, entry = view.getUint32(12, true); i < 12; i++, entry += 12) {
+    const kind = view.getUint32(entry, true), stream = view.getUint32(entry + 8, true);
+    if ([5, 9].includes(kind)) view.setUint32(entry, 0, true);
+    if (kind === 3) {
+      view.setBigUint64(stream + 28, piece.start, true);
+      view.setUint32(stream + 36, Number(piece.length), true);
+      view.setUint32(stream + 40, Number(piece.offset), true);
+    }
+  }
+  assert.deepEqual(library.openDump(bytes).runs(), [piece]);
+});
+
+test('what no file, no mode and no list is, is said', () => {
+  const bytes = file('imports'), says = (call, text) => assert.throws(call, (it) => it instanceof TypeError && it.message.includes(text));
+  says(() => library.open('a.dll'), 'bytes are a Uint8Array, and not a string');
+  says(() => library.open({}), 'bytes are a Uint8Array, and not a Object');
+  says(() => library.open(bytes, { mode: 'permissive' }), 'mode is a number, PE_C_PERMISSIVE, PE_C_STRICT or these with PE_C_MAPPED');
+  says(() => library.open(bytes).list('nope'), 'nope is no list: debugEntries, exports, libraries');
+  says(() => library.openDump(readFileSync(join(folder, 'x64.dmp'))).list('nope'), 'nope is no list: threads, modules');
+  assert.equal(library.open(Uint8Array.from(bytes).buffer).sections.length, 1);
+});
+
 test('the memory of a minidump in order, and what in it is an image', () => {
   const bytes = readFileSync(join(folder, 'x64.dmp')), x64 = library.openDump(bytes), [module] = x64.list('modules');
   const piece = (start, offset, length) => ({ start, offset, length }), room = (n) => Array.from({ length: n }, () => ({}));

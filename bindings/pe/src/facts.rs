@@ -371,6 +371,11 @@ impl Budget {
         Budget { left: bytes.len().saturating_mul(READINGS), sections: 0, refused: bytes.len() / REFUSED }
     }
 
+    /// The same, and at most so many bytes.
+    pub fn at_most(self, most: usize) -> Budget {
+        Budget { left: self.left.min(most), ..self }
+    }
+
     /// A list inside of an entry. One that is refused is paid for: a name in it may have been read to the end of the file, and entries
     /// may share that.
     pub fn inside<T>(&mut self, list: List<T>) -> List<T> {

@@ -403,6 +403,21 @@ class Dumps(unittest.TestCase):
         dump, stack = self.in_pieces(0, is_listed=False)
         self.assertEqual((dump.memory_list, dump.memory64, dump.pieces), ((), (), (stack,)))
 
+    def test_reasons(self):
+        data = bytearray(bytes_of("x64.dmp"))
+        at = data.index(bytes([0x24, 0, 0, 0, 0, 0, 0, 0, 5, 0, 0, 0xC0]))
+        for code, parameters, reason in (
+                (0xC0000409, (2,), "STATUS_STACK_BUFFER_OVERRUN (0xc0000409): FAST_FAIL_STACK_COOKIE_CHECK_FAILURE"),
+                (0xC0000409, (1000,), "STATUS_STACK_BUFFER_OVERRUN (0xc0000409): __fastfail(1000)"),
+                (0xC0000006, (0, 0x7000, 0xC000009C),
+                 "STATUS_IN_PAGE_ERROR (0xc0000006): read at 0x7000, STATUS_DEVICE_DATA_ERROR (0xc000009c)"),
+                (0xC0000005, (8, 16), "STATUS_ACCESS_VIOLATION (0xc0000005): execution at 0x10"),
+                (0x40000015, (), "STATUS_FATAL_APP_EXIT (0x40000015)"), (0x20474343, (1,), "an exception of GCC (0x20474343)"),
+                (0x0EEDFADE, (), "an exception of Delphi (0x0eedfade)"), (0x12345678, (), "0x12345678")):
+            struct.pack_into("<I", data, at + 8, code)
+            struct.pack_into(f"<II{len(parameters)}Q", data, at + 32, len(parameters), 0, *parameters)
+            self.assertEqual(pe_c.Dump(bytes(data)).reason, reason)
+
     def test_all_walks_of_a_dump_have_a_bound(self):
         dump, image = pe_c.Dump(bytes(self.many(40))), pe_c.Image(bytes_of("functions.bin"))
         asked = []

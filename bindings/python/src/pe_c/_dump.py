@@ -7,7 +7,7 @@ import struct
 import typing
 from typing import TYPE_CHECKING, Any
 
-from . import _core
+from . import _core, _names as names
 from ._core import (Arm64Context, Arm64Registers, Arm64StackFrame, Context, DumpEntry, DumpException, DumpHandle, DumpHeader,
                     DumpModule, DumpPiece, DumpProcess, DumpRegion, DumpSystem, DumpThread, DumpThreadInfo, DumpThreadName,
                     DumpUnloadedModule, Registers, StackFrame, SymbolKey)
@@ -30,6 +30,10 @@ MOST_FRAMES, PACKED_A_FRAME, MODULES_A_FRAME, PIECES_A_FRAME, SECTIONS_A_FRAME =
 # How often the bytes of a dump may be read for images. Those of modules that do not overlap are all read once.
 MOST_READINGS = 2
 
+# Exceptions whose parameters say more, and what an access was.
+ACCESS_VIOLATION, IN_PAGE_ERROR, FAST_FAIL = 0xC0000005, 0xC0000006, 0xC0000409
+ACCESSES = {0: "read", 1: "write", 8: "execution"}
+
 Piece = tuple[int, int, int]
 AnyFrame = StackFrame | Arm64StackFrame
 
@@ -46,6 +50,10 @@ class Stack(typing.NamedTuple):
     """of a record or a step that is refused"""
     address: int
     """what the error of a step speaks of"""
+
+
+def _named(number: int, table: dict[int, str]) -> str:
+    return f"{table[number]} (0x{number:08x})" if number in table else f"0x{number:08x}"
 
 
 def walk(registers: Registers | Arm64Registers, modules: typing.Iterable[tuple[Image, int]], memory: _typeshed.ReadableBuffer,
@@ -159,6 +167,21 @@ class Dump(Reader):
         return row
 
     @property
+    def reason(self) -> str | None:
+        """Why the process crashed, in words: the exception by its name, and what its parameters say. None without one."""
+        raised = self.exception
+        if raised is None:
+            return None
+        code, parameters = raised.exception_code, raised.exception_information[:raised.number_parameters]
+        said = _named(code, names.EXCEPTIONS)
+        if code in (ACCESS_VIOLATION, IN_PAGE_ERROR) and len(parameters) >= 2 and parameters[0] in ACCESSES:
+            status = f", {_named(parameters[2], names.EXCEPTIONS)}" if code == IN_PAGE_ERROR and len(parameters) > 2 else ""
+            return f"{said}: {ACCESSES[parameters[0]]} at 0x{parameters[1]:x}{status}"
+        if code == FAST_FAIL and parameters:
+            return f"{said}: {names.FAST_FAILS.get(parameters[0], f'__fastfail({parameters[0]})')}"
+        return said
+
+    @property
     def process(self) -> DumpProcess | None:
         row: DumpProcess | None = self._one("dump_process")
         return row
@@ -184,7 +207,7 @@ class Dump(Reader):
         """The memory: of each piece its address, its offset in the dump, and its length. They ascend and do not overlap: an address is
         that of the first piece that has it, of `memory_list`, then of `memory64`, then of the stacks of threads that neither has; pieces
         that follow one another, in the file too, are one."""
-        return tuple(struct.iter_unpack("<3Q", self._runs))
+        return tuple((start, offset, length) for start, offset, length in struct.iter_unpack("<3Q", self._runs))
 
     @property
     def _runs(self) -> bytes:
