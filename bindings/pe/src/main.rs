@@ -262,10 +262,12 @@ fn write_file(command: &Command, out: &mut dyn Write) -> io::Result<Status> {
         }
         Command::Report { file, to, images, stacks, reading, hashing } => {
             let wanted = Wanted::parts(&[], hashing.has_hashes());
-            files::each(&Files::one(file), out, |path, bytes| match stack::is_dump(bytes) {
+            let there = files::are_there(images);
+            let status = files::each(&Files::one(file), out, |path, bytes| match stack::is_dump(bytes) {
                 true => html::dump::write_to((path, bytes), &stack::Known::below(images), stacks.asked(false), to),
                 false => html::write_to((path, bytes), parsed(bytes, reading), &wanted, to),
-            })
+            })?;
+            Ok(status.max(there))
         }
         _ => edit_file(command, out),
     }

@@ -424,11 +424,17 @@ class Dumps(unittest.TestCase):
         def look_up(module):
             asked.append(module)
             return image
-        with mock.patch.object(_dump, "MOST_FRAMES", 9):
+        with mock.patch.object(_dump, "MOST_FRAMES", 13):
             dump = pe_c.Dump(bytes(self.many(40)))
         found = [dump.stack(dump.threads[0], look_up) for _ in range(7)]
-        # The modules are packed once, for 4 of the 9 frames that there are.
+        # The modules are packed once, for 8 of the 13 frames that there are.
         self.assertEqual((len(asked), [len(it.frames) for it in found]), (40, [1, 1, 1, 1, 1, 0, 0]))
+        # With another object for each walk they are packed again, up to the bound.
+        with mock.patch.object(_dump, "MOST_FRAMES", 20):
+            dump = pe_c.Dump(bytes(self.many(40)))
+        asked.clear()
+        again = [dump.stack(dump.threads[0], lambda module: look_up(module)) for _ in range(7)]
+        self.assertEqual((len(asked), [len(it.frames) for it in again]), (3 * 40, [1, 1, 0, 0, 0, 0, 0]))
         self.assertEqual([(it.end, it.frames.is_limited) for it in found[3:6]],
                          [(End.BOTTOM, False), (End.BOUND, True), (End.BOUND, True)])
 

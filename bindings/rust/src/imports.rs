@@ -282,7 +282,8 @@ impl<'a> Iterator for AllImports<'_, 'a> {
 impl FusedIterator for AllImports<'_, '_> {}
 
 impl<'a> Image<'a> {
-    /// The imports of all DLLs that the image imports from; none without an import directory. The names of DLLs and imports are
+    /// The imports of all DLLs that the image imports from; none without an import directory. A DLL whose list is unmapped has none
+    /// here, which [`Library::has_unmapped_list`] says of it. The names of DLLs and imports are
     /// read together from the first on, however many share one text; so the calls take two to four times as long for ordinary names as
     /// library by library, by [`Image::libraries`].
     ///

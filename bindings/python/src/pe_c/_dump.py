@@ -26,7 +26,7 @@ AMD64, ARM64 = 9, 12
 MOST_IMAGES, MOST_SECTIONS = 4096, 1 << 20
 # How many frames all stacks of a dump have together. What else costs as much counts as a frame: so many modules that are looked up or
 # packed for a walk, that it tests, so many pieces of memory that it tests, and so many sections in each frame.
-MOST_FRAMES, PACKED_A_FRAME, MODULES_A_FRAME, PIECES_A_FRAME, SECTIONS_A_FRAME = 1_000_000, 10, 100, 1000, 100
+MOST_FRAMES, PACKED_A_FRAME, MODULES_A_FRAME, PIECES_A_FRAME, SECTIONS_A_FRAME = 1_000_000, 5, 100, 200, 100
 # How often the bytes of a dump may be read for images. Those of modules that do not overlap are all read once.
 MOST_READINGS = 2
 
@@ -263,6 +263,8 @@ class Dump(Reader):
         time stamp and its size are the module's. `look_up` is asked once for each module as long as it is the same object. Raises Error
         where the registers of the thread can't be read."""
         registers = self.context(thread).registers
+        if self._left <= 0:
+            return self._no_frames()
         kept = self._kept.get("loaded")
         if kept is None or kept[0] is not look_up:
             images, is_limited = self._images(look_up)
@@ -274,15 +276,20 @@ class Dump(Reader):
         walked.frames.is_limited = walked.frames.is_limited or is_limited
         return walked
 
+    @staticmethod
+    def _no_frames() -> Stack:
+        """Of a walk that the bound of all walks leaves nothing."""
+        empty: Part[AnyFrame] = Part()
+        empty.is_limited = True
+        return Stack(empty, End.BOUND, None, 0)
+
     def _walked(self, registers: Registers | Arm64Registers, packed: tuple[tuple[_core.Image, ...], bytes], cost: int, most: int) -> Stack:
         """A walk, as long as all walks of the dump have not cost too much."""
         tests = len(packed[0]) // MODULES_A_FRAME + len(self._runs) // 24 // PIECES_A_FRAME
         self._left -= tests
         wanted, most = min(max(most, 0), 1 << 14), max(min(most, self._left // cost), 0)
         if most < wanted and most == 0:
-            empty: Part[AnyFrame] = Part()
-            empty.is_limited = True
-            return Stack(empty, End.BOUND, None, 0)
+            return self._no_frames()
         walked = _walk(self._core, registers, packed, self._runs, most, self.path)
         self._left -= len(walked.frames) * cost
         walked.frames.is_limited = walked.frames.is_limited or (walked.end == End.BOUND and most < wanted)
