@@ -2255,7 +2255,8 @@ typedef struct {
 /* IMAGE_IMPORT_DESCRIPTOR. */
 typedef struct {
     pe_c_range name;                /* of the DLL: UTF-8, without its final zero */
-    pe_c_imports imports;           /* where a walk over its imports starts */
+    pe_c_imports imports;           /* where a walk over its imports starts; imports.left is {0, 0} where the RVA of the list is
+                                       unmapped, and nowhere else: the signature of the DOS header is at the offset 0 */
     uint32_t lookup_table_rva;      /* RVA of the list; where it is 0, the list is the address table */
     uint32_t time_date_stamp;       /* 0, or not 0 where the imports are bound */
     uint32_t forwarder_chain;       /* index of the first forwarder, or -1 */
@@ -2515,7 +2516,8 @@ typedef struct {
 
 PE_C_SIZE(pe_c_version_block, 64);
 
-/* Returns the fixed file information. PE_C_NOTHING also where version information has none. */
+/* Returns the fixed file information. PE_C_NOTHING also where version information has none. A damaged string is an error too: without
+ * the strings the same is read by pe_c_fixed_version_in, of the first 92 bytes of what pe_c_version_blocks returns. */
 uint32_t pe_c_fixed_version(const pe_c_view *view, pe_c_version *out) PE_C_RESULT(1, 2);
 
 /* Returns the value of a name, PE_C_COMMENTS .. PE_C_SPECIAL_BUILD: UTF-16 code units, little-endian, with the zeros after

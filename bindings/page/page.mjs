@@ -105,6 +105,7 @@ function overview(to, { headers, version, debug, clr }) {
     ['Subsystem version', headers.optional?.subsystem_version],
   ]);
   refused(to, 'Version information', version.fixed_error);
+  refused(to, 'Version strings', version.strings_error);
   refused(to, 'Debug data', debug.entries_error ?? debug.pdb_error ?? debug.embedded_pdb_error ?? debug.pdb_checksum_error);
 }
 
@@ -135,6 +136,7 @@ function libraries(to, title, facts, key) {
   add(to, 'h3', `${title}: ${count(all.length, 'DLL')}`);
   for (const it of all) {
     folded(to, `${textOf(it.name)} (${it.functions.length.toLocaleString('en')})`, (box) => {
+      refused(box, `Lookup table of ${textOf(it.name)}, whose address table is listed`, it.lookup_table_error);
       refused(box, textOf(it.name), it.functions_error);
       table(box, null, it.functions.map(functionRow));
     });

@@ -25,7 +25,7 @@ pub const EXAMPLES: &str = "  pe program.exe                        what it is, 
 
 pub const STATUSES: &str =
     "0 done; 1 an image, or a part that was asked for, is refused, or diff found a difference; 2 misused arguments; \
-     3 an error of a file.";
+     3 an error of a file, or out of memory; 4 stack lost a stack before its bottom.";
 
 fn after_help() -> String {
     format!("Examples:\n{EXAMPLES}\n\nExit status: {STATUSES}")

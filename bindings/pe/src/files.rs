@@ -236,12 +236,32 @@ fn write(
             out.write_all(&report.text).map(|()| Some(report.status))
         }
         Ok(_) => Ok(None),
-        Err(error) => {
-            let name = found.path.to_string_lossy();
-            eprintln!("pe: {}: {error}{}", crate::escape::escaped(&name), hint(&found.path, &error));
-            Ok(Some(Status::FileError))
-        }
+        Err(error) => Ok(Some(unread(&found.path, &error))),
     }
+}
+
+/// Says why a file cannot be read.
+fn unread(path: &Path, error: &io::Error) -> Status {
+    eprintln!("pe: {}: {error}{}", crate::escape::escaped(&path.to_string_lossy()), hint(path, error));
+    Status::FileError
+}
+
+/// Reads one file, of which `report` writes what it says as it goes.
+pub fn one(
+    path: &Path,
+    out: &mut dyn Write,
+    report: impl FnOnce(&[u8], &mut dyn Write) -> io::Result<Status>,
+) -> io::Result<Status> {
+    match whole(path) {
+        Ok(bytes) => report(&bytes, out),
+        Err(error) => Ok(unread(path, &error)),
+    }
+}
+
+/// Says which of these files and folders are not there.
+pub fn are_there(paths: &[PathBuf]) -> Status {
+    let missing = paths.iter().filter_map(|path| Some((path, fs::metadata(path).err()?)));
+    missing.map(|(path, error)| unread(path, &error)).max().unwrap_or(Status::Done)
 }
 
 /// What was meant by a folder, or by the name of a file that is not there.

@@ -46,11 +46,14 @@ pub enum Status {
     Done = 0,
     /// An image, or a part that was asked for, is refused; or two images differ.
     Refused = 1,
-    /// A file cannot be read or written.
+    /// A file cannot be read or written, or memory ran out.
     FileError = 3,
+    /// A stack is lost before its bottom.
+    Lost = 4,
 }
 
 fn main() -> ExitCode {
+    system::end_well_without_memory();
     let arguments = Arguments::parse();
     let mut out = BufWriter::new(io::stdout().lock());
     let status = run(&arguments, &mut out).and_then(|status| out.flush().map(|()| status));
@@ -133,8 +136,10 @@ fn run_command(command: &Command, out: &mut dyn Write) -> io::Result<Status> {
             verify_signatures(files, roots.as_deref(), (reading, output), out)
         }
         Command::Stack { dump, images, stacks, output } => {
-            let (known, asked) = (stack::Known::below(images), stacks.asked(output.json));
-            files::each(&Files::one(dump), out, |path, bytes| stack::report(path, bytes, &known, asked))
+            let (there, known, asked) =
+                (files::are_there(images), stack::Known::below(images), stacks.asked(output.json));
+            let status = files::one(dump, out, |bytes, out| stack::write(dump, bytes, &known, asked, out))?;
+            Ok(if there == Status::Done { status } else { there })
         }
         Command::Unwind { words, all, walk, reading, output } => {
             unwind_functions((words, *walk), *all, How::without_hashes(reading, output), out)
@@ -257,10 +262,12 @@ fn write_file(command: &Command, out: &mut dyn Write) -> io::Result<Status> {
         }
         Command::Report { file, to, images, stacks, reading, hashing } => {
             let wanted = Wanted::parts(&[], hashing.has_hashes());
-            files::each(&Files::one(file), out, |path, bytes| match stack::is_dump(bytes) {
+            let there = files::are_there(images);
+            let status = files::each(&Files::one(file), out, |path, bytes| match stack::is_dump(bytes) {
                 true => html::dump::write_to((path, bytes), &stack::Known::below(images), stacks.asked(false), to),
                 false => html::write_to((path, bytes), parsed(bytes, reading), &wanted, to),
-            })
+            })?;
+            Ok(status.max(there))
         }
         _ => edit_file(command, out),
     }

@@ -1,7 +1,9 @@
 //! What differs between systems: the width of a terminal, large pages, what an error of a file means, and the sign that work
 //! goes on. Where a system has no such thing, or none that the program takes there, it goes without.
 
-pub use own::{ask_for_large_pages, columns_of_terminal, has_colours, is_folder, is_loop, Progress};
+pub use own::{
+    ask_for_large_pages, columns_of_terminal, end_well_without_memory, has_colours, is_folder, is_loop, Progress,
+};
 
 #[cfg(unix)]
 mod own {
@@ -38,6 +40,18 @@ mod own {
         let room = &mut room[start..];
         // SAFETY: these are whole pages of the vector's own memory, and the advice changes nothing that is in them.
         unsafe { libc::madvise(room.as_mut_ptr().cast(), room.len() / PAGE * PAGE, libc::MADV_HUGEPAGE) };
+    }
+
+    extern "C" fn end(_: libc::c_int) {
+        // SAFETY: a handler of a signal may call it.
+        unsafe { libc::_exit(crate::Status::FileError as libc::c_int) }
+    }
+
+    /// Rust ends a program whose memory ran out by `abort`, after a line that says so: then the status is that of an error of a file.
+    pub fn end_well_without_memory() {
+        let handler: extern "C" fn(libc::c_int) = end;
+        // SAFETY: the handler is a function of this type, and ends the process.
+        unsafe { libc::signal(libc::SIGABRT, handler as libc::sighandler_t) };
     }
 
     /// Whether links lead in a circle.
@@ -91,6 +105,8 @@ mod own {
     }
 
     pub fn ask_for_large_pages(_: &mut Vec<u8>) {}
+
+    pub fn end_well_without_memory() {}
 
     /// `ERROR_CANT_RESOLVE_FILENAME` of Windows.
     const CANT_RESOLVE_FILENAME: i32 = 1921;

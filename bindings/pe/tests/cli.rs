@@ -55,10 +55,10 @@ fn imports_by_name_and_by_ordinal() {
             {"name": "KERNEL32.dll", "name_lower": "kernel32.dll", "functions": [
                 {"name": "Sleep", "hint": 0x2A, "ordinal": null, "slot_rva": 0x8000},
                 {"name": null, "hint": null, "ordinal": 17, "slot_rva": 0x8008},
-            ], "functions_error": null, "functions_is_limited": false},
+            ], "functions_error": null, "functions_is_limited": false, "lookup_table_error": null},
             {"name": "a.dll", "name_lower": "a.dll", "functions": [
                 {"name": "f", "hint": 0, "ordinal": null, "slot_rva": 0x103C},
-            ], "functions_error": null, "functions_is_limited": false},
+            ], "functions_error": null, "functions_is_limited": false, "lookup_table_error": null},
         ])
     );
 }

@@ -1059,6 +1059,54 @@ fn symbols_that_share_a_long_name_are_limited() {
 }
 
 #[test]
+fn an_unmapped_lookup_table_is_said_and_the_address_table_listed() {
+    let (folder, mut bytes) = (Folder::new("lookup"), made::with_imports());
+    let record = made::offset(made::ADDRESS + 36 + 24 + 16) as usize;
+    bytes.copy_within(record..record + 4, record + 16);
+    let named = json_of("lookup-before", &bytes);
+    bytes[record..record + 4].copy_from_slice(&0x7FFF_FFFF_u32.to_le_bytes());
+    let file = folder.file("a.exe", &bytes);
+    let (out, _, status) = run(&["--json", &file]);
+    let said: Value = serde_json::from_str(&out).unwrap();
+    assert_eq!(status, 1);
+    assert_eq!(named["imports"][0]["functions"].as_array().unwrap().len(), 2);
+    assert_eq!(said["imports"][0]["functions"], named["imports"][0]["functions"]);
+    let errors = [0, 1].map(|it| said["imports"][it]["lookup_table_error"]["name"].clone());
+    assert_eq!(errors, [json!("UNMAPPED"), json!(null)]);
+    let hashes = |it: &Value| (it["hashes"]["imphash"].clone(), it["hashes"]["imphash_of"].clone());
+    let (hash, of) = hashes(&named);
+    assert_eq!((hashes(&said), of), ((hash.clone(), json!("address_tables")), json!("lookup_tables")));
+    let (out, _, _) = run(&[&file]);
+    assert!(
+        out.contains("lookup table of KERNEL32.dll at RVA 0x7fffffff: unmapped, so its address table is listed"),
+        "{out}"
+    );
+    assert!(out.contains(&format!("{}, of address tables", hash.as_str().unwrap())), "{out}");
+}
+
+#[test]
+fn a_damaged_version_string_costs_itself_alone() {
+    let (folder, mut bytes) = (Folder::new("damaged-string"), made::with_resources());
+    let whole = json_of("whole-strings", &bytes);
+    let key: Vec<u8> = "ProductName\0".encode_utf16().flat_map(u16::to_le_bytes).collect();
+    let at = bytes.windows(key.len()).position(|it| it == key).unwrap();
+    bytes[at - 4..at - 2].copy_from_slice(&0x4000_u16.to_le_bytes());
+    let file = folder.file("a.exe", &bytes);
+    let (out, _, status) = run(&["--json", &file]);
+    let said: Value = serde_json::from_str(&out).unwrap();
+    let (version, wanted) = (&said["version"], &whole["version"]);
+    assert_eq!((status, &version["fixed"], &version["fixed_error"]), (1, &wanted["fixed"], &json!(null)));
+    assert_eq!(
+        (&version["strings"], &version["strings_error"]["name"]),
+        (&wanted["strings"], &json!("RESOURCE_STRING"))
+    );
+    assert_eq!(said["resources"][0]["version"]["fixed"], wanted["fixed"]);
+    let (out, _, _) = run(&[&file]);
+    assert!(out.contains("3.11.3150.1013, of the product 1.2.3.4"), "{out}");
+    assert!(out.contains("version strings: version string value missing"), "{out}");
+}
+
+#[test]
 fn te_images_are_shown_with_their_debug_data() {
     let said = json_of("te", &made::te_image());
     assert_eq!((&said["error"], &said["file_kind"]), (&json!(null), &json!("a TE image")));
@@ -1072,6 +1120,11 @@ fn te_images_are_shown_with_their_debug_data() {
                 {"index": 6, "name": "debug", "rva": 0x50, "file_offset": null, "size": 28}]
         })
     );
+    // Firmware has base relocations of no bytes at an RVA: there is a directory, as there is in an image.
+    let mut empty = made::te_image();
+    empty[24..28].copy_from_slice(&6456_u32.to_le_bytes());
+    let row = &json_of("te-relocations", &empty)["headers"]["directories"][0];
+    assert_eq!((&row["index"], &row["rva"], &row["size"]), (&json!(5), &json!(6456 - 0x100), &json!(0)));
     let section = &said["sections"][0];
     assert_eq!(
         (&section["name"], &section["rva"], &section["file_offset"]),

@@ -1367,12 +1367,13 @@ static PyObject *row_export_fields(Image *self, Rows *rows, const pe_c_export_fi
 
 static PyStructSequence_Field row_library_fields[] = {
     {"name", "of the DLL: UTF-8, without its final zero"},
-    {"imports", "where a walk over its imports starts"},
+    {"imports", "where a walk over its imports starts; imports.left is {0, 0} where the RVA of the list is unmapped, and nowhere else: the signature of the DOS header is at the offset 0"},
     {"lookup_table_rva", "RVA of the list; where it is 0, the list is the address table"},
     {"time_date_stamp", "0, or not 0 where the imports are bound"},
     {"forwarder_chain", "index of the first forwarder, or -1"},
     {"name_rva", "RVA of the DLL's name"},
     {"address_table_rva", "RVA of the slots that the loader fills"},
+    {"has_unmapped_list", "whether the lookup table's RVA is unmapped: the imports are then what the address table names"},
     {NULL, NULL}};
 
 static PyObject *row_library(Image *self, Rows *rows, const pe_c_library *it)
@@ -1387,8 +1388,9 @@ static PyObject *row_library(Image *self, Rows *rows, const pe_c_library *it)
         N(it->forwarder_chain),
         N(it->name_rva),
         N(it->address_table_rva),
+        B(has_unmapped_list(it)),
     };
-    return filled(self, ROW_LIBRARY, items, 7);
+    return filled(self, ROW_LIBRARY, items, 8);
 }
 
 static PyStructSequence_Field row_import_fields[] = {
@@ -2346,7 +2348,7 @@ static const PyStructSequence_Desc row_kinds[] = {
     [ROW_ADDRESS_TABLE] = {"pe_c._core.ExportTable", "The table of RVAs, which has all exports by their index, also those without a name.", row_address_table_fields, 4},
     [ROW_EXPORTED] = {"pe_c._core.Export", "An export by its index.", row_exported_fields, 5},
     [ROW_EXPORT_FIELDS] = {"pe_c._core.ExportDirectory", "The export directory itself, IMAGE_EXPORT_DIRECTORY.", row_export_fields_fields, 11},
-    [ROW_LIBRARY] = {"pe_c._core.Library", "IMAGE_IMPORT_DESCRIPTOR.", row_library_fields, 7},
+    [ROW_LIBRARY] = {"pe_c._core.Library", "IMAGE_IMPORT_DESCRIPTOR.", row_library_fields, 8},
     [ROW_IMPORT] = {"pe_c._core.Import", NULL, row_import_fields, 4},
     [ROW_DELAY_DESCRIPTOR] = {"pe_c._core.DelayDescriptor", "IMAGE_DELAYLOAD_DESCRIPTOR. Addresses are RVAs where bit 0 of the attributes is set, else virtual addresses, as linkers before Visual C++ 7 wrote them.", row_delay_descriptor_fields, 8},
     [ROW_DELAY_IMPORT] = {"pe_c._core.DelayLibrary", NULL, row_delay_import_fields, 3},
