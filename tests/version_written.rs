@@ -455,6 +455,7 @@ fn records_that_are_too_long(rt: HostRuntime) -> Result<(), Fail> {
         };
         assert_eq!(rt; found, count);
     }
+    // shows: pe_version/src/record.rt require_short TooLong
     // By the lengths of names and texts alone, so that no name is read.
     let Err(VersionError::TooLong(65_536)) = version_len(&VersionRecords {
         tables: &[TableRecord { count: 3, ..table }],
