@@ -405,7 +405,12 @@ impl<'i> Stacks<'i> {
         let mut walk = Frames::new(top, most, &self.modules, self.memory);
         let frames: Vec<_> = walk
             .by_ref()
-            .map(|frame| Frame { registers: of(frame.registers), way: frame.way, has_called: frame.has_called })
+            .map(|Frame { registers, way, has_called, is_guess }| Frame {
+                registers: of(registers),
+                way,
+                has_called,
+                is_guess,
+            })
             .collect();
         let tests = frames.len().checked_ilog2().map_or(0, |it| it as usize + 1) + frames.len() / 1024;
         self.left = self.left.saturating_sub(frames.len() * cost_of_frame + tests * self.cost_of_test);

@@ -514,7 +514,7 @@ fn walks_on_the_other_machine_find_no_function() {
     let (modules, registers) =
         ([module(&x64, BASE)], Arm64Registers { pc: BASE + 0x5004, ..Arm64Registers::default() });
     let mut frames = Frames::new(registers, 9, &modules, memory);
-    assert_eq!((frames.by_ref().count(), frames.end()), (1, Some(End::Bottom)));
+    assert_eq!((frames.by_ref().count(), frames.end()), (1, Some(End::Zero)));
 }
 
 /// Any numbers in a frame on ARM64 are legal.
