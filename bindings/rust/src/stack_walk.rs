@@ -36,6 +36,11 @@ impl<'m> Module<'m> {
         Ok(Module { image, base, table, is_arm64 })
     }
 
+    /// The same without its function table, for one whose table is damaged: what calls its code is found by scans.
+    pub(crate) fn without_functions(image: &'m Image<'m>, base: u64) -> Self {
+        Module { image, base, table: sys::Range::default(), is_arm64: false }
+    }
+
     /// The module as the library takes it. An image of another machine has no functions.
     fn view(&self, is_arm64: bool) -> sys::Module {
         let table = if self.is_arm64 == is_arm64 { self.table } else { sys::Range::default() };
