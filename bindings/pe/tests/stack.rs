@@ -66,7 +66,8 @@ fn thread_of(test: &str, size_of_table: u32, rva: u64, stack: &[u64]) -> (Value,
     ];
     let dump = folder.file("a.dmp", &made::dump_of(&streams, &data));
     let [json, text] = [&["--json"][..], &[]].map(|more| {
-        let (out, complaints, status) = run(&[&["stack", &dump, "--images", folder.0.to_str().unwrap()], more].concat());
+        let (out, complaints, status) =
+            run(&[&["stack", &dump, "--images", folder.0.to_str().unwrap()], more].concat());
         assert_eq!((complaints.as_str(), status), ("", 0));
         out
     });
@@ -85,12 +86,22 @@ fn a_stack_is_whole_only_without_a_guess() {
         ("stack-data", 12, 0x1050, &[0x30], json!([["top", false]]), "no-return-address", "no executable code"),
         ("stack-scanned", 12, 0x1050, &scanned, json!([["top", false], ["scanned", true]]), "zero", "scanned, a guess"),
         (
-            "stack-no-table", 0, 0x1050, &[7, call, 7, call],
-            json!([["top", false], ["scanned", true], ["scanned", true]]), "no-function", "no return address is found",
+            "stack-no-table",
+            0,
+            0x1050,
+            &[7, call, 7, call],
+            json!([["top", false], ["scanned", true], ["scanned", true]]),
+            "no-function",
+            "no return address is found",
         ),
         (
-            "stack-bad-table", 13, 0x1050, &[call, 7, call],
-            json!([["top", false], ["leaf", true], ["scanned", true]]), "no-function", "leaf, a guess",
+            "stack-bad-table",
+            13,
+            0x1050,
+            &[call, 7, call],
+            json!([["top", false], ["leaf", true], ["scanned", true]]),
+            "no-function",
+            "leaf, a guess",
         ),
     ];
     for (test, size_of_table, rva, stack, frames, end, words) in cases {

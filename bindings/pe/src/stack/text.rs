@@ -126,7 +126,7 @@ pub fn end_of(thread: &Thread) -> String {
         Some("bound") => "there may be more frames",
         Some("no-module") => "LOST: no module with an image has the address of the last frame",
         Some("no-function") => "LOST: no function covers the call in the last frame, and no return address is found",
-        Some("no-return-address") => "LOST: no records describe the last frame, and it would return to no executable code",
+        Some("no-return-address") => "LOST: the last frame, without records, would return to no executable code",
         Some("long-chain") => "LOST: more than 32 unwind records are chained",
         Some(_) => "LOST",
         None => "not walked",
