@@ -1715,7 +1715,7 @@ typedef struct {
 typedef struct {
     pe_c_view image;
     pe_c_range table;               /* of pe_c_function_table, on ARM64 pe_c_arm64_table; all 0 where that returned
-                                       PE_C_NOTHING: leaf functions alone */
+                                       PE_C_NOTHING: no records describe its functions */
     uint64_t base;                  /* address where it is loaded */
 } pe_c_module;
 
@@ -1733,12 +1733,17 @@ enum {
 /* Why a walk is over. */
 enum {
     PE_C_END_BOUND = 0,             /* as many frames were returned as the caller wants */
-    PE_C_END_BOTTOM = 1,            /* the stack is whole: its last frame returns to 0, and no frame is found there */
+    PE_C_END_BOTTOM = 1,            /* the stack is whole: by records its last frame returns to 0, no frame is found there,
+                                       and no frame is a guess */
     PE_C_END_NO_MODULE = 2,         /* no module has the last instruction pointer, and no return address is found */
-    PE_C_END_NO_FUNCTION = 3,       /* no function covers the call in the last frame */
+    PE_C_END_NO_FUNCTION = 3,       /* no function covers the call in the last frame, and no return address is found */
     PE_C_END_RECORDS = 4,           /* an unwind record of the last function cannot be read: `error` says why */
     PE_C_END_LONG_CHAIN = 5,        /* more than 32 of them are chained */
-    PE_C_END_STEP = 6               /* the step from the last frame is refused: `error` and `address` as in pe_c_step */
+    PE_C_END_STEP = 6,              /* the step from the last frame is refused: `error` and `address` as in pe_c_step */
+    PE_C_END_ZERO = 7,              /* the last frame returns to 0, but it is a guess, or no records describe its code:
+                                       frames may be missing or wrong */
+    PE_C_END_NO_RETURN_ADDRESS = 8  /* no records describe the code of the last frame, and where it would return to is no
+                                       executable code */
 };
 
 /* A walk of a stack, and the frame that was returned last. For a walk from the start set the registers to those of the
@@ -1756,10 +1761,13 @@ typedef struct {
     uint32_t is_searched;           /* 1 where a call found that the pieces of memory lie in it, ascend and do not overlap:
                                        later calls test only those that they read. 0 before the first call, and where the
                                        caller wants them tested again */
+    uint32_t is_guess;              /* 1 where the frame may be wrong: nothing proves that it is the caller, or it follows a
+                                       frame of which this holds */
+    uint32_t spare;                 /* 0 */
 } pe_c_stack_walk;
 
 PE_C_SIZE(pe_c_module, 80);
-PE_C_SIZE(pe_c_stack_walk, 432);
+PE_C_SIZE(pe_c_stack_walk, 440);
 PE_C_SIZE(pe_c_function, 12);
 PE_C_SIZE(pe_c_walk, 24);
 PE_C_SIZE(pe_c_record, 72);
@@ -1863,11 +1871,13 @@ uint32_t pe_c_step(const pe_c_view *view, const pe_c_range *table, const uint8_t
  * one of another piece that has the address; no byte outside of the memory is ever read.
  *
  * In each frame the function is looked up by rip, or by the byte before it where the function has called. Its epilogs are
- * known by their code in the image, and a jump out of it is followed. In the top frame, and in one that was interrupted, the
- * caller may have no records: then it is found by the return address at rsp, if a call ends there, else by the first of 128
- * words from rsp on that is after a call in an executable section: the last section of its module that starts at or before
- * the call's last byte is asked, so sections have to be in ascending order. Only past an interrupt may the stack pointer not
- * rise.
+ * known by their code in the image, and a jump out of it is followed. Where no records describe the code of the top frame, or
+ * of one that was interrupted, the caller is found by the return address at rsp, if a call ends there, else by the first of
+ * 128 words from rsp on that is after a call in an executable section: the last section of its module that starts at or
+ * before the call's last byte is asked, so sections have to be in ascending order. In a frame that has called it is the first
+ * such word. What is found so may be wrong: walk->is_guess says so of each frame, but not of the caller of code in a module
+ * with a table that has no function there, if a call ends at the return address: that is a leaf function. Only past an
+ * interrupt may the stack pointer not rise.
  * Errors, which change nothing: PE_C_SHORT where the table of a module is not inside its bytes, or, where walk->is_searched
  * is 0, a piece not inside the memory. */
 uint32_t pe_c_next_frame(const pe_c_module *modules, size_t module_count, const uint8_t *memory, size_t memory_length,
@@ -2093,15 +2103,17 @@ typedef struct {
     uint32_t end;                   /* PE_C_END_* of a walk that is over */
     uint32_t error;                 /* a result, for PE_C_END_RECORDS and _STEP; else 0 */
     uint32_t is_searched;           /* as in pe_c_stack_walk */
+    uint32_t is_guess;              /* as in pe_c_stack_walk */
+    uint32_t spare;                 /* 0 */
 } pe_c_arm64_stack_walk;
 
-PE_C_SIZE(pe_c_arm64_stack_walk, 368);
+PE_C_SIZE(pe_c_arm64_stack_walk, 376);
 
 /* As pe_c_next_frame, on ARM64. In each frame the function is looked up by pc, or by the call, four bytes before it, where
- * the function has called. In the top frame, and in one that was interrupted, the caller may have no unwind data: then it is
- * found by the link register, if a call ends there, else by the first of 128 words from the stack pointer on that is,
- * without its signature, after a call in an executable section. The stack pointer may stay where it is in these alone, and
- * sink past an interrupt alone.
+ * the function has called. Where no unwind data describe the code of the top frame, or of one that was interrupted, the
+ * caller is found by the link register, if a call ends there, else by the first of 128 words from the stack pointer on that
+ * is, without its signature, after a call in an executable section; in a frame that has called by the first such word. The
+ * stack pointer may stay where it is in the first two alone, and sink past an interrupt alone.
  * Errors, which change nothing: those of pe_c_next_frame. */
 uint32_t pe_c_next_arm64_frame(const pe_c_module *modules, size_t module_count, const uint8_t *memory, size_t memory_length,
                                const pe_c_memory_piece *pieces, size_t piece_count, pe_c_arm64_stack_walk *walk)

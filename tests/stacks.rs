@@ -98,6 +98,7 @@ fn a_walk_goes_through_modules_in_any_order(rt: HostRuntime) -> Result<(), Fail>
         registers,
         way: Way::Top,
         has_called: false,
+        is_guess: false,
     };
     let mut frames = ThreadFrames::new(&modules, &memory, top, 9);
     for (rip, rsp, rbx, way) in FRAMES {

@@ -33,13 +33,87 @@ fn a_stack_is_walked_over_an_image_that_is_found() {
             "id": 0x24, "name": null, "is_crashed": false, "end": "bottom", "end_error": null,
             "frames": [{
                 "ip_va": 0x1_8000_5000u64, "sp_va": 0x2_0000, "module": null, "offset": 0x5000, "way": "top",
-                "has_called": false, "registers": null,
+                "has_called": false, "is_guess": false, "registers": null,
             }],
         }])
     );
     let module = &said["modules"][0];
     assert_eq!((&module["image"], &module["image_file"]), (&json!("file"), &json!(image)));
     assert_eq!((&module["base_va"], &module["size"]), (&json!(0x1_8000_0000u64), &json!(0x6000)));
+}
+
+/// An image with one function that pushes rbx and allocates 32 bytes, at 0x1000, with a call that ends at 0x1010, and code after it
+/// that no records describe. Its function table has so many bytes.
+fn program(size_of_table: u32) -> Vec<u8> {
+    let mut made = made::Made::new(made::X64);
+    made.characteristics = 0x6000_0020;
+    made.content.resize(0x80, 0);
+    made.content[0x0B..0x10].copy_from_slice(&made::CALL);
+    let record = made.put(&[1, 5, 2, 0, 5, 0x32, 1, 0x30]);
+    let table = made.put_words(&[made::ADDRESS, made::ADDRESS + 0x20, record, 0]);
+    made.directory(made::EXCEPTIONS, table, size_of_table);
+    made.image()
+}
+
+/// What is said of a thread at this RVA of such an image, with these words on its stack, in JSON and in text.
+fn thread_of(test: &str, size_of_table: u32, rva: u64, stack: &[u64]) -> (Value, String) {
+    let folder = Folder::new(test);
+    folder.file("a.exe", &program(size_of_table));
+    let words: Vec<u8> = stack.iter().flat_map(|it| it.to_le_bytes()).collect();
+    let data = [made::context(0x1_8000_0000 + rva, 0x2_0000), words].concat();
+    let streams = [
+        made::x64_system(),
+        made::threads(&[(0x24, made::DUMP_DATA)]),
+        made::modules(&[(0x1_8000_0000, 0x6000, 0, 0, [0, 0])]),
+        made::pieces(&[(0x2_0000, 8 * stack.len() as u32, made::DUMP_DATA + 1232)]),
+    ];
+    let dump = folder.file("a.dmp", &made::dump_of(&streams, &data));
+    let [json, text] = [&["--json"][..], &[]].map(|more| {
+        let (out, complaints, status) =
+            run(&[&["stack", &dump, "--images", folder.0.to_str().unwrap()], more].concat());
+        assert_eq!((complaints.as_str(), status), ("", 0));
+        out
+    });
+    (serde_json::from_str::<Value>(&json).unwrap()["threads"][0].take(), text)
+}
+
+/// A stack is whole where records lead to 0 and no frame is a guess. A function table of another size than its entries have is none.
+#[test]
+fn a_stack_is_whole_only_without_a_guess() {
+    let call = 0x1_8000_1010;
+    let outer = [0, 0, 0, 0, 0xB0, 0];
+    let scanned = [&[7, call], &outer[..]].concat();
+    let cases: [(&str, u32, u64, &[u64], Value, &str, &str); 6] = [
+        ("stack-whole", 12, 0x1010, &outer, json!([["top", false]]), "bottom", "the stack is whole"),
+        ("stack-zero", 12, 0x1050, &[0], json!([["top", false]]), "zero", "frames may be missing or wrong"),
+        ("stack-data", 12, 0x1050, &[0x30], json!([["top", false]]), "no-return-address", "no executable code"),
+        ("stack-scanned", 12, 0x1050, &scanned, json!([["top", false], ["scanned", true]]), "zero", "scanned, a guess"),
+        (
+            "stack-no-table",
+            0,
+            0x1050,
+            &[7, call, 7, call],
+            json!([["top", false], ["scanned", true], ["scanned", true]]),
+            "no-function",
+            "no return address is found",
+        ),
+        (
+            "stack-bad-table",
+            13,
+            0x1050,
+            &[call, 7, call],
+            json!([["top", false], ["leaf", true], ["scanned", true]]),
+            "no-function",
+            "leaf, a guess",
+        ),
+    ];
+    for (test, size_of_table, rva, stack, frames, end, words) in cases {
+        let (thread, text) = thread_of(test, size_of_table, rva, stack);
+        let found: Vec<_> =
+            thread["frames"].as_array().unwrap().iter().map(|it| json!([it["way"], it["is_guess"]])).collect();
+        assert_eq!((json!(found), &thread["end"]), (frames, &json!(end)), "{test}");
+        assert!(text.contains(words), "{text}");
+    }
 }
 
 #[test]

@@ -274,10 +274,12 @@ class Stacks(unittest.TestCase):
         size = other.headers.size_of_image
         self.assertGreater(size, 0x5010)
         apart, below = (other, BASE - size), (other, BASE - 8)
-        for modules, rip in (([(functions, BASE)], 0x7000), ([(functions, BASE), apart], 0x7000), ([apart, (functions, BASE)], 0x7000),
-                             ([(functions, BASE), below], 0x7000), ([below, (functions, BASE)], 1)):
+        for modules in ([(functions, BASE)], [(functions, BASE), apart], [apart, (functions, BASE)], [(functions, BASE), below]):
             stack = pe_c.walk(registers, modules, memory, [(0x20000, 0, len(memory))], 10)
-            self.assertEqual(stack.frames[1].registers.rip, rip, modules)
+            self.assertEqual((stack.frames[1].registers.rip, stack.frames[1].is_guess, stack.end), (0x7000, False, End.NO_MODULE))
+        # In the other one it is in no function, and 1, the word at its stack pointer, is no address of code.
+        stack = pe_c.walk(registers, [below, (functions, BASE)], memory, [(0x20000, 0, len(memory))], 10)
+        self.assertEqual((len(stack.frames), stack.end), (1, End.NO_RETURN_ADDRESS))
 
     def test_on_arm64(self):
         registers = pe_c.Arm64Registers((tuple(range(31)), tuple(range(8)), 0x20000, 0x1234))

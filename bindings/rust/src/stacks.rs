@@ -301,13 +301,17 @@ impl<'a> DumpImages<'a> {
     }
 
     /// The modules with an image, as walks take them: in ascending order, apart. One that another one overlaps which stands before
-    /// it in the list is left out, as is one whose function table is damaged.
+    /// it in the list is left out. One whose function table is damaged is taken without it.
     fn loaded(&self) -> Vec<Module<'_>> {
         let whole = self.owned.iter().filter(|it| {
             let module = &self.modules[owner_of(it)];
             it.start == module.base_of_image && it.length == u64::from(module.size_of_image)
         });
-        whole.filter_map(|it| Module::new(&self.images[owner_of(it)].as_ref()?.image, it.start).ok()).collect()
+        let module_of = |it: &MemoryPiece| {
+            let image = &self.images[owner_of(it)].as_ref()?.image;
+            Some(Module::new(image, it.start).unwrap_or_else(|_| Module::without_functions(image, it.start)))
+        };
+        whole.filter_map(module_of).collect()
     }
 }
 
@@ -421,7 +425,12 @@ impl<'i> Stacks<'i> {
         let mut walk = Frames::new(top, most, &self.modules, self.memory);
         let frames: Vec<_> = walk
             .by_ref()
-            .map(|frame| Frame { registers: of(frame.registers), way: frame.way, has_called: frame.has_called })
+            .map(|Frame { registers, way, has_called, is_guess }| Frame {
+                registers: of(registers),
+                way,
+                has_called,
+                is_guess,
+            })
             .collect();
         let tests = frames.len().checked_ilog2().map_or(0, |it| it as usize + 1) + frames.len() / 1024;
         self.left = self.left.saturating_sub(frames.len() * cost_of_frame + tests * self.cost_of_test);

@@ -119,7 +119,7 @@ pub fn frames_of(thread: &Thread) -> Table {
             index.to_string(),
             format!("{:#018x}", it.ip_va),
             place_of(&it.module, it.offset, it.ip_va),
-            it.way.to_string(),
+            if it.is_guess { format!("{}, a guess", it.way) } else { it.way.to_string() },
         ]
     });
     Table::new(&[number("frame"), number("address"), text("place"), text("found by")], rows)
@@ -142,9 +142,11 @@ fn thread_of(thread: &Thread, page: &mut Page) {
 pub fn end_of(thread: &Thread) -> String {
     let words = match thread.end {
         Some("bottom") => "the stack is whole",
+        Some("zero") => "the last frame returns to 0, after a guess or without records: frames may be missing or wrong",
         Some("bound") => "there may be more frames",
         Some("no-module") => "LOST: no module with an image has the address of the last frame",
-        Some("no-function") => "LOST: no function covers the call in the last frame",
+        Some("no-function") => "LOST: no function covers the call in the last frame, and no return address is found",
+        Some("no-return-address") => "LOST: the last frame, without records, would return to no executable code",
         Some("long-chain") => "LOST: more than 32 unwind records are chained",
         Some(_) => "LOST",
         None => "not walked",

@@ -104,7 +104,7 @@ pub struct Thread {
     pub is_crashed: bool,
     /// From the top frame outwards.
     pub frames: Vec<Frame>,
-    /// Why there are no more: `bottom` where the stack is whole.
+    /// Why there are no more: `bottom` where the stack is whole, `zero` where it comes to 0 too, but past a guess.
     pub end: Option<&'static str>,
     /// More on it; or why the registers of the thread cannot be read.
     pub end_error: Option<Refusal>,
@@ -121,6 +121,8 @@ pub struct Frame {
     pub way: &'static str,
     /// Whether its function has called: then `ip_va` is the return address.
     pub has_called: bool,
+    /// Whether it may be wrong: it, or a frame before it, was guessed.
+    pub is_guess: bool,
     /// By name; null unless they are asked for.
     pub registers: Option<BTreeMap<String, u64>>,
 }

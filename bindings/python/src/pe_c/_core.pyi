@@ -678,8 +678,8 @@ class Registers(structseq[Any], tuple[tuple[int, ...], tuple[int, ...], int]):
     def rip(self) -> int: ...
 
 @final
-class StackFrame(structseq[Any], tuple[Registers, int, int, bool, int, int]):
-    __match_args__: Final = ('registers', 'address', 'way', 'has_called', 'end', 'error',)
+class StackFrame(structseq[Any], tuple[Registers, int, int, bool, int, int, bool]):
+    __match_args__: Final = ('registers', 'address', 'way', 'has_called', 'end', 'error', 'is_guess',)
     @property
     def registers(self) -> Registers: ...
     @property
@@ -692,6 +692,8 @@ class StackFrame(structseq[Any], tuple[Registers, int, int, bool, int, int]):
     def end(self) -> int: ...
     @property
     def error(self) -> int: ...
+    @property
+    def is_guess(self) -> bool: ...
 
 @final
 class Arm64Function(structseq[Any], tuple[int, int]):
@@ -780,8 +782,8 @@ class Arm64Registers(structseq[Any], tuple[tuple[int, ...], tuple[int, ...], int
     def pc(self) -> int: ...
 
 @final
-class Arm64StackFrame(structseq[Any], tuple[Arm64Registers, int, int, bool, int, int]):
-    __match_args__: Final = ('registers', 'address', 'way', 'has_called', 'end', 'error',)
+class Arm64StackFrame(structseq[Any], tuple[Arm64Registers, int, int, bool, int, int, bool]):
+    __match_args__: Final = ('registers', 'address', 'way', 'has_called', 'end', 'error', 'is_guess',)
     @property
     def registers(self) -> Arm64Registers: ...
     @property
@@ -794,6 +796,8 @@ class Arm64StackFrame(structseq[Any], tuple[Arm64Registers, int, int, bool, int,
     def end(self) -> int: ...
     @property
     def error(self) -> int: ...
+    @property
+    def is_guess(self) -> bool: ...
 
 @final
 class ExportTable(structseq[Any], tuple[str | None, int, Directory, int]):

@@ -332,14 +332,20 @@ class End(enum.IntEnum):
     BOUND = 0
     """as many frames were returned as the caller wants"""
     BOTTOM = 1
-    """the stack is whole: its last frame returns to 0, and no frame is found there"""
+    """the stack is whole: by records its last frame returns to 0, no frame is found there, and no frame is a
+    guess"""
     NO_MODULE = 2
     """no module has the last instruction pointer, and no return address is found"""
     NO_FUNCTION = 3
-    """no function covers the call in the last frame"""
+    """no function covers the call in the last frame, and no return address is found"""
     RECORDS = 4
     """an unwind record of the last function cannot be read: `error` says why"""
     LONG_CHAIN = 5
     """more than 32 of them are chained"""
     STEP = 6
     """the step from the last frame is refused: `error` and `address` as in pe_c_step"""
+    ZERO = 7
+    """the last frame returns to 0, but it is a guess, or no records describe its code: frames may be missing or
+    wrong"""
+    NO_RETURN_ADDRESS = 8
+    """no records describe the code of the last frame, and where it would return to is no executable code"""

@@ -1114,6 +1114,7 @@ static PyStructSequence_Field row_stack_walk_fields[] = {
     {"has_called", "1 where the function of the frame has called: rip is the return address. 0 where rip is the instruction that is about to run"},
     {"end", "PE_C_END_* of a walk that is over"},
     {"error", "a result, for PE_C_END_RECORDS, _LONG_CHAIN and _STEP; else 0"},
+    {"is_guess", "1 where the frame may be wrong: nothing proves that it is the caller, or it follows a frame of which this holds"},
     {NULL, NULL}};
 
 static PyObject *row_stack_walk(Image *self, Rows *rows, const pe_c_stack_walk *it)
@@ -1127,8 +1128,9 @@ static PyObject *row_stack_walk(Image *self, Rows *rows, const pe_c_stack_walk *
         B(it->has_called),
         N(it->end),
         N(it->error),
+        B(it->is_guess),
     };
-    return filled(self, ROW_STACK_WALK, items, 6);
+    return filled(self, ROW_STACK_WALK, items, 7);
 }
 
 static PyStructSequence_Field row_arm64_function_fields[] = {
@@ -1272,6 +1274,7 @@ static PyStructSequence_Field row_arm64_stack_walk_fields[] = {
     {"has_called", "1 where the function of the frame has called: pc is the return address. 0 where pc is the instruction that is about to run"},
     {"end", "PE_C_END_* of a walk that is over"},
     {"error", "a result, for PE_C_END_RECORDS and _STEP; else 0"},
+    {"is_guess", "as in pe_c_stack_walk"},
     {NULL, NULL}};
 
 static PyObject *row_arm64_stack_walk(Image *self, Rows *rows, const pe_c_arm64_stack_walk *it)
@@ -1285,8 +1288,9 @@ static PyObject *row_arm64_stack_walk(Image *self, Rows *rows, const pe_c_arm64_
         B(it->has_called),
         N(it->end),
         N(it->error),
+        B(it->is_guess),
     };
-    return filled(self, ROW_ARM64_STACK_WALK, items, 6);
+    return filled(self, ROW_ARM64_STACK_WALK, items, 7);
 }
 
 static PyStructSequence_Field row_address_table_fields[] = {
@@ -2337,14 +2341,14 @@ static const PyStructSequence_Desc row_kinds[] = {
     [ROW_RECORD] = {"pe_c._core.UnwindRecord", "UNWIND_INFO.", row_record_fields, 9},
     [ROW_CODE] = {"pe_c._core.UnwindCode", "UNWIND_CODE.", row_code_fields, 5},
     [ROW_REGISTERS] = {"pe_c._core.Registers", "The registers of a thread that unwinding restores.", row_registers_fields, 3},
-    [ROW_STACK_WALK] = {"pe_c._core.StackFrame", "A walk of a stack, and the frame that was returned last. For a walk from the start set the registers to those of the thread, `remaining` to how many frames are wanted at most, and all else to 0.", row_stack_walk_fields, 6},
+    [ROW_STACK_WALK] = {"pe_c._core.StackFrame", "A walk of a stack, and the frame that was returned last. For a walk from the start set the registers to those of the thread, `remaining` to how many frames are wanted at most, and all else to 0.", row_stack_walk_fields, 7},
     [ROW_ARM64_FUNCTION] = {"pe_c._core.Arm64Function", "An entry of the function table.", row_arm64_function_fields, 2},
     [ROW_ARM64_PACKED] = {"pe_c._core.Arm64Packed", "Packed unwind data. The fields mean nothing unless is_packed.", row_arm64_packed_fields, 8},
     [ROW_ARM64_RECORD] = {"pe_c._core.Arm64Record", "An unwind record (.xdata).", row_arm64_record_fields, 7},
     [ROW_ARM64_SCOPE] = {"pe_c._core.Arm64Scope", "An epilog scope.", row_arm64_scope_fields, 4},
     [ROW_ARM64_CODE] = {"pe_c._core.Arm64Code", "An ARM64 unwind code.", row_arm64_code_fields, 6},
     [ROW_ARM64_REGISTERS] = {"pe_c._core.Arm64Registers", "The registers of a thread that unwinding restores.", row_arm64_registers_fields, 4},
-    [ROW_ARM64_STACK_WALK] = {"pe_c._core.Arm64StackFrame", "A walk of a stack on ARM64, and the frame that was returned last, as pe_c_stack_walk.", row_arm64_stack_walk_fields, 6},
+    [ROW_ARM64_STACK_WALK] = {"pe_c._core.Arm64StackFrame", "A walk of a stack on ARM64, and the frame that was returned last, as pe_c_stack_walk.", row_arm64_stack_walk_fields, 7},
     [ROW_ADDRESS_TABLE] = {"pe_c._core.ExportTable", "The table of RVAs, which has all exports by their index, also those without a name.", row_address_table_fields, 4},
     [ROW_EXPORTED] = {"pe_c._core.Export", "An export by its index.", row_exported_fields, 5},
     [ROW_EXPORT_FIELDS] = {"pe_c._core.ExportDirectory", "The export directory itself, IMAGE_EXPORT_DIRECTORY.", row_export_fields_fields, 11},
