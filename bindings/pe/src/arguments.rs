@@ -2,6 +2,7 @@
 
 use crate::extract::{ExtractedPart, Which};
 use crate::facts::Topic;
+use crate::new_file::Target;
 use clap::{Args, Parser, Subcommand, ValueEnum};
 use clap_complete::Shell;
 use pe_c::{Layout, Mode};
@@ -270,65 +271,60 @@ pub enum Command {
         #[command(flatten)]
         output: Output,
     },
-    /// Write the bytes of a part of an image to a file, which must not exist.
+    /// Write the bytes of a part of an image to a new file.
     Extract {
         /// The image.
         file: PathBuf,
         /// The part.
         #[arg(value_enum, ignore_case = true)]
         part: ExtractedPart,
-        /// The file to write, or - for standard output.
-        #[arg(value_name = "OUT")]
-        to: PathBuf,
+        #[command(flatten)]
+        to: Target,
         #[command(flatten)]
         which: Which,
         #[command(flatten)]
         reading: Reading,
     },
-    /// Write an image with a certificate to a file, which must not exist.
+    /// Write an image with a certificate to a new file.
     Attach {
         /// The image.
         file: PathBuf,
         /// Entries of a certificate table, or PKCS #7 signed data in DER, which gets a header.
         certificate: PathBuf,
-        /// The file to write, or - for standard output.
-        #[arg(value_name = "OUT")]
-        to: PathBuf,
+        #[command(flatten)]
+        to: Target,
         /// In place of the certificates that are there, and not after them.
         #[arg(long)]
         in_place: bool,
         #[command(flatten)]
         reading: Reading,
     },
-    /// Write an image without its certificates to a file, which must not exist.
+    /// Write an image without its certificates to a new file.
     Detach {
         /// The image.
         file: PathBuf,
-        /// The file to write, or - for standard output.
-        #[arg(value_name = "OUT")]
-        to: PathBuf,
+        #[command(flatten)]
+        to: Target,
         #[command(flatten)]
         reading: Reading,
     },
-    /// Write an image with other version information to a file, which must not exist. What is not named stays as it is.
+    /// Write an image with other version information to a new file. What is not named stays as it is.
     SetVersion {
         /// The image.
         file: PathBuf,
-        /// The file to write, or - for standard output.
-        #[arg(value_name = "OUT")]
-        to: PathBuf,
+        #[command(flatten)]
+        to: Target,
         #[command(flatten)]
         version: NewVersion,
         #[command(flatten)]
         reading: Reading,
     },
-    /// Write an image with another manifest to a file, which must not exist.
+    /// Write an image with another manifest to a new file.
     SetManifest {
         /// The image.
         file: PathBuf,
-        /// The file to write, or - for standard output.
-        #[arg(value_name = "OUT")]
-        to: PathBuf,
+        #[command(flatten)]
+        to: Target,
         /// The manifest, an XML text.
         manifest: PathBuf,
         /// In this language alone, as 1033 or 0x409. Without it in those that the manifest has, at most 256 MiB for all.
@@ -337,13 +333,12 @@ pub enum Command {
         #[command(flatten)]
         reading: Reading,
     },
-    /// Write an image with other icons to a file, which must not exist: in the place of those of its first group of icons.
+    /// Write an image with other icons to a new file: in the place of those of its first group of icons.
     SetIcon {
         /// The image.
         file: PathBuf,
-        /// The file to write, or - for standard output.
-        #[arg(value_name = "OUT")]
-        to: PathBuf,
+        #[command(flatten)]
+        to: Target,
         /// The icons, an .ico file.
         icon: PathBuf,
         /// In this language alone, as 1033 or 0x409. Without it in those that the group has, at most 256 MiB for all.
@@ -352,13 +347,12 @@ pub enum Command {
         #[command(flatten)]
         reading: Reading,
     },
-    /// Write an image with a resource that has the content of a file to a file, which must not exist.
+    /// Write an image with a resource that has the content of a file to a new file.
     SetResource {
         /// The image.
         file: PathBuf,
-        /// The file to write, or - for standard output.
-        #[arg(value_name = "OUT")]
-        to: PathBuf,
+        #[command(flatten)]
+        to: Target,
         #[command(flatten)]
         which: OneResource,
         /// The file with the content.
@@ -366,13 +360,12 @@ pub enum Command {
         #[command(flatten)]
         reading: Reading,
     },
-    /// Write an image without a resource to a file, which must not exist.
+    /// Write an image without a resource to a new file.
     RemoveResource {
         /// The image.
         file: PathBuf,
-        /// The file to write, or - for standard output.
-        #[arg(value_name = "OUT")]
-        to: PathBuf,
+        #[command(flatten)]
+        to: Target,
         #[command(flatten)]
         which: OneResource,
         #[command(flatten)]
@@ -382,21 +375,23 @@ pub enum Command {
     Checksum {
         #[command(flatten)]
         files: Files,
-        /// Write the one image with the right checksum to a file, which must not exist, or to standard output (-).
+        /// Write the one image with the right checksum to a new file, or to standard output (-).
         #[arg(long, value_name = "OUT", conflicts_with = "json")]
         fix: Option<PathBuf>,
+        /// Replace OUT where it exists.
+        #[arg(long, requires = "fix")]
+        replace: bool,
         #[command(flatten)]
         reading: Reading,
         #[command(flatten)]
         output: Output,
     },
-    /// Write a page of HTML that shows an image, or the stacks of a minidump, to a file, which must not exist.
+    /// Write a page of HTML that shows an image, or the stacks of a minidump, to a new file.
     Report {
         /// The image or the minidump.
         file: PathBuf,
-        /// The file to write, or - for standard output.
-        #[arg(value_name = "OUT")]
-        to: PathBuf,
+        #[command(flatten)]
+        to: Target,
         /// Of a minidump: a folder below which the images of modules are, or a file, as of `pe stack`.
         #[arg(long, value_name = "FOLDER")]
         images: Vec<PathBuf>,

@@ -2,10 +2,11 @@
 //! second one in another language is made, unless it is asked for.
 
 use crate::arguments::{NewVersion, OneResource};
-use crate::escape::escaped;
 use crate::facts::Refusal;
 use crate::files::{self, Report};
 use crate::icon::{self, Group, IconError, Icons};
+use crate::new_file::Target;
+use crate::streams::{complain, complaint};
 use crate::Status;
 use pe_c::{Error, Image, ResourceEditor, ResourceKey, VersionInfo};
 use std::path::{Path, PathBuf};
@@ -22,6 +23,9 @@ const DLL: u16 = 0x2000;
 const NEW_LANGUAGE: u16 = 0x409;
 /// How many bytes may be read or written for all languages together. Resources of a hostile image share what they contain.
 const ALL_LANGUAGES: usize = 256 << 20;
+
+/// The image, and where the other one is written.
+pub type Paths<'a> = (&'a Path, &'a Target);
 
 /// Why no file is written.
 enum Failure {
@@ -44,7 +48,7 @@ impl From<Error> for Failure {
 
 /// The image after a change of its resources, delivered.
 fn deliver(
-    paths: (&Path, &Path),
+    paths: Paths<'_>,
     image: Result<Image<'_>, Error>,
     change: impl FnOnce(&Image<'_>, &mut ResourceEditor<'_>) -> Result<(), Failure>,
 ) -> Report {
@@ -55,7 +59,7 @@ fn deliver(
         Ok(editor.write()?)
     };
     match made() {
-        Ok(file) => files::deliver(&file, paths.1, Status::Done),
+        Ok(file) => files::deliver_like(Some(paths.0), &file, paths.1, Status::Done),
         Err(Failure::Refused(error)) => Report::refused(paths.0, Refusal::from(error)),
         Err(Failure::File) => Report::of("", Status::FileError),
         Err(Failure::Missing) => Report::refused(paths.0, "the image has no such resource"),
@@ -66,7 +70,7 @@ fn deliver(
 
 fn content_of(path: &Path) -> Result<Vec<u8>, Failure> {
     files::whole(path).map_err(|error| {
-        eprintln!("pe: {}: {error}", escaped(&path.to_string_lossy()));
+        complain(complaint(path, error));
         Failure::File
     })
 }
@@ -142,7 +146,7 @@ fn changed(content: Option<&[u8]>, language: u16, new: &NewVersion) -> Result<Ve
 }
 
 /// The image with other version information.
-pub fn set_version(paths: (&Path, &Path), image: Result<Image<'_>, Error>, new: &NewVersion) -> Report {
+pub fn set_version(paths: Paths<'_>, image: Result<Image<'_>, Error>, new: &NewVersion) -> Report {
     deliver(paths, image, |_, editor| {
         let kind = ResourceKey::Id(VERSION);
         let name = names_of(editor, &kind).into_iter().next().unwrap_or(ResourceKey::Id(1));
@@ -175,7 +179,7 @@ fn set_in(
 
 /// The image with another manifest.
 pub fn set_manifest(
-    paths: (&Path, &Path),
+    paths: Paths<'_>,
     image: Result<Image<'_>, Error>,
     manifest: &Path,
     language: Option<u16>,
@@ -191,7 +195,7 @@ pub fn set_manifest(
 }
 
 /// The image with other icons in the place of those of its first group, which is the one that Windows shows.
-pub fn set_icon(paths: (&Path, &Path), image: Result<Image<'_>, Error>, file: &Path, language: Option<u16>) -> Report {
+pub fn set_icon(paths: Paths<'_>, image: Result<Image<'_>, Error>, file: &Path, language: Option<u16>) -> Report {
     deliver(paths, image, |_, editor| {
         let content = content_of(file)?;
         let of_file = |error| Failure::Icon(file.to_path_buf(), error);
@@ -217,12 +221,7 @@ fn keys_of(editor: &ResourceEditor<'_>, which: &OneResource) -> (ResourceKey, Re
 }
 
 /// The image with a resource of this content.
-pub fn set_resource(
-    paths: (&Path, &Path),
-    image: Result<Image<'_>, Error>,
-    which: &OneResource,
-    content: &Path,
-) -> Report {
+pub fn set_resource(paths: Paths<'_>, image: Result<Image<'_>, Error>, which: &OneResource, content: &Path) -> Report {
     deliver(paths, image, |_, editor| {
         let content = content_of(content)?;
         let (kind, name) = keys_of(editor, which);
@@ -232,7 +231,7 @@ pub fn set_resource(
 }
 
 /// The image without a resource: in one language, or in all.
-pub fn remove_resource(paths: (&Path, &Path), image: Result<Image<'_>, Error>, which: &OneResource) -> Report {
+pub fn remove_resource(paths: Paths<'_>, image: Result<Image<'_>, Error>, which: &OneResource) -> Report {
     deliver(paths, image, |_, editor| {
         let (kind, name) = keys_of(editor, which);
         let languages = match which.language {

@@ -1,11 +1,11 @@
 //! Parts of an image whose bytes are written to a file: the manifest, certificates, resources, and icons and cursors as the
 //! files that other programs open.
 
-use crate::escape::escaped;
 use crate::facts::resources::LEAVES;
 use crate::facts::{languages, Refusal};
 use crate::files::{self, Report};
 use crate::names::{name_of, RESOURCE_TYPES};
+use crate::new_file::Target;
 use crate::Status;
 use clap::{Args, ValueEnum};
 use pe_c::{Error, Image, ResourceLeaf, ResourceName};
@@ -196,13 +196,12 @@ impl ExtractedPart {
     }
 
     /// Writes the part. The text is for standard output.
-    pub fn write_to(self, (path, image): (&Path, Result<Image<'_>, Error>), which: &Which, to: &Path) -> Report {
+    pub fn write_to(self, (path, image): (&Path, Result<Image<'_>, Error>), which: &Which, to: &Target) -> Report {
         match image.and_then(|image| self.bytes_of(&image, which)) {
             Ok(Some(bytes)) => files::deliver(&bytes, to, Status::Done),
             Ok(None) => {
                 let part = self.to_possible_value().map_or(String::new(), |it| it.get_name().to_string());
-                eprintln!("pe: {}: the image has no such part: {part}", escaped(&path.to_string_lossy()));
-                Report::of("", Status::Refused)
+                Report::refused(path, format_args!("the image has no such part: {part}"))
             }
             Err(error) => Report::refused(path, Refusal::from(error)),
         }

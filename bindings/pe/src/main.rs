@@ -16,10 +16,12 @@ mod html;
 mod icon;
 mod man;
 mod names;
+mod new_file;
 mod page;
 mod show;
 mod sign;
 mod stack;
+mod streams;
 mod summary;
 mod system;
 mod tables;
@@ -35,9 +37,10 @@ use files::Report;
 use page::Style;
 use pe_c::{Error, Image, Placement};
 use serde::Serialize;
-use std::io::{self, BufWriter, Write};
+use std::io::{self, Write};
 use std::path::{Path, PathBuf};
 use std::process::ExitCode;
+use streams::{complain, complaint};
 use verify::checked::Roots;
 
 /// What a run came to: the exit status. The worst of several files counts.
@@ -51,18 +54,13 @@ pub enum Status {
 }
 
 fn main() -> ExitCode {
-    let arguments = Arguments::parse();
-    let mut out = BufWriter::new(io::stdout().lock());
-    let status = run(&arguments, &mut out).and_then(|status| out.flush().map(|()| status));
-    match status {
-        Ok(status) => ExitCode::from(status as u8),
-        // Whoever read the output has seen enough, as `head` has.
-        Err(error) if error.kind() == io::ErrorKind::BrokenPipe => ExitCode::from(Status::FileError as u8),
-        Err(error) => {
-            eprintln!("pe: standard output: {error}");
-            ExitCode::from(Status::FileError as u8)
-        }
-    }
+    system::ignore_file_size_limit();
+    let arguments = match Arguments::try_parse() {
+        Ok(arguments) => arguments,
+        Err(error) => return ExitCode::from(streams::said_by_clap(&error)),
+    };
+    let mut out = streams::output();
+    streams::status_of(run(&arguments, &mut *out).and_then(|status| out.flush().map(|()| status)))
 }
 
 fn run(arguments: &Arguments, out: &mut dyn Write) -> io::Result<Status> {
@@ -197,7 +195,7 @@ fn verify_signatures(
     refuse_mapped(reading, "a signature");
     let roots = match roots.map(|path| (path, Roots::read(path))) {
         Some((path, Err(why))) => {
-            eprintln!("pe: {}: {why}", escape::escaped(&path.to_string_lossy()));
+            complain(complaint(path, why));
             return Ok(Status::FileError);
         }
         Some((_, Ok(roots))) => Some(roots),
@@ -245,12 +243,13 @@ fn write_file(command: &Command, out: &mut dyn Write) -> io::Result<Status> {
                 of_image(bytes, reading, |image| sign::detach(path, image, to))
             })
         }
-        Command::Checksum { files, fix, reading, output } => {
+        Command::Checksum { files, fix, replace, reading, output } => {
             refuse_mapped(reading, "a checksum");
             if fix.is_some() && files.is_several() {
                 misused("--fix takes one file, since it writes one");
             }
-            files::each(files, out, |path, bytes| match fix {
+            let fix = fix.as_ref().map(|to| new_file::Target { to: to.clone(), replace: *replace });
+            files::each(files, out, |path, bytes| match &fix {
                 Some(to) => of_image(bytes, reading, |image| sign::fix(path, image, to)),
                 None => of_image(bytes, reading, |image| sign::checksum(path, image, output.json)),
             })
@@ -278,7 +277,7 @@ fn edit_file(command: &Command, out: &mut dyn Write) -> io::Result<Status> {
     };
     refuse_mapped(reading, "a change of resources");
     files::each(&Files::one(file), out, |path, bytes| {
-        let paths = (path, to.as_path());
+        let paths = (path, to);
         of_image(bytes, reading, |image| match command {
             Command::SetManifest { manifest, language, .. } => edit::set_manifest(paths, image, manifest, *language),
             Command::SetIcon { icon, language, .. } => edit::set_icon(paths, image, icon, *language),
@@ -298,7 +297,8 @@ fn refuse_mapped(reading: &Reading, what: &str) {
 }
 
 fn misused(message: &str) -> ! {
-    Arguments::command().error(ErrorKind::ArgumentConflict, message).exit()
+    let error = Arguments::command().error(ErrorKind::ArgumentConflict, message);
+    std::process::exit(streams::said_by_clap(&error).into())
 }
 
 fn show_csv(
@@ -335,7 +335,7 @@ fn compare(paths: [&Path; 2], how: How, out: &mut dyn Write) -> io::Result<Statu
         match files::whole(path) {
             Ok(bytes) => contents.push(bytes),
             Err(error) => {
-                eprintln!("pe: {}: {error}", escape::escaped(&path.to_string_lossy()));
+                complain(complaint(path, error));
                 return Ok(Status::FileError);
             }
         }
@@ -349,7 +349,7 @@ fn compare(paths: [&Path; 2], how: How, out: &mut dyn Write) -> io::Result<Statu
             Err(error) => Facts::refused(path, bytes, *error),
         });
     }
-    facts.iter().for_each(|facts| eprint!("{}", show::complaints(facts)));
+    facts.iter().for_each(|facts| complain(show::complaints(facts)));
     let [before, after] = facts.as_slice() else { return Ok(Status::Refused) };
     if before.error.is_some() || after.error.is_some() {
         return Ok(Status::Refused);
@@ -410,7 +410,9 @@ fn of_image<'a>(bytes: &'a [u8], reading: &Reading, report: impl FnOnce(Result<I
     let image = parsed(bytes, reading);
     let is_image = image.as_ref().err().map_or(true, |error| !is_no_image(*error));
     let mut made = report(image);
-    if let (false, false, Some(kind)) = (is_image, made.complaints.is_empty(), facts::kind_of(bytes)) {
+    if let (false, Status::Refused, false, Some(kind)) =
+        (is_image, made.status, made.complaints.is_empty(), facts::kind_of(bytes))
+    {
         made.complaints = format!("{}; it is {kind}\n", made.complaints.trim_end());
     }
     Report { is_image, ..made }
