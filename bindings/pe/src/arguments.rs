@@ -18,7 +18,7 @@ pub const EXAMPLES: &str = "  pe program.exe                        what it is, 
   pe stack crash.dmp --images C:/App    why a process crashed, and the stacks of its threads
   pe key program.exe                    where a symbol server has its PDB and itself
   pe digest program.exe                 what its signature signs, as SHA-256
-  pe verify program.exe                 by whom and when it was signed, and whether the digests fit
+  pe verify program.exe                 by whom and when it was signed, and whether digests and signatures fit
   pe extract program.exe manifest -     its manifest, on standard output
   pe detach program.exe unsigned.exe    the same without its certificates
   pe set-manifest a.exe b.exe app.xml   an image with another manifest
@@ -38,9 +38,10 @@ pub const ARCHIVE: &str = match option_env!("PE_ARCHIVE") {
     None => "not said by what built the program",
 };
 
-/// The version, and whether the library was proved.
+/// The version, whether the library was proved, and what checks signatures.
 fn version() -> &'static str {
-    format!("{}\nlibrary for C: {ARCHIVE}", env!("CARGO_PKG_VERSION")).leak()
+    let checked_by = crate::verify::checked::checked_by();
+    format!("{}\nlibrary for C: {ARCHIVE}\nsignatures: {checked_by}", env!("CARGO_PKG_VERSION")).leak()
 }
 
 /// Shows what is in Windows executables (.exe, .dll, .sys, .efi).
@@ -246,13 +247,16 @@ pub enum Command {
         #[command(flatten)]
         output: Output,
     },
-    /// Show what the signatures of images say, and whether it fits: the digests, and with OpenSSL the signatures.
+    /// Show what the signatures of images say, and whether it fits: the digests and the signatures, and with roots the chains.
     Verify {
         #[command(flatten)]
         files: Files,
-        /// The certificates, in PEM, that chains have to lead to. It needs a program that is built with the feature openssl.
+        /// The certificates, in PEM, that chains have to lead to.
         #[arg(long, value_name = "FILE")]
         roots: Option<PathBuf>,
+        /// Those that the system trusts, which are mostly for servers.
+        #[arg(long, conflicts_with = "roots")]
+        system_roots: bool,
         #[command(flatten)]
         reading: Reading,
         #[command(flatten)]

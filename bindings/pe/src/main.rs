@@ -127,8 +127,9 @@ fn run_command(command: &Command, out: &mut dyn Write) -> io::Result<Status> {
                 of_image(bytes, reading, |image| digest::report(path, image, output.json))
             })
         }
-        Command::Verify { files, roots, reading, output } => {
-            verify_signatures(files, roots.as_deref(), (reading, output), out)
+        Command::Verify { files, roots, system_roots, reading, output } => {
+            let of_system = system_roots.then(verify::checked::roots_of_system);
+            verify_signatures(files, roots.as_deref().or(of_system), (reading, output), out)
         }
         Command::Stack { dump, images, stacks, output } => {
             let (known, asked) = (stack::Known::below(images), stacks.asked(output.json));

@@ -13,6 +13,7 @@ fn words_of(state: State) -> &'static str {
         State::Refused => "damaged: see the errors",
         State::NotSigned => "not signed",
         State::Wrong => "WRONG: see what is different or wrong",
+        State::Weak => "all of it fits, but by MD5: another text with the same digest is made in seconds",
         State::Open => "open: see what was not compared or checked",
         State::DigestsEqual => "all digests are equal; no signature was checked, nor any certificate",
         State::SignaturesGood => "all digests are equal and all signatures good; whom to trust was not checked",
@@ -57,6 +58,7 @@ fn signature_of(signature: &Signature, page: &mut Page) {
         let weak: Vec<&str> = signature.weak_algorithms.iter().copied().collect();
         page.warning(format_args!("weak: {}; two texts with one such digest have been made", weak.join(", ")));
     }
+    signature.warnings.iter().for_each(|it| page.warning(it));
     if let Some(error) = &signature.error {
         page.warning(error);
     }
@@ -81,6 +83,7 @@ fn signer_of(signer: &Told, page: &mut Page) {
     page.row("", claims_of(&signer.content_type, &signer.key_purpose, "code signing"));
     page.row("  by", format_args!("{}, {}", signer.signature_algorithm, signer.signature.text()));
     chain_of(signer, page);
+    signer.warnings.iter().for_each(|it| page.warning(it));
     signer.time_stamps.iter().for_each(|it| stamp_of(it, page));
     if let Some(error) = &signer.error {
         page.warning(error);
@@ -110,7 +113,11 @@ fn chain_of(signer: &Told, page: &mut Page) {
             page.row("  chain", format_args!("{}, {end}; signatures {checked}", through.join("; ")));
         }
     }
-    page.row("  trust", signer.trust.text());
+    page.row("  trust", trust_of(&signer.trust, &signer.trust_error));
+}
+
+fn trust_of(trust: &Checked, why: &Option<String>) -> String {
+    trust.text() + &why.as_deref().map_or(String::new(), |why| format!(", {}", escaped(why)))
 }
 
 fn stamp_of(stamp: &Stamp, page: &mut Page) {
@@ -120,7 +127,9 @@ fn stamp_of(stamp: &Stamp, page: &mut Page) {
     page.row("", format_args!("digest of the signature {}", words_of_digest(&stamp.digest)));
     page.row("", format_args!("digest of the stamp {}", words_of_digest(&stamp.message_digest)));
     page.row("", claims_of(&stamp.content_type, &stamp.key_purpose, "time stamps"));
-    page.row("", format_args!("signature {}; trust {}", stamp.signature.text(), stamp.trust.text()));
+    let trust = trust_of(&stamp.trust, &stamp.trust_error);
+    page.row("", format_args!("signature {}; trust {trust}", stamp.signature.text()));
+    stamp.warnings.iter().for_each(|it| page.warning(it));
     if let Some(error) = &stamp.error {
         page.warning(error);
     }
