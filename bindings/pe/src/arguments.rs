@@ -196,7 +196,7 @@ pub enum Command {
         #[command(flatten)]
         output: Output,
     },
-    /// Show what came, went and changed between two images.
+    /// Show what came, went and changed between two images. The status is 0 where all their bytes are the same.
     Diff {
         /// The image before.
         #[arg(value_name = "A")]
@@ -206,8 +206,6 @@ pub enum Command {
         after: PathBuf,
         #[command(flatten)]
         reading: Reading,
-        #[command(flatten)]
-        hashing: Hashing,
         #[command(flatten)]
         output: Output,
     },

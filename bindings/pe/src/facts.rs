@@ -156,9 +156,9 @@ fn is_machine(low: u8, high: u8) -> bool {
 /// What each line of JSON starts with, of a command that has no parts: whose file it is.
 #[derive(Clone, Debug, Serialize)]
 pub struct Origin {
-    json_version: u32,
+    pub json_version: u32,
     pub file: String,
-    file_hex: Option<String>,
+    pub file_hex: Option<String>,
 }
 
 impl Origin {

@@ -117,8 +117,9 @@ fn run_command(command: &Command, out: &mut dyn Write) -> io::Result<Status> {
         Command::Find { word, files, reading, output } => {
             find_word(word, files, How::without_hashes(reading, output), out)
         }
-        Command::Diff { before, after, reading, hashing, output } => {
-            compare([before.as_path(), after.as_path()], How::of(reading, hashing, output), out)
+        Command::Diff { before, after, reading, output } => {
+            let how = How { reading, has_hashes: true, is_json: output.json };
+            compare([before.as_path(), after.as_path()], how, out)
         }
         Command::Key { files, reading, hashing, output } => show_keys(files, How::of(reading, hashing, output), out),
         Command::Digest { files, reading, output } => {
@@ -329,7 +330,7 @@ fn find_word(word: &str, files: &Files, how: How, out: &mut dyn Write) -> io::Re
     files::each(files, out, |path, bytes| shown(path, bytes, how.reading, &wanted, text))
 }
 
-/// What differs between two files. The status is 1 where something does, or where one is refused.
+/// What differs between two files. The status is 1 where a byte does.
 fn compare(paths: [&Path; 2], how: How, out: &mut dyn Write) -> io::Result<Status> {
     let mut contents = Vec::new();
     for path in paths {
@@ -341,6 +342,12 @@ fn compare(paths: [&Path; 2], how: How, out: &mut dyn Write) -> io::Result<Statu
             }
         }
     }
+    let mut say = |found: &diff::Differences| {
+        out.write_all(if how.is_json { json(found) } else { found.text(Style::of_stdout()) }.as_bytes())
+    };
+    if contents[0] == contents[1] {
+        return say(&diff::Differences::none(paths)).map(|()| Status::Done);
+    }
     let images: Vec<_> = contents.iter().map(|bytes| parsed(bytes, how.reading)).collect();
     let wanted = Wanted::parts(&[], how.has_hashes);
     let mut facts = Vec::new();
@@ -351,13 +358,10 @@ fn compare(paths: [&Path; 2], how: How, out: &mut dyn Write) -> io::Result<Statu
         });
     }
     facts.iter().for_each(|facts| complain(show::complaints(facts)));
-    let [before, after] = facts.as_slice() else { return Ok(Status::Refused) };
-    if before.error.is_some() || after.error.is_some() {
-        return Ok(Status::Refused);
+    if let ([Ok(one), Ok(other)], [before, after]) = (images.as_slice(), facts.as_slice()) {
+        say(&diff::of(paths, [one, other], [before, after]))?;
     }
-    let found = diff::of(before, after);
-    out.write_all(if how.is_json { json(&found) } else { found.text(Style::of_stdout()) }.as_bytes())?;
-    Ok(if found.differences.is_empty() { Status::Done } else { Status::Refused })
+    Ok(Status::Refused)
 }
 
 /// What a command says of an image: its text, and lines for standard error.

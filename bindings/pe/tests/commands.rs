@@ -568,14 +568,87 @@ fn differences_are_what_came_went_and_changed() {
     assert_eq!(status, 1);
     assert!(out.contains("headers\n  ~ entry point: 0x1234 -> 0x1\n"), "{out}");
     assert!(out.contains("sections\n  ~ .rdata: ---, "), "{out}");
-    assert!(out.ends_with("exports\n  - second\n  + newest\n"), "{out}");
+    let bytes = "bytes\n  ~ PE headers: 2 of 264 bytes differ\n  ~ section .rdata: 5 of 512 bytes differ\n";
+    assert!(out.ends_with(&format!("exports\n  - second\n  + newest\n{bytes}")), "{out}");
     let (out, _, status) = run(&["diff", "--json", &one, &other]);
     let found: Value = serde_json::from_str(&out).unwrap();
     let last = json!({"part": "exports", "change": "added", "name": "newest", "before": null, "after": ""});
     assert_eq!((found["differences"].as_array().unwrap().last().unwrap(), status), (&last, 1));
+    let headers = json!({"name": "PE headers", "before": 264, "after": 264, "different": 2});
+    assert_eq!(found["regions"][0], headers);
+    assert_eq!(run(&["diff", "--no-hashes", &one, &other]).2, 2);
+    // Of what is no image the bytes are compared.
+    let text = folder.file("text", b"no image");
+    assert_eq!(run(&["diff", &text, &text]), (String::new(), String::new(), 0));
     let (_, error, status) = run(&["diff", &one, &folder.file("d.dll", b"MZ")]);
     assert_eq!((error.contains("d.dll: image: truncated (SHORT)"), status), (true, 1));
     assert_eq!(run(&["diff", &one, folder.0.join("none").to_str().unwrap()]).2, 3);
+}
+
+/// An image with all that a file may have beside headers and sections: a stub, a Rich header, slack, padding, an overlay, certificates
+/// and bytes after these. Where each is, by the name of its region.
+fn with_every_region() -> (Vec<u8>, Vec<(&'static str, usize, usize)>) {
+    let small = made::with_exports();
+    let signature = u32::from_le_bytes(small[60..64].try_into().unwrap()) as usize;
+    let (rich, moved, raw) = (0x80, 0x100, 0x800);
+    let mut bytes = vec![0; raw];
+    bytes[..64].copy_from_slice(&small[..64]);
+    put(&mut bytes, 60, &(moved as u32).to_le_bytes());
+    let key = 0x1234_5678u32;
+    put(&mut bytes, rich, &(u32::from_le_bytes(*b"DanS") ^ key).to_le_bytes());
+    (1..4).for_each(|it| put(&mut bytes, rich + 4 * it, &key.to_le_bytes()));
+    put(&mut bytes, rich + 24, b"Rich");
+    put(&mut bytes, rich + 28, &key.to_le_bytes());
+    put(&mut bytes, moved, &small[signature..0x400]);
+    let sections = moved + 24 + 240;
+    put(&mut bytes, sections + 20, &(raw as u32).to_le_bytes());
+    put(&mut bytes, moved + 24 + 60, &0x400u32.to_le_bytes());
+    bytes.extend(&small[0x400..0x600]);
+    let (overlay, certificates) = (bytes.len(), bytes.len() + 64);
+    bytes.extend([7; 64]);
+    bytes.extend([24, 0, 0, 0, 0, 2, 2, 0]);
+    bytes.extend([0x30; 16 + 8]);
+    put(&mut bytes, moved + 24 + 112 + 32, &[certificates as u32, 24].map(u32::to_le_bytes).concat());
+    let regions = vec![
+        ("DOS header", 2, 58),
+        ("DOS stub", 64, rich - 64),
+        ("Rich header", rich + 4, 20),
+        ("after the Rich header", rich + 32, moved - rich - 32),
+        ("PE headers", moved + 8, 4),
+        ("PE headers", moved + 24 + 64, 4),
+        ("section headers", sections + 24, 12),
+        ("header slack", sections + 40, 0x400 - sections - 40),
+        ("padding", 0x400, raw - 0x400),
+        ("section .rdata", raw, 0x200),
+        ("overlay", overlay, 64),
+        ("certificates", certificates + 8, 16),
+        ("overlay (2)", certificates + 24, 8),
+    ];
+    (bytes, regions)
+}
+
+/// A pair of files for the first, the middle and the last byte of each region.
+#[test]
+fn each_byte_that_differs_is_seen() {
+    let folder = Folder::new("diff-bytes");
+    let (bytes, regions) = with_every_region();
+    let one = folder.file("a.dll", &bytes);
+    assert_eq!(run(&[&one]).2, 0);
+    for (name, start, length) in regions {
+        for at in [start, start + length / 2, start + length - 1] {
+            let mut other = bytes.clone();
+            other[at] ^= 0x10;
+            let other = folder.file("b.dll", &other);
+            let (out, complaints, status) = run(&["diff", &one, &other]);
+            assert_eq!(status, 1, "{name} at {at:#x}");
+            // Of headers that are refused then no region is named.
+            let is_named = out.lines().any(|it| it.starts_with(&format!("  ~ {name}: 1 of ")));
+            assert!(is_named || !complaints.is_empty(), "{name} at {at:#x}: {out}{complaints}");
+        }
+    }
+    let longer = folder.file("c.dll", &[&bytes[..], &[1, 2, 3]].concat());
+    let out = run(&["diff", &one, &longer]).0;
+    assert!(out.ends_with("bytes\n  ~ overlay (2): 8 bytes -> 11 bytes, 3 differ\n"), "{out}");
 }
 
 #[test]
