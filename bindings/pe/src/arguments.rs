@@ -319,6 +319,8 @@ pub enum Command {
         #[command(flatten)]
         version: NewVersion,
         #[command(flatten)]
+        strong_name: StrongName,
+        #[command(flatten)]
         reading: Reading,
     },
     /// Write an image with another manifest to a new file.
@@ -332,6 +334,8 @@ pub enum Command {
         /// In this language alone, as 1033 or 0x409. Without it in those that the manifest has, at most 256 MiB for all.
         #[arg(long, value_parser = language)]
         language: Option<u16>,
+        #[command(flatten)]
+        strong_name: StrongName,
         #[command(flatten)]
         reading: Reading,
     },
@@ -347,6 +351,8 @@ pub enum Command {
         #[arg(long, value_parser = language)]
         language: Option<u16>,
         #[command(flatten)]
+        strong_name: StrongName,
+        #[command(flatten)]
         reading: Reading,
     },
     /// Write an image with a resource that has the content of a file to a new file.
@@ -360,6 +366,8 @@ pub enum Command {
         /// The file with the content.
         content: PathBuf,
         #[command(flatten)]
+        strong_name: StrongName,
+        #[command(flatten)]
         reading: Reading,
     },
     /// Write an image without a resource to a new file.
@@ -370,6 +378,8 @@ pub enum Command {
         to: Target,
         #[command(flatten)]
         which: OneResource,
+        #[command(flatten)]
+        strong_name: StrongName,
         #[command(flatten)]
         reading: Reading,
     },
@@ -450,10 +460,10 @@ pub struct OneResource {
 /// What is new of version information.
 #[derive(Args, Clone, Debug)]
 pub struct NewVersion {
-    /// The version of the file, up to four numbers.
+    /// The version of the file, up to four numbers. The string FileVersion follows it, unless --string sets that too.
     #[arg(long, value_name = "1.2.3.4", value_parser = version_numbers)]
     pub file_version: Option<[u16; 4]>,
-    /// The version of the product.
+    /// The version of the product. The string ProductVersion follows it.
     #[arg(long, value_name = "1.2.3.4", value_parser = version_numbers)]
     pub product_version: Option<[u16; 4]>,
     /// A string, as CompanyName=Example, in each table of strings; the others stay.
@@ -462,6 +472,31 @@ pub struct NewVersion {
     /// In this language alone, as 1033 or 0x409. Without it in those that the version information has.
     #[arg(long, value_parser = language)]
     pub language: Option<u16>,
+}
+
+impl NewVersion {
+    /// The strings that are named, and before them those that follow the numbers.
+    pub fn all_strings(&self) -> impl Iterator<Item = (&str, String)> {
+        let is_named = |name: &str| self.strings.iter().any(|it| it.0.eq_ignore_ascii_case(name));
+        let numbers = [("FileVersion", self.file_version), ("ProductVersion", self.product_version)];
+        let text = |numbers: [u16; 4]| numbers.map(|it| it.to_string()).join(".");
+        let following = numbers.into_iter().filter(move |it| !is_named(it.0));
+        let following = following.filter_map(move |(name, numbers)| Some((name, text(numbers?))));
+        following.chain(self.strings.iter().map(|(name, text)| (name.as_str(), text.clone())))
+    }
+
+    /// Whether nothing is new.
+    pub fn is_empty(&self) -> bool {
+        self.all_strings().next().is_none()
+    }
+}
+
+/// What is done with a strong name.
+#[derive(Args, Clone, Copy, Debug)]
+pub struct StrongName {
+    /// Change an image with a strong name (.NET) too, which is no longer good then.
+    #[arg(long)]
+    pub break_strong_name: bool,
 }
 
 fn language(text: &str) -> Result<u16, String> {

@@ -269,18 +269,25 @@ fn write_file(command: &Command, out: &mut dyn Write) -> io::Result<Status> {
 
 /// The commands that write an image with other resources.
 fn edit_file(command: &Command, out: &mut dyn Write) -> io::Result<Status> {
-    let (Command::SetVersion { file, to, reading, .. }
-    | Command::SetManifest { file, to, reading, .. }
-    | Command::SetIcon { file, to, reading, .. }
-    | Command::SetResource { file, to, reading, .. }
-    | Command::RemoveResource { file, to, reading, .. }) = command
+    let (Command::SetVersion { file, to, strong_name, reading, .. }
+    | Command::SetManifest { file, to, strong_name, reading, .. }
+    | Command::SetIcon { file, to, strong_name, reading, .. }
+    | Command::SetResource { file, to, strong_name, reading, .. }
+    | Command::RemoveResource { file, to, strong_name, reading, .. }) = command
     else {
         return Ok(Status::Done);
     };
     refuse_mapped(reading, "a change of resources");
+    if matches!(command, Command::SetVersion { version, .. } if version.is_empty()) {
+        misused("nothing is new: --file-version, --product-version and --string say what");
+    }
     files::each(&Files::one(file), out, |path, bytes| {
         let paths = (path, to);
         of_image(bytes, reading, |image| match command {
+            _ if !strong_name.break_strong_name && image.as_ref().is_ok_and(edit::has_strong_name) => Report::refused(
+                path,
+                "it has a strong name (.NET), which a change breaks; --break-strong-name changes it all the same",
+            ),
             Command::SetManifest { manifest, language, .. } => edit::set_manifest(paths, image, manifest, *language),
             Command::SetIcon { icon, language, .. } => edit::set_icon(paths, image, icon, *language),
             Command::SetResource { which, content, .. } => edit::set_resource(paths, image, which, content),

@@ -460,11 +460,61 @@ fn versions_are_changed() {
     let content = fs::read(path("0x407")).unwrap();
     let has = |text: &str| content.windows(2 * text.len()).any(|it| it == units(text));
     assert_eq!([has("Own\0\0y\0"), has("x\0"), has("CompanyName\0"), has("04070")], [true, false, true, true]);
+    // The strings follow the numbers, unless they are named.
+    let words = ["--file-version", "4.5", "--product-version", "6", "--string", "PRODUCTVERSION=six"];
+    let third = path("third.exe");
+    assert_eq!(run(&[&["set-version", &file, &third][..], &words].concat()).2, 0);
+    let said: Value = serde_json::from_str(&run(&["show", &third, "version", "--json"]).0).unwrap();
+    let strings = said["version"]["strings"].as_object().unwrap();
+    assert_eq!(strings.get("FileVersion"), Some(&json!("4.5.0.0")));
+    assert_eq!(strings.values().filter(|it| **it == "6.0.0.0").count(), 0);
+    assert_eq!(run(&["set-version", &file, &path("d.exe")]).2, 2);
+    assert_eq!(run(&["set-version", &file, &path("d.exe"), "--language", "1033"]).2, 2);
     for words in
         [["--file-version", "1.2.3.4.5"], ["--file-version", "65536"], ["--string", "=x"], ["--language", "no"]]
     {
         assert_eq!(run(&[&["set-version", &file, &path("d.exe")][..], &words].concat()).2, 2, "{words:?}");
     }
+}
+
+/// `VOS_NT_WINDOWS32`, 0x40004, and `VFT_APP`, 1, or `VFT_DLL`, 2, 32 bytes after the signature 0xFEEF04BD, as verrsrc.h has them.
+#[test]
+fn new_version_information_says_what_the_file_is() {
+    let folder = Folder::new("version-type");
+    let file = folder.file("a.exe", &made::editable());
+    for (characteristics, kind) in [(0u16, 1u8), (0x2000, 2)] {
+        let mut bytes = fs::read(&file).unwrap();
+        let signature = u32::from_le_bytes(bytes[60..64].try_into().unwrap()) as usize;
+        let own = u16::from_le_bytes([bytes[signature + 22], bytes[signature + 23]]);
+        put(&mut bytes, signature + 22, &(own & !0x2000 | characteristics).to_le_bytes());
+        let out = folder.0.join(format!("{kind}")).to_str().unwrap().to_string();
+        let image = folder.file("b.exe", &bytes);
+        assert_eq!(run(&["set-version", &image, &out, "--file-version", "1"]).2, 0);
+        let written = fs::read(out).unwrap();
+        let at = written.windows(4).position(|it| it == 0xFEEF_04BDu32.to_le_bytes()).unwrap();
+        assert_eq!(written[at + 32..at + 40], [4, 0, 4, 0, kind, 0, 0, 0]);
+    }
+}
+
+#[test]
+fn signatures_and_strong_names_are_not_broken_unasked() {
+    let folder = Folder::new("version-strong");
+    let (out, words) = (folder.0.join("b.exe").to_str().unwrap().to_string(), ["--file-version", "1"]);
+    let signed = folder.file("signed.exe", &made::with_certificates());
+    let (_, complaints, status) = run(&[&["set-version", &signed, &out][..], &words].concat());
+    assert_eq!((complaints.contains("pe detach"), status), (true, 1), "{complaints}");
+    let mut bytes = made::with_clr();
+    let said: Value = serde_json::from_str(&run(&["--json", &folder.file("clr.exe", &bytes)]).0).unwrap();
+    let flags = said["clr"]["flags"]["number"].as_u64().unwrap() as u32;
+    let token = said["clr"]["entry_point_token"].as_u64().unwrap() as u32;
+    let old = [flags, token].map(u32::to_le_bytes).concat();
+    let at = bytes.windows(8).position(|it| it == old).unwrap();
+    // COMIMAGE_FLAGS_STRONGNAMESIGNED
+    put(&mut bytes, at, &(flags | 8).to_le_bytes());
+    let strong = folder.file("strong.exe", &bytes);
+    let complaints_of = |more: &[&str]| run(&[&["set-version", &strong, &out][..], &words, more].concat()).1;
+    assert!(complaints_of(&[]).contains("strong name"));
+    assert!(!complaints_of(&["--break-strong-name"]).contains("strong name"));
 }
 
 /// A tree of resources: each a type, a name, and content, in the language 0x407.
@@ -1026,7 +1076,7 @@ fn overlays_are_what_they_are() {
 fn the_version_says_whether_the_library_was_proved() {
     let (out, _, status) = run(&["--version"]);
     let lines: Vec<&str> = out.lines().collect();
-    assert_eq!((lines.len(), lines[0], status), (2, concat!("pe ", env!("CARGO_PKG_VERSION")), 0));
+    assert_eq!((lines.len(), lines[0], status), (3, concat!("pe ", env!("CARGO_PKG_VERSION")), 0));
     assert!(lines[1].starts_with("library for C: "), "{out}");
 }
 
