@@ -12,6 +12,7 @@ use std::path::{Path, PathBuf};
 pub const EXAMPLES: &str = "  pe program.exe                        what it is, in a screen of text
   pe show program.exe imports exports   two of its parts, whole
   pe --json -r C:/Windows               a line of JSON for each image below a folder
+  pe list --csv -r C:/Windows           a table of them, a row each
   pe find VirtualProtect -r C:/Windows  which images import or export it
   pe diff old.dll new.dll               what came, went and changed
   pe unwind program.exe 1a2b            how the function at an RVA is unwound
@@ -25,8 +26,8 @@ pub const EXAMPLES: &str = "  pe program.exe                        what it is, 
   pe report program.exe program.html    a page to look at: a map of the file, tables to search";
 
 pub const STATUSES: &str =
-    "0 done; 1 an image, or a part that was asked for, is refused, or diff found a difference; 2 misused arguments; \
-     3 an error of a file.";
+    "0 done; 1 an image, or a part that was asked for, is refused, verify found no good signature, diff a difference, or find \
+     nothing; 2 misused arguments; 3 an error of a file or of a stream.";
 
 fn after_help() -> String {
     format!("Examples:\n{EXAMPLES}\n\nExit status: {STATUSES}")
@@ -184,7 +185,19 @@ pub enum Command {
         #[command(flatten)]
         output: Output,
     },
-    /// Show who imports or exports a name.
+    /// Write a table of images as CSV (RFC 4180), a row each: machine, times, sizes, hashes, signer, version, counts.
+    List {
+        #[command(flatten)]
+        files: Files,
+        /// As CSV, which is the only form.
+        #[arg(long)]
+        csv: bool,
+        #[command(flatten)]
+        reading: Reading,
+        #[command(flatten)]
+        hashing: Hashing,
+    },
+    /// Show who imports or exports a name. The status is 1 where nobody does.
     Find {
         /// A part of the name of a function or of a DLL, in upper or lower case.
         #[arg(value_name = "WORD")]

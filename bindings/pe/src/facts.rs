@@ -51,7 +51,7 @@ pub enum Topic {
     Headers,
     /// What the headers ask of Windows to make attacks harder
     Hardening,
-    /// SHA-256, imphash, Rich hash, and the Authenticode digest
+    /// MD5, SHA-1, SHA-256, imphash, Rich hash, and the Authenticode digest
     Hashes,
     Sections,
     Imports,

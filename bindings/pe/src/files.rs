@@ -3,11 +3,12 @@
 //! few.
 
 use crate::arguments::{Arguments, Files};
+use crate::facts::Topic;
 use crate::new_file::Target;
 use crate::streams::{complain, complaint};
 use crate::system::{ask_for_large_pages, is_folder, is_loop, Progress};
 use crate::Status;
-use clap::CommandFactory;
+use clap::{CommandFactory, ValueEnum};
 use pe_c::{Error, Image, Mode};
 use rayon::prelude::*;
 use std::cell::Cell;
@@ -254,6 +255,9 @@ fn hint(path: &Path, error: &io::Error) -> String {
         return String::new();
     }
     let (name, commands) = (path.to_string_lossy(), Arguments::command());
+    if Topic::from_str(&name, true).is_ok() {
+        return format!("; `pe show FILE {name}` shows that part");
+    }
     let meant = commands.get_subcommands().map(|it| it.get_name()).find(|it| is_like(&name, it));
     meant.map_or(String::new(), |it| format!("; is the command `{it}` meant?"))
 }

@@ -14,6 +14,7 @@ mod files;
 mod find;
 mod html;
 mod icon;
+mod list;
 mod man;
 mod names;
 mod new_file;
@@ -40,6 +41,7 @@ use serde::Serialize;
 use std::io::{self, Write};
 use std::path::{Path, PathBuf};
 use std::process::ExitCode;
+use std::sync::atomic::{AtomicBool, Ordering};
 use streams::{complain, complaint};
 use verify::checked::Roots;
 
@@ -47,7 +49,7 @@ use verify::checked::Roots;
 #[derive(Clone, Copy, Debug, PartialEq, Eq, PartialOrd, Ord)]
 pub enum Status {
     Done = 0,
-    /// An image, or a part that was asked for, is refused; or two images differ.
+    /// An image, or a part that was asked for, is refused; two images differ; a signature is not good; nothing is found.
     Refused = 1,
     /// A file cannot be read or written.
     FileError = 3,
@@ -113,6 +115,14 @@ fn run_command(command: &Command, out: &mut dyn Write) -> io::Result<Status> {
         Command::Show { words, csv, table, walk, reading, hashing, output } => {
             let table = csv.then_some(table.as_deref());
             show_parts((words, *walk), table, How::of(reading, hashing, output), out)
+        }
+        Command::List { files, reading, hashing, .. } => {
+            let text = |facts: &Facts, _| {
+                let (head, row) = list::lines(facts);
+                Said { head, ..Said::from(row) }
+            };
+            let wanted = list::wanted(hashing.has_hashes());
+            files::each(files, out, |path, bytes| shown(path, bytes, reading, &wanted, text))
         }
         Command::Find { word, files, reading, output } => {
             find_word(word, files, How::without_hashes(reading, output), out)
@@ -330,11 +340,17 @@ fn show_csv(
 
 fn find_word(word: &str, files: &Files, how: How, out: &mut dyn Write) -> io::Result<Status> {
     let wanted = Wanted::parts(&[Topic::Imports, Topic::DelayImports, Topic::Exports], how.has_hashes);
-    let text = |facts: &Facts, _| match how.is_json {
-        true => json(&find::matches_of(facts, word)).into(),
-        false => Said::apart(find::matches_of(facts, word).text(), facts),
+    let is_found = AtomicBool::new(false);
+    let text = |facts: &Facts, _| {
+        let found = find::matches_of(facts, word);
+        is_found.fetch_or(!found.matches.is_empty(), Ordering::Relaxed);
+        match how.is_json {
+            true => json(&found).into(),
+            false => Said::apart(found.text(), facts),
+        }
     };
-    files::each(files, out, |path, bytes| shown(path, bytes, how.reading, &wanted, text))
+    let worst = files::each(files, out, |path, bytes| shown(path, bytes, how.reading, &wanted, text))?;
+    Ok(if is_found.load(Ordering::Relaxed) { worst } else { worst.max(Status::Refused) })
 }
 
 /// What differs between two files. The status is 1 where a byte does.

@@ -201,6 +201,8 @@ pub fn hardening(hardening: &Hardening) -> Vec<Row> {
 
 pub fn hashes(hashes: &Hashes) -> Vec<Row> {
     let rows = [
+        ("MD5", hashes.md5_hex.as_ref()),
+        ("SHA-1", hashes.sha1_hex.as_ref()),
         ("SHA-256", Some(&hashes.sha256_hex)),
         ("imphash", hashes.imphash.as_ref()),
         ("Rich hash", hashes.rich_hash.as_ref()),

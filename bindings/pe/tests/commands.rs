@@ -572,6 +572,65 @@ fn resources_icons_and_cursors_are_extracted() {
 }
 
 #[test]
+fn all_resources_are_extracted_into_a_folder() {
+    let folder = Folder::new("extract-all");
+    let leaves: [(u32, u32, &[u8]); 3] = [(10, 5, b"raw"), (10, 6, b"more"), (999, 1, b"own")];
+    let file = folder.file("a.exe", &with_leaves(&leaves));
+    let to = folder.0.join("out");
+    let words = ["extract", &file, "resources", to.to_str().unwrap()];
+    assert_eq!(run(&words), (String::new(), String::new(), 0));
+    let wanted = [("raw_data-5-1031", "raw"), ("raw_data-6-1031", "more"), ("999-1-1031", "own")];
+    for (name, content) in wanted {
+        assert_eq!(fs::read_to_string(to.join(name)).unwrap(), content);
+    }
+    assert_eq!(fs::read_dir(&to).unwrap().count(), 3);
+    assert_eq!(run(&words).2, 3);
+    assert_eq!(run(&[&words[..], &["--replace", "--type", "999"]].concat()).2, 0);
+    let none = folder.0.join("none");
+    let words = ["extract", &file, "resources", none.to_str().unwrap(), "--type", "1"];
+    assert_eq!((run(&words).2, none.exists()), (1, false));
+    // One whose content is not in the file is named, and the others are written.
+    let mut bytes = with_leaves(&leaves);
+    let size_of_more = bytes.windows(12).rposition(|it| it == [4, 0, 0, 0, 0, 0, 0, 0, 0, 0, 0, 0]).unwrap();
+    put(&mut bytes, size_of_more - 4, &0x99_0000u32.to_le_bytes());
+    let (damaged, partly) = (folder.file("b.exe", &bytes), folder.0.join("partly"));
+    let (_, complaints, status) = run(&["extract", &damaged, "resources", partly.to_str().unwrap()]);
+    assert_eq!((complaints.contains("raw_data-6-1031: "), status), (true, 1), "{complaints}");
+    assert_eq!(fs::read_dir(&partly).unwrap().count(), 2);
+    // Leaves that share their content have more bytes than a file may ask for.
+    let content = vec![7; 4096];
+    let many: Vec<(u32, u32, &[u8])> = (1..=100).map(|it| (10, it, b"x".as_slice())).collect();
+    let mut shared = with_leaves(&[many, vec![(10, 500, &content)]].concat());
+    let entry = [0x1000u32, 1].map(u32::to_le_bytes).concat();
+    let at: Vec<usize> = (0x400..shared.len() - 8)
+        .filter(|at| shared[*at..].starts_with(&entry[4..]) && shared[*at - 2..*at] == [0, 0])
+        .collect();
+    at.iter().for_each(|at| shared[*at..at + 4].copy_from_slice(&4096u32.to_le_bytes()));
+    let (file, to) = (folder.file("c.exe", &shared), folder.0.join("shared"));
+    let (_, complaints, status) = run(&["extract", &file, "resources", to.to_str().unwrap()]);
+    assert_eq!((status, to.exists()), (1, false), "{complaints}");
+}
+
+#[test]
+fn sections_and_overlays_are_extracted() {
+    let folder = Folder::new("extract-bytes");
+    let bytes = [made::with_certificates(), b"PK\x03\x04".to_vec()].concat();
+    let file = folder.file("a.exe", &bytes);
+    let extracted = |words: &[&str]| {
+        let to = folder.0.join("extracted");
+        let _ = fs::remove_file(&to);
+        let ran = run(&[&["extract", &file], words, &[to.to_str().unwrap()]].concat());
+        (fs::read(&to).unwrap_or_default(), ran.2)
+    };
+    assert_eq!(extracted(&["overlay"]), (b"PK\x03\x04".to_vec(), 0));
+    let section = bytes[0x400..0x600].to_vec();
+    assert_eq!(extracted(&["section", "--name", ".rdata"]), (section.clone(), 0));
+    assert_eq!(extracted(&["section", "--number", "1"]), (section, 0));
+    assert_eq!(extracted(&["section", "--name", ".none"]), (Vec::new(), 1));
+    assert_eq!(extracted(&["section", "--number", "2"]), (Vec::new(), 1));
+}
+
+#[test]
 fn a_group_without_its_images_is_no_icon() {
     let folder = Folder::new("extract-lost");
     let group = [0, 0, 1, 0, 1, 0, 32, 16, 2, 0, 1, 0, 1, 0, 5, 0, 0, 0, 7, 0];
@@ -600,7 +659,7 @@ fn names_are_found_by_who_imports_or_exports_them() {
     let (out, _, _) = run(&["find", "--json", "first", &exports]);
     let found: Value = serde_json::from_str(&out).unwrap();
     assert_eq!(found["matches"], json!([{"part": "exports", "dll": null, "name": "first", "ordinal": 6}]));
-    assert_eq!(run(&["find", "nobody", &imports]), (String::new(), String::new(), 0));
+    assert_eq!(run(&["find", "nobody", &imports]), (String::new(), String::new(), 1));
 }
 
 #[test]
@@ -732,6 +791,31 @@ fn all_functions_are_unwound() {
     assert_eq!(run(&["unwind", &file, "1000", "--all"]).2, 2);
 }
 
+/// A row of each image has as many cells as there are heads, raw: a name with a comma, a quote and a control character stands as it is.
+#[test]
+fn a_list_has_a_row_of_each_image() {
+    let folder = Folder::new("list");
+    let named = folder.file("a,\"b\x1b.dll", &made::with_resources());
+    folder.file("b.exe", &made::with_imports());
+    folder.file("c.txt", b"no image");
+    folder.file("d.exe", &made::SMALL[..0x100]);
+    let (out, complaints, status) = run(&["list", "--csv", "-r", folder.0.to_str().unwrap()]);
+    assert_eq!((complaints.as_str(), status), ("pe: 2 files are no images, and skipped\n", 0));
+    let mut rows = csv::Reader::from_reader(out.as_bytes());
+    let heads = rows.headers().unwrap().clone();
+    let rows: Vec<csv::StringRecord> = rows.records().map(Result::unwrap).collect();
+    let cell = |row: usize, head: &str| rows[row][heads.iter().position(|it| it == head).unwrap()].to_string();
+    assert_eq!((rows.len(), cell(0, "file"), cell(1, "imports")), (2, named.clone(), "3".to_string()));
+    let numbers = ["machine", "machine_name", "is_dll", "file_version", "company_name"].map(|it| cell(0, it));
+    assert_eq!(numbers, ["34404", "x64", "false", "3.11.3150.1013", "Größe & Söhne \u{1F600}"]);
+    assert_eq!(
+        [cell(0, "md5_hex"), cell(0, "sha1_hex")],
+        ["md5sum", "sha1sum"].map(|it| sum_of(it, &made::with_resources()))
+    );
+    assert_eq!([cell(0, "signer"), cell(0, "pdb_key"), cell(1, "file_version")], ["", "", ""]);
+    assert_eq!(run(&["list", "--no-hashes", &named]).0.lines().count(), 2);
+}
+
 #[test]
 fn a_table_is_csv() {
     let folder = Folder::new("csv");
@@ -740,6 +824,10 @@ fn a_table_is_csv() {
     let wanted =
         "DLL,name or ordinal,hint,slot RVA\nKERNEL32.dll,Sleep,42,0x8000\nKERNEL32.dll,#17,,0x8008\na.dll,f,0,0x103c\n";
     assert_eq!((out.as_str(), status), (wanted, 0));
+    // Cells have texts as they are: in a file no terminal is moved by them.
+    let name = made::with_imports().iter().map(|it| if *it == b'S' { 0x1B } else { *it }).collect::<Vec<u8>>();
+    let named = run(&["show", "--csv", &folder.file("b.exe", &name), "imports"]).0;
+    assert!(named.contains(",\x1bleep,42,"), "{named}");
     assert_eq!(run(&["show", "--csv", &file, "tls"]).0, "");
     assert_eq!(run(&["show", "--csv", &file]).2, 2);
     assert_eq!(run(&["show", "--csv", "--json", &file, "imports"]).2, 2);
@@ -873,6 +961,8 @@ fn words_that_are_wrong_are_said_to_be() {
     let (_, error, status) = run(&["sho", &file]);
     assert!(error.starts_with("pe: sho: ") && error.contains("; is the command `show` meant?"), "{error}");
     assert_eq!(status, 3);
+    let (_, error, status) = run(&[&file, "imports"]);
+    assert_eq!((error.contains("; `pe show FILE imports` shows that part"), status), (true, 3), "{error}");
     for words in [["extract", "--json", &file, "manifest", "-"].as_slice(), &["report", "--json", &file, "-"]] {
         let (out, error, status) = run(words);
         assert_eq!((out.as_str(), error.contains("--json"), status), ("", true, 2), "{words:?}");

@@ -75,6 +75,9 @@ fn signer_of(signer: &Told, page: &mut Page) {
     }
     page.row("  issuer", escaped(&signer.issuer));
     page.row("  serial", &signer.serial_hex);
+    if let Some(certificate) = &signer.certificate {
+        page.row("  thumbprints", format_args!("SHA-1 {}, SHA-256 {}", certificate.sha1_hex, certificate.sha256_hex));
+    }
     for (label, text) in [("  program", &signer.program_name), ("  more at", &signer.program_url)] {
         text.iter().for_each(|it| page.row(label, escaped(it)));
     }

@@ -285,8 +285,8 @@ def authenticode(image: Exact) -> str | None:
 
 
 def hashes(image: Exact) -> Facts:
-    return {"sha256_hex": hashlib.sha256(image.memory).hexdigest(), "imphash": imphash(image), "rich_hash": rich_hash(image),
-            "authenticode_sha256_hex": authenticode(image)}
+    own = {f"{name}_hex": hashlib.new(name, image.memory).hexdigest() for name in ("md5", "sha1", "sha256")}
+    return {**own, "imphash": imphash(image), "rich_hash": rich_hash(image), "authenticode_sha256_hex": authenticode(image)}
 
 
 # ---- sections
