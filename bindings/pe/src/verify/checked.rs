@@ -47,6 +47,7 @@ impl From<Checked> for Trust {
 }
 
 /// A signature over a message, and how it was made.
+#[cfg_attr(not(feature = "openssl"), allow(dead_code))]
 #[derive(Clone, Copy)]
 pub struct Signing<'a> {
     pub algorithm: Algorithm<'a>,
