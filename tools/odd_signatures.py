@@ -96,11 +96,21 @@ def sign_odd(image, index, folder):
     return out
 
 
-def sign_plain(image, key, folder):
-    """The path of a copy that is signed with SHA-256 by a key, and has nothing else."""
-    out = os.path.join(folder, f"plain-{key}.exe")
-    run("osslsigncode", "sign", "-certs", f"{key}.pem", "-key", f"{key}.key", "-h", "sha256", "-in", image, "-out", out)
+def sign_plain(image, key, folder, *more):
+    """The path of a copy that is signed with SHA-256 by a key, and has nothing else but what these words ask for."""
+    out = os.path.join(folder, f"plain{''.join(more)}-{key}.exe")
+    run("osslsigncode", "sign", "-certs", f"{key}.pem", "-key", f"{key}.key", "-h", "sha256", *more, "-in", image, "-out", out)
     return out
+
+
+def pages_of(image):
+    """How many pages have a hash: one of the headers, and of each section its raw data in pages of 4,096 bytes."""
+    with open(image, "rb") as file:
+        content = file.read()
+    pe = struct.unpack_from("<I", content, 60)[0]
+    count, optional = struct.unpack_from("<H", content, pe + 6)[0], struct.unpack_from("<H", content, pe + 20)[0]
+    sizes = [struct.unpack_from("<I", content, pe + 24 + optional + 40 * it + 16)[0] for it in range(count)]
+    return 1 + sum(-(-size // 4096) for size in sizes)
 
 
 def leads_to_root(between, last):

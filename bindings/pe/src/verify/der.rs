@@ -5,8 +5,10 @@ use super::hashing::Hash;
 use pe_c::{Algorithm, KnownOid};
 
 const INTEGER: u8 = 0x02;
+const OCTET_STRING: u8 = 0x04;
 const OBJECT_IDENTIFIER: u8 = 0x06;
 const SEQUENCE: u8 = 0x30;
+const SET: u8 = 0x31;
 
 /// An element: its tag, its content, and the bytes after it.
 pub struct Element<'a> {
@@ -92,6 +94,23 @@ const MGF1: &[u8] = &[0x2A, 0x86, 0x48, 0x86, 0xF7, 0x0D, 1, 1, 8];
 fn mask_at(algorithm: &[u8]) -> Option<Hash> {
     let (kind, parameters) = content_of(content_of(algorithm, SEQUENCE)?.0, OBJECT_IDENTIFIER)?;
     (kind == MGF1).then(|| hash_at(parameters)).flatten()
+}
+
+/// The start of `SPC_PE_IMAGE_PAGE_HASHES_V1_OBJID`, 1.3.6.1.4.1.311.2.3.1, and of V2, which ends with 2: SHA-1 and SHA-256.
+const PAGE_HASHES: &[u8] = &[OBJECT_IDENTIFIER, 10, 0x2B, 6, 1, 4, 1, 0x82, 0x37, 2, 3];
+
+/// By what the pages of an image are hashed, and how many: a table in the value of what is signed. Of each page it has the offset and
+/// the hash; the last entry has the end alone.
+pub fn page_hashes(value: &[u8]) -> Option<(Hash, usize)> {
+    let at = value.windows(PAGE_HASHES.len()).position(|it| it == PAGE_HASHES)? + PAGE_HASHES.len();
+    let (version, rest) = value.get(at..)?.split_first()?;
+    let (hash, size) = match version {
+        1 => (Hash::Sha1, 20),
+        2 => (Hash::Sha256, 32),
+        _ => return None,
+    };
+    let table = content_of(content_of(rest, SET)?.0, OCTET_STRING)?.0;
+    Some((hash, (table.len() / (4 + size)).saturating_sub(1)))
 }
 
 /// What an entry of the certificate table is filled up to.

@@ -5,6 +5,7 @@ use super::hashing::Compared;
 use super::signer::{Stamp, Told};
 use super::{Signature, State, Verified};
 use crate::escape::escaped;
+use crate::facts::counted;
 use crate::page::{Page, Style};
 
 /// What all of it comes to, in words that say no more than was checked.
@@ -52,6 +53,10 @@ fn signature_of(signature: &Signature, page: &mut Page) {
     if let (Some(algorithm), Some(digest)) = (&signature.digest_algorithm, &signature.digest_hex) {
         let compared = signature.digest.as_ref().map(words_of_digest).unwrap_or_default();
         page.row("  file digest", format_args!("{algorithm} {digest}, {compared}"));
+    }
+    if let Some(hashes) = &signature.page_hashes {
+        let pages = counted(hashes.pages, "page");
+        page.row("  page hashes", format_args!("{}, {pages}, not compared", hashes.algorithm));
     }
     signature.signers.iter().for_each(|it| signer_of(it, page));
     if !signature.weak_algorithms.is_empty() {
