@@ -1,0 +1,73 @@
+"""Verdicts that are kept: what a check refused or proved stays so while all that the check read is the same.
+
+A verdict is kept by the sum of the kit, the tools that make the check, the crate's line in crates.txt, its sources without bodies
+and comments, its definitions and lemmas, the text and proofs of the functions that the check is about with their files, and all
+files of the crates below. They stand in the user's cache, one file each, which is written apart and renamed. What failed is never
+kept, and nothing of a check whose control failed. Each run makes ten that are kept again, by chance.
+"""
+
+import hashlib
+import os
+import re
+import tempfile
+
+TOOLS = ("try_edits", "rooms.py", "contracts.py", "contracts.toml", "views.py", "views.toml", "verdicts.py")
+HERE = os.path.dirname(os.path.realpath(__file__))
+AGAIN = 10
+
+
+def sum_of(*parts):
+    return hashlib.sha256(repr(parts).encode()).hexdigest()
+
+
+def files_of(folder, leave=frozenset()):
+    """The files below a folder and what they hold, but for those in some folders of it."""
+    found = []
+    for at, folders, files in os.walk(folder):
+        folders[:] = sorted(it for it in folders if os.path.relpath(f"{at}/{it}", folder) not in leave)
+        for it in sorted(files):
+            with open(f"{at}/{it}", "rb") as file:
+                found.append((os.path.relpath(f"{at}/{it}", folder), file.read()))
+    return found
+
+
+def bare(text):
+    """A source or a definition without comments and empty lines."""
+    return [line for line in (it.strip() for it in text.split("\n")) if line and not re.match(r"//|--( |$)", line)]
+
+
+class Verdicts:
+    """The verdicts that are kept of a crate."""
+
+    def __init__(self, crate, kit):
+        cache = os.environ.get("XDG_CACHE_HOME") or os.path.expanduser("~/.cache")
+        self.crate, self.folder = crate, f"{cache}/lovandezh/verdicts"
+        os.makedirs(self.folder, mode=0o700, exist_ok=True)
+        own = {os.path.relpath(it, f"{crate.folder}/proofs") for path in crate.functions for it in crate.answers_of(path)}
+        blank = [(file, bare(crate.without_bodies(file, text, set()))) for file, text in sorted(crate.texts.items())]
+        specs = [(path, bare(text.decode())) for path, text in files_of(f"{crate.folder}/specs")]
+        below = [(it, files_of(f"{crate.top}/crates/{it}/{part}")) for it in crate.below for part in ("src", "specs", "proofs")]
+        tools = [open(f"{HERE}/{it}", "rb").read() for it in TOOLS if os.path.exists(f"{HERE}/{it}")]
+        with open(f"{kit}/KIT-ID", "rb") as file:
+            self.sum = sum_of(file.read(), tools, crate.kind, crate.uses, blank, specs,
+                              files_of(f"{crate.folder}/proofs", own), below)
+
+    def key(self, text, paths):
+        """The key of what a check says of some functions, with what is tried of them."""
+        files = sorted({self.crate.files[it] for it in paths if it in self.crate.files})
+        proofs = [files_of(it) for path in sorted(paths) for it in self.crate.answers_of(path)]
+        return sum_of(self.sum, text, sorted(paths), [(it, self.crate.texts[it]) for it in files], proofs)
+
+    def kept(self, key):
+        """The verdict that is kept under a key, or None."""
+        try:
+            with open(f"{self.folder}/{key}", encoding="utf-8") as file:
+                return file.read()
+        except FileNotFoundError:
+            return None
+
+    def keep(self, key, said):
+        handle, path = tempfile.mkstemp(dir=self.folder)
+        with open(handle, "w", encoding="utf-8") as file:
+            file.write(said)
+        os.replace(path, f"{self.folder}/{key}")
