@@ -19,7 +19,8 @@ RUST = {"cargo 1.81": CARGO, "rustc 1.81": RUSTC, "cc": "gcc", "libc.a of cc": "
 CRATES = {"crate clap-4": "librust-clap-dev", "crate clap_complete-4": "librust-clap-complete-dev", "crate chrono-0.4": "librust-chrono-dev",
           "crate csv-1": "librust-csv-dev", "crate indicatif-0.17": "librust-indicatif-dev", "crate libc-0.2": "librust-libc-dev",
           "crate md-": "librust-md-5-dev", "crate rayon-1": "librust-rayon-dev", "crate serde_json-1": "librust-serde-json-dev",
-          "crate sha1-": "librust-sha1-dev", "crate sha2-": "librust-sha2-dev"}
+          "crate sha1-": "librust-sha1-dev", "crate sha2-": "librust-sha2-dev",
+          "crate openssl-0.10": "librust-openssl-dev", "libcrypto.a of cc": "libssl-dev", "pkg-config": "pkg-config"}
 MINGW = "x86_64-w64-mingw32"
 # Its program wine speaks of what is missing of 32 bits.
 WINE = shutil.which("wine64") or "/usr/lib/wine/wine64"
@@ -43,7 +44,7 @@ def by_hand(about, **needs):
 GROUPS = {
     "kit": of_gate("the kit's commands", **{"python3": "python3"}),
     "pe": of_gate("./pe", **RUST, **CRATES),
-    "verify": of_gate("the tests of pe verify with OpenSSL", **{"crate openssl-0.10": "librust-openssl-dev"}),
+    "verify": of_gate("signatures that osslsigncode makes, by pe verify", **{"osslsigncode": "osslsigncode", "openssl": "openssl"}),
     "documents": of_gate("files and commits that the documents name", **{"git": "git"}),
     "callers": of_gate("the callers of the library for C", **RUST, **{
         "gcc": "gcc", "g++": "g++", "clang": "clang", "clang++": "clang", "nm": "binutils", "objdump": "binutils", "readelf": "binutils",

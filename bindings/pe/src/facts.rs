@@ -51,7 +51,7 @@ pub enum Topic {
     Headers,
     /// What the headers ask of Windows to make attacks harder
     Hardening,
-    /// SHA-256, imphash, Rich hash, and the Authenticode digest
+    /// MD5, SHA-1, SHA-256, imphash, Rich hash, and the Authenticode digest
     Hashes,
     Sections,
     Imports,
@@ -156,9 +156,9 @@ fn is_machine(low: u8, high: u8) -> bool {
 /// What each line of JSON starts with, of a command that has no parts: whose file it is.
 #[derive(Clone, Debug, Serialize)]
 pub struct Origin {
-    json_version: u32,
+    pub json_version: u32,
     pub file: String,
-    file_hex: Option<String>,
+    pub file_hex: Option<String>,
 }
 
 impl Origin {

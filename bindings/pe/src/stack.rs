@@ -11,6 +11,7 @@ mod told;
 use crate::facts::{Budget, List, Named, Origin, Part, Refusal, Stamp};
 use crate::names::{EXCEPTIONS, FAST_FAILS, PLATFORMS, PROCESSORS};
 use crate::page::Style;
+use crate::streams::{complain, complaint};
 use crate::Status;
 pub use files::Known;
 use pe_c::sys::{DumpException, DumpModule, DumpThread};
@@ -63,7 +64,7 @@ pub fn write(path: &Path, bytes: &[u8], known: &Known, asked: Asked, out: &mut d
         out.write_all(text::of(&told, Style::of_stdout()).as_bytes())?;
     }
     if let Some(thread) = asked.thread.filter(|_| told.threads.present().is_some_and(|it| it.entries.is_empty())) {
-        eprintln!("pe: {}: no thread has the number {thread}", crate::escape::escaped(&path.to_string_lossy()));
+        complain(complaint(path, format_args!("no thread has the number {thread}")));
         return Ok(Status::Refused);
     }
     Ok(told.status())

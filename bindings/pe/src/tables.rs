@@ -201,6 +201,8 @@ pub fn hardening(hardening: &Hardening) -> Vec<Row> {
 
 pub fn hashes(hashes: &Hashes) -> Vec<Row> {
     let rows = [
+        ("MD5", hashes.md5_hex.clone()),
+        ("SHA-1", hashes.sha1_hex.clone()),
         ("SHA-256", Some(hashes.sha256_hex.clone())),
         ("imphash", hashes.shown_imphash()),
         ("Rich hash", hashes.rich_hash.clone()),

@@ -418,7 +418,8 @@ fn commands_take_several_files() {
 fn options_stand_where_they_do_something() {
     let folder = Folder::new("options");
     let file = folder.file("a.exe", made::SMALL);
-    let commands: [&[&str]; 6] = [
+    let commands: [&[&str]; 7] = [
+        &["diff", &file, &file],
         &["find", "x", &file],
         &["unwind", "--all", &file],
         &["digest", &file],
@@ -429,9 +430,7 @@ fn options_stand_where_they_do_something() {
     for command in commands {
         assert_eq!(run(&[command, &["--no-hashes"]].concat()).2, 2, "{command:?}");
     }
-    for command in
-        [["show", file.as_str()].as_slice(), &["key", &file], &["diff", &file, &file], &["report", &file, "-"]]
-    {
+    for command in [["show", file.as_str()].as_slice(), &["key", &file], &["report", &file, "-"]] {
         assert_eq!(run(&[command, &["--no-hashes"]].concat()).2, 0, "{command:?}");
     }
 }

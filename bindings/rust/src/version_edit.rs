@@ -17,9 +17,11 @@ const LEVELS: usize = 3;
 /// `VS_FIXEDFILEINFO`: its size, its signature and the version of its form.
 const SIZE_OF_FIXED: usize = 52;
 const SIGNATURE: [u8; 8] = [0xBD, 0x04, 0xEF, 0xFE, 0, 0, 1, 0];
-/// Where it has the version of the file, and that of the product.
+/// Where it has the version of the file, that of the product,
 const FILE_VERSION: usize = 8;
 const PRODUCT_VERSION: usize = 16;
+/// and the system of the file, before its type.
+const FILE_OS: usize = 32;
 /// UTF-16, the code page of the texts of new version information.
 const UNICODE: u16 = 1200;
 
@@ -323,6 +325,13 @@ impl VersionInfo {
     /// The same of the product.
     pub fn set_product_version(&mut self, version: [u16; 4]) {
         self.set_number(PRODUCT_VERSION, version);
+    }
+
+    /// Sets for which system the file is and what it is, `dwFileOS` and `dwFileType`: `VOS_NT_WINDOWS32`, 0x40004, and `VFT_APP`, 1, or
+    /// `VFT_DLL`, 2. Of new version information both are 0, unknown.
+    pub fn set_file_type(&mut self, file_os: u32, file_type: u32) {
+        let [os, kind] = [file_os, file_type].map(|it| [it as u16, (it >> 16) as u16]);
+        self.set_number(FILE_OS, [os[1], os[0], kind[1], kind[0]]);
     }
 
     fn tables(&self) -> impl Iterator<Item = &Block> {

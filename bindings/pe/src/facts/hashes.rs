@@ -4,11 +4,14 @@ use super::{both, hex_of, imports, ordinals};
 use md5::Md5;
 use pe_c::{Image, Import, Layout};
 use serde::Serialize;
+use sha1::Sha1;
 use sha2::{Digest as _, Sha256};
 
 #[derive(Clone, Debug, Serialize)]
 pub struct Hashes {
-    /// SHA-256 of the file.
+    /// Of the file. Those by which older lists know it are left out of a summary.
+    pub md5_hex: Option<String>,
+    pub sha1_hex: Option<String>,
     pub sha256_hex: String,
     /// MD5 of the imports, `dll.function` in lower case, with commas between them, as pefile has it. Null without imports, and
     /// where an import is refused or is not UTF-8.
@@ -102,18 +105,29 @@ impl Hashes {
     }
 }
 
-/// The hashes, and the Authenticode digest where it is wanted.
-pub fn of(image: &Image<'_>, has_digest: bool) -> Hashes {
-    let has_digest = has_digest && image.layout() == Layout::File;
+/// The hashes; where all are wanted the older ones of the file and the Authenticode digest too.
+pub fn of(image: &Image<'_>, has_all: bool) -> Hashes {
+    let has_digest = has_all && image.layout() == Layout::File;
     let digest = || if has_digest { authenticode_of(image).ok() } else { None };
-    let (sha256_hex, authenticode_sha256_hex) = both(image, || sha256_of(image.bytes()), digest);
+    let older = || has_all.then(|| older_of(image.bytes())).unzip();
+    let (sha256_hex, (authenticode_sha256_hex, (md5_hex, sha1_hex))) =
+        both(image, || sha256_of(image.bytes()), || both(image, digest, older));
     let (imphash, imphash_of) = imphash_of(image).unzip();
-    Hashes { sha256_hex, imphash, imphash_of, rich_hash: rich_hash_of(image), authenticode_sha256_hex }
+    let rich_hash = rich_hash_of(image);
+    Hashes { md5_hex, sha1_hex, sha256_hex, imphash, imphash_of, rich_hash, authenticode_sha256_hex }
+}
+
+/// MD5 and SHA-1.
+fn older_of(bytes: &[u8]) -> (String, String) {
+    (hex_of(&Md5::digest(bytes)), hex_of(&Sha1::digest(bytes)))
 }
 
 /// The hash of a file that is no image.
 pub fn of_bytes(bytes: &[u8]) -> Hashes {
+    let (md5_hex, sha1_hex) = Some(older_of(bytes)).unzip();
     Hashes {
+        md5_hex,
+        sha1_hex,
         sha256_hex: sha256_of(bytes),
         imphash: None,
         imphash_of: None,

@@ -287,10 +287,15 @@ def authenticode(image: Exact) -> str | None:
     return state.hexdigest()
 
 
+def own_hashes(memory: memoryview) -> Facts:
+    """The hashes of a whole file."""
+    return {f"{name}_hex": hashlib.new(name, memory).hexdigest() for name in ("md5", "sha1", "sha256")}
+
+
 def hashes(image: Exact) -> Facts:
     hashed, of = imphash(image)
-    return {"sha256_hex": hashlib.sha256(image.memory).hexdigest(), "imphash": hashed, "imphash_of": of,
-            "rich_hash": rich_hash(image), "authenticode_sha256_hex": authenticode(image)}
+    return {**own_hashes(image.memory), "imphash": hashed, "imphash_of": of, "rich_hash": rich_hash(image),
+            "authenticode_sha256_hex": authenticode(image)}
 
 
 # ---- sections
@@ -776,8 +781,8 @@ def of_other(path: str, core: _core.Image, kind: int, has_hashes: bool) -> Facts
     found: Facts = {**origin(path, len(other.memory), kind=what),
                     "headers": te_headers(other) if kind == TE else object_headers(other)}
     if has_hashes:
-        found["hashes"] = {"sha256_hex": hashlib.sha256(other.memory).hexdigest(), "imphash": None, "imphash_of": None,
-                           "rich_hash": None, "authenticode_sha256_hex": None}
+        found["hashes"] = {**own_hashes(other.memory), "imphash": None, "imphash_of": None, "rich_hash": None,
+                           "authenticode_sha256_hex": None}
     found["sections"] = sections(other, kind)
     return {**found, "debug": te_debug(other)} if kind == TE else {**found, **symbols(other)}
 
