@@ -184,24 +184,30 @@ class Contract:
         sides = split_outside(clause, " ≡ ")
         if len(sides) == 2:
             for one, other in (sides, sides[::-1]):
-                if self.targets_in(one) and not self.targets_in(other):
+                if self.targets_in(one) and not self.targets_in(other) and not self.is_partial(one):
                     return [Fixed(one, self.targets_in(one), "")]
             return []
         name, *words = words_of(clause)
+        if any(it.startswith("{") for it in words):
+            return []
         found = []
         for it in self.table["predicates"].get(name, []):
             unless, _, text = it.rpartition(": ")
             text = text.format(*words)
-            if self.targets_in(text):
+            if self.targets_in(text) and not self.is_partial(text):
                 found.append(Fixed(text, self.targets_in(text), unless.removeprefix("unless ")))
         return found
+
+    def is_partial(self, text):
+        """Whether an expression shows by a word of std less than what it speaks of."""
+        return bool({*re.findall(r"[\w◌+-]+", text)} & {*self.table["partial"]["words"]})
 
     def missing(self):
         """What the clauses do not fix of the result and of the written arguments: the first of it, or ''."""
         if not self.types:
             return "it has no result, and writes nothing"
         for target, of in self.types.items():
-            fields = [path for it in self.fixed if target in it.targets for path in [self.field(it.text, target)]]
+            fields = [path for it in self.fixed if target in it.targets for path in self.fields(it.text, target)]
             if not ("" in fields or self.has_all_fields(of, fields)):
                 return f"no clause fixes {target}" if not fields else f"its clauses fix parts of {target}: {', '.join(fields)}"
         named = {word for it in self.fixed for word in re.findall(r"\w+", it.text)}
@@ -209,10 +215,11 @@ class Contract:
         return f"{alone[0]} leaves what {', '.join(self.beside[alone[0]])} has" if alone else ""
 
     @staticmethod
-    def field(text, target):
-        """The field of a target that an expression is, or '' for the whole: by itself, or seen by a view."""
-        found = re.fullmatch(rf"{re.escape(target)}((?:\.\w+)*)", text)
-        return PROJECTION.sub("", found[1]).lstrip(".") if found else ""
+    def fields(text, target):
+        """The field of a target that an expression shows, '' for the whole, or none where it mixes several."""
+        found = re.findall(rf"(?<![\w.]){re.escape(target)}((?:\.\w+)*)", text)
+        shown = {PROJECTION.sub("", it).lstrip(".") for it in found}
+        return shown if len(shown) == 1 else set()
 
     def has_all_fields(self, of, fields):
         """Whether these are all fields of a tuple or of a struct of the crates."""
