@@ -198,16 +198,22 @@ class Contract:
                 if self.targets_in(one) and not self.targets_in(other):
                     # The type of a tuple would have to be named: its parts are compared.
                     parts = split_outside(one[1:-1], ",") if one[0] == "(" and "λ" not in one else [one]
-                    return [Fixed(it, self.targets_in(it), "") for it in parts if self.targets_in(it)]
+                    return [Fixed(it, self.targets_in(it), "") for it in parts if self.targets_in(it) and not self.is_partial(it)]
             return []
         name, *words = words_of(clause)
+        if any(it.startswith("{") for it in words):
+            return []
         found = []
         for it in self.table["predicates"].get(name, []):
             unless, _, text = it.rpartition(": ")
             text = text.format(*words)
-            if self.targets_in(text):
+            if self.targets_in(text) and not self.is_partial(text):
                 found.append(Fixed(text, self.targets_in(text), unless.removeprefix("unless ")))
         return found
+
+    def is_partial(self, text):
+        """Whether an expression shows by a word of std less than what it speaks of."""
+        return bool({*re.findall(r"[\w◌+-]+", text)} & {*self.table["partial"]["words"]})
 
     def missing(self):
         """What the clauses do not fix of the result and of the written arguments: the first of it, or ''."""
@@ -225,8 +231,10 @@ class Contract:
 
     @staticmethod
     def fields(text, target):
-        """The fields of a target that stand in an expression, '' for the whole."""
-        return [PROJECTION.sub("", it).lstrip(".") for it in re.findall(rf"(?<![\w.]){re.escape(target)}((?:\.\w+)*)", text)]
+        """The field of a target that an expression shows, '' for the whole, or none where it mixes several."""
+        found = re.findall(rf"(?<![\w.]){re.escape(target)}((?:\.\w+)*)", text)
+        shown = {PROJECTION.sub("", it).lstrip(".") for it in found}
+        return shown if len(shown) == 1 else set()
 
     def has_all_fields(self, of, fields):
         """Whether these are all fields of a tuple or of a struct of the crates."""
