@@ -432,11 +432,17 @@ fn records_that_are_too_long(rt: HostRuntime) -> Result<(), Fail> {
     // shows: pe_version/src/measure.rt whole_len TooLong
     // A table of 24 bytes and strings of 12 each beside their texts, which by lengths alone would have 65,532 bytes.
     for (count, first, others, size) in [(4, 16_376, 16_364, 65_540), (6, 10_908, 10_908, 65_544)] {
-        let text = RecordRange { offset: 0, length: others };
+        let text = RecordRange {
+            offset: 0,
+            length: others,
+        };
         let mut strings = vec![in rt.alloc(); StringRecord { text, ..long }; count]?;
         strings[0].text.length = first;
         let Err(VersionError::TooLong(found)) = version_len(&VersionRecords {
-            tables: &[TableRecord { count: count as u64, ..table }],
+            tables: &[TableRecord {
+                count: count as u32,
+                ..table
+            }],
             strings: &strings,
             ..value
         }) else {
