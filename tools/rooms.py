@@ -201,7 +201,8 @@ class Room:
         self.crate, self.name, self.kit, self.logs = crate, name, kit, logs
         self.room, self.kept = f"{room}/{name}/{crate.name}", f"{room}/{name}/kept"
         os.makedirs(f"{room}/{name}")
-        self.checks, self.took = 0, collections.Counter()
+        # What functions took, and what checks took before the first of them ended.
+        self.checks, self.took, self.starts = 0, collections.Counter(), 0.0
 
     def fill(self, texts, asked):
         """Writes the crate with these texts, without the bodies and proofs that are not asked for. Returns what it wrote."""
@@ -256,11 +257,14 @@ class Room:
         for path in sorted(asked):
             words += ["--only", path]
         how = {"cwd": self.room, "stdin": subprocess.DEVNULL, "stdout": subprocess.PIPE, "stderr": subprocess.STDOUT}
-        lines, last = [], time.time()
+        lines, begun, is_first = [], time.time(), True
+        last = begun
         with subprocess.Popen([*words, "--progress"], errors="replace", **how) as ran:
             for line in ran.stdout:
                 now, ended = time.time(), ENDED.match(line)
-                if ended:
+                if ended and is_first:
+                    self.starts, is_first, last = self.starts + now - begun, False, now
+                elif ended:
                     self.took[ended[1]] += now - last
                     last = now
                 elif not lines or not line.strip():
