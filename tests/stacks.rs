@@ -322,6 +322,7 @@ fn refused_walks_keep_what_is_left(rt: HostRuntime) -> Result<(), Fail> {
         registers: registers(LIB + 0x70, 0x1000),
         way: Way::Top,
         has_called: false,
+        is_guess: false,
     };
     let mut stacks = Stacks::new(&modules, &memory, 8);
     let refusing = Refusing::new(alloc, 0);
